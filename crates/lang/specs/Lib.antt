@@ -1,0 +1,2 @@
+-- Definitions of crate lang: Operations, what op bytes mean.
+pub mod Operations

@@ -1,0 +1,14 @@
+-- Every marked reading of document 01 holds of the definitions: what each row gives is what document 01 says. antt computes it.
+-- Assumes nothing.
+use mathlib.Core.Path.{_≡_, refl}
+use mathlib.Core.List.{List, map}
+use lib.IntN.{ℤ}
+use Rattle.tfm.specs.Scaled.{toScaled, halve}
+use Rattle.lang.specs.Operations.{fromBytes, ligature}
+use Rattle.reading.specs.Depth.{comp, raiseLeft}
+use Rattle.reading.specs.Loops.{loopList, insert, ordered, unfinished, walk, walks, member}
+use Rattle.marked.specs.Rows.{Row, rows, rulesBy, pairsFrom, pairNumbers}
+
+pub marked : map (λ (row : Row). row .given) rows ≡ map (λ (row : Row). row .said) rows
+unfolding rows rulesBy pairsFrom pairNumbers toScaled halve fromBytes ligature comp raiseLeft loopList insert ordered unfinished walk walks member
+marked = refl

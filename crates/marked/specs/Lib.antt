@@ -1,0 +1,2 @@
+-- Rows is the table of marked readings.
+pub mod Rows

@@ -1,0 +1,120 @@
+-- The readings marked M of document 01, one row each: what the definitions give, as numbers, and what document 01 says. The theorem
+-- `marked` of proofs/Marked says that the two columns are equal.
+use mathlib.Core.Bool.{Bool, true, false, cond}
+use mathlib.Core.List.{List, [], _∷_}
+use Prim.Native.Nat.{ℕ, suc}
+use lib.IntN.{ℤ, pos, negsuc}
+use lib.Dec.{eqb}
+use Rattle.tfm.specs.declared.ToScaled.{ToScaled}
+use Rattle.tfm.specs.declared.ToScaled.the-variants.{Scaled, NegativeDesignSize, TooLarge}
+use Rattle.tfm.specs.Scaled.{refusal, toScaled}
+use Rattle.lang.specs.declared.operation.PostLigOperation.{PostLigOperation}
+use Rattle.lang.specs.declared.operation.PostLigOperation.the-variants.{RetainBothMoveNowhere, RetainBothMoveToInserted, RetainBothMoveToRight, RetainRightMoveToInserted, RetainRightMoveToRight, RetainLeftMoveNowhere, RetainLeftMoveToInserted, RetainNeitherMoveToInserted}
+use Rattle.lang.specs.declared.operation.Operation.{Operation}
+use Rattle.lang.specs.declared.operation.Operation.the-variants.{Kern, KernAtIndex, Ligature, EntrypointRedirect}
+use Rattle.lang.specs.Operations.{fromBytes}
+use Rattle.reading.specs.Items.{Left, bnd, chr, Rule, free, lig, Rules}
+use Rattle.reading.specs.Depth.{Pair}
+use Rattle.reading.specs.Loops.{Ruled, loopList}
+
+-- what the definitions give, and what document 01 says
+pub record Row : Type 0 where
+  pub given : List ℤ
+  pub said : List ℤ
+
+-- ---- answers as numbers
+
+-- the number of a refusal, or 0 and the value
+abbrev pub scaledNumbers : ToScaled → List ℤ
+scaledNumbers (Scaled v) = pos 0 ∷ v ∷ []
+scaledNumbers NegativeDesignSize = pos (refusal NegativeDesignSize) ∷ []
+scaledNumbers TooLarge = pos (refusal TooLarge) ∷ []
+
+-- the standard op byte of an operation
+abbrev pub opByte : PostLigOperation → ℕ
+opByte RetainNeitherMoveToInserted = 0
+opByte RetainRightMoveToInserted = 1
+opByte RetainLeftMoveNowhere = 2
+opByte RetainBothMoveNowhere = 3
+opByte RetainRightMoveToRight = 5
+opByte RetainLeftMoveToInserted = 6
+opByte RetainBothMoveToInserted = 7
+opByte RetainBothMoveToRight = 11
+
+abbrev pub invalidMark : Bool → ℤ
+invalidMark true = pos 1
+invalidMark false = pos 0
+
+-- a ligature: the standard op byte that it acts as, the inserted character, and 1 where it is marked invalid
+abbrev pub operationNumbers : Operation → List ℤ
+operationNumbers (Kern k) = k .0 ∷ []
+operationNumbers (KernAtIndex i) = pos i ∷ []
+operationNumbers (Ligature c p t) = pos (opByte p) ∷ pos (c .0) ∷ invalidMark t ∷ []
+operationNumbers (EntrypointRedirect t f) = pos t ∷ []
+
+abbrev pub leftNumber : Left → ℤ
+leftNumber bnd = negsuc 0
+leftNumber (chr c) = pos c
+
+unfoldable pub pairNumbers : List Pair → List ℤ
+pairNumbers [] = []
+pairNumbers (p ∷ ps) = leftNumber (p .left) ∷ pos (p .right) ∷ pairNumbers ps
+
+-- ---- fonts of a few rules
+
+pub record Entry : Type 0 where
+  pub left : ℕ
+  pub right : ℕ
+  pub rule : Rule
+
+-- the first entry for a pair of characters is its rule
+unfoldable pub rulesBy : List Entry → ℕ → ℕ → Rule
+rulesBy [] l r = free
+rulesBy (e ∷ es) l r = cond (eqb (e .left) l) (cond (eqb (e .right) r) (e .rule) (rulesBy es l r)) (rulesBy es l r)
+
+abbrev pub rules : List Entry → Rules
+rules es bnd r = free
+rules es (chr l) r = rulesBy es l r
+
+-- their pairs, with the entry's place as the rule's index
+unfoldable pub pairsFrom : ℕ → List Entry → List Ruled
+pairsFrom i [] = []
+pairsFrom i (e ∷ es) = record { pair = record { left = chr (e .left); right = e .right }; index = i } ∷ pairsFrom (suc i) es
+
+abbrev pub loopsOf : List Entry → List ℤ
+loopsOf es = pairNumbers (loopList (rules es) (pairsFrom 0 es))
+
+-- ---- the table
+
+unfoldable pub rows : List Row
+rows =
+    -- op 4: as 0, invalid
+    record { given = operationNumbers (fromBytes 4 97); said = pos 0 ∷ pos 97 ∷ pos 1 ∷ [] }
+    -- at 10,485,760: 131,072 gives 81,920; -131,072 gives -81,920; -1 gives -1
+    ∷ record { given = scaledNumbers (toScaled (pos 131072) (pos 10485760)); said = pos 0 ∷ pos 81920 ∷ [] }
+    ∷ record { given = scaledNumbers (toScaled (negsuc 131071) (pos 10485760)); said = pos 0 ∷ negsuc 81919 ∷ [] }
+    ∷ record { given = scaledNumbers (toScaled (negsuc 0) (pos 10485760)); said = pos 0 ∷ negsuc 0 ∷ [] }
+    -- 16,777,215 is scaled, to 10,485,759 (just below sixteen times the design size), and 16,777,216 is 13
+    ∷ record { given = scaledNumbers (toScaled (pos 16777215) (pos 10485760)); said = pos 0 ∷ pos 10485759 ∷ [] }
+    ∷ record { given = scaledNumbers (toScaled (pos 16777216) (pos 10485760)); said = pos 13 ∷ [] }
+    -- entry 65 to one instruction, right 66, op 3 inserting 66: loop (65, 66)
+    ∷ record { given = loopsOf (record { left = 65; right = 66; rule = lig RetainBothMoveNowhere 66 } ∷ []); said = pos 65 ∷ pos 66 ∷ [] }
+    -- TFtoPL 88, first example, after a character 97: (/LIG 120 121) and (/LIG 121 120) replace x by y and y by x
+    ∷ record {
+      given = loopsOf (record { left = 97; right = 120; rule = lig RetainLeftMoveNowhere 121 } ∷ record { left = 97; right = 121; rule = lig RetainLeftMoveNowhere 120 } ∷ []);
+      said = pos 97 ∷ pos 120 ∷ [];
+    }
+    -- TFtoPL 88, second example: (LIG/ 122 121) in the program of 120, and (LIG/ 122 120) in that of 121
+    ∷ record {
+      given = loopsOf (record { left = 120; right = 122; rule = lig RetainRightMoveToInserted 121 } ∷ record { left = 121; right = 122; rule = lig RetainRightMoveToInserted 120 } ∷ []);
+      said = pos 120 ∷ pos 122 ∷ [];
+    }
+    -- TFtoPL 88, third example: 120 has (/LIG/ 122 119)(/LIG/> 119 121), and 121 has (LIG 119 120)
+    ∷ record {
+      given =
+          loopsOf
+          (record { left = 120; right = 122; rule = lig RetainBothMoveNowhere 119 } ∷ record { left = 120; right = 119; rule = lig RetainBothMoveToInserted 121 }
+          ∷ record { left = 121; right = 119; rule = lig RetainNeitherMoveToInserted 120 } ∷ []);
+      said = pos 120 ∷ pos 122 ∷ [];
+    }
+    ∷ []

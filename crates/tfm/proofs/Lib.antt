@@ -1,0 +1,7 @@
+-- Halving: the loop of TeX 572. Products: the bounds of TeX 571. Differences: of two naturals, as an integer.
+-- TopByte: the answer by the top byte. Rounding: the nested divisions are one, rounded down.
+pub mod Halving
+pub mod Products
+pub mod Differences
+pub mod TopByte
+pub mod Rounding

@@ -1,0 +1,517 @@
+//! The driver: reads requests, calls the published functions, writes answers.
+
+use crate::ligkern::lang::{
+    Instruction, InvalidEntrypointError, Operation, PostLigOperation, Program, ReachableIterItem,
+    ValidationWarning,
+};
+use crate::ligkern::{oracle_table, CompiledProgram, RunOptions};
+use crate::{Char, FixWord};
+use common::font::TextItem;
+use std::collections::{HashMap, HashSet};
+use std::io::{BufRead, Write};
+use std::panic::{catch_unwind, AssertUnwindSafe};
+
+/// The numbers of one request. Every reading fails on a number out of range.
+struct Numbers {
+    list: Vec<i64>,
+    next: usize,
+}
+
+type Read<T> = Result<T, String>;
+
+impl Numbers {
+    fn int(&mut self, low: i64, high: i64) -> Read<i64> {
+        let n = *self.list.get(self.next).ok_or("the line is too short")?;
+        self.next += 1;
+        if n < low || n > high {
+            return Err(format!("number {}: {n} not in {low}..{high}", self.next));
+        }
+        Ok(n)
+    }
+    fn byte(&mut self) -> Read<u8> {
+        Ok(self.int(0, 255)? as u8)
+    }
+    fn half(&mut self) -> Read<u16> {
+        Ok(self.int(0, 65535)? as u16)
+    }
+    fn flag(&mut self) -> Read<bool> {
+        Ok(self.int(0, 1)? == 1)
+    }
+    fn word(&mut self) -> Read<FixWord> {
+        Ok(FixWord(self.int(i32::MIN as i64, i32::MAX as i64)? as i32))
+    }
+    fn optional_byte(&mut self) -> Read<Option<u8>> {
+        Ok(u8::try_from(self.int(-1, 255)?).ok())
+    }
+    fn optional_half(&mut self) -> Read<Option<u16>> {
+        Ok(u16::try_from(self.int(-1, 65535)?).ok())
+    }
+    fn many<T>(&mut self, mut one: impl FnMut(&mut Self) -> Read<T>) -> Read<Vec<T>> {
+        let n = self.int(0, 1 << 20)?;
+        (0..n).map(|_| one(self)).collect()
+    }
+    fn instruction(&mut self) -> Read<Instruction> {
+        let next_instruction = self.optional_byte()?;
+        let right_char = Char(self.byte()?);
+        let operation = match self.int(0, 3)? {
+            0 => Operation::Kern(self.word()?),
+            1 => Operation::KernAtIndex(self.half()?),
+            2 => {
+                let [op_byte, inserted] = (self.int(0, 128 * 256 - 1)? as u16).to_be_bytes();
+                Operation::lig_kern_operation_from_bytes(op_byte, inserted)
+            }
+            _ => {
+                let n = self.int(0, 131071)?;
+                Operation::EntrypointRedirect((n % 65536) as u16, n >= 65536)
+            }
+        };
+        Ok(Instruction {
+            next_instruction,
+            right_char,
+            operation,
+        })
+    }
+    fn font(&mut self) -> Read<Font> {
+        let instructions = self.many(Self::instruction)?;
+        let kerns = self.many(Self::word)?;
+        let entries = self.many(|n| Ok((Char(n.byte()?), n.half()?)))?;
+        let right_boundary_char = self.optional_byte()?.map(Char);
+        let left_boundary_char_entrypoint = self.optional_half()?;
+        Ok(Font {
+            program: Program {
+                instructions,
+                left_boundary_char_entrypoint,
+                right_boundary_char,
+                passthrough: HashSet::new(),
+            },
+            kerns,
+            entries,
+        })
+    }
+    fn passthrough(&mut self) -> Read<HashSet<u16>> {
+        Ok(self.many(Self::half)?.into_iter().collect())
+    }
+}
+
+struct Font {
+    program: Program,
+    kerns: Vec<FixWord>,
+    entries: Vec<(Char, u16)>,
+}
+
+impl Font {
+    fn map(&self) -> HashMap<Char, u16> {
+        self.entries.iter().copied().collect()
+    }
+    fn compile(&self, design: FixWord) -> (CompiledProgram, Vec<(Option<Char>, Char)>) {
+        let (compiled, loops) =
+            CompiledProgram::compile(&self.program, design, &self.kerns, self.map());
+        (compiled, loops.into_iter().map(|l| l.starting_pair).collect())
+    }
+}
+
+/// The standard byte of an operation (TeX section 545).
+fn standard_byte(operation: PostLigOperation) -> i64 {
+    match operation {
+        PostLigOperation::RetainNeitherMoveToInserted => 0,
+        PostLigOperation::RetainRightMoveToInserted => 1,
+        PostLigOperation::RetainLeftMoveNowhere => 2,
+        PostLigOperation::RetainBothMoveNowhere => 3,
+        PostLigOperation::RetainRightMoveToRight => 5,
+        PostLigOperation::RetainLeftMoveToInserted => 6,
+        PostLigOperation::RetainBothMoveToInserted => 7,
+        PostLigOperation::RetainBothMoveToRight => 11,
+    }
+}
+
+type Answer = Vec<i64>;
+
+fn put_instructions(out: &mut Answer, instructions: &[Instruction]) {
+    out.push(instructions.len() as i64);
+    for i in instructions {
+        out.push(i.next_instruction.map_or(-1, i64::from));
+        out.push(i.right_char.0 as i64);
+        let (kind, operand) = match i.operation {
+            Operation::Kern(kern) => (0, kern.0 as i64),
+            Operation::KernAtIndex(index) => (1, index as i64),
+            Operation::Ligature {
+                char_to_insert,
+                post_lig_operation,
+                post_lig_tag_invalid,
+            } => {
+                let byte = if post_lig_tag_invalid {
+                    4
+                } else {
+                    standard_byte(post_lig_operation)
+                };
+                (2, 256 * byte + char_to_insert.0 as i64)
+            }
+            Operation::EntrypointRedirect(u, flag) => (3, u as i64 + 65536 * flag as i64),
+        };
+        out.push(kind);
+        out.push(operand);
+    }
+}
+
+fn put_set(out: &mut Answer, set: &HashSet<u16>) {
+    let mut sorted: Vec<i64> = set.iter().map(|u| *u as i64).collect();
+    sorted.sort();
+    out.push(sorted.len() as i64);
+    out.extend(sorted);
+}
+
+fn put_pair(out: &mut Answer, pair: (Option<Char>, Char)) {
+    out.push(pair.0.map_or(-1, |c| c.0 as i64));
+    out.push(pair.1 .0 as i64);
+}
+
+fn put_pairs(out: &mut Answer, pairs: &[(Option<Char>, Char)]) {
+    out.push(pairs.len() as i64);
+    for pair in pairs {
+        put_pair(out, *pair);
+    }
+}
+
+fn warning(w: &ValidationWarning) -> [i64; 4] {
+    use ValidationWarning::*;
+    match w {
+        InvalidBoundaryCharEntrypoint => [1, 0, 0, 0],
+        InvalidEntrypoint(c) => [2, c.0 as i64, 0, 0],
+        SkipTooLarge(i) => [3, *i as i64, 0, 0],
+        LigatureStepForNonExistentCharacter {
+            instruction_index,
+            right_char,
+            new_right_char,
+        } => [
+            4,
+            *instruction_index as i64,
+            right_char.0 as i64,
+            new_right_char.0 as i64,
+        ],
+        KernStepForNonExistentCharacter {
+            instruction_index,
+            right_char,
+            new_right_char,
+        } => [
+            5,
+            *instruction_index as i64,
+            right_char.0 as i64,
+            new_right_char.0 as i64,
+        ],
+        LigatureStepProducesNonExistentCharacter {
+            instruction_index,
+            replacement_char,
+            new_replacement_char,
+        } => [
+            6,
+            *instruction_index as i64,
+            replacement_char.0 as i64,
+            new_replacement_char.0 as i64,
+        ],
+        KernIndexTooBig(i) => [7, *i as i64, 0, 0],
+        InvalidLigTag(i) => [8, *i as i64, 0, 0],
+        EntrypointRedirectTooBig(i) => [9, *i as i64, 0, 0],
+        InfiniteLoop(error) => {
+            let (left, right) = error.starting_pair;
+            [10, left.map_or(-1, |c| c.0 as i64), right.0 as i64, 0]
+        }
+    }
+}
+
+/// A request whose numbers have all been read. Calling it calls the published text.
+type Call = Box<dyn FnOnce() -> Answer>;
+
+fn read(letter: &str, n: &mut Numbers) -> Read<Call> {
+    Ok(match letter {
+        "S" => {
+            let (kern, design) = (n.word()?, n.word()?);
+            Box::new(move || vec![kern.to_scaled(design).0 as i64])
+        }
+        "O" => {
+            let (op_byte, remainder) = (n.byte()?, n.byte()?);
+            Box::new(move || {
+                match Operation::lig_kern_operation_from_bytes(op_byte, remainder) {
+                    Operation::KernAtIndex(index) => vec![1, index as i64],
+                    Operation::Ligature {
+                        char_to_insert,
+                        post_lig_operation,
+                        post_lig_tag_invalid,
+                    } => vec![
+                        2,
+                        standard_byte(post_lig_operation),
+                        char_to_insert.0 as i64,
+                        post_lig_tag_invalid as i64,
+                    ],
+                    other => unreachable!("{other:?}"),
+                }
+            })
+        }
+        "V" => {
+            let c = Char(n.byte()?);
+            Box::new(move || vec![c.is_seven_bit() as i64])
+        }
+        "I" => {
+            let entry = n.half()?;
+            let font = n.font()?;
+            Box::new(move || {
+                let indices: Answer = font
+                    .program
+                    .instructions_for_entrypoint(entry)
+                    .map(|(i, _)| i as i64)
+                    .collect();
+                let mut out = vec![indices.len() as i64];
+                out.extend(indices);
+                out
+            })
+        }
+        "K" => {
+            let mut font = n.font()?;
+            Box::new(move || {
+                let kerns = font.program.unpack_kerns();
+                let mut out = vec![kerns.len() as i64];
+                out.extend(kerns.iter().map(|k| k.0 as i64));
+                put_instructions(&mut out, &font.program.instructions);
+                out
+            })
+        }
+        "J" => {
+            let mut font = n.font()?;
+            Box::new(move || {
+                font.program.pack_kerns(&font.kerns);
+                let mut out = vec![];
+                put_instructions(&mut out, &font.program.instructions);
+                out
+            })
+        }
+        "U" => {
+            let entry = n.byte()?;
+            let passthrough = n.passthrough()?;
+            let mut font = n.font()?;
+            font.program.passthrough = passthrough;
+            Box::new(move || match font.program.unpack_entrypoint(entry) {
+                Ok(unpacked) => {
+                    let mut out = vec![0, unpacked as i64];
+                    put_set(&mut out, &font.program.passthrough);
+                    out
+                }
+                Err(InvalidEntrypointError::Direct { .. }) => vec![8],
+                Err(InvalidEntrypointError::Indirect { .. }) => vec![9],
+            })
+        }
+        "B" => {
+            let font = n.font()?;
+            Box::new(move || vec![font.program.is_seven_bit_safe(font.map()) as i64])
+        }
+        "R" => {
+            let passthrough = n.passthrough()?;
+            let mut font = n.font()?;
+            font.program.passthrough = passthrough;
+            Box::new(move || {
+                let mut out = vec![0];
+                for item in font.program.reachable_iter(font.entries.iter().copied()) {
+                    out[0] += 1;
+                    out.extend(match item {
+                        ReachableIterItem::Unreachable => [0, -1],
+                        ReachableIterItem::Reachable { adjusted_skip } => {
+                            [1, adjusted_skip.map_or(-1, i64::from)]
+                        }
+                        ReachableIterItem::Passthrough => [2, -1],
+                    });
+                }
+                out
+            })
+        }
+        "P" => {
+            let mut font = n.font()?;
+            Box::new(move || {
+                let packed = font.program.pack_entrypoints(font.map());
+                let mut out = vec![];
+                put_instructions(&mut out, &font.program.instructions);
+                out.push(font.entries.len() as i64);
+                for (c, _) in &font.entries {
+                    out.push(c.0 as i64);
+                    out.push(packed[c] as i64);
+                }
+                out.push(font.program.left_boundary_char_entrypoint.map_or(-1, i64::from));
+                out
+            })
+        }
+        "C" => {
+            let design = n.word()?;
+            let font = n.font()?;
+            Box::new(move || {
+                let (compiled, loops) = font.compile(design);
+                let rows = oracle_table::rows(&compiled);
+                let mut out = vec![rows.len() as i64];
+                for row in rows {
+                    put_pair(&mut out, row.pair);
+                    out.push(row.last.0 as i64);
+                    out.push(row.last_is_lig as i64);
+                    out.push(row.ops.len() as i64);
+                    for (kind, value) in row.ops {
+                        out.push(kind);
+                        out.push(value);
+                    }
+                }
+                put_pairs(&mut out, &loops);
+                out
+            })
+        }
+        "W" => {
+            let use_left_boundary = n.flag()?;
+            let right_boundary_override = n.optional_byte()?.map(char::from);
+            let word = n.many(Numbers::byte)?;
+            let design = n.word()?;
+            let font = n.font()?;
+            Box::new(move || {
+                let (compiled, _) = font.compile(design);
+                let mut iter = compiled.run_with_options(
+                    word.into_iter().map(char::from),
+                    RunOptions {
+                        disable_left_boundary: !use_left_boundary,
+                        right_boundary_override,
+                    },
+                );
+                let mut out = vec![0];
+                let mut flags = vec![];
+                let mut given = 0;
+                loop {
+                    flags.push(iter.is_separation_point() as i64);
+                    let Some(item) = iter.next() else { break };
+                    out[0] += 1;
+                    out.extend(match item {
+                        TextItem::Char(c) => {
+                            let start = given;
+                            given += 1;
+                            [0, c as i64, start, 1, 0, 0]
+                        }
+                        TextItem::Ligature {
+                            c,
+                            original,
+                            includes_left_boundary,
+                            includes_right_boundary,
+                        } => {
+                            let start = given;
+                            let length = original.chars().count() as i64;
+                            given += length;
+                            [
+                                1,
+                                c as i64,
+                                start,
+                                length,
+                                includes_left_boundary as i64,
+                                includes_right_boundary as i64,
+                            ]
+                        }
+                        TextItem::Kern(kern) => [2, kern.0 as i64, 0, 0, 0, 0],
+                    });
+                }
+                out.extend(flags);
+                out
+            })
+        }
+        "A" => {
+            let design = n.word()?;
+            let font = n.font()?;
+            Box::new(move || {
+                let (compiled, _) = font.compile(design);
+                let mut out = vec![];
+                put_pairs(&mut out, &compiled.all_pairs_with_replacements());
+                out.push(compiled.is_seven_bit_safe() as i64);
+                out
+            })
+        }
+        "X" => {
+            let smallest = Char(n.byte()?);
+            let mut existing = [0u64; 4];
+            for word in &mut existing {
+                // A number of 2^63 or more has been read as its value less 2^64.
+                *word = n.int(i64::MIN, i64::MAX)? as u64;
+            }
+            let passthrough = n.passthrough()?;
+            let mut font = n.font()?;
+            font.program.passthrough = passthrough;
+            let entries: Vec<(Char, u8)> = font
+                .entries
+                .iter()
+                .map(|(c, e)| u8::try_from(*e).map(|e| (*c, e)))
+                .collect::<Result<_, _>>()
+                .map_err(|_| "an entry of a request X is over 255")?;
+            Box::new(move || {
+                let warnings = font.program.validate_and_fix(
+                    smallest,
+                    entries.into_iter(),
+                    |c: Char| existing[c.0 as usize / 64] >> (c.0 % 64) & 1 == 1,
+                    &font.kerns,
+                );
+                let mut out = vec![warnings.len() as i64];
+                for w in &warnings {
+                    out.extend(warning(w));
+                }
+                put_instructions(&mut out, &font.program.instructions);
+                out.push(font.program.left_boundary_char_entrypoint.map_or(-1, i64::from));
+                put_set(&mut out, &font.program.passthrough);
+                out
+            })
+        }
+        _ => return Err("unknown request".into()),
+    })
+}
+
+fn parse(line: &str) -> Read<(&str, Call)> {
+    let mut words = line.split_ascii_whitespace();
+    let letter = words.next().ok_or("empty line")?;
+    let list = words
+        .map(|w| {
+            w.parse::<i64>()
+                .or_else(|_| w.parse::<u64>().map(|u| u as i64))
+                .map_err(|_| format!("not a number: {w}"))
+        })
+        .collect::<Read<Vec<i64>>>()?;
+    let mut numbers = Numbers { list, next: 0 };
+    let call = read(letter, &mut numbers)?;
+    if numbers.next != numbers.list.len() {
+        return Err("the line is too long".into());
+    }
+    Ok((letter, call))
+}
+
+/// Answers the requests on standard input; the exit status is returned.
+pub fn main() -> i32 {
+    std::panic::set_hook(Box::new(|_| {}));
+    let mut out = std::io::BufWriter::new(std::io::stdout().lock());
+    for (i, line) in std::io::stdin().lock().lines().enumerate() {
+        let line = match line {
+            Ok(line) => line,
+            Err(error) => {
+                eprintln!("oracle: line {}: {error}", i + 1);
+                return 2;
+            }
+        };
+        let (letter, call) = match parse(&line) {
+            Ok(request) => request,
+            Err(error) => {
+                let _ = out.flush();
+                eprintln!("oracle: line {}: {error}", i + 1);
+                return 2;
+            }
+        };
+        let mut text = letter.to_string();
+        match catch_unwind(AssertUnwindSafe(call)) {
+            Ok(numbers) => {
+                for number in numbers {
+                    text.push(' ');
+                    text.push_str(&number.to_string());
+                }
+            }
+            Err(_) => text.push_str(" panic"),
+        }
+        if writeln!(out, "{text}").is_err() {
+            return 2;
+        }
+    }
+    if out.flush().is_err() {
+        return 2;
+    }
+    0
+}

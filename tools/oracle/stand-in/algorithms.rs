@@ -1,0 +1,1 @@
+//! Stand-in for a module that the lig/kern text does not use.
