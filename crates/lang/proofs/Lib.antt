@@ -1,4 +1,15 @@
--- Table: a rule at every place of a table, by one computation. Arms: what the `_` of a `match` knows. Standard: the eight standard op bytes.
+-- Laws of general use:
+--   Table     a rule at every place of a table, by one computation
+--   Arms      what the `_` of a `match` on a number knows
+--   Standard  the eight standard op bytes
+--   Every     every index below a number passes a test
+--   Records   the numbers of an instruction
+--   Checks    refusals
+--   Tables    the table of 257 places
 pub mod Table
 pub mod Arms
 pub mod Standard
+pub mod Every
+pub mod Records
+pub mod Checks
+pub mod Tables
