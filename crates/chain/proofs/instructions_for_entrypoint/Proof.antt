@@ -1,4 +1,4 @@
--- `lang::chain::instructions_for_entrypoint` meets its contract: where the walk is refused the list is zeros, else the chain is written over them.
+-- `chain::instructions_for_entrypoint` meets its contract: where the walk is refused the list is zeros, else the chain is written over them.
 -- Assumes nothing.
 use mathlib.Core.Path.{_≡_, refl, sym, ap, _∙_}
 use mathlib.Core.Bool.{Bool, true, false}

@@ -1,4 +1,4 @@
--- `lang::chain::next_instruction` meets its contract: past the last instruction the walk ends, below 2 ^ 31 the word of next is the number skipped,
+-- `chain::next_instruction` meets its contract: past the last instruction the walk ends, below 2 ^ 31 the word of next is the number skipped,
 -- and from there on it is negative.
 -- Assumes nothing.
 use mathlib.Core.Path.{ap}

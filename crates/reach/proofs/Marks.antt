@@ -1,0 +1,287 @@
+-- Laws of the marks of instructions (specs/Reach), of refusals asked in a row, and of the answer of a function that fills a list.
+-- Assumes nothing.
+use mathlib.Core.Path.{_≡_, refl, sym, ap, _∙_}
+use mathlib.Core.Bool.{Bool, true, false, cond}
+use mathlib.Core.List.{List, _++_}
+use Prim.Native.Nat.{ℕ, zero, suc, _+_, _*_, _/_, _%_, _<_, _≤_}
+use native.Mathlib.Numerals.{add-one}
+use native.Mathlib.Omega.{arith}
+use lib.IntN.{ℤ, pos, negsuc}
+use lib.Dec.{leb, eqb}
+use lib.ListN.{length, getD, set, replicate, drop, length-set, length-replicate}
+use borrow.Author.Tests.{eq-eqb, ne-eqb, le-leb, lt-leb, lt-ltb, leb-true}
+use Rattle.words.specs.Words.{wordOf, numberOf}
+use Rattle.words.specs.Lists.{tabulate, Filling}
+use Rattle.words.proofs.Bits.{number-pos}
+use Rattle.words.proofs.Lists.{filling-more, length-tabulate, drop-replicate}
+use Rattle.lang.specs.declared.Written.the-variants.{Count, Refused}
+use Rattle.lang.specs.declared.instruction.NextInstruction.{NextInstruction}
+use Rattle.lang.specs.declared.instruction.NextInstruction.the-variants.{Stop, Skip}
+use Rattle.lang.specs.declared.instruction.Instruction.{Instruction}
+use Rattle.chain.specs.declared.Next.{Next}
+use Rattle.chain.specs.declared.Next.the-variants.{At, End}
+use Rattle.lang.specs.Records.{count, instructionAt}
+use Rattle.lang.specs.Checks.{orElse, unless, sizeRefusal, recordRefusal, programRefusal, entryAt}
+use Rattle.lang.specs.Every.{both}
+use Rattle.lang.specs.Answers.{answerOf, listOf, padded, roomRefusal}
+use Rattle.chain.specs.Chains.{Program, onward, stepAt}
+use Rattle.reach.specs.Reach.{entriesMarked, leftMarked, passed, marksAfter, marksFrom, adjustedSkip, stateOf, skipOf, reachNumber}
+
+-- ---- refusals in a row: the first that is not 0
+
+-- the refusal that was asked first holds, or it does not and the answer is that of the rest
+pub or-else-first : (r m n : ℕ) → r ≡ m → (r ≡ 0 → ⊥) → r ≡ orElse m n
+or-else-first r zero n e h = absurd (h e)
+or-else-first r (suc m) n e h = e
+
+pub or-else-next : (r m n x : ℕ) → r ≡ m → r ≡ 0 → x ≡ n → x ≡ orElse m n
+or-else-next r zero n x e z g = g
+or-else-next r (suc m) n x e z g = absurd (omega arith)
+
+-- where none holds: not the first, and none of the rest
+pub or-else-none : (m n : ℕ) → orElse m n ≡ 0 → m ≡ 0
+or-else-none zero n e = refl
+or-else-none (suc m) n e = e
+
+pub or-else-rest : (m n : ℕ) → orElse m n ≡ 0 → n ≡ 0
+or-else-rest zero n e = e
+or-else-rest (suc m) n e = absurd (omega arith)
+
+pub unless-passed : (n : ℕ) (t : Bool) → unless (suc n) t ≡ 0 → t ≡ true
+unless-passed n true e = refl
+unless-passed n false e = absurd (omega arith)
+
+both-second : (a b : Bool) → both a b ≡ true → b ≡ true
+both-second true b e = e
+both-second false b e = absurd (let z : _≡_ {A = ℕ} 0 1 = cc in omega arith)
+
+-- a program that is not refused has at most 32,767 instructions
+pub program-small : (s : List ℤ) → programRefusal s ≡ 0 → count s ≤ 32767
+program-small s e =
+    leb-true (count s) 32767
+    (both-second (eqb (length s % 4) 0) (leb (count s) 32767)
+    (unless-passed 0 (both (eqb (length s % 4) 0) (leb (count s) 32767)) (or-else-none (sizeRefusal s) (recordRefusal s) e)))
+
+pub room-holds : (needed room : ℕ) → needed ≤ room → 0 ≡ roomRefusal needed room
+room-holds needed room h = rw (le-leb needed room h)
+
+pub room-lacks : (needed room : ℕ) → room < needed → 15 ≡ roomRefusal needed room
+room-lacks needed room h = rw (lt-leb needed room h)
+
+pub room-enough : (needed room : ℕ) → roomRefusal needed room ≡ 0 → needed ≤ room
+room-enough needed room e = leb-true needed room (unless-passed 14 (leb needed room) e)
+
+-- ---- the answer by the refusal, and the list
+
+module _ (r R n : ℕ) (e : r ≡ R) where
+  pub refused-answer : (r ≡ 0 → ⊥) → Refused r ≡ answerOf R n
+  refused-answer h = go R e
+    where
+      go : (R : ℕ) → r ≡ R → Refused r ≡ answerOf R n
+      go zero e = absurd (h e)
+      go (suc R) e = ap Refused e
+
+  pub refused-list : {A : Type 0} (o : A) (d xs : List A) → (r ≡ 0 → ⊥) → d ≡ replicate n o → d ≡ listOf R o n xs
+  refused-list {A} o d xs h g = go R e
+    where
+      go : (R : ℕ) → r ≡ R → d ≡ listOf R o n xs
+      go zero e = absurd (h e)
+      go (suc R) e = g
+
+  pub taken-answer : r ≡ 0 → Count n ≡ answerOf R n
+  taken-answer z = ap (λ (x : ℕ). answerOf x n) (sym z ∙ e)
+
+  pub taken-list : {A : Type 0} (o : A) (d xs : List A) → r ≡ 0 → d ≡ padded o n xs → d ≡ listOf R o n xs
+  taken-list {A} o d xs z g = g ∙ ap (λ (x : ℕ). listOf x o n xs) (sym z ∙ e)
+
+pub tabulated-list : {A : Type 0} (k n : ℕ) (o : A) (f : ℕ → A) → tabulate k f ++ drop k (replicate n o) ≡ padded o n (tabulate k f)
+tabulated-list k n o f = rw (drop-replicate k n o, length-tabulate k f)
+
+-- ---- the entries are marked (TFtoPL 68)
+
+pub marked-none : (n : ℕ) (es : List ℤ) (m : List ℕ) → m ≡ replicate n 0 → m ≡ entriesMarked (length m) es 0
+unfolding entriesMarked
+marked-none n es m e = e ∙ ap (λ (k : ℕ). replicate k 0) (sym (ap length e ∙ length-replicate n 0))
+
+pub marked-more : (n : ℕ) (es : List ℤ) (k w : ℕ) (m m′ : List ℕ) → m ≡ entriesMarked n es k → w ≡ wordOf (entryAt es k) → m′ ≡ set m w 1 → m′ ≡ entriesMarked n es (k + 1)
+unfolding entriesMarked
+marked-more n es k w m m′ e f g = rw add-one (g ∙ rw (e, f))
+
+pub length-entries : (n : ℕ) (es : List ℤ) (k : ℕ) → length (entriesMarked n es k) ≡ n
+unfolding entriesMarked
+length-entries n es zero = length-replicate n 0
+length-entries n es (suc k) = length-set (entriesMarked n es k) (wordOf (entryAt es k)) 1 ∙ length-entries n es k
+
+pub marked-all : (n n′ : ℕ) (es : List ℤ) (k : ℕ) (m : List ℕ) → m ≡ entriesMarked n es k → n ≡ n′ → k ≤ length es / 2 → length es / 2 ≤ k → m ≡ entriesMarked n′ es (length es / 2)
+marked-all n n′ es k m e f h l =
+    let g : k ≡ length es / 2 = omega arith in
+    e ∙ rw (f, g)
+
+-- ---- the left boundary's entry (TFtoPL 69)
+
+pub left-last : (n w : ℕ) (left : ℤ) (m : List ℕ) → w ≡ wordOf left → w + 1 ≡ n → m ≡ leftMarked n left m
+left-last n w left m e h = rw (eq-eqb (wordOf left + 1) n (rw e at h))
+
+pub left-other : (n w : ℕ) (left : ℤ) (m m′ : List ℕ) → w ≡ wordOf left → (w + 1 ≡ n → ⊥) → m′ ≡ set m w 1 → m′ ≡ leftMarked n left m
+left-other n w left m m′ e h g = rw (ne-eqb (wordOf left + 1) n (rw e at h)) (g ∙ rw e)
+
+length-either : (t : Bool) (m : List ℕ) (i : ℕ) → length (cond t m (set m i 1)) ≡ length m
+length-either true m i = refl
+length-either false m i = length-set m i 1
+
+-- ---- the pass (TFtoPL 70)
+
+step-at : (n : ℕ) (program : Program) (i : ℕ) → i < n → stepAt n program i ≡ At i (onward n (program i .«next_instruction») i)
+step-at n program i h = rw (lt-ltb i n h)
+
+-- below the count a step is no end, and goes where the definition says
+pub step-ends : (n : ℕ) (program : Program) (i : ℕ) (r : Next) → i < n → r ≡ stepAt n program i → r ≡ End → ⊥
+step-ends n program i r h e g =
+    let z : _≡_ {A = ℕ} 0 1 = cc (step-at n program i h) in
+    omega arith
+
+pub step-onward : (n : ℕ) (program : Program) (i j on : ℕ) (r : Next) → i < n → r ≡ stepAt n program i → r ≡ At j on → on ≡ onward n (program i .«next_instruction») i
+step-onward n program i j on r h e g = cc (step-at n program i h)
+
+pub pass-bare : (s : List ℤ) (m : List ℕ) (i : ℕ) → getD m i 0 ≡ 0 → m ≡ passed s m i
+pass-bare s m i e = rw (eq-eqb (getD m i 0) 0 e)
+
+pub pass-marked : (s : List ℤ) (m m′ : List ℕ) (i on : ℕ) → (getD m i 0 ≡ 0 → ⊥) → on ≡ onward (count s) (instructionAt s i .«next_instruction») i → m′ ≡ set m on 1 → m′ ≡ passed s m i
+pass-marked s m m′ i on h e g = rw (ne-eqb (getD m i 0) 0 h) (g ∙ ap (λ (k : ℕ). set m k 1) e)
+
+module _ (s es : List ℤ) (left : ℤ) where
+  pub pass-none : (m₀ m₁ m₂ : List ℕ) → length m₀ ≡ count s → m₁ ≡ entriesMarked (length m₀) es (length es / 2) → m₂ ≡ leftMarked (length m₁) left m₁ → m₂ ≡ marksAfter s es left 0
+  unfolding marksAfter
+  pass-none m₀ m₁ m₂ l e g =
+      let a : m₁ ≡ entriesMarked (count s) es (length es / 2) = e ∙ ap (λ (n : ℕ). entriesMarked n es (length es / 2)) l in
+      let b : length m₁ ≡ count s = ap length a ∙ length-entries (count s) es (length es / 2) in
+      g ∙ ap (λ (n : ℕ). leftMarked n left m₁) b ∙ ap (λ (m : List ℕ). leftMarked (count s) left m) a
+
+  pub pass-more : (i : ℕ) (m m′ : List ℕ) → m ≡ marksAfter s es left i → m′ ≡ passed s m i → m′ ≡ marksAfter s es left (i + 1)
+  unfolding marksAfter
+  pass-more i m m′ e g = rw add-one (g ∙ rw e)
+
+  pub length-marks : (i : ℕ) → length (marksAfter s es left i) ≡ count s
+  unfolding marksAfter
+  length-marks zero =
+      length-either (eqb (wordOf left + 1) (count s)) (entriesMarked (count s) es (length es / 2)) (wordOf left)
+      ∙ length-entries (count s) es (length es / 2)
+  length-marks (suc i) =
+      length-either (eqb (getD (marksAfter s es left i) i 0) 0) (marksAfter s es left i) (onward (count s) (instructionAt s i .«next_instruction») i)
+      ∙ length-marks i
+
+-- ---- the adjusted skip (TFtoPL 75)
+
+pub counted-none : (m : List ℕ) (i : ℕ) → 0 ≡ marksFrom m i 0
+unfolding marksFrom
+counted-none m i = refl
+
+pub counted-marked : (m : List ℕ) (i j f : ℕ) → f ≡ marksFrom m i j → (getD m (i + j) 0 ≡ 0 → ⊥) → f + 1 ≡ marksFrom m i (j + 1)
+unfolding marksFrom
+counted-marked m i j f e h = rw (add-one j, ne-eqb (getD m (i + j) 0) 0 h, e)
+
+pub counted-bare : (m : List ℕ) (i j f : ℕ) → f ≡ marksFrom m i j → getD m (i + j) 0 ≡ 0 → f ≡ marksFrom m i (j + 1)
+unfolding marksFrom
+counted-bare m i j f e h = rw (add-one j, eq-eqb (getD m (i + j) 0) 0 h) (omega arith)
+
+pub counted-few : (m : List ℕ) (i k : ℕ) → marksFrom m i k ≤ k
+unfolding marksFrom
+counted-few m i zero = omega arith
+counted-few m i (suc k) = go (eqb (getD m (i + k) 0) 0) (counted-few m i k)
+  where
+    go : (t : Bool) → marksFrom m i k ≤ k → marksFrom m i k + cond t 0 1 ≤ suc k
+    go true h = omega arith
+    go false h = omega arith
+
+module _ (n : ℕ) (m : List ℕ) where
+  pub skip-stops : (next : NextInstruction) (i : ℕ) → next ≡ Stop → negsuc 0 ≡ adjustedSkip n m next i
+  skip-stops next i e = sym (ap (λ (x : NextInstruction). adjustedSkip n m x i) e)
+
+  pub skip-nothing : (next : NextInstruction) (k i : ℕ) → next ≡ Skip k → k ≡ 0 → negsuc 0 ≡ adjustedSkip n m next i
+  skip-nothing next k i e z = sym (ap (λ (x : NextInstruction). adjustedSkip n m x i) (e ∙ ap Skip z))
+
+  pub skip-past : (next : NextInstruction) (k i : ℕ) → next ≡ Skip k → n < i + 1 + k → negsuc 0 ≡ adjustedSkip n m next i
+  skip-past next k i e h = go k h ∙ sym (ap (λ (x : NextInstruction). adjustedSkip n m x i) e)
+    where
+      go : (k : ℕ) → n < i + 1 + k → negsuc 0 ≡ adjustedSkip n m (Skip k) i
+      go zero h = refl
+      go (suc k) h = rw (lt-leb (i + 1 + suc k) n h)
+
+  pub skip-counted : (next : NextInstruction) (k i r : ℕ) → next ≡ Skip k → (k ≡ 0 → ⊥) → k < 256 → i + 1 + k ≤ n → r ≡ marksFrom m (i + 1) k → numberOf r ≡ adjustedSkip n m next i
+  skip-counted next k i r e z l h c = go k z l h c ∙ sym (ap (λ (x : NextInstruction). adjustedSkip n m x i) e)
+    where
+      go : (k : ℕ) → (k ≡ 0 → ⊥) → k < 256 → i + 1 + k ≤ n → r ≡ marksFrom m (i + 1) k → numberOf r ≡ adjustedSkip n m (Skip k) i
+      go zero z l h c = absurd (z refl)
+      go (suc k) z l h c =
+          rw (le-leb (i + 1 + suc k) n h)
+          (number-pos r (omega (arith, counted-few m (i + 1) (suc k))) ∙ ap pos c)
+
+-- of an instruction that is not marked, and of one that is
+pub skip-bare : (s : List ℤ) (m : List ℕ) (i : ℕ) → getD m i 0 ≡ 0 → negsuc 0 ≡ skipOf s m i
+skip-bare s m i e = rw (eq-eqb (getD m i 0) 0 e)
+
+pub skip-marked : (s : List ℤ) (m : List ℕ) (i v : ℕ) (x : Instruction) → (getD m i 0 ≡ 0 → ⊥) → length m ≡ count s → x ≡ instructionAt s i → numberOf v ≡ adjustedSkip (length m) m (x .«next_instruction») i → numberOf v ≡ skipOf s m i
+skip-marked s m i v x h l e g =
+    rw (ne-eqb (getD m i 0) 0 h)
+    (g
+    ∙ ap (λ (n : ℕ). adjustedSkip n m (x .«next_instruction») i) l
+    ∙ ap (λ (y : Instruction). adjustedSkip (count s) m (y .«next_instruction») i) e)
+
+-- ---- the state
+
+pub state-marked : (m p : List ℕ) (i : ℕ) → (getD m i 0 ≡ 0 → ⊥) → 1 ≡ stateOf m p i
+state-marked m p i h = rw (ne-eqb (getD m i 0) 0 h)
+
+pub state-through : (m p : List ℕ) (i : ℕ) → getD m i 0 ≡ 0 → (getD p i 0 ≡ 0 → ⊥) → 2 ≡ stateOf m p i
+state-through m p i e h = rw (eq-eqb (getD m i 0) 0 e, ne-eqb (getD p i 0) 0 h)
+
+pub state-bare : (m p : List ℕ) (i : ℕ) → getD m i 0 ≡ 0 → getD p i 0 ≡ 0 → 0 ≡ stateOf m p i
+state-bare m p i e h = rw (eq-eqb (getD m i 0) 0 e, eq-eqb (getD p i 0) 0 h)
+
+-- ---- the numbers of the answer
+
+-- a store at the end of what is filled, of the number that belongs there
+pub filling-put : {A : Type 0} (f : ℕ → A) (d₀ d d′ : List A) (j k : ℕ) (v : A) → Filling f d₀ d j → j < length d → d′ ≡ set d j v → v ≡ f j → k ≡ j + 1 → Filling f d₀ d′ k
+filling-put f d₀ d d′ j k v h l e g q = rw (e, g, q) (filling-more f d₀ h l)
+
+pub state-small : (m p : List ℕ) (i : ℕ) → stateOf m p i ≤ 2
+state-small m p i = go (eqb (getD m i 0) 0) (eqb (getD p i 0) 0)
+  where
+    go : (t u : Bool) → cond t (cond u 0 2) 1 ≤ 2
+    go true true = omega arith
+    go true false = omega arith
+    go false u = omega arith
+
+module _ {A : Type 0} (a b : ℕ → A) (i : ℕ) where
+  number-even : cond (eqb (2 * i % 2) 0) (a (2 * i / 2)) (b (2 * i / 2)) ≡ a i
+  number-even =
+      let r : 2 * i % 2 ≡ 0 = omega arith in
+      let q : 2 * i / 2 ≡ i = omega arith in
+      rw (r, q)
+
+  number-odd : cond (eqb ((2 * i + 1) % 2) 0) (a ((2 * i + 1) / 2)) (b ((2 * i + 1) / 2)) ≡ b i
+  number-odd =
+      let r : (2 * i + 1) % 2 ≡ 1 = omega arith in
+      let q : (2 * i + 1) / 2 ≡ i = omega arith in
+      rw (r, q)
+
+module _ (s : List ℤ) (m p : List ℕ) where
+  state-number : (i w : ℕ) → w ≡ stateOf m p i → numberOf w ≡ reachNumber s m p (2 * i)
+  state-number i w e =
+      number-pos w (omega (arith, e, state-small m p i))
+      ∙ ap pos e
+      ∙ sym (number-even (λ (k : ℕ). pos (stateOf m p k)) (λ (k : ℕ). skipOf s m k) i)
+
+  skip-number : (i v : ℕ) → numberOf v ≡ skipOf s m i → numberOf v ≡ reachNumber s m p (2 * i + 1)
+  skip-number i v e = e ∙ sym (number-odd (λ (k : ℕ). pos (stateOf m p k)) (λ (k : ℕ). skipOf s m k) i)
+
+  -- two more numbers are written
+  pub written-more : (d₀ d d₁ d₂ : List ℤ) (i w v : ℕ) → Filling (reachNumber s m p) d₀ d (2 * i) → 2 * i + 1 < length d → w ≡ stateOf m p i → numberOf v ≡ skipOf s m i → d₁ ≡ set d (2 * i) (numberOf w) → d₂ ≡ set d₁ (2 * i + 1) (numberOf v) → Filling (reachNumber s m p) d₀ d₂ (2 * (i + 1))
+  written-more d₀ d d₁ d₂ i w v h l e f g k =
+      let n : length d₁ ≡ length d = ap length g ∙ length-set d (2 * i) (numberOf w) in
+      filling-put (reachNumber s m p) d₀ d₁ d₂ (2 * i + 1) (2 * (i + 1)) (numberOf v)
+      (filling-put (reachNumber s m p) d₀ d d₁ (2 * i) (2 * i + 1) (numberOf w) h (omega arith) g (state-number i w e) refl)
+      (omega arith)
+      k
+      (skip-number i v f)
+      (omega arith)

@@ -1,0 +1,80 @@
+-- Reach: which instructions a font's entries lead to, after `reachable_array` and `reachable_iter` of ligkern/lang.rs. TFtoPL 66 to 70 compute
+-- the activity of each step, and TFtoPL 75 counts skips over reachable steps alone.
+use mathlib.Core.Path.{_≡_}
+use mathlib.Core.Bool.{Bool, true, false, cond}
+use mathlib.Core.List.{List, [], _∷_}
+use Prim.Native.Nat.{ℕ, zero, suc, _+_, _*_, _/_, _%_}
+use lib.IntN.{ℤ, pos, negsuc}
+use lib.Dec.{leb, ltb, eqb}
+use lib.ListN.{length, getD, set, replicate}
+use Rattle.words.specs.Words.{wordOf}
+use Rattle.words.specs.Lists.{tabulate}
+use Rattle.lang.specs.declared.Written.{Written}
+use Rattle.lang.specs.declared.instruction.NextInstruction.{NextInstruction}
+use Rattle.lang.specs.declared.instruction.NextInstruction.the-variants.{Stop, Skip}
+use Rattle.lang.specs.Records.{count, field, instructionAt}
+use Rattle.lang.specs.Checks.{programRefusal, entriesRefusal, absentRefusal, passthroughRefusal, orElse, entryAt}
+use Rattle.lang.specs.Answers.{roomRefusal, answerOf, listOf}
+use Rattle.chain.specs.Chains.{onward}
+
+-- a mark at a place; past the end there is none to set
+abbrev pub mark : List ℕ → ℕ → List ℕ
+mark marks i = set marks i 1
+
+-- TFtoPL 68: the first k entries are marked, of n instructions
+unfoldable pub entriesMarked : ℕ → List ℤ → ℕ → List ℕ
+entriesMarked n es zero = replicate n 0
+entriesMarked n es (suc k) = mark (entriesMarked n es k) (wordOf (entryAt es k))
+
+-- TFtoPL 69: the left boundary's entry is marked too, unless it is the last instruction, which the Rust leaves out
+abbrev pub leftMarked : ℕ → ℤ → List ℕ → List ℕ
+leftMarked n left marks = cond (eqb (wordOf left + 1) n) marks (mark marks (wordOf left))
+
+-- TFtoPL 70, of instruction i: where it is marked, so is the one it goes on to
+abbrev pub passed : List ℤ → List ℕ → ℕ → List ℕ
+passed s marks i =
+    cond (eqb (getD marks i 0) 0) marks (mark marks (onward (count s) (instructionAt s i .«next_instruction») i))
+
+-- of the first k instructions, in order
+unfoldable pub marksAfter : List ℤ → List ℤ → ℤ → ℕ → List ℕ
+marksAfter s es left zero = leftMarked (count s) left (entriesMarked (count s) es (length es / 2))
+marksAfter s es left (suc k) = passed s (marksAfter s es left k) k
+
+-- 1 for each instruction that is reachable, 0 for each that is not
+abbrev pub reachable : List ℤ → List ℤ → ℤ → List ℕ
+reachable s es left = marksAfter s es left (count s)
+
+-- how many of the k places from i on are marked
+unfoldable pub marksFrom : List ℕ → ℕ → ℕ → ℕ
+marksFrom marks i zero = 0
+marksFrom marks i (suc k) = marksFrom marks i k + cond (eqb (getD marks (i + k) 0) 0) 0 1
+
+-- TFtoPL 75: the skip of instruction i counted over reachable ones. None (-1) where nothing is skipped, or where the skip passes the end.
+abbrev pub adjustedSkip : ℕ → List ℕ → NextInstruction → ℕ → ℤ
+adjustedSkip n marks Stop i = negsuc 0
+adjustedSkip n marks (Skip zero) i = negsuc 0
+adjustedSkip n marks (Skip (suc k)) i = cond (leb (i + 1 + suc k) n) (pos (marksFrom marks (i + 1) (suc k))) (negsuc 0)
+
+-- 0 unreachable, 1 reachable, 2 passthrough
+abbrev pub stateOf : List ℕ → List ℕ → ℕ → ℕ
+stateOf marks p i = cond (eqb (getD marks i 0) 0) (cond (eqb (getD p i 0) 0) 0 2) 1
+
+abbrev pub skipOf : List ℤ → List ℕ → ℕ → ℤ
+skipOf s marks i = cond (eqb (getD marks i 0) 0) (negsuc 0) (adjustedSkip (count s) marks (instructionAt s i .«next_instruction») i)
+
+-- number j of the answer: two numbers an instruction, its state and its adjusted skip
+abbrev pub reachNumber : List ℤ → List ℕ → List ℕ → ℕ → ℤ
+reachNumber s marks p j = cond (eqb (j % 2) 0) (pos (stateOf marks p (j / 2))) (skipOf s marks (j / 2))
+
+abbrev pub reachList : List ℤ → List ℤ → ℤ → List ℕ → List ℤ
+reachList s es left p = tabulate (2 * count s) (reachNumber s (reachable s es left) p)
+
+abbrev pub reachRefusal : List ℤ → List ℤ → ℤ → List ℕ → ℕ → ℕ
+reachRefusal s es left p room =
+    orElse (programRefusal s)
+    (orElse (entriesRefusal 65535 es) (orElse (absentRefusal 65535 left) (orElse (passthroughRefusal p s) (roomRefusal (2 * count s) room))))
+
+-- the contract of reachable_iter
+pub record Reaches (s es : List ℤ) (left : ℤ) (p : List ℕ) (out : List ℤ) (r : Written) (out′ : List ℤ) : Type 0 where
+  pub answer : r ≡ answerOf (reachRefusal s es left p (length out)) (count s)
+  pub list : out′ ≡ listOf (reachRefusal s es left p (length out)) (pos 0) (length out) (reachList s es left p)

@@ -1,0 +1,213 @@
+// Reach: which instructions a font's entries lead to, after `reachable_iter` and `reachable_array` of ligkern/lang.rs (lines 642 to 648, 796 to 831,
+// 945 to 1001). The marks are a byte an instruction, 1 where it is reached, in a local array of as many as a program can have.
+ghost use mathlib.Core.Path.{_≡_};
+ghost use mathlib.Core.List.{_++_};
+ghost use Prim.Native.Nat.{_+_, _*_, _/_, _<_, _≤_};
+ghost use lib.ListN.{length, drop};
+ghost use Rattle.words.specs.Words.{numberOf};
+ghost use Rattle.words.specs.Lists.{tabulate};
+ghost use Rattle.lang.specs.Records.{count};
+ghost use Rattle.lang.specs.Answers.{roomRefusal};
+ghost use Rattle.reach.specs.Reach.{entriesMarked, leftMarked, passed, reachable, marksFrom, adjustedSkip, stateOf, skipOf, reachNumber, reachRefusal, Reaches};
+use chain::Next;
+use chain::next_instruction;
+use lang::Written;
+use lang::check::absent_refusal;
+use lang::check::entries_refusal;
+use lang::check::passthrough_refusal;
+use lang::check::program_refusal;
+use lang::instruction::NextInstruction;
+use lang::instruction::instruction_at;
+
+// The bits of -1: no skip.
+const NONE: u32 = 4294967295;
+
+// 15: the answer needs more places than the output has.
+fn room_refusal(needed: usize, room: usize) -> u32
+    ensures { λ r. ⌜ r ≡ roomRefusal needed room ⌝ }
+{
+    if needed <= room { 0 } else { 15 }
+}
+
+// The first refusal that holds, 0 where none does; `room` is the output's length.
+fn reach_refusal(
+    instructions: &[i32],
+    entries: &[i32],
+    left_entry: i32,
+    passthrough: &[u8],
+    room: usize,
+) -> u32
+    ensures { λ r. ⌜ r ≡ reachRefusal (now (instructions .entry)) (now (entries .entry)) «left_entry» (now (passthrough .entry)) room ⌝ }
+{
+    let program = program_refusal(instructions);
+    if program != 0 {
+        return program;
+    }
+    let entered = entries_refusal(65535, entries);
+    if entered != 0 {
+        return entered;
+    }
+    let left = absent_refusal(65535, left_entry);
+    if left != 0 {
+        return left;
+    }
+    let through = passthrough_refusal(passthrough, instructions);
+    if through != 0 {
+        return through;
+    }
+    room_refusal(2 * (instructions.len() / 4), room)
+}
+
+// TFtoPL 68: no place is marked, then the entries are.
+fn mark_entries(entries: &[i32], marks: &mut [u8])
+    ensures { λ _. ⌜ now (marks .exit) ≡ entriesMarked (length (now (marks .entry))) (now (entries .entry)) (length (now (entries .entry)) / 2) ⌝ }
+{
+    words::zero::zero_u8(marks);
+    let mut k = 0;
+    while k < entries.len() / 2 {
+        let entry = words::word_at(entries, 2 * k + 1) as usize;
+        words::put_u8(marks, entry, 1);
+        k += 1;
+    }
+}
+
+// TFtoPL 69: the left boundary's entry is marked, unless it is the last instruction.
+fn mark_left(left_entry: i32, marks: &mut [u8])
+    ensures { λ _. ⌜ now (marks .exit) ≡ leftMarked (length (now (marks .entry))) «left_entry» (now (marks .entry)) ⌝ }
+{
+    let entry = words::word_of(left_entry) as usize;
+    if entry + 1 != marks.len() {
+        words::put_u8(marks, entry, 1);
+    }
+}
+
+// TFtoPL 70, of instruction i: where it is marked, so is the one it goes on to.
+fn mark_onward(instructions: &[i32], i: usize, marks: &mut [u8])
+    requires { ⌜ i < count (now instructions) ⌝ }
+    ensures { λ _. ⌜ now (marks .exit) ≡ passed (now (instructions .entry)) (now (marks .entry)) i ⌝ }
+{
+    if words::u8_at(marks, i) == 0 {
+        return;
+    }
+    let Next::At(_, on) = next_instruction(instructions, i) else {
+        return;
+    };
+    words::put_u8(marks, on, 1);
+}
+
+// The instructions that the entries lead to, in one pass: a chain only goes forward.
+fn mark_reached(instructions: &[i32], entries: &[i32], left_entry: i32, marks: &mut [u8])
+    requires { ⌜ length (now marks) ≡ count (now instructions) ⌝ }
+    ensures { λ _. ⌜ now (marks .exit) ≡ reachable (now (instructions .entry)) (now (entries .entry)) «left_entry» ⌝ }
+{
+    mark_entries(entries, marks);
+    mark_left(left_entry, marks);
+    let mut i = 0;
+    while i < instructions.len() / 4 {
+        mark_onward(instructions, i, marks);
+        i += 1;
+    }
+}
+
+// How many of the k places from i on are marked.
+fn marks_from(marks: &[u8], i: usize, k: u8) -> u32
+    requires { ⌜ i + k ≤ length (now marks) ⌝ }
+    ensures { λ r. ⌜ r ≡ marksFrom (now (marks .entry)) i k ⌝ }
+{
+    let mut found = 0;
+    let mut j = 0;
+    while j < (k as usize) {
+        if marks[i + j] != 0 {
+            found += 1;
+        }
+        j += 1;
+    }
+    found
+}
+
+// TFtoPL 75: the skip of instruction i counted over marked ones, as its bits.
+fn adjusted_skip(marks: &[u8], next: NextInstruction, i: usize) -> u32
+    requires { ⌜ i < length (now marks) ⌝ }
+    ensures { λ r. ⌜ numberOf r ≡ adjustedSkip (length (now (marks .entry))) (now (marks .entry)) next i ⌝ }
+{
+    match next {
+        NextInstruction::Stop => NONE,
+        NextInstruction::Skip(k) => {
+            if k == 0 {
+                return NONE;
+            }
+            if i + 1 + (k as usize) <= marks.len() {
+                return marks_from(marks, i + 1, k);
+            }
+            NONE
+        }
+    }
+}
+
+// 0 unreachable, 1 reachable, 2 passthrough.
+fn state_of(marks: &[u8], passthrough: &[u8], i: usize) -> u32
+    ensures { λ r. ⌜ r ≡ stateOf (now (marks .entry)) (now (passthrough .entry)) i ⌝ }
+{
+    if words::u8_at(marks, i) != 0 {
+        return 1;
+    }
+    if words::u8_at(passthrough, i) != 0 {
+        return 2;
+    }
+    0
+}
+
+// The adjusted skip of instruction i where it is marked, as its bits.
+fn skip_of(instructions: &[i32], marks: &[u8], i: usize) -> u32
+    requires { ⌜ (length (now marks) ≡ count (now instructions)) × (i < length (now marks)) ⌝ }
+    ensures { λ r. ⌜ numberOf r ≡ skipOf (now (instructions .entry)) (now (marks .entry)) i ⌝ }
+{
+    if words::u8_at(marks, i) == 0 {
+        return NONE;
+    }
+    let instruction = instruction_at(instructions, i);
+    let next = instruction.next_instruction;
+    adjusted_skip(marks, next, i)
+}
+
+// Two numbers an instruction, at the front of the output.
+fn write_reach(instructions: &[i32], marks: &[u8], passthrough: &[u8], out: &mut [i32])
+    requires { ⌜ (length (now marks) ≡ count (now instructions)) × (2 * count (now instructions) ≤ length (now out)) ⌝ }
+    ensures { λ _. ⌜ now (out .exit) ≡ tabulate (2 * count (now (instructions .entry))) (reachNumber (now (instructions .entry)) (now (marks .entry)) (now (passthrough .entry))) ++ drop (2 * count (now (instructions .entry))) (now (out .entry)) ⌝ }
+{
+    let mut i = 0;
+    while i < marks.len() {
+        words::put_word(out, 2 * i, state_of(marks, passthrough, i));
+        words::put_word(out, 2 * i + 1, skip_of(instructions, marks, i));
+        i += 1;
+    }
+}
+
+// A place for each instruction that a program can have.
+fn places() -> [u8; 32767]
+    ensures { λ r. ⌜ length r ≡ 32767 ⌝ }
+{
+    [0u8; 32767]
+}
+
+// Two numbers an instruction: its state (0 unreachable, 1 reachable, 2 passthrough) and its adjusted skip or -1. Answers the count of instructions.
+pub fn reachable_iter(
+    instructions: &[i32],
+    entries: &[i32],
+    left_entry: i32,
+    passthrough: &[u8],
+    out: &mut [i32],
+) -> Written
+    ensures { λ r. ⌜ Reaches (now (instructions .entry)) (now (entries .entry)) «left_entry» (now (passthrough .entry)) (now (out .entry)) r (now (out .exit)) ⌝ }
+{
+    words::zero::zero_i32(out);
+    let refusal = reach_refusal(instructions, entries, left_entry, passthrough, out.len());
+    if refusal != 0 {
+        return Written::Refused(refusal);
+    }
+    let n = instructions.len() / 4;
+    let mut marks = places();
+    mark_reached(instructions, entries, left_entry, &mut marks[..n]);
+    write_reach(instructions, &marks[..n], passthrough, out);
+    Written::Count(n)
+}

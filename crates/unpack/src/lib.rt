@@ -1,0 +1,211 @@
+// The entry of a character from the packed one, after `unpack_entrypoint` (ligkern/lang.rs lines 533 to 553); the program's seven-bit test, after
+// `is_seven_bit_safe` (lines 664 to 675).
+ghost use mathlib.Core.Path.{_≡_};
+ghost use mathlib.Core.List.{_++_};
+ghost use Prim.Native.Nat.{_<_, _≤_, _/_};
+ghost use lib.ListN.{length, drop};
+ghost use Rattle.lang.specs.Checks.{programRefusal, rangeRefusal, passthroughRefusal, orElse};
+ghost use Rattle.chain.specs.Chains.{chainOf};
+ghost use Rattle.lang.specs.Records.{isKind};
+ghost use Rattle.unpack.specs.Unpacking.{unpacks, unpackEntry, passes, passthroughAfter, UnpacksEntry, insertsSevenBit, allSevenBit, entrySafe, isSevenBitSafe, sevenBit};
+use chain::Next;
+use chain::next_instruction;
+use lang::check::entries_refusal;
+use lang::check::passthrough_refusal;
+use lang::check::program_refusal;
+use lang::check::range_refusal;
+use lang::instruction::field_at;
+
+// What unpacking an entry answers.
+pub enum Unpacked {
+    Entry(usize),
+    // The entry is past the instructions.
+    Direct,
+    // The entry is at a redirect whose target is past them.
+    Indirect,
+    // Another refusal, by its number.
+    Unfit(u32),
+}
+
+// What the seven-bit test answers.
+pub enum SevenBit {
+    Safe(bool),
+    Unfit(u32),
+}
+
+// The instruction at index i is a redirect.
+fn is_redirect(instructions: &[i32], i: usize) -> bool
+    ensures { λ r. ⌜ r ≡ isKind 3 (now (instructions .entry)) i ⌝ }
+{
+    field_at(instructions, i, 2) == 3
+}
+
+// What an entry stands for: itself, or a redirect's target.
+fn stands_for(instructions: &[i32], entry: usize) -> Unpacked
+    ensures { λ r. ⌜ r ≡ unpacks (now (instructions .entry)) entry ⌝ }
+{
+    let n = instructions.len() / 4;
+    if n <= entry {
+        return Unpacked::Direct;
+    }
+    if !is_redirect(instructions, entry) {
+        return Unpacked::Entry(entry);
+    }
+    let target = (field_at(instructions, entry, 3) % 65536) as usize;
+    if target < n {
+        Unpacked::Entry(target)
+    } else {
+        Unpacked::Indirect
+    }
+}
+
+// 1 and 2 of the program, 4 of the entry and of passthrough; 0 where all are taken.
+fn refusal(instructions: &[i32], entry: i32, passthrough: &[u8]) -> u32
+    ensures { λ r. ⌜ r ≡ orElse (programRefusal (now (instructions .entry))) (orElse (rangeRefusal 255 entry) (passthroughRefusal (now (passthrough .entry)) (now (instructions .entry)))) ⌝ }
+{
+    let program = program_refusal(instructions);
+    if program != 0 {
+        return program;
+    }
+    let range = range_refusal(255, entry);
+    if range != 0 {
+        return range;
+    }
+    passthrough_refusal(passthrough, instructions)
+}
+
+// The whole answer, before anything is written: `room` is the length of the list that is to be.
+fn answer(instructions: &[i32], entry: i32, passthrough: &[u8], room: usize) -> Unpacked
+    ensures { λ r. ⌜ r ≡ unpackEntry (now (instructions .entry)) entry (now (passthrough .entry)) room ⌝ }
+{
+    let refused = refusal(instructions, entry, passthrough);
+    if refused != 0 {
+        return Unpacked::Unfit(refused);
+    }
+    let place = words::word_of(entry) as usize;
+    let found = stands_for(instructions, place);
+    let Unpacked::Entry(_) = found else {
+        return found;
+    };
+    if passthrough.len() <= room {
+        found
+    } else {
+        Unpacked::Unfit(15)
+    }
+}
+
+// Passthrough at i afterwards, as 0 and 1.
+fn passed(instructions: &[i32], entry: usize, passthrough: &[u8], i: usize) -> u8
+    ensures { λ r. ⌜ r ≡ passes (now (instructions .entry)) entry (now (passthrough .entry)) i ⌝ }
+{
+    if i == entry {
+        if is_redirect(instructions, entry) {
+            return 1;
+        }
+    }
+    if words::u8_at(passthrough, i) == 0 {
+        0
+    } else {
+        1
+    }
+}
+
+// Passthrough afterwards, at the front of a list that has room for it.
+fn pass(instructions: &[i32], entry: usize, passthrough: &[u8], out: &mut [u8])
+    requires { ⌜ length (now passthrough) ≤ length (now out) ⌝ }
+    ensures { λ _. ⌜ now (out .exit) ≡ passthroughAfter (now (instructions .entry)) entry (now (passthrough .entry)) ++ drop (length (now (passthrough .entry))) (now (out .entry)) ⌝ }
+{
+    let mut i = 0;
+    while i < passthrough.len() {
+        out[i] = passed(instructions, entry, passthrough, i);
+        i += 1;
+    }
+}
+
+// The entry that a packed entry stands for. Passthrough is copied, as 0 and 1, and set at an entry that is a redirect.
+pub fn unpack_entrypoint(
+    instructions: &[i32],
+    entry: i32,
+    passthrough: &[u8],
+    out: &mut [u8],
+) -> Unpacked
+    ensures { λ r. ⌜ UnpacksEntry (now (instructions .entry)) entry (now (passthrough .entry)) (now (out .entry)) r (now (out .exit)) ⌝ }
+{
+    words::zero::zero_u8(out);
+    let found = answer(instructions, entry, passthrough, out.len());
+    let Unpacked::Entry(_) = found else {
+        return found;
+    };
+    let place = words::word_of(entry) as usize;
+    pass(instructions, place, passthrough, out);
+    found
+}
+
+// The instruction at index i, for a right character below 128, inserts none above 127.
+fn inserts_seven_bit(instructions: &[i32], i: usize) -> bool
+    ensures { λ r. ⌜ r ≡ insertsSevenBit (now (instructions .entry)) i ⌝ }
+{
+    if 127 < field_at(instructions, i, 1) % 256 {
+        return true;
+    }
+    if field_at(instructions, i, 2) != 2 {
+        return true;
+    }
+    field_at(instructions, i, 3) % 256 <= 127
+}
+
+// The same of every instruction on the chain from an entry.
+fn chain_is_seven_bit(instructions: &[i32], entry: usize) -> bool
+    ensures { λ r. ⌜ r ≡ allSevenBit (now (instructions .entry)) (chainOf (now (instructions .entry)) entry) ⌝ }
+{
+    let mut at = entry;
+    loop {
+        let Next::At(i, on) = next_instruction(instructions, at) else {
+            return true;
+        };
+        if !inserts_seven_bit(instructions, i) {
+            return false;
+        }
+        at = on;
+    }
+}
+
+// The same of the entry at place i, where its character is below 128.
+fn entry_is_safe(instructions: &[i32], entries: &[i32], i: usize) -> bool
+    requires { ⌜ i < length (now entries) / 2 ⌝ }
+    ensures { λ r. ⌜ r ≡ entrySafe (now (instructions .entry)) (now (entries .entry)) i ⌝ }
+{
+    if 127 < words::word_at(entries, 2 * i) {
+        return true;
+    }
+    chain_is_seven_bit(instructions, words::word_at(entries, 2 * i + 1) as usize)
+}
+
+// The same of every entry.
+fn all_are_safe(instructions: &[i32], entries: &[i32]) -> bool
+    ensures { λ r. ⌜ r ≡ isSevenBitSafe (now (instructions .entry)) (now (entries .entry)) ⌝ }
+{
+    let mut i = 0;
+    while i < entries.len() / 2 {
+        if !entry_is_safe(instructions, entries, i) {
+            return false;
+        }
+        i += 1;
+    }
+    true
+}
+
+// Whether no instruction for two characters below 128 inserts one above 127.
+pub fn is_seven_bit_safe(instructions: &[i32], entries: &[i32]) -> SevenBit
+    ensures { λ r. ⌜ r ≡ sevenBit (now (instructions .entry)) (now (entries .entry)) ⌝ }
+{
+    let program = program_refusal(instructions);
+    if program != 0 {
+        return SevenBit::Unfit(program);
+    }
+    let listed = entries_refusal(65535, entries);
+    if listed != 0 {
+        return SevenBit::Unfit(listed);
+    }
+    SevenBit::Safe(all_are_safe(instructions, entries))
+}

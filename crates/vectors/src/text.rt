@@ -1,0 +1,132 @@
+// The text of requests and answers: lines of a letter and decimal numbers.
+ghost use Prim.Native.Nat.{_<_, _≤_};
+ghost use lib.ListN.{length};
+
+// A number that was read, as its 32 bits, and the place after it.
+pub struct Number {
+    pub word: u32,
+    pub next: usize,
+}
+
+// The place of the line feed from `at` on, or `to` where there is none.
+pub fn line_end(text: &[u8], at: usize, to: usize) -> usize
+    requires { ⌜ (at < to) × (to ≤ length (now text)) ⌝ }
+    ensures { λ r. ⌜ (at ≤ r) × (r ≤ to) ⌝ }
+{
+    let mut i = at;
+    while i < to {
+        if text[i] == b'\n' {
+            return i;
+        }
+        i += 1;
+    }
+    i
+}
+
+// The digits from `at` on, as a number.
+fn digits(text: &[u8], at: usize, to: usize) -> Number
+    requires { ⌜ (at ≤ to) × (to ≤ length (now text)) ⌝ }
+    ensures { λ r. ⌜ (at ≤ r .next) × (r .next ≤ to) ⌝ }
+{
+    let mut i = at;
+    let mut value: u32 = 0;
+    while i < to {
+        let c = text[i];
+        if !is_digit(c) {
+            return Number {
+                word: value,
+                next: i,
+            };
+        }
+        value = with_digit(value, c);
+        i += 1;
+    }
+    Number {
+        word: value,
+        next: i,
+    }
+}
+
+fn is_digit(c: u8) -> bool {
+    if c < b'0' {
+        return false;
+    }
+    c <= b'9'
+}
+
+fn with_digit(value: u32, c: u8) -> u32 {
+    (((value as u64) * 10 + ((c % 48) as u64)) % 4294967296) as u32
+}
+
+// The number after the blank at `at`: a sign, where there is one, and digits.
+pub fn read_number(text: &[u8], at: usize, to: usize) -> Number
+    requires { ⌜ (at < to) × (to ≤ length (now text)) ⌝ }
+    ensures { λ r. ⌜ (at < r .next) × (r .next ≤ to) ⌝ }
+{
+    let from = at + 1;
+    if from < to {
+        if text[from] == b'-' {
+            let n = digits(text, from + 1, to);
+            return Number {
+                word: std::num::wrapping_sub_u32(0, n.word),
+                next: n.next,
+            };
+        }
+    }
+    digits(text, from, to)
+}
+
+// Byte b at place k of the line; where there is no room nothing is done. The place after it.
+pub fn put_byte(line: &mut [u8], k: usize, b: u8) -> usize
+    requires { ⌜ k ≤ length (now line) ⌝ }
+    ensures { λ r. ⌜ r ≤ length (now (line .exit)) ⌝ }
+{
+    if k < line.len() {
+        line[k] = b;
+        return k + 1;
+    }
+    k
+}
+
+// The highest power of ten, up to 10^9, that is at most size; 1 for 0.
+fn top_place(size: u32) -> u32
+    ensures { λ r. ⌜ r ≤ 1000000000 ⌝ }
+{
+    let mut place: u32 = 1000000000;
+    while size < place {
+        if place <= 1 {
+            return 1;
+        }
+        place = place / 10;
+    }
+    place
+}
+
+// The digits of size, from a power of ten down.
+fn put_digits(line: &mut [u8], k: usize, size: u32, top: u32) -> usize
+    requires { ⌜ k ≤ length (now line) ⌝ }
+    ensures { λ r. ⌜ r ≤ length (now (line .exit)) ⌝ }
+{
+    let mut at = k;
+    let mut place = top;
+    while 0 < place {
+        let digit = (size / place % 10) as u8;
+        at = put_byte(line, at, digit + b'0');
+        place = place / 10;
+    }
+    at
+}
+
+// A blank and the number with these 32 bits, in decimal.
+pub fn put_number(line: &mut [u8], k: usize, word: u32) -> usize
+    requires { ⌜ k ≤ length (now line) ⌝ }
+    ensures { λ r. ⌜ r ≤ length (now (line .exit)) ⌝ }
+{
+    let a = put_byte(line, k, b' ');
+    if 2147483648 <= word {
+        let size = std::num::wrapping_sub_u32(0, word);
+        let b = put_byte(line, a, b'-');
+        return put_digits(line, b, size, top_place(size));
+    }
+    put_digits(line, a, word, top_place(word))
+}
