@@ -1,0 +1,2 @@
+pub mod Kerns
+pub mod Sharing
