@@ -1,42 +1,19 @@
 // One answer a request.
 ghost use Prim.Native.Nat.{_<_, _≤_};
 ghost use lib.ListN.{length};
+use crate::changes;
+use crate::programs;
+use crate::request::numbers_of;
+use crate::request::part;
 use crate::text::put_byte;
 use crate::text::put_number;
-use crate::text::read_number;
+use crate::text::put_panic;
 use lang::operation::Operation;
 use lang::operation::PostLigOperation;
 use lang::operation::lig_kern_operation_from_bytes;
 use tfm::Char;
 use tfm::FixWord;
 use tfm::ToScaled;
-
-// The numbers of a request, from the place after its letter. How many there are.
-fn numbers_of(text: &[u8], at: usize, to: usize, numbers: &mut [i32]) -> usize
-    requires { ⌜ to ≤ length (now text) ⌝ }
-{
-    let mut i = at;
-    let mut count = 0;
-    while i < to {
-        let n = read_number(text, i, to);
-        words::put_word(numbers, count, n.word);
-        count += 1;
-        i = n.next;
-    }
-    count
-}
-
-fn put_panic(line: &mut [u8], k: usize) -> usize
-    requires { ⌜ k ≤ length (now line) ⌝ }
-    ensures { λ r. ⌜ r ≤ length (now (line .exit)) ⌝ }
-{
-    let a = put_byte(line, k, b' ');
-    let b = put_byte(line, a, b'p');
-    let c = put_byte(line, b, b'a');
-    let d = put_byte(line, c, b'n');
-    let e = put_byte(line, d, b'i');
-    put_byte(line, e, b'c')
-}
 
 // S kern design
 fn scaled(numbers: &[i32], line: &mut [u8], k: usize) -> usize
@@ -108,6 +85,12 @@ fn answer_by(letter: u8, numbers: &[i32], line: &mut [u8], k: usize) -> usize
         b'S' => scaled(numbers, line, k),
         b'O' => operation(numbers, line, k),
         b'V' => seven_bit(numbers, line, k),
+        b'I' => programs::chain_from(numbers, line, k),
+        b'K' => changes::with_indices(numbers, line, k),
+        b'J' => changes::with_kerns(numbers, line, k),
+        b'U' => programs::unpacked(numbers, line, k),
+        b'B' => programs::seven_bit_safe(numbers, line, k),
+        b'R' => programs::reached(numbers, line, k),
         _ => k,
     }
 }
@@ -122,9 +105,9 @@ pub fn answer(text: &[u8], at: usize, to: usize)
     let letter = text[at];
     let mut numbers = [0i32; 16384];
     let mut line = [0u8; 65536];
-    numbers_of(text, at + 1, to, &mut numbers);
+    let n = numbers_of(text, at + 1, to, &mut numbers);
     let a = put_byte(&mut line, 0, letter);
-    let b = answer_by(letter, &numbers, &mut line, a);
+    let b = answer_by(letter, part(&numbers, 0, n), &mut line, a);
     let c = put_byte(&mut line, b, b'\n');
     io::write_all(libc::STDOUT_FILENO, &line[..c]);
 }

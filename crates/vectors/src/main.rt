@@ -5,6 +5,10 @@ ghost use mathlib.Core.Path.{_≡_};
 ghost use lib.ListN.{length};
 
 mod answers;
+mod changes;
+mod instructions;
+mod programs;
+mod request;
 mod text;
 
 // Room for the requests.

@@ -130,3 +130,66 @@ pub fn put_number(line: &mut [u8], k: usize, word: u32) -> usize
     }
     put_digits(line, a, word, top_place(word))
 }
+
+// A blank and a count, which is below 2^32.
+pub fn put_count(line: &mut [u8], k: usize, n: usize) -> usize
+    requires { ⌜ k ≤ length (now line) ⌝ }
+    ensures { λ r. ⌜ r ≤ length (now (line .exit)) ⌝ }
+{
+    put_number(line, k, (n % 4294967296) as u32)
+}
+
+// The first n numbers of a list.
+pub fn put_words(line: &mut [u8], k: usize, numbers: &[i32], n: usize) -> usize
+    requires { ⌜ k ≤ length (now line) ⌝ }
+    ensures { λ r. ⌜ r ≤ length (now (line .exit)) ⌝ }
+{
+    let mut at = k;
+    let mut i = 0;
+    while i < n {
+        at = put_number(line, at, words::word_at(numbers, i));
+        i += 1;
+    }
+    at
+}
+
+// The same, of a list of u32.
+pub fn put_indices(line: &mut [u8], k: usize, indices: &[u32], n: usize) -> usize
+    requires { ⌜ k ≤ length (now line) ⌝ }
+    ensures { λ r. ⌜ r ≤ length (now (line .exit)) ⌝ }
+{
+    let mut at = k;
+    let mut i = 0;
+    while i < n {
+        at = put_number(line, at, words::u32_at(indices, i));
+        i += 1;
+    }
+    at
+}
+
+pub fn put_panic(line: &mut [u8], k: usize) -> usize
+    requires { ⌜ k ≤ length (now line) ⌝ }
+    ensures { λ r. ⌜ r ≤ length (now (line .exit)) ⌝ }
+{
+    let a = put_byte(line, k, b' ');
+    let b = put_byte(line, a, b'p');
+    let c = put_byte(line, b, b'a');
+    let d = put_byte(line, c, b'n');
+    let e = put_byte(line, d, b'i');
+    put_byte(line, e, b'c')
+}
+
+// The Rust panics where the port answers 10, 11 or 13. Another refusal, which the Rust does not have, is written as `?` and its number.
+pub fn put_refusal(line: &mut [u8], k: usize, refusal: u32) -> usize
+    requires { ⌜ k ≤ length (now line) ⌝ }
+    ensures { λ r. ⌜ r ≤ length (now (line .exit)) ⌝ }
+{
+    match refusal {
+        10 | 11 | 13 => put_panic(line, k),
+        _ => {
+            let a = put_byte(line, k, b' ');
+            let b = put_byte(line, a, b'?');
+            put_number(line, b, refusal)
+        }
+    }
+}

@@ -27,11 +27,14 @@ slice-aggregate-put-byte c = search needs
 put-byte-requires : tie.Need-put-byte-requires
 put-byte-requires c κs = search needs
 
+slice-aggregate-part : tie.Need-slice-aggregate-part
+slice-aggregate-part c = search needs
+
+part-requires : tie.Need-part-requires
+part-requires c κs = search needs
+
 slice-aggregate-answer-by : tie.Need-slice-aggregate-answer-by
 slice-aggregate-answer-by c = search needs
-
-slice-aggregate-answer-by-2 : tie.Need-slice-aggregate-answer-by-2
-slice-aggregate-answer-by-2 c = search needs
 
 answer-by-requires : tie.Need-answer-by-requires
 answer-by-requires c κs = search needs
@@ -66,8 +69,9 @@ answer-spec =
     numbers-of-requires
     slice-aggregate-put-byte
     put-byte-requires
+    slice-aggregate-part
+    part-requires
     slice-aggregate-answer-by
-    slice-aggregate-answer-by-2
     answer-by-requires
     slice-aggregate-put-byte-2
     put-byte-requires-2

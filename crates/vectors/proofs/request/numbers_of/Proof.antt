@@ -1,11 +1,11 @@
--- `vectors::answers::numbers_of` stays within the text. The invariant: as many numbers as places passed, at most; the list's length stays.
+-- `vectors::request::numbers_of` stays within the text. The invariant: as many numbers as places passed, at most; the list's length stays.
 -- Assumes nothing.
 use Prim.Native.Nat.{ℕ, _≤_, _<_, _-_, _+_}
 use mathlib.Core.Path.{_≡_}
 use native.Mathlib.Omega.{arith}
 use lib.ListN.{length}
-use Rattle.vectors.proofs.answers.numbers_of.Statement.{statement}
-use Rattle.vectors.proofs.answers.numbers_of.Tie as tie
+use Rattle.vectors.proofs.request.numbers_of.Statement.{statement}
+use Rattle.vectors.proofs.request.numbers_of.Tie as tie
 
 abbrev Inv-loop : tie.InvT-loop
 Inv-loop text at to numbers₀ i₀ count₀ numbers i count = (count ≤ i) × (length numbers ≡ length numbers₀)

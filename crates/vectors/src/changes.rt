@@ -1,0 +1,89 @@
+// The answers that write a program anew: K and J.
+ghost use mathlib.Core.Path.{_≡_};
+ghost use Prim.Native.Nat.{_≤_};
+ghost use lib.ListN.{length};
+use crate::instructions::put_instructions;
+use crate::request::Read;
+use crate::request::font_at;
+use crate::request::items;
+use crate::text::put_count;
+use crate::text::put_refusal;
+use crate::text::put_words;
+use lang::Written;
+
+// Room for a program: four numbers an instruction.
+fn records() -> [i32; 16384]
+    ensures { λ r. ⌜ 16384 ≡ length r ⌝ }
+{
+    [0; 16384]
+}
+
+// A kern for each instruction.
+fn values() -> [i32; 4096]
+    ensures { λ r. ⌜ 4096 ≡ length r ⌝ }
+{
+    [0; 4096]
+}
+
+// The n instructions of a program, or the refusal.
+fn put_program(line: &mut [u8], k: usize, answer: Written, program: &[i32]) -> usize
+    requires { ⌜ k ≤ length (now line) ⌝ }
+    ensures { λ r. ⌜ r ≤ length (now (line .exit)) ⌝ }
+{
+    match answer {
+        Written::Count(n) => put_instructions(line, k, program, n),
+        Written::Refused(n) => put_refusal(line, k, n),
+    }
+}
+
+// J FONT
+pub fn with_kerns(numbers: &[i32], line: &mut [u8], k: usize) -> usize
+    requires { ⌜ k ≤ length (now line) ⌝ }
+    ensures { λ r. ⌜ r ≤ length (now (line .exit)) ⌝ }
+{
+    let Read::Whole(font) = font_at(numbers, 0) else {
+        return k;
+    };
+    let instructions = items(numbers, font.instructions, 4);
+    let list = items(numbers, font.kerns, 1);
+    let mut out = records();
+    let answer = kerns::pack_kerns(instructions, list, &mut out);
+    put_program(line, k, answer, &out)
+}
+
+// The kerns of a program, and the program of n instructions; or the refusal.
+fn put_shared(
+    line: &mut [u8],
+    k: usize,
+    answer: Written,
+    list: &[i32],
+    program: &[i32],
+    n: usize,
+) -> usize
+    requires { ⌜ k ≤ length (now line) ⌝ }
+    ensures { λ r. ⌜ r ≤ length (now (line .exit)) ⌝ }
+{
+    match answer {
+        Written::Count(m) => {
+            let a = put_count(line, k, m);
+            let b = put_words(line, a, list, m);
+            put_instructions(line, b, program, n)
+        }
+        Written::Refused(m) => put_refusal(line, k, m),
+    }
+}
+
+// K FONT
+pub fn with_indices(numbers: &[i32], line: &mut [u8], k: usize) -> usize
+    requires { ⌜ k ≤ length (now line) ⌝ }
+    ensures { λ r. ⌜ r ≤ length (now (line .exit)) ⌝ }
+{
+    let Read::Whole(font) = font_at(numbers, 0) else {
+        return k;
+    };
+    let instructions = items(numbers, font.instructions, 4);
+    let mut out = records();
+    let mut list = values();
+    let answer = kerns::unpack_kerns(instructions, &mut out, &mut list);
+    put_shared(line, k, answer, &list, &out, instructions.len() / 4)
+}
