@@ -5,10 +5,11 @@ use mathlib.Core.List.{List, map}
 use lib.IntN.{ℤ}
 use Rattle.tfm.specs.Scaled.{toScaled, halve}
 use Rattle.lang.specs.Operations.{fromBytes, ligature}
+use Rattle.pack.specs.Packing.{insertLabel, labels, redirectsFrom, placeAmong, redirectsTo}
 use Rattle.reading.specs.Depth.{comp, raiseLeft}
 use Rattle.reading.specs.Loops.{loopList, insert, ordered, unfinished, walk, walks, member}
 use Rattle.marked.specs.Rows.{Row, rows, rulesBy, pairsFrom, pairNumbers}
 
 pub marked : map (λ (row : Row). row .given) rows ≡ map (λ (row : Row). row .said) rows
-unfolding rows rulesBy pairsFrom pairNumbers toScaled halve fromBytes ligature comp raiseLeft loopList insert ordered unfinished walk walks member
+unfolding rows rulesBy pairsFrom pairNumbers toScaled halve fromBytes ligature comp raiseLeft loopList insert ordered unfinished walk walks member insertLabel labels redirectsFrom placeAmong redirectsTo
 marked = refl

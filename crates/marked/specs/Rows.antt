@@ -13,6 +13,7 @@ use Rattle.lang.specs.declared.operation.PostLigOperation.the-variants.{RetainB
 use Rattle.lang.specs.declared.operation.Operation.{Operation}
 use Rattle.lang.specs.declared.operation.Operation.the-variants.{Kern, KernAtIndex, Ligature, EntrypointRedirect}
 use Rattle.lang.specs.Operations.{fromBytes}
+use Rattle.pack.specs.Packing.{Font, packedEntryNumber, fontOffset, fontRedirects, labelsOf, front}
 use Rattle.reading.specs.Items.{Left, bnd, chr, Rule, free, lig, Rules}
 use Rattle.reading.specs.Depth.{Pair}
 use Rattle.reading.specs.Loops.{Ruled, loopList}
@@ -84,6 +85,16 @@ pairsFrom i (e ∷ es) = record { pair = record { left = chr (e .left); right = 
 abbrev pub loopsOf : List Entry → List ℤ
 loopsOf es = pairNumbers (loopList (rules es) (pairsFrom 0 es))
 
+-- ---- packing
+
+-- a font of one entry, that of character 97
+abbrev pub oneEntry : ℕ → ℤ → Font
+oneEntry e boundary = record { instructions = []; entries = pos 97 ∷ pos e ∷ []; boundary = boundary; left = negsuc 0 }
+
+-- where the entry packs to, the offset, and how many redirects there are
+abbrev pub packedNumbers : Font → List ℤ
+packedNumbers f = packedEntryNumber f 1 ∷ pos (fontOffset f) ∷ pos (fontRedirects f) ∷ []
+
 -- ---- the table
 
 unfoldable pub rows : List Row
@@ -117,4 +128,9 @@ rows =
           ∷ record { left = 121; right = 119; rule = lig RetainNeitherMoveToInserted 120 } ∷ []);
       said = pos 120 ∷ pos 122 ∷ [];
     }
+    -- entry 254 with a boundary packs to 255
+    ∷ record { given = packedNumbers (oneEntry 254 (pos 65)); said = pos 255 ∷ pos 1 ∷ pos 0 ∷ [] }
+    -- 255 packs to 0, with a redirect to 256
+    ∷ record { given = packedNumbers (oneEntry 255 (pos 65)); said = pos 0 ∷ pos 1 ∷ pos 1 ∷ [] }
+    ∷ record { given = front (pos 65) (fontRedirects (oneEntry 255 (pos 65))) (fontOffset (oneEntry 255 (pos 65))) (labelsOf (oneEntry 255 (pos 65) .entries)); said = negsuc 0 ∷ pos 65 ∷ pos 3 ∷ pos 65792 ∷ [] }
     ∷ []

@@ -91,6 +91,7 @@ fn answer_by(letter: u8, numbers: &[i32], line: &mut [u8], k: usize) -> usize
         b'U' => programs::unpacked(numbers, line, k),
         b'B' => programs::seven_bit_safe(numbers, line, k),
         b'R' => programs::reached(numbers, line, k),
+        b'P' => changes::packed(numbers, line, k),
         _ => k,
     }
 }

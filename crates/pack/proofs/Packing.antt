@@ -1,0 +1,536 @@
+-- Laws of packing: refusals in their order, the numbers of the packed instructions and entries, and what packing is for: `packed-same`,
+-- `packed-unpacks`, `packed-byte` and `entries-unpack`, at the end.
+-- Assumes nothing.
+use mathlib.Core.Path.{_≡_, refl, sym, ap, _∙_}
+use mathlib.Core.Bool.{Bool, true, false, cond}
+use mathlib.Core.List.{List, [], _∷_, _++_, List·Memᴰ}
+use Prim.Native.Nat.{ℕ, zero, suc, _+_, _*_, _-_, _/_, _%_, _<_, _≤_}
+use native.Mathlib.Nat.{zero-add}
+use native.Mathlib.Omega.{arith}
+use lib.IntN.{ℤ, pos, negsuc}
+use lib.Dec.{leb, ltb, eqb}
+use lib.ListN.{length, getD, set, replicate, length-append, length-set, length-replicate, List·getD-append}
+use lib.Seq.{getD-append-add, ext-getD}
+use lib.Signed.{nonNeg}
+use mir.Syntax.{w32}
+use mir.Val.{SFits}
+use borrow.Author.Tests.{lt-ltb, le-ltb, le-leb, lt-leb, eq-eqb, ne-eqb, ltb-true, ltb-false, leb-true}
+use Rattle.words.specs.Words.{wordOf, numberOf}
+use Rattle.words.specs.Lists.{tabulate, Filling, Appending}
+use Rattle.words.proofs.Bits.{number-pos, number-neg, number-word}
+use Rattle.words.proofs.Lists.{length-tabulate, getD-tabulate, filling-more, appending-rest}
+use Rattle.lang.specs.declared.instruction.Instruction.{Instruction}
+use Rattle.unpack.specs.declared.Unpacked.the-variants.{Entry}
+use Rattle.lang.specs.Records.{count, field, within, nextOf, operationOf, instructionAt}
+use Rattle.lang.specs.Records.{isKind}
+use Rattle.unpack.specs.Unpacking.{targetAt, unpacks}
+use Rattle.lang.specs.Checks.{programRefusal, entriesRefusal, absentRefusal, orElse, charAt, entryAt}
+use Rattle.pack.specs.declared.Packed.{Packed}
+use Rattle.pack.specs.declared.Packed.the-variants.{Sizes, Refused}
+use Rattle.lang.specs.Answers.{roomRefusal, listOf}
+use Rattle.pack.specs.Packing.{Font, labelsOf, redirectsOf, offsetBy, redirectsTo, redirect, presentOr, leftOr, largest, front, back, fontRedirects, fontOffset, fontRefusal, redirectRefusal, fitsShifted, shiftRefusal, packingRefusal, packedInstructions, packedEntry, packedEntryNumber, packedEntries, packedBy, placeAmong, Packs}
+use Rattle.pack.proofs.Labelling.{Under, labels-under, largest-le, first-largest, entry-le, redirects-le, offset-some, present-test, present-is, place-is, place-lt, labels-has, unredirected}
+
+-- ---- refusals in their order
+
+pub or-first : {r m : ℕ} (n : ℕ) → r ≡ m → (r ≡ 0 → ⊥) → r ≡ orElse m n
+or-first {m = zero} n e h = absurd (h e)
+or-first {m = suc m} n e h = e
+
+or-next : {r m : ℕ} (n : ℕ) → m ≡ 0 → r ≡ n → r ≡ orElse m n
+or-next n e g = g ∙ rw e
+
+-- of four, the first that is not 0
+module _ (a b c d : ℕ) {r : ℕ} where
+  pub or-second : a ≡ 0 → r ≡ b → (r ≡ 0 → ⊥) → r ≡ orElse a (orElse b (orElse c d))
+  or-second e g h = or-next (orElse b (orElse c d)) e (or-first (orElse c d) g h)
+
+  pub or-third : a ≡ 0 → b ≡ 0 → r ≡ c → (r ≡ 0 → ⊥) → r ≡ orElse a (orElse b (orElse c d))
+  or-third e f g h = or-next (orElse b (orElse c d)) e (or-next (orElse c d) f (or-first d g h))
+
+  pub or-fourth : a ≡ 0 → b ≡ 0 → c ≡ 0 → r ≡ d → r ≡ orElse a (orElse b (orElse c d))
+  or-fourth e f g h = or-next (orElse b (orElse c d)) e (or-next (orElse c d) f (or-next d g h))
+
+or-zero : (m n : ℕ) → orElse m n ≡ 0 → (m ≡ 0) × (n ≡ 0)
+or-zero zero n e = (refl, e)
+or-zero (suc m) n e = absurd (omega arith)
+
+-- the refusals of packing, from the numbers that decide them
+abbrev pub refusalBy : ℕ → ℕ → ℕ → ℕ → ℕ → ℕ → ℕ → ℕ → ℕ → ℕ
+refusalBy font redirects offset big left size room n entryRoom =
+    orElse font
+    (orElse (redirectRefusal redirects)
+    (orElse (cond (fitsShifted big offset) (cond (fitsShifted left offset) 0 11) 11)
+    (orElse (roomRefusal size room) (roomRefusal n entryRoom))))
+
+module _ (k o big left size room n entryRoom : ℕ) where
+  pub refusal-10 : 255 < k → 10 ≡ refusalBy 0 k o big left size room n entryRoom
+  refusal-10 h = rw (lt-leb k 255 h)
+
+  module _ (few : k ≤ 255) where
+    pub refusal-11 : 65535 < big + o → 11 ≡ refusalBy 0 k o big left size room n entryRoom
+    refusal-11 h = rw (le-leb k 255 few, lt-leb (big + o) 65535 h)
+
+    module _ (shifts : big + o ≤ 65535) where
+      pub refusal-11-left : 65535 < left + o → 11 ≡ refusalBy 0 k o big left size room n entryRoom
+      refusal-11-left h = rw (le-leb k 255 few, le-leb (big + o) 65535 shifts, lt-leb (left + o) 65535 h)
+
+      module _ (shifts-left : left + o ≤ 65535) where
+        pub refusal-15 : room < size → 15 ≡ refusalBy 0 k o big left size room n entryRoom
+        refusal-15 h = rw (le-leb k 255 few, le-leb (big + o) 65535 shifts, le-leb (left + o) 65535 shifts-left, lt-leb size room h)
+
+        pub refusal-15-entries : size ≤ room → entryRoom < n → 15 ≡ refusalBy 0 k o big left size room n entryRoom
+        refusal-15-entries g h =
+            rw (le-leb k 255 few, le-leb (big + o) 65535 shifts, le-leb (left + o) 65535 shifts-left, le-leb size room g, lt-leb n entryRoom h)
+
+        pub refusal-none : size ≤ room → n ≤ entryRoom → 0 ≡ refusalBy 0 k o big left size room n entryRoom
+        refusal-none g h =
+            rw (le-leb k 255 few, le-leb (big + o) 65535 shifts, le-leb (left + o) 65535 shifts-left, le-leb size room g, le-leb n entryRoom h)
+
+-- a test that gives 0 passed
+test-zero : (b : Bool) (n : ℕ) → cond b 0 (suc n) ≡ 0 → b ≡ true
+test-zero true n e = refl
+test-zero false n e = absurd (omega arith)
+
+-- what a font is that can be packed
+pub record Packable (f : Font) (room entryRoom : ℕ) : Type 0 where
+  pub entered : entriesRefusal 65535 (f .entries) ≡ 0
+  pub few : fontRedirects f ≤ 255
+  pub shifts : largest (labelsOf (f .entries)) + fontOffset f ≤ 65535
+  pub shifts-left : leftOr (f .left) + fontOffset f ≤ 65535
+  pub size : length (packedInstructions f) ≤ room
+  pub entry-size : length (f .entries) ≤ entryRoom
+
+shift-zero : (a b : Bool) → _≡_ {A = ℕ} (cond a (cond b 0 11) 11) 0 → (a ≡ true) × (b ≡ true)
+shift-zero true b e = (refl, test-zero b 10 e)
+shift-zero false b e = absurd (omega arith)
+
+module _ (font k o big left size room n entryRoom : ℕ) (e : refusalBy font k o big left size room n entryRoom ≡ 0) where
+  shift : ℕ
+  shift = cond (fitsShifted big o) (cond (fitsShifted left o) 0 11) 11
+
+  parts : (font ≡ 0) × (k ≤ 255) × (big + o ≤ 65535) × (left + o ≤ 65535) × (size ≤ room) × (n ≤ entryRoom)
+  unfolding shift
+  parts =
+      let a = or-zero font (orElse (redirectRefusal k) (orElse shift (orElse (roomRefusal size room) (roomRefusal n entryRoom)))) e in
+      let b = or-zero (redirectRefusal k) (orElse shift (orElse (roomRefusal size room) (roomRefusal n entryRoom))) (a .1) in
+      let c = or-zero shift (orElse (roomRefusal size room) (roomRefusal n entryRoom)) (b .1) in
+      let d = or-zero (roomRefusal size room) (roomRefusal n entryRoom) (c .1) in
+      let g = shift-zero (fitsShifted big o) (fitsShifted left o) (c .0) in (
+        a .0,
+        leb-true k 255 (test-zero (leb k 255) 9 (b .0)),
+        leb-true (big + o) 65535 (g .0),
+        leb-true (left + o) 65535 (g .1),
+        leb-true size room (test-zero (leb size room) 14 (d .0)),
+        leb-true n entryRoom (test-zero (leb n entryRoom) 14 (d .1)),
+      )
+
+second : (a b c : ℕ) → orElse a (orElse b c) ≡ 0 → b ≡ 0
+second a b c e = or-zero b c (or-zero a (orElse b c) e .1) .0
+
+abbrev pub fontOf : List ℤ → List ℤ → ℤ → ℤ → Font
+fontOf s es b l = record { instructions = s; entries = es; boundary = b; left = l }
+
+-- a font that is taken has entries that are taken
+pub font-entered : (f : Font) → fontRefusal f ≡ 0 → entriesRefusal 65535 (f .entries) ≡ 0
+font-entered f e =
+    second (programRefusal (f .instructions)) (entriesRefusal 65535 (f .entries)) (orElse (absentRefusal 255 (f .boundary)) (absentRefusal 65535 (f .left))) e
+
+pub packable : (f : Font) (room entryRoom : ℕ) → packingRefusal f room entryRoom ≡ 0 → Packable f room entryRoom
+packable f room entryRoom e =
+    let t = parts (fontRefusal f) (fontRedirects f) (fontOffset f) (largest (labelsOf (f .entries))) (leftOr (f .left)) (length (packedInstructions f)) room (length (f .entries)) entryRoom e in
+    record {
+      entered = font-entered f (t .0);
+      few = t .1;
+      shifts = t .2;
+      shifts-left = t .3;
+      size = t .4;
+      entry-size = t .5;
+    }
+
+-- ---- the numbers of the packed instructions
+
+module _ (right : ℤ) (o : ℕ) where
+  length-redirects : (k : ℕ) (ls : List ℕ) → k ≤ length ls → length (redirectsTo right o k ls) ≡ 4 * k
+  unfolding redirectsTo
+  length-redirects zero ls h = refl
+  length-redirects (suc k) [] h = absurd (omega arith)
+  length-redirects (suc k) (l ∷ ls) h = rw (length-redirects k ls (omega arith)) (omega arith)
+
+  -- number m of redirect i
+  redirects-at : (k : ℕ) (ls : List ℕ) (i m : ℕ) → i < k → k ≤ length ls → m < 4 → getD (redirectsTo right o k ls) (4 * i + m) (pos 0) ≡ getD (redirect right (getD ls i 0 + o) 1) m (pos 0)
+  unfolding redirectsTo
+  redirects-at zero ls i m h g l = absurd (omega arith)
+  redirects-at (suc k) [] i m h g l = absurd (omega arith)
+  redirects-at (suc k) (x ∷ ls) zero m h g l =
+      ap (λ (j : ℕ). getD (redirect right (x + o) 1 ++ redirectsTo right o k ls) j (pos 0)) (zero-add m)
+      ∙ List·getD-append (redirect right (x + o) 1) (redirectsTo right o k ls) (pos 0) m l
+  redirects-at (suc k) (x ∷ ls) (suc i) m h g l =
+      let e : 4 * suc i + m ≡ suc (suc (suc (suc (4 * i + m)))) = omega arith in
+      rw e (redirects-at k ls i m (omega arith) (omega arith) l)
+
+-- the target of the instruction in front at i
+abbrev pub targetOf : ℕ → ℕ → List ℕ → ℕ → ℕ
+targetOf k o ls i = cond (eqb k 0) 0 (getD ls i 0 + o)
+
+length-front : (z : ℤ) (k o : ℕ) (ls : List ℕ) → o ≡ offsetBy (nonNeg z) k → k ≤ length ls → length (front z k o ls) ≡ 4 * o
+length-front (pos b) zero o ls e h = rw e
+length-front (negsuc b) zero o ls e h = rw e
+length-front z (suc k) o ls e h = length-redirects (presentOr z) o (suc k) ls h ∙ rw e
+
+front-at : (z : ℤ) (k o : ℕ) (ls : List ℕ) (j : ℕ) → o ≡ offsetBy (nonNeg z) k → k ≤ length ls → j < 4 * o → getD (front z k o ls) j (pos 0) ≡ getD (redirect (presentOr z) (targetOf k o ls (j / 4)) 1) (j % 4) (pos 0)
+front-at (pos b) zero o ls j e h l =
+    let m : j % 4 ≡ j = omega arith in
+    rw m
+front-at (negsuc b) zero o ls j e h l = absurd (omega arith)
+front-at z (suc k) o ls j e h l =
+    let m : 4 * (j / 4) + j % 4 ≡ j = omega arith in
+    rw (ne-eqb (suc k) 0 (λ g. omega arith)) (ap (λ (t : ℕ). getD (redirectsTo (presentOr z) o (suc k) ls) t (pos 0)) (sym m) ∙ redirects-at (presentOr z) o (suc k) ls (j / 4) (j % 4) (omega arith) h (omega arith))
+
+-- ---- where number j stands: in front, among the old ones, at the end
+
+module _ {A : Type 0} (xs ys zs : List A) (d : A) where
+  pub getD-first : (j : ℕ) → j < length xs → getD (xs ++ ys ++ zs) j d ≡ getD xs j d
+  getD-first j h =
+      List·getD-append (xs ++ ys) zs d j (rw length-append (omega arith)) ∙ List·getD-append xs ys d j h
+
+  pub getD-second : (j : ℕ) → j < length ys → getD (xs ++ ys ++ zs) (length xs + j) d ≡ getD ys j d
+  getD-second j h =
+      List·getD-append (xs ++ ys) zs d (length xs + j) (rw length-append (omega arith)) ∙ getD-append-add xs ys j d
+
+  pub getD-third : (j : ℕ) → getD (xs ++ ys ++ zs) (length xs + length ys + j) d ≡ getD zs j d
+  getD-third j = ap (λ (n : ℕ). getD (xs ++ ys ++ zs) (n + j) d) (sym (length-append xs ys)) ∙ getD-append-add (xs ++ ys) zs j d
+
+length-three {ℓ} : {A : Type ℓ} (xs ys zs : List A) → length (xs ++ ys ++ zs) ≡ length xs + length ys + length zs
+length-three xs ys zs = simp length-append
+
+-- ---- the words of a redirect
+
+-- a character or a number that may be absent, as the word that is stored
+present-word : (w : ℕ) → leftOr (numberOf w) < 2147483648 → numberOf (leftOr (numberOf w)) ≡ presentOr (numberOf w)
+present-word w h = number-pos (leftOr (numberOf w)) h ∙ sym (present-or (numberOf w))
+  where
+    present-or : (z : ℤ) → presentOr z ≡ pos (leftOr z)
+    present-or (pos b) = refl
+    present-or (negsuc b) = refl
+
+left-lt : (w : ℕ) → leftOr (numberOf w) < 2147483648
+left-lt w = go (ltb w 2147483648) refl
+  where
+    go : (b : Bool) → ltb w 2147483648 ≡ b → leftOr (numberOf w) < 2147483648
+    go true e = rw (number-pos w (ltb-true w 2147483648 e)) (ltb-true w 2147483648 e)
+    go false e = rw (number-neg w (ltb-false w 2147483648 e)) (omega arith)
+
+-- ---- the end
+
+pub back-some : (z : ℤ) (o : ℕ) → nonNeg z ≡ true → back z o ≡ redirect (pos 0) (leftOr z + o) 0
+back-some (pos n) o e = refl
+back-some (negsuc n) o e = let z : _≡_ {A = ℕ} 0 1 = cc in absurd (omega arith)
+
+pub back-none : (z : ℤ) (o : ℕ) → nonNeg z ≡ false → back z o ≡ []
+back-none (pos n) o e = let z : _≡_ {A = ℕ} 0 1 = cc in absurd (omega arith)
+back-none (negsuc n) o e = refl
+
+-- ---- filled by its own numbers
+
+pub tabulate-getD {ℓ} : {A : Type ℓ} (xs : List A) (d : A) → tabulate (length xs) (λ j. getD xs j d) ≡ xs
+tabulate-getD xs d =
+    ext-getD d (tabulate (length xs) (λ j. getD xs j d)) xs (length-tabulate (length xs) (λ j. getD xs j d))
+    (λ i h. getD-tabulate (length xs) (λ j. getD xs j d) i d (rw (length-tabulate (length xs) (λ j. getD xs j d)) at h))
+
+pub filling-appends : {A : Type 0} (f : ℕ → A) (n : ℕ) {d₀ d : List A} → Filling f d₀ d n → Appending (tabulate n f) d₀ d
+filling-appends f n v = record { within = rw (length-tabulate n f) (v .within); appended = v .filled ∙ rw (length-tabulate n f) }
+
+pub filling-is : {A : Type 0} (xs : List A) (z : A) {d₀ d : List A} → Filling (λ j. getD xs j z) d₀ d (length xs) → Appending xs d₀ d
+filling-is xs z v = rw (tabulate-getD xs z) at (filling-appends (λ j. getD xs j z) (length xs) v)
+
+pub filling-put : {A : Type 0} (f : ℕ → A) {d₀ d : List A} (d′ : List A) {i : ℕ} {v : A} → Filling f d₀ d i → i < length d → d′ ≡ set d i v → v ≡ f i → Filling f d₀ d′ (i + 1)
+filling-put f {d₀} d′ h l e g = rw (e, g) (filling-more f d₀ h l)
+
+-- ---- what the numbers in front, the old ones and those at the end are
+
+abbrev pub packedNumber : ℤ → ℕ → ℕ → List ℕ → List ℤ → ℤ → ℕ → ℤ
+packedNumber z k o ls s l j = getD (front z k o ls ++ s ++ back l o) j (pos 0)
+
+module _ (z : ℤ) (k o : ℕ) (ls : List ℕ) (s : List ℤ) (l : ℤ) (os : o ≡ offsetBy (nonNeg z) k) (few : k ≤ length ls) where
+  pub number-front : (j : ℕ) → j < 4 * o → getD (redirect (presentOr z) (targetOf k o ls (j / 4)) 1) (j % 4) (pos 0) ≡ packedNumber z k o ls s l j
+  number-front j h =
+      sym (front-at z k o ls j os few h) ∙ sym (getD-first (front z k o ls) s (back l o) (pos 0) j (rw (length-front z k o ls os few) h))
+
+  pub number-old : (j : ℕ) → 4 * o ≤ j → j - 4 * o < length s → getD s (j - 4 * o) (pos 0) ≡ packedNumber z k o ls s l j
+  number-old j h g =
+      let e : length (front z k o ls) + (j - 4 * o) ≡ j = rw (length-front z k o ls os few) (omega arith) in
+      sym (getD-second (front z k o ls) s (back l o) (pos 0) (j - 4 * o) g) ∙ ap (packedNumber z k o ls s l) e
+
+  pub number-back : (j : ℕ) → 4 * o ≤ j → length s ≤ j - 4 * o → getD (back l o) (j - 4 * o - length s) (pos 0) ≡ packedNumber z k o ls s l j
+  number-back j h g =
+      let e : length (front z k o ls) + length s + (j - 4 * o - length s) ≡ j = rw (length-front z k o ls os few) (omega arith) in
+      sym (getD-third (front z k o ls) s (back l o) (pos 0) (j - 4 * o - length s)) ∙ ap (packedNumber z k o ls s l) e
+
+  pub number-count : length (front z k o ls ++ s ++ back l o) ≡ 4 * o + length s + length (back l o)
+  number-count =
+      length-three (front z k o ls) s (back l o) ∙ ap (λ (n : ℕ). n + length s + length (back l o)) (length-front z k o ls os few)
+
+-- a redirect's numbers, from the words that are stored
+words-of : (x y : ℤ) (right operand m : ℕ) → numberOf right ≡ x → numberOf operand ≡ y → getD (negsuc 0 ∷ numberOf right ∷ pos 3 ∷ numberOf operand ∷ []) m (pos 0) ≡ getD (negsuc 0 ∷ x ∷ pos 3 ∷ y ∷ []) m (pos 0)
+words-of x y right operand m e g = rw (e, g)
+
+pub target-le : (k o : ℕ) (ls : List ℕ) (i : ℕ) → ((j : ℕ) → getD ls j 0 + o ≤ 65535) → targetOf k o ls i ≤ 65535
+target-le k o ls i h = go (eqb k 0)
+  where
+    go : (b : Bool) → cond b 0 (getD ls i 0 + o) ≤ 65535
+    go true = omega arith
+    go false = h i
+
+pub front-words : (w k o : ℕ) (ls : List ℕ) (i m right target : ℕ) → right ≡ leftOr (numberOf w) → target ≡ targetOf k o ls i → target ≤ 65535 → getD (negsuc 0 ∷ numberOf right ∷ pos 3 ∷ numberOf (target + 65536) ∷ []) m (pos 0) ≡ getD (redirect (presentOr (numberOf w)) (targetOf k o ls i) 1) m (pos 0)
+front-words w k o ls i m right target e g h =
+    words-of (presentOr (numberOf w)) (pos (targetOf k o ls i + 65536)) right (target + 65536) m
+    (ap numberOf e ∙ present-word w (left-lt w)) (number-pos (target + 65536) (omega arith) ∙ ap (λ (t : ℕ). pos (t + 65536)) g)
+
+pub present-left : (w : ℕ) → nonNeg (numberOf w) ≡ true → leftOr (numberOf w) ≡ w
+present-left w e = go (ltb w 2147483648) refl
+  where
+    go : (b : Bool) → ltb w 2147483648 ≡ b → leftOr (numberOf w) ≡ w
+    go true t = present-is w (ltb-true w 2147483648 t)
+    go false t = let z : true ≡ false = sym e ∙ sym (present-test w false t) in let y : _≡_ {A = ℕ} 0 1 = cc in absurd (omega arith)
+
+pub back-words : (w o m : ℕ) → nonNeg (numberOf w) ≡ true → leftOr (numberOf w) + o ≤ 65535 → getD (negsuc 0 ∷ numberOf 0 ∷ pos 3 ∷ numberOf (w + o) ∷ []) m (pos 0) ≡ getD (back (numberOf w) o) m (pos 0)
+back-words w o m e h =
+    let g : leftOr (numberOf w) ≡ w = present-left w e in
+    words-of (pos 0) (pos (leftOr (numberOf w) + o + 0)) 0 (w + o) m refl
+    (number-pos (w + o) (omega arith) ∙ ap pos (let q : w + o ≡ leftOr (numberOf w) + o + 0 = omega arith in q))
+    ∙ rw (back-some (numberOf w) o e)
+
+-- ---- packed entries
+
+pub entry-redirected : (k o : ℕ) (ls : List ℕ) (e p : ℕ) → p ≡ placeAmong e ls → p < k → k ≤ 255 → numberOf p ≡ pos (packedEntry k o ls e)
+entry-redirected k o ls e p g h l =
+    number-pos p (omega arith) ∙ ap pos g ∙ rw (lt-ltb (placeAmong e ls) k (let q : placeAmong e ls < k = omega arith in q))
+
+pub entry-shifted : (k o : ℕ) (ls : List ℕ) (e p : ℕ) → p ≡ placeAmong e ls → k ≤ p → e + o < 2147483648 → numberOf (e + o) ≡ pos (packedEntry k o ls e)
+entry-shifted k o ls e p g h l =
+    number-pos (e + o) l ∙ rw (le-ltb (placeAmong e ls) k (let q : k ≤ placeAmong e ls = omega arith in q))
+
+-- number j of the packed entries, by the redirects, the offset and the labels
+abbrev pub entryNumber : List ℤ → ℕ → ℕ → List ℕ → ℕ → ℤ
+entryNumber es k o ls j =
+    cond (eqb (j % 2) 0) (getD es j (pos 0)) (pos (packedEntry k o ls (wordOf (getD es j (pos 0)))))
+
+module _ (es : List ℤ) (k o : ℕ) (ls : List ℕ) (i : ℕ) where
+  entry-char : getD es (2 * i) (pos 0) ≡ entryNumber es k o ls (2 * i)
+  entry-char = rw (eq-eqb (2 * i % 2) 0 (omega arith))
+
+  entry-entry : pos (packedEntry k o ls (wordOf (getD es (2 * i + 1) (pos 0)))) ≡ entryNumber es k o ls (2 * i + 1)
+  entry-entry = rw (ne-eqb ((2 * i + 1) % 2) 0 (λ g. omega arith))
+
+  -- a character and its entry
+  pub filling-entry : {d₀ d : List ℤ} (d′ d″ : List ℤ) {v w : ℤ} → Filling (entryNumber es k o ls) d₀ d (2 * i) → 2 * i + 1 < length d → d′ ≡ set d (2 * i) v → v ≡ getD es (2 * i) (pos 0) → d″ ≡ set d′ (2 * i + 1) w → w ≡ pos (packedEntry k o ls (wordOf (getD es (2 * i + 1) (pos 0)))) → Filling (entryNumber es k o ls) d₀ d″ (2 * (i + 1))
+  filling-entry {d₀} {d} d′ d″ {v} {w} h l e g e′ g′ =
+      let n : 2 * i + 1 + 1 ≡ 2 * (i + 1) = omega arith in
+      let same : length d′ ≡ length d = ap length e ∙ length-set d (2 * i) v in
+      rw n at (filling-put (entryNumber es k o ls) d″ (filling-put (entryNumber es k o ls) d′ h (omega arith) e (g ∙ entry-char)) (omega arith) e′ (g′ ∙ entry-entry))
+
+-- ---- the redirects and the offset of a font, from its labels
+
+pub offset-le : (b : Bool) (k : ℕ) → offsetBy b k ≤ k + 1
+offset-le true zero = omega arith
+offset-le false zero = omega arith
+offset-le b (suc k) = omega arith
+
+refusal-same : {font font′ k k′ o o′ big big′ left left′ size size′ : ℕ} (room n entryRoom : ℕ) → font ≡ font′ → k ≡ k′ → o ≡ o′ → big ≡ big′ → left ≡ left′ → size ≡ size′ → refusalBy font k o big left size room n entryRoom ≡ refusalBy font′ k′ o′ big′ left′ size′ room n entryRoom
+refusal-same room n entryRoom a b c d e f = rw (a, b, c, d, e, f)
+
+under : (limit : ℕ) (es : List ℤ) → entriesRefusal limit es ≡ 0 → Under (suc limit) (labelsOf es)
+under limit es ok = labels-under es (suc limit) (length es / 2) (λ i h. omega (arith, entry-le limit es ok i h))
+
+-- ls are the labels of f, b says whether it has a boundary character, k and o are its redirects and its offset
+pub record Plan (f : Font) (ls : List ℕ) (b : Bool) (k o : ℕ) : Type 0 where
+  pub same : ls ≡ labelsOf (f .entries)
+  pub bounded : b ≡ nonNeg (f .boundary)
+  pub redirects : k ≡ redirectsOf b ls
+  pub offset : o ≡ offsetBy b k
+
+module _ {f : Font} {ls : List ℕ} {b : Bool} {k o : ℕ} (p : Plan f ls b k o) where
+  pub plan-redirects : k ≡ fontRedirects f
+  plan-redirects = p .redirects ∙ rw (p .bounded, p .same)
+
+  pub plan-front : o ≡ offsetBy (nonNeg (f .boundary)) k
+  plan-front = p .offset ∙ rw (p .bounded)
+
+  pub plan-offset : o ≡ fontOffset f
+  plan-offset = plan-front ∙ ap (offsetBy (nonNeg (f .boundary))) plan-redirects
+
+  pub plan-few : k ≤ length ls
+  plan-few = rw (p .redirects) (redirects-le b ls)
+
+  pub plan-packed : front (f .boundary) k o ls ++ f .instructions ++ back (f .left) o ≡ packedInstructions f
+  plan-packed =
+      ap (λ (n : ℕ). front (f .boundary) n o ls ++ f .instructions ++ back (f .left) o) plan-redirects
+      ∙ ap (λ (n : ℕ). front (f .boundary) (fontRedirects f) n ls ++ f .instructions ++ back (f .left) n) plan-offset
+      ∙ ap (λ (t : List ℕ). front (f .boundary) (fontRedirects f) (fontOffset f) t ++ f .instructions ++ back (f .left) (fontOffset f)) (p .same)
+
+  plan-size : length (packedInstructions f) ≡ 4 * o + length (f .instructions) + length (back (f .left) o)
+  plan-size =
+      ap length (sym plan-packed) ∙ number-count (f .boundary) k o ls (f .instructions) (f .left) plan-front plan-few
+
+  pub plan-refusal : (room entryRoom big left size : ℕ) → fontRefusal f ≡ 0 → big ≡ getD ls 0 0 → left ≡ leftOr (f .left) → size ≡ 4 * o + length (f .instructions) + length (back (f .left) o) → refusalBy 0 k o big left size room (length (f .entries)) entryRoom ≡ packingRefusal f room entryRoom
+  plan-refusal room entryRoom big left size ok bigs lefts sizes =
+      refusal-same room (length (f .entries)) entryRoom (sym ok) plan-redirects plan-offset (bigs ∙ first-largest ls ∙ ap largest (p .same)) lefts (sizes ∙ sym plan-size)
+
+  pub plan-offset-le : fontRedirects f ≤ 255 → o ≤ 256
+  plan-offset-le h = omega (arith, p .offset, offset-le b k, plan-redirects)
+
+  pub plan-entries : tabulate (length (f .entries)) (entryNumber (f .entries) k o ls) ≡ packedEntries f
+  plan-entries =
+      ap (λ (n : ℕ). tabulate (length (f .entries)) (entryNumber (f .entries) n o ls)) plan-redirects
+      ∙ ap (λ (n : ℕ). tabulate (length (f .entries)) (entryNumber (f .entries) (fontRedirects f) n ls)) plan-offset
+      ∙ ap (λ (t : List ℕ). tabulate (length (f .entries)) (entryNumber (f .entries) (fontRedirects f) (fontOffset f) t)) (p .same)
+
+  pub plan-answer : (size : ℕ) → size ≡ 4 * o + length (f .instructions) + length (back (f .left) o) → Sizes (size / 4) o k ≡ packedBy 0 f
+  plan-answer size e = rw (e, ← plan-size, plan-redirects, plan-offset)
+
+  -- every label, shifted, fits
+  pub plan-shifts : {room entryRoom : ℕ} → Packable f room entryRoom → (j : ℕ) → getD ls j 0 + o ≤ 65535
+  plan-shifts q j =
+      let u : Under 65536 (labelsOf (f .entries)) = under 65535 (f .entries) (q .entered) in
+      rw (p .same, plan-offset) (omega (arith, largest-le u j, q .shifts))
+
+-- ---- numbers that are lent
+
+-- a number that was passed on, and its word
+pub lent-number : {w : ℕ} (z : ℤ) → SFits w32 z → w ≡ wordOf (numberOf (wordOf z)) → numberOf w ≡ z
+lent-number z h e = ap numberOf e ∙ ap (λ (x : ℤ). numberOf (wordOf x)) (number-word z h) ∙ number-word z h
+
+pub lent-font : (s es : List ℤ) {b b′ l l′ : ℤ} → b′ ≡ b → l′ ≡ l → fontOf s es b′ l′ ≡ fontOf s es b l
+lent-font s es e g = rw (e, g)
+
+pub refusal-of : {f g : Font} (room entryRoom : ℕ) {r : ℕ} → f ≡ g → r ≡ packingRefusal f room entryRoom → r ≡ packingRefusal g room entryRoom
+refusal-of room entryRoom e h = h ∙ ap (λ (x : Font). packingRefusal x room entryRoom) e
+
+-- ---- the answer and both lists
+
+pub packing-first : (f : Font) (room entryRoom : ℕ) {r : ℕ} → r ≡ fontRefusal f → (r ≡ 0 → ⊥) → r ≡ packingRefusal f room entryRoom
+packing-first f room entryRoom e h =
+    or-first (orElse (redirectRefusal (fontRedirects f)) (orElse (shiftRefusal f) (orElse (roomRefusal (length (packedInstructions f)) room) (roomRefusal (length (f .entries)) entryRoom)))) e h
+
+refused : (f : Font) (out entriesOut : List ℤ) (r R : ℕ) → r ≡ R → (r ≡ 0 → ⊥) → (Refused r ≡ packedBy R f) × ((replicate (length out) (pos 0) ≡ listOf R (pos 0) (length out) (packedInstructions f)) × (replicate (length entriesOut) (pos 0) ≡ listOf R (pos 0) (length entriesOut) (packedEntries f)))
+refused f out entriesOut r zero e h = absurd (h e)
+refused f out entriesOut r (suc R) e h = (ap Refused e, (refl, refl))
+
+module _ (f : Font) (out entriesOut zeros zerosOut : List ℤ) (e : zeros ≡ replicate (length out) (pos 0)) (g : zerosOut ≡ replicate (length entriesOut) (pos 0)) where
+  rooms : packingRefusal f (length zeros) (length zerosOut) ≡ packingRefusal f (length out) (length entriesOut)
+  rooms =
+      ap (λ (n : ℕ). packingRefusal f n (length zerosOut)) (ap length e ∙ length-replicate (length out) (pos 0))
+      ∙ ap (λ (n : ℕ). packingRefusal f (length out) n) (ap length g ∙ length-replicate (length entriesOut) (pos 0))
+
+  pub packs-refused : (r : ℕ) → r ≡ packingRefusal f (length zeros) (length zerosOut) → (r ≡ 0 → ⊥) → Packs f out entriesOut (Refused r) zeros zerosOut
+  packs-refused r t h =
+      let q = refused f out entriesOut r (packingRefusal f (length out) (length entriesOut)) (t ∙ rooms) h in
+      record { answer = q .0; instructions = e ∙ q .1 .0; entries = g ∙ q .1 .1 }
+
+  pub packs-taken : (r : Packed) (out′ entriesOut′ : List ℤ) → packingRefusal f (length zeros) (length zerosOut) ≡ 0 → r ≡ packedBy 0 f → Appending (packedInstructions f) zeros out′ → Appending (packedEntries f) zerosOut entriesOut′ → Packs f out entriesOut r out′ entriesOut′
+  packs-taken r out′ entriesOut′ t a x y =
+      let q : packingRefusal f (length out) (length entriesOut) ≡ 0 = sym rooms ∙ t in
+      record {
+        answer = rw q a;
+        instructions = rw q (appending-rest zeros (pos 0) (length out) e x);
+        entries = rw q (appending-rest zerosOut (pos 0) (length entriesOut) g y);
+      }
+
+-- ---- what packing is for: the old instructions are there, each entry is one byte, and it unpacks to the old entry, shifted
+
+fromFields : ℤ → ℤ → ℤ → ℤ → Instruction
+fromFields next right kind operand =
+    record { «next_instruction» = nextOf next; «right_char» = record { 0 = wordOf right % 256 }; operation = operationOf (wordOf kind) operand }
+
+from-same : {a a′ b b′ c c′ d d′ : ℤ} → a ≡ a′ → b ≡ b′ → c ≡ c′ → d ≡ d′ → fromFields a b c d ≡ fromFields a′ b′ c′ d′
+from-same p q r s = rw (p, q, r, s)
+
+unpack-plain : (s : List ℤ) (e : ℕ) → e < count s → isKind 3 s e ≡ false → unpacks s e ≡ Entry e
+unpack-plain s e h k = rw (k, lt-ltb e (count s) h)
+
+unpack-redirect : (s : List ℤ) (e t : ℕ) → e < count s → isKind 3 s e ≡ true → targetAt s e ≡ t → t < count s → unpacks s e ≡ Entry t
+unpack-redirect s e t h k g l = rw (k, g, lt-ltb t (count s) l, lt-ltb e (count s) h)
+
+-- of the entry at place i: its character stays, and its packed entry is one byte, which unpacks to the old entry, shifted
+pub record Unpacks (f : Font) (i : ℕ) : Type 0 where
+  pub char : charAt (packedEntries f) i ≡ charAt (f .entries) i
+  pub byte : within 255 (entryAt (packedEntries f) i) ≡ true
+  pub entry : unpacks (packedInstructions f) (wordOf (entryAt (packedEntries f) i)) ≡ Entry (wordOf (entryAt (f .entries) i) + fontOffset f)
+
+module _ (f : Font) where
+  plan-of : Plan f (labelsOf (f .entries)) (nonNeg (f .boundary)) (fontRedirects f) (fontOffset f)
+  plan-of = record { same = refl; bounded = refl; redirects = refl; offset = refl }
+
+  whole-size : length (packedInstructions f) ≡ 4 * fontOffset f + length (f .instructions) + length (back (f .left) (fontOffset f))
+  whole-size = plan-size plan-of
+
+  -- number m of the old instruction e, and of redirect p
+  old-field : (e m : ℕ) → e < count (f .instructions) → m < 4 → field (packedInstructions f) (e + fontOffset f) m ≡ field (f .instructions) e m
+  old-field e m h l =
+      let j : 4 * (e + fontOffset f) + m - 4 * fontOffset f ≡ 4 * e + m = omega arith in
+      rw (lt-ltb (e + fontOffset f) (count (packedInstructions f)) (omega (arith, whole-size)), lt-ltb e (count (f .instructions)) h)
+      (sym (number-old (f .boundary) (fontRedirects f) (fontOffset f) (labelsOf (f .entries)) (f .instructions) (f .left) refl (plan-few plan-of) (4 * (e + fontOffset f) + m) (omega arith) (omega arith))
+      ∙ ap (λ (n : ℕ). getD (f .instructions) n (pos 0)) j)
+
+  front-field : (p m : ℕ) → p < fontRedirects f → m < 4 → field (packedInstructions f) p m ≡ getD (redirect (presentOr (f .boundary)) (getD (labelsOf (f .entries)) p 0 + fontOffset f) 1) m (pos 0)
+  front-field p m h l =
+      let o : fontOffset f ≡ fontRedirects f = offset-some (nonNeg (f .boundary)) (fontRedirects f) (λ z. omega arith) in
+      let q : (4 * p + m) / 4 ≡ p = omega arith in
+      let r : (4 * p + m) % 4 ≡ m = omega arith in
+      rw (lt-ltb p (count (packedInstructions f)) (omega (arith, whole-size)))
+      (sym (number-front (f .boundary) (fontRedirects f) (fontOffset f) (labelsOf (f .entries)) (f .instructions) (f .left) refl (plan-few plan-of) (4 * p + m) (omega arith))
+      ∙ rw (q, r, ne-eqb (fontRedirects f) 0 (λ z. omega arith)))
+
+  -- the old instructions stand behind those in front
+  pub packed-same : (e : ℕ) → e < count (f .instructions) → instructionAt (packedInstructions f) (e + fontOffset f) ≡ instructionAt (f .instructions) e
+  unfolding fromFields
+  packed-same e h =
+      from-same (old-field e 0 h (omega arith)) (old-field e 1 h (omega arith)) (old-field e 2 h (omega arith)) (old-field e 3 h (omega arith))
+
+  module _ (room entryRoom : ℕ) (taken : packingRefusal f room entryRoom ≡ 0) where
+    packs : Packable f room entryRoom
+    packs = packable f room entryRoom taken
+
+    redirected : (e : ℕ) → placeAmong e (labelsOf (f .entries)) < fontRedirects f → e < count (f .instructions) → unpacks (packedInstructions f) (placeAmong e (labelsOf (f .entries))) ≡ Entry (e + fontOffset f)
+    redirected e h l =
+        let p : ℕ = placeAmong e (labelsOf (f .entries)) in
+        let o : fontOffset f ≡ fontRedirects f = offset-some (nonNeg (f .boundary)) (fontRedirects f) (λ z. omega arith) in
+        let x : getD (labelsOf (f .entries)) p 0 ≡ e = place-is e (labelsOf (f .entries)) (omega (arith, plan-few plan-of)) in
+        let m : e + fontOffset f ≤ 65535 = omega (arith, plan-shifts plan-of packs p) in
+        let n : (e + fontOffset f + 65536) % 65536 ≡ e + fontOffset f = omega arith in
+        unpack-redirect (packedInstructions f) p (e + fontOffset f) (omega (arith, whole-size))
+        (ap (λ (z : ℤ). eqb (wordOf z) 3) (front-field p 2 h (omega arith)))
+        (ap (λ (z : ℤ). wordOf z % 65536) (front-field p 3 h (omega arith)) ∙ ap (λ (t : ℕ). (t + fontOffset f + 65536) % 65536) x ∙ n)
+        (omega (arith, whole-size))
+
+    -- an old instruction that is no redirect itself is what its packed entry unpacks to
+    pub packed-unpacks : (e : ℕ) → e < count (f .instructions) → isKind 3 (f .instructions) e ≡ false → unpacks (packedInstructions f) (packedEntry (fontRedirects f) (fontOffset f) (labelsOf (f .entries)) e) ≡ Entry (e + fontOffset f)
+    packed-unpacks e h k = go (ltb (placeAmong e (labelsOf (f .entries))) (fontRedirects f)) refl
+      where
+        go : (b : Bool) → ltb (placeAmong e (labelsOf (f .entries))) (fontRedirects f) ≡ b → unpacks (packedInstructions f) (cond b (placeAmong e (labelsOf (f .entries))) (e + fontOffset f)) ≡ Entry (e + fontOffset f)
+        go true t = redirected e (ltb-true (placeAmong e (labelsOf (f .entries))) (fontRedirects f) t) h
+        go false t =
+            unpack-plain (packedInstructions f) (e + fontOffset f) (omega (arith, whole-size))
+            (ap (λ (z : ℤ). eqb (wordOf z) 3) (old-field e 2 h (omega arith)) ∙ k)
+
+    -- a label's packed entry is one byte
+    pub packed-byte : {e : ℕ} → List·Memᴰ e (labelsOf (f .entries)) → packedEntry (fontRedirects f) (fontOffset f) (labelsOf (f .entries)) e ≤ 255
+    packed-byte {e} m = go (ltb (placeAmong e (labelsOf (f .entries))) (fontRedirects f)) refl
+      where
+        go : (b : Bool) → ltb (placeAmong e (labelsOf (f .entries))) (fontRedirects f) ≡ b → cond b (placeAmong e (labelsOf (f .entries))) (e + fontOffset f) ≤ 255
+        go true t = omega (arith, ltb-true (placeAmong e (labelsOf (f .entries))) (fontRedirects f) t, packs .few)
+        go false t =
+            let l : fontRedirects f ≤ placeAmong e (labelsOf (f .entries)) = ltb-false (placeAmong e (labelsOf (f .entries))) (fontRedirects f) t in
+            let x : getD (labelsOf (f .entries)) (placeAmong e (labelsOf (f .entries))) 0 ≡ e = place-is e (labelsOf (f .entries)) (place-lt m) in
+            omega (arith, unredirected (nonNeg (f .boundary)) (labelsOf (f .entries)) (under 65535 (f .entries) (packs .entered)) (placeAmong e (labelsOf (f .entries))) (place-lt m) l)
+
+    pub entries-unpack : (i : ℕ) → i < length (f .entries) / 2 → wordOf (entryAt (f .entries) i) < count (f .instructions) → isKind 3 (f .instructions) (wordOf (entryAt (f .entries) i)) ≡ false → Unpacks f i
+    entries-unpack i h l k =
+        let e : entryAt (packedEntries f) i ≡ pos (packedEntry (fontRedirects f) (fontOffset f) (labelsOf (f .entries)) (wordOf (entryAt (f .entries) i))) =
+        getD-tabulate (length (f .entries)) (packedEntryNumber f) (2 * i + 1) (pos 0) (omega arith) ∙ sym (entry-entry (f .entries) (fontRedirects f) (fontOffset f) (labelsOf (f .entries)) i) in
+        record {
+          char = getD-tabulate (length (f .entries)) (packedEntryNumber f) (2 * i) (pos 0) (omega arith) ∙ sym (entry-char (f .entries) (fontRedirects f) (fontOffset f) (labelsOf (f .entries)) i);
+          byte = ap (within 255) e ∙ le-leb (packedEntry (fontRedirects f) (fontOffset f) (labelsOf (f .entries)) (wordOf (entryAt (f .entries) i))) 255 (packed-byte (labels-has (f .entries) (length (f .entries) / 2) i h));
+          entry = ap (λ (z : ℤ). unpacks (packedInstructions f) (wordOf z)) e ∙ packed-unpacks (wordOf (entryAt (f .entries) i)) l k;
+        }

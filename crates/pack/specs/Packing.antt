@@ -1,0 +1,160 @@
+-- Packing: entries above 255 become redirects at the front, after `pack_entrypoints` of ligkern/lang.rs. PLtoTF 139 to 142: the label table, the
+-- offset, the redirects, and 'location 0 can do double duty'.
+use mathlib.Core.Path.{_≡_}
+use mathlib.Core.Bool.{Bool, true, false, cond}
+use mathlib.Core.List.{List, [], _∷_, _++_}
+use Prim.Native.Nat.{ℕ, zero, suc, _+_, _*_, _/_, _%_}
+use lib.IntN.{ℤ, pos, negsuc}
+use lib.Dec.{leb, ltb, eqb}
+use lib.ListN.{length, getD}
+use lib.Signed.{nonNeg}
+use Rattle.words.specs.Words.{wordOf}
+use Rattle.words.specs.Lists.{tabulate}
+use Rattle.pack.specs.declared.Packed.{Packed}
+use Rattle.pack.specs.declared.Packed.the-variants.{Sizes, Refused}
+use Rattle.lang.specs.Records.{count}
+use Rattle.lang.specs.Checks.{programRefusal, entriesRefusal, absentRefusal, orElse, charAt, entryAt}
+use Rattle.lang.specs.Answers.{roomRefusal, listOf}
+
+-- ---- PLtoTF 140: the labels, each once, the largest first
+
+unfoldable pub insertLabel : ℕ → List ℕ → List ℕ
+insertLabel e [] = e ∷ []
+insertLabel e (l ∷ ls) = cond (ltb l e) (e ∷ l ∷ ls) (cond (eqb l e) (l ∷ ls) (l ∷ insertLabel e ls))
+
+-- of the first n entries
+unfoldable pub labels : List ℤ → ℕ → List ℕ
+labels es zero = []
+labels es (suc n) = insertLabel (wordOf (entryAt es n)) (labels es n)
+
+abbrev pub labelsOf : List ℤ → List ℕ
+labelsOf es = labels es (length es / 2)
+
+-- ---- PLtoTF 141: the offset
+
+-- with k redirects in front: how many more labels have no place below 256
+unfoldable pub redirectsFrom : ℕ → List ℕ → ℕ
+redirectsFrom k [] = k
+redirectsFrom k (l ∷ ls) = cond (leb (l + k) 255) k (redirectsFrom (suc k) ls)
+
+-- The largest label decides whether there are redirects at all: with a boundary character it makes way for one instruction in front.
+-- If it then has no place, that instruction is given up, and the first redirect does its duty.
+abbrev pub redirectsOf : Bool → List ℕ → ℕ
+redirectsOf b [] = 0
+redirectsOf true (l ∷ ls) = cond (leb (l + 1) 255) 0 (redirectsFrom 1 ls)
+redirectsOf false (l ∷ ls) = cond (leb l 255) 0 (redirectsFrom 1 ls)
+
+-- how many instructions stand in front: the redirects, or the one that holds the boundary character
+abbrev pub offsetBy : Bool → ℕ → ℕ
+offsetBy true zero = 1
+offsetBy false zero = 0
+offsetBy b (suc k) = suc k
+
+-- ---- PLtoTF 141 and 142: the packed entries and the instructions
+
+-- a label's place: that of its redirect, or itself shifted
+unfoldable pub placeAmong : ℕ → List ℕ → ℕ
+placeAmong e [] = 0
+placeAmong e (l ∷ ls) = cond (eqb l e) 0 (suc (placeAmong e ls))
+
+abbrev pub packedEntry : ℕ → ℕ → List ℕ → ℕ → ℕ
+packedEntry redirects offset ls e = cond (ltb (placeAmong e ls) redirects) (placeAmong e ls) (e + offset)
+
+-- the four numbers of a redirect: no next, the boundary character or 0, kind 3, the target, and the flag
+abbrev pub redirect : ℤ → ℕ → ℕ → List ℤ
+redirect right target flag = negsuc 0 ∷ right ∷ pos 3 ∷ pos (target + 65536 * flag) ∷ []
+
+abbrev pub presentOr : ℤ → ℤ
+presentOr (pos b) = pos b
+presentOr (negsuc n) = pos 0
+
+unfoldable pub redirectsTo : ℤ → ℕ → ℕ → List ℕ → List ℤ
+redirectsTo right offset zero ls = []
+redirectsTo right offset (suc k) [] = []
+redirectsTo right offset (suc k) (l ∷ ls) = redirect right (l + offset) 1 ++ redirectsTo right offset k ls
+
+-- in front: the redirects, or the instruction that holds the boundary character, or nothing
+abbrev pub front : ℤ → ℕ → ℕ → List ℕ → List ℤ
+front boundary zero offset ls = cond (nonNeg boundary) (redirect (presentOr boundary) 0 1) []
+front boundary (suc k) offset ls = redirectsTo (presentOr boundary) offset (suc k) ls
+
+-- at the end: the shifted entry of the left boundary, where there is one
+abbrev pub back : ℤ → ℕ → List ℤ
+back (negsuc n) offset = []
+back (pos left) offset = redirect (pos 0) (left + offset) 0
+
+-- a font to be packed
+pub record Font : Type 0 where
+  pub instructions : List ℤ
+  pub entries : List ℤ
+  pub boundary : ℤ
+  pub left : ℤ
+
+abbrev pub fontRedirects : Font → ℕ
+fontRedirects f = redirectsOf (nonNeg (f .boundary)) (labelsOf (f .entries))
+
+abbrev pub fontOffset : Font → ℕ
+fontOffset f = offsetBy (nonNeg (f .boundary)) (fontRedirects f)
+
+abbrev pub packedInstructions : Font → List ℤ
+packedInstructions f =
+    front (f .boundary) (fontRedirects f) (fontOffset f) (labelsOf (f .entries)) ++ f .instructions ++ back (f .left) (fontOffset f)
+
+-- number j of the packed entries: characters as they were lent, and their packed entries
+abbrev pub packedEntryNumber : Font → ℕ → ℤ
+packedEntryNumber f j =
+    cond (eqb (j % 2) 0) (getD (f .entries) j (pos 0))
+    (pos (packedEntry (fontRedirects f) (fontOffset f) (labelsOf (f .entries)) (wordOf (getD (f .entries) j (pos 0)))))
+
+abbrev pub packedEntries : Font → List ℤ
+packedEntries f = tabulate (length (f .entries)) (packedEntryNumber f)
+
+-- ---- refusals
+
+-- 10: packing needs 256 redirects
+abbrev pub redirectRefusal : ℕ → ℕ
+redirectRefusal k = cond (leb k 255) 0 10
+
+-- 11: an entry, or the left entry, plus the offset passes 65,535
+abbrev pub fitsShifted : ℕ → ℕ → Bool
+fitsShifted e offset = leb (e + offset) 65535
+
+abbrev pub largest : List ℕ → ℕ
+largest [] = 0
+largest (l ∷ ls) = l
+
+abbrev pub leftOr : ℤ → ℕ
+leftOr (pos n) = n
+leftOr (negsuc n) = 0
+
+abbrev pub shiftRefusal : Font → ℕ
+shiftRefusal f =
+    cond (fitsShifted (largest (labelsOf (f .entries))) (fontOffset f)) (cond (fitsShifted (leftOr (f .left)) (fontOffset f)) 0 11) 11
+
+abbrev pub fontRefusal : Font → ℕ
+fontRefusal f =
+    orElse (programRefusal (f .instructions))
+    (orElse (entriesRefusal 65535 (f .entries)) (orElse (absentRefusal 255 (f .boundary)) (absentRefusal 65535 (f .left))))
+
+-- document 01's number of an answer
+abbrev pub packedNumber : Packed → ℕ
+packedNumber (Sizes n offset redirects) = 0
+packedNumber (Refused n) = n
+
+abbrev pub packingRefusal : Font → ℕ → ℕ → ℕ
+packingRefusal f room entryRoom =
+    orElse (fontRefusal f)
+    (orElse (redirectRefusal (fontRedirects f))
+    (orElse (shiftRefusal f)
+    (orElse (roomRefusal (length (packedInstructions f)) room) (roomRefusal (length (f .entries)) entryRoom))))
+
+-- the answer: how many instructions there are now, the offset and the number of redirects
+abbrev pub packedBy : ℕ → Font → Packed
+packedBy zero f = Sizes (count (packedInstructions f)) (fontOffset f) (fontRedirects f)
+packedBy (suc r) f = Refused (suc r)
+
+-- the contract of pack_entrypoints
+pub record Packs (f : Font) (out entriesOut : List ℤ) (r : Packed) (out′ entriesOut′ : List ℤ) : Type 0 where
+  pub answer : r ≡ packedBy (packingRefusal f (length out) (length entriesOut)) f
+  pub instructions : out′ ≡ listOf (packingRefusal f (length out) (length entriesOut)) (pos 0) (length out) (packedInstructions f)
+  pub entries : entriesOut′ ≡ listOf (packingRefusal f (length out) (length entriesOut)) (pos 0) (length entriesOut) (packedEntries f)
