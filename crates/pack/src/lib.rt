@@ -12,11 +12,9 @@ ghost use Rattle.words.specs.Words.{wordOf, numberOf};
 ghost use Rattle.words.specs.Lists.{tabulate, Appending};
 ghost use Rattle.lang.specs.Checks.{entriesRefusal};
 ghost use Rattle.pack.specs.Packing.{Packs, Font, front, back, labelsOf, leftOr, offsetBy, packedBy, packedEntries, packedEntry, packedInstructions, packingRefusal, fontRefusal};
+
 mod labels;
 
-use lang::check::absent_refusal;
-use lang::check::entries_refusal;
-use lang::check::program_refusal;
 use crate::labels::is_present;
 use crate::labels::label_entries;
 use crate::labels::offset_by;
@@ -24,6 +22,9 @@ use crate::labels::place_among;
 use crate::labels::present_or_zero;
 use crate::labels::redirect_number;
 use crate::labels::redirects_of;
+use lang::check::absent_refusal;
+use lang::check::entries_refusal;
+use lang::check::program_refusal;
 
 // What packing answers.
 pub enum Packed {

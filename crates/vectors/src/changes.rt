@@ -136,7 +136,14 @@ pub fn packed(numbers: &[i32], line: &mut [u8], k: usize) -> usize
     let left = number_at(numbers, font.left);
     let mut out = records();
     let mut listed = pairs();
-    let answer = pack::pack_entrypoints(instructions, entries, boundary, left, &mut out, &mut listed);
+    let answer = pack::pack_entrypoints(
+        instructions,
+        entries,
+        boundary,
+        left,
+        &mut out,
+        &mut listed,
+    );
     let kept = part(&listed, 0, entries.len());
     put_packed(line, k, answer, &out, kept, words::word_of(left))
 }

@@ -1,0 +1,11 @@
+-- `compiler::collect::blank` meets its contract: 256 zeros.
+-- Assumes nothing.
+use Rattle.compiler.proofs.CollectLaws.{blank-is}
+use Rattle.compiler.proofs.collect.blank.Statement.{statement}
+use Rattle.compiler.proofs.collect.blank.Tie as tie
+
+returns : tie.Need-returns
+returns c = blank-is
+
+pub blank-spec : {M : Type 1} → statement M
+blank-spec = tie.close (tie.spec returns)

@@ -1,0 +1,89 @@
+// The parts that a row's ops are made of. Counting and writing both go by them.
+ghost use mathlib.Core.Path.{_≡_};
+ghost use Prim.Native.Nat.{_<_};
+ghost use Rattle.compiler.specs.Rows.{Ascending, Encoded};
+ghost use Rattle.compiler.specs.Writing.{leftPart, pairPart, lastCode, firstPart, secondPart, LastFits};
+use crate::rows::Row;
+
+pub enum Part {
+    Nothing,
+    // The character with this code.
+    Character(u32),
+    // The ligature with this code.
+    Ligature(u32),
+    // The scaled kern with these bits.
+    Kern(u32),
+    // The ops of this row.
+    OfRow(usize),
+}
+
+// A left that is finished: 0 is the boundary, which gives nothing.
+fn left_part(left: u32) -> Part
+    ensures { λ r. ⌜ r ≡ leftPart left ⌝ }
+{
+    if left == 0 {
+        Part::Nothing
+    } else {
+        Part::Character(left - 1)
+    }
+}
+
+// The ops of a pair: those of its row; where it has none, its left finished.
+fn pair_part(work: &[u32], n: usize, left: u32, right: u32) -> Part
+    requires { ⌜ (Ascending n (now work)) × (left < 257) × (right < 256) ⌝ }
+    ensures { λ r. ⌜ r ≡ pairPart n (now (work .entry)) left right ⌝ }
+{
+    match crate::rows::find(work, n, left, right) {
+        Row::Found(k) => Part::OfRow(k),
+        Row::Missing => left_part(left),
+    }
+}
+
+// The code of a pair's last: its row's; where it has none, its right's.
+fn last_code(work: &[u32], n: usize, left: u32, right: u32) -> u32
+    requires { ⌜ (Ascending n (now work)) × (left < 257) × (right < 256) ⌝ }
+    ensures { λ r. ⌜ r ≡ lastCode n (now (work .entry)) left right ⌝ }
+{
+    match crate::rows::find(work, n, left, right) {
+        Row::Found(k) => crate::rows::get(work, k, 6),
+        Row::Missing => right,
+    }
+}
+
+// What stands first in row k's ops.
+pub fn first_part(work: &[u32], n: usize, k: usize) -> Part
+    requires { ⌜ (Encoded n (now work)) × (k < n) ⌝ }
+    ensures { λ r. ⌜ r ≡ firstPart n (now (work .entry)) k ⌝ }
+{
+    let op = crate::rows::get(work, k, 3);
+    let left = crate::rows::get(work, k, 0);
+    let value = crate::rows::get(work, k, 4);
+    if 6 <= op {
+        return left_part(left);
+    }
+    if op == 2 {
+        return pair_part(work, n, left, value);
+    }
+    if op == 3 {
+        return pair_part(work, n, left, value);
+    }
+    Part::Nothing
+}
+
+// What follows it, with its first character a ligature.
+pub fn second_part(work: &[u32], n: usize, k: usize) -> Part
+    requires { ⌜ (Encoded n (now work)) × (k < n) × LastFits n (now work) k ⌝ }
+    ensures { λ r. ⌜ r ≡ secondPart n (now (work .entry)) k ⌝ }
+{
+    let op = crate::rows::get(work, k, 3);
+    let left = crate::rows::get(work, k, 0);
+    let right = crate::rows::get(work, k, 1);
+    let value = crate::rows::get(work, k, 4);
+    match op {
+        128 => Part::Kern(value),
+        5 | 11 => Part::Ligature(value),
+        1 | 7 => pair_part(work, n, value + 1, right),
+        3 => pair_part(work, n, last_code(work, n, left, value) + 1, right),
+        _ => Part::Nothing,
+    }
+}
