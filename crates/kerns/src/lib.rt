@@ -12,7 +12,7 @@ ghost use Rattle.lang.specs.Checks.{programRefusal, orElse};
 ghost use Rattle.lang.specs.Answers.{roomRefusal};
 ghost use Rattle.lang.specs.Records.{isKind};
 ghost use Rattle.kerns.specs.Kerns.{changed, kernAt, packed, packRefusal, placeOf, PacksKerns, UnpacksKerns};
-ghost use Rattle.kerns.specs.Sharing.{Chained};
+ghost use Rattle.kerns.specs.Sharing.{Linked};
 
 mod share;
 
@@ -97,14 +97,8 @@ fn unpack_refusal(instructions: &[i32], room: usize) -> u32
 }
 
 // Number j of the program in which each kern value is its place in `kerns`, as its 32 bits.
-fn unpacked_word(
-    instructions: &[i32],
-    kerns: &[i32],
-    heads: &[u16; 4096],
-    links: &[u16; 32768],
-    j: usize,
-) -> u32
-    requires { ⌜ Chained (now kerns) (now heads) (now links) ⌝ }
+fn unpacked_word(instructions: &[i32], kerns: &[i32], links: &[u16; 65536], j: usize) -> u32
+    requires { ⌜ Linked (now kerns) (now links) ⌝ }
     ensures { λ r. ⌜ Word (changed (now (instructions .entry)) (isKind 0 (now (instructions .entry))) (pos 1) (λ i. pos (placeOf (field (now (instructions .entry)) i 3) (now (kerns .entry)))) j) r ⌝ }
 {
     if field_at(instructions, j / 4, 2) != 0 {
@@ -114,25 +108,19 @@ fn unpacked_word(
         return 1;
     }
     if j % 4 == 3 {
-        return place_of(kerns, heads, links, field_at(instructions, j / 4, 3)) as u32;
+        return place_of(kerns, links, field_at(instructions, j / 4, 3)) as u32;
     }
     words::word_at(instructions, j)
 }
 
-fn write_unpacked(
-    instructions: &[i32],
-    kerns: &[i32],
-    heads: &[u16; 4096],
-    links: &[u16; 32768],
-    out: &mut [i32],
-)
-    requires { ⌜ Chained (now kerns) (now heads) (now links) ⌝ }
+fn write_unpacked(instructions: &[i32], kerns: &[i32], links: &[u16; 65536], out: &mut [i32])
+    requires { ⌜ Linked (now kerns) (now links) ⌝ }
     requires { ⌜ length (now instructions) ≤ length (now out) ⌝ }
     ensures { λ _. ⌜ now (out .exit) ≡ tabulate (length (now (instructions .entry))) (changed (now (instructions .entry)) (isKind 0 (now (instructions .entry))) (pos 1) (λ i. pos (placeOf (field (now (instructions .entry)) i 3) (now (kerns .entry))))) ++ drop (length (now (instructions .entry))) (now (out .entry)) ⌝ }
 {
     let mut j = 0;
     while j < instructions.len() {
-        words::put_word(out, j, unpacked_word(instructions, kerns, heads, links, j));
+        words::put_word(out, j, unpacked_word(instructions, kerns, links, j));
         j += 1;
     }
 }
@@ -148,13 +136,12 @@ pub fn unpack_kerns(instructions: &[i32], out: &mut [i32], kerns: &mut [i32]) ->
     if refusal != 0 {
         return Written::Refused(refusal);
     }
-    let mut heads = [0u16; 4096];
-    let mut links = [0u16; 32768];
-    let m = gather(instructions, kerns, &mut heads, &mut links);
+    let mut links = [0u16; 65536];
+    let m = gather(instructions, kerns, &mut links);
     if kerns.len() < m {
         words::zero::zero_i32(kerns);
         return Written::Refused(15);
     }
-    write_unpacked(instructions, &kerns[..m], &heads, &links, out);
+    write_unpacked(instructions, &kerns[..m], &links, out);
     Written::Count(m)
 }

@@ -15,7 +15,7 @@ use Rattle.lang.specs.Checks.{programRefusal, orElse}
 use Rattle.lang.specs.Answers.{roomRefusal}
 use Rattle.lang.specs.Records.{isKind}
 use Rattle.kerns.specs.Kerns.{changed, placeOf, kernsOf, unpacked, unpackRefusal, UnpacksKerns}
-use Rattle.kerns.specs.Sharing.{Chained, Gathered, Counted}
+use Rattle.kerns.specs.Sharing.{Linked, Gathered, Counted}
 use Rattle.lang.specs.declared.Written.the-variants.{Count, Refused}
 use Rattle.kerns.proofs.Changes.{orElse-assoc, orElse-left, orElse-right, first-is, room-fits, room-short, room-is, program-size, refused-answer, refused-list, written-list}
 use Rattle.kerns.proofs.Sharing.{gathered-none, gathered-front}
@@ -41,8 +41,8 @@ record Begun (s out kerns z y : List ℤ) (r : ℕ) : Type 0 where
   early : r ≡ orElse (programRefusal s) (roomRefusal (length s) (length z))
 
 -- m kerns were counted
-record Ended (s y kerns′ : List ℤ) (heads links : List ℕ) (m : ℕ) : Type 0 where
-  counted : Counted s (count s) (length y) kerns′ heads links m
+record Ended (s y kerns′ : List ℤ) (links : List ℕ) (m : ℕ) : Type 0 where
+  counted : Counted s (count s) (length y) kerns′ links m
   kept : length kerns′ ≡ length y
 
 module _ {s out kerns z y : List ℤ} {r : ℕ} (b : Begun s out kerns z y r) where
@@ -65,21 +65,21 @@ module _ {s out kerns z y : List ℤ} {r : ℕ} (b : Begun s out kerns z y r) wh
     enough : length s ≤ length z
     enough = room-fits (length s) (length z) (orElse-right (programRefusal s) (roomRefusal (length s) (length z)) (sym (b .early) ∙ passed))
 
-    starts : Gathered s 0 (length y) y (replicate 4096 0) (replicate 32768 0) 0
-    starts = gathered-none s (length y) y (replicate 4096 0) (replicate 32768 0) (rw (b .kerns-same) (b .kerns-zeros)) refl refl
+    starts : Gathered s 0 (length y) y (replicate 65536 0) 0
+    starts = gathered-none s (length y) y (replicate 65536 0) (rw (b .kerns-same) (b .kerns-zeros)) refl
 
-    module _ {kerns′ : List ℤ} {heads links : List ℕ} {m : ℕ} (e : Ended s y kerns′ heads links m) where
+    module _ {kerns′ : List ℤ} {links : List ℕ} {m : ℕ} (e : Ended s y kerns′ links m) where
       refused-late : {kerns″ : List ℤ} → length kerns′ < m → kerns″ ≡ replicate (length kerns′) (pos 0) → UnpacksKerns s out kerns (Refused 15) z kerns″
       refused-late h zeros =
           let l : length y < m = omega (arith, e .kept) in
           refused (b .out-zeros) (rw (← b .kerns-same, ← e .kept) zeros) (sym (late ∙ room-short (length (kernsOf s)) (length kerns) (omega (arith, e .counted .short l, b .kerns-same)))) (λ x. omega arith)
 
       module _ (h : m ≤ length kerns′) where
-        all : Gathered s (count s) (length y) kerns′ heads links m
+        all : Gathered s (count s) (length y) kerns′ links m
         all = e .counted .whole (omega (arith, e .kept))
 
-        chained : Chained (take m kerns′) heads links
-        chained = rw (gathered-front all) (all .chained)
+        linked : Linked (take m kerns′) links
+        linked = rw (gathered-front all) (all .linked)
 
         done : {out′ : List ℤ} → out′ ≡ tabulate (length s) (changed s (isKind 0 s) (pos 1) (λ i. pos (placeOf (field s i 3) (take m kerns′)))) ++ drop (length s) z → UnpacksKerns s out kerns (Count m) out′ kerns′
         done {out′} w =
@@ -96,7 +96,7 @@ begun c =
     let y = c .before .before .zero-i322 in
     record { out-zeros = z .ensures; out-same = z .kept .0; kerns-zeros = y .ensures; kerns-same = y .kept .0; early = c .unpack-refusal .ensures }
 
-ended : (c : tie.After-gather) → Ended (now (c .before .before .before .before .before .before .before .before .before .before .before .before .args .instructions)) (c .before .before .before .before .before .before .before .zero-i322 .last .0) (c .gather .last .1 .0) (c .gather .last .1 .1 .0) (c .gather .last .1 .1 .1 .0) (c .gather .result)
+ended : (c : tie.After-gather) → Ended (now (c .before .before .before .before .before .before .before .before .before .before .before .args .instructions)) (c .before .before .before .before .before .before .zero-i322 .last .0) (c .gather .last .1 .0) (c .gather .last .1 .1 .0) (c .gather .result)
 ended c = record { counted = c .gather .ensures; kept = c .gather .kept .1 .0 }
 
 zero-i32-requires : tie.Need-zero-i32-requires
@@ -118,7 +118,7 @@ returns : tie.Need-returns
 returns c = refused-early (begun (c .before)) (c .if1 .taken)
 
 gather-requires : tie.Need-gather-requires
-gather-requires c κs = let b = begun (c .before .before .before .before) in (size b (c .before .before .before .if1 .left), starts b (c .before .before .before .if1 .left))
+gather-requires c κs = let b = begun (c .before .before .before) in (size b (c .before .before .if1 .left), starts b (c .before .before .if1 .left))
 
 zero-i32-requires-3 : tie.Need-zero-i32-requires-3
 zero-i32-requires-3 c κs = search needs
@@ -132,7 +132,7 @@ same-length-4 c = search needs
 returns-2 : tie.Need-returns-2
 returns-2 c =
     let g = c .before .before .before .before .before in
-    refused-late (begun (g .before .before .before .before .before)) (g .before .before .before .before .if1 .left) (ended g) (c .before .before .before .if2 .taken) (c .before .zero-i323 .ensures)
+    refused-late (begun (g .before .before .before .before)) (g .before .before .before .if1 .left) (ended g) (c .before .before .before .if2 .taken) (c .before .zero-i323 .ensures)
 
 slice-reshare-prefix-write-unpacked : tie.Need-slice-reshare-prefix-write-unpacked
 slice-reshare-prefix-write-unpacked c = search needs
@@ -142,9 +142,9 @@ slice-aggregate-write-unpacked c = let g = c .before .before .before .gather in 
 
 write-unpacked-requires : tie.Need-write-unpacked-requires
 write-unpacked-requires c κs =
-    let g = c .before .before .before .before .before .before in
-    let b = begun (g .before .before .before .before .before) in
-    (chained b (g .before .before .before .before .if1 .left) (ended g) (c .before .before .before .before .if2 .left), enough b (g .before .before .before .before .if1 .left))
+    let g = c .before .before .before .before .before in
+    let b = begun (g .before .before .before .before) in
+    (linked b (g .before .before .before .if1 .left) (ended g) (c .before .before .before .if2 .left), enough b (g .before .before .before .if1 .left))
 
 same-length-5 : tie.Need-same-length-5
 same-length-5 c = search needs
@@ -154,8 +154,8 @@ same-length-6 c = search needs
 
 returns-3 : tie.Need-returns-3
 returns-3 c =
-    let g = c .before .before .before .before .before .before .before .before in
-    done (begun (g .before .before .before .before .before)) (g .before .before .before .before .if1 .left) (ended g) (c .before .before .before .before .before .before .if2 .left) (c .before .write-unpacked .ensures)
+    let g = c .before .before .before .before .before .before .before in
+    done (begun (g .before .before .before .before)) (g .before .before .before .if1 .left) (ended g) (c .before .before .before .before .before .if2 .left) (c .before .write-unpacked .ensures)
 
 pub unpack-kerns-spec : {M : Type 1} → statement M
 unpack-kerns-spec =

@@ -14,7 +14,7 @@ use Rattle.lang.specs.Records.{field}
 use Rattle.lang.specs.Records.{isKind}
 use Rattle.kerns.specs.Kerns.{placeOf}
 use Rattle.kerns.proofs.Changes.{kind-is, kind-not, small-word, word-not, word-kind, word-operand, word-other}
-use Rattle.kerns.proofs.Sharing.{place-le}
+use Rattle.kerns.proofs.Places.{place-le}
 use borrow.Author.Needs.{needs}
 use Rattle.kerns.proofs.unpacked_word.Statement.{statement}
 use Rattle.kerns.proofs.unpacked_word.Tie as tie

@@ -20,10 +20,10 @@ abbrev unpackedAt : List ℤ → List ℤ → ℕ → ℤ
 unpackedAt s kerns = changed s (isKind 0 s) (pos 1) (λ i. pos (placeOf (field s i 3) kerns))
 
 abbrev Inv-loop : tie.InvT-loop
-Inv-loop instructions kerns heads links out₀ j₀ out j = (j ≤ length instructions) × Filling (unpackedAt instructions kerns) out₀ out j
+Inv-loop instructions kerns links out₀ j₀ out j = (j ≤ length instructions) × Filling (unpackedAt instructions kerns) out₀ out j
 
 abbrev μ-loop : tie.MeasureT-loop
-μ-loop instructions kerns heads links out₀ j₀ out j = length instructions - j
+μ-loop instructions kerns links out₀ j₀ out j = length instructions - j
 
 loop-holds : tie.Need-loop-holds Inv-loop μ-loop
 loop-holds c = let a = c .args in (omega arith, filling-none (unpackedAt (now (a .instructions)) (now (a .kerns))) (now (a .out)))

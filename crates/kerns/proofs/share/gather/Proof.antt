@@ -12,39 +12,39 @@ use Rattle.kerns.proofs.share.gather.Statement.{statement}
 use Rattle.kerns.proofs.share.gather.Tie as tie
 
 abbrev Inv-loop : tie.InvT-loop
-Inv-loop instructions kerns₀ heads₀ links₀ m₀ i₀ kerns heads links m i =
-    (i ≤ count instructions) × (length kerns ≡ length kerns₀) × Gathered instructions i (length kerns₀) kerns heads links m
+Inv-loop instructions kerns₀ links₀ m₀ i₀ kerns links m i =
+    (i ≤ count instructions) × (length kerns ≡ length kerns₀) × Gathered instructions i (length kerns₀) kerns links m
 
 abbrev μ-loop : tie.MeasureT-loop
-μ-loop instructions kerns₀ heads₀ links₀ m₀ i₀ kerns heads links m i = count instructions - i
+μ-loop instructions kerns₀ links₀ m₀ i₀ kerns links m i = count instructions - i
 
 loop-holds : tie.Need-loop-holds Inv-loop μ-loop
 loop-holds c = (omega arith, refl, c .pre .1)
 
 share-kern-requires : tie.Need-share-kern-requires Inv-loop μ-loop
 share-kern-requires c κs =
-    let l = c .before .before .before .before .loop in
-    (omega (arith, c .before .before .before .loop-test .taken, c .before .before .before .before .before .pre .0), rw (l .inv .1) (l .inv .2))
+    let l = c .before .before .before .loop in
+    (omega (arith, c .before .before .loop-test .taken, c .before .before .before .before .pre .0), rw (l .inv .1) (l .inv .2))
 
 same-length : tie.Need-same-length Inv-loop μ-loop
-same-length c = c .before .before .share-kern .kept .1 .1 .0 ∙ c .before .before .before .before .before .before .before .loop .inv .1
+same-length c = c .before .before .share-kern .kept .1 .1 .0 ∙ c .before .before .before .before .before .before .loop .inv .1
 
 returns : tie.Need-returns Inv-loop μ-loop
 returns c =
-    let a = c .before .before .before .before .before .before .before .before in
-    let l = c .before .before .before .before .before .before .before .loop in
-    counted-short (rw (l .inv .1) at (c .before .before .share-kern .ensures)) (omega (arith, c .if1 .taken, c .before .before .share-kern .kept .1 .1 .0, l .inv .1)) (count (now (a .args .instructions))) (omega (arith, c .before .before .before .before .before .before .loop-test .taken))
+    let a = c .before .before .before .before .before .before .before in
+    let l = c .before .before .before .before .before .before .loop in
+    counted-short (rw (l .inv .1) at (c .before .before .share-kern .ensures)) (omega (arith, c .if1 .taken, c .before .before .share-kern .kept .1 .1 .0, l .inv .1)) (count (now (a .args .instructions))) (omega (arith, c .before .before .before .before .before .loop-test .taken))
 
 add-i : tie.Need-add-i Inv-loop μ-loop
-add-i c = omega (arith, c .before .before .before .before .before .before .loop-test .taken, c .before .before .before .before .before .before .before .before .pre .0)
+add-i c = omega (arith, c .before .before .before .before .before .loop-test .taken, c .before .before .before .before .before .before .before .pre .0)
 
 loop-less : tie.Need-loop-less Inv-loop μ-loop
-loop-less c = omega (arith, c .before .before .before .before .before .before .loop-test .taken)
+loop-less c = omega (arith, c .before .before .before .before .before .loop-test .taken)
 
 loop-again : tie.Need-loop-again Inv-loop μ-loop
 loop-again c =
-    let l = c .before .before .before .before .before .before .before .loop in (
-      omega (arith, c .before .before .before .before .before .before .loop-test .taken),
+    let l = c .before .before .before .before .before .before .loop in (
+      omega (arith, c .before .before .before .before .before .loop-test .taken),
       c .before .before .share-kern .kept .1 .1 .0 ∙ l .inv .1,
       rw (l .inv .1) at (c .before .before .share-kern .ensures .whole (omega (arith, c .if1 .left, c .before .before .share-kern .kept .1 .1 .0))),
     )
