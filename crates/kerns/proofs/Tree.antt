@@ -160,6 +160,10 @@ linked-none links e =
 
 -- ---- one more value, whose link goes into the empty slot at which the search for it ended
 
+-- a link after the store of m: the new one, or one of before
+abbrev LinkCase : List ℕ → ℕ → ℕ → ℕ → Type 0
+LinkCase links slot m s = ((s ≡ slot) × (getD (set links slot m) s 0 ≡ m)) ⊎ (getD (set links slot m) s 0 ≡ getD links s 0)
+
 module _ {ks : List ℤ} {links : List ℕ} (c : Linked ks links) (v : ℤ) {slot : ℕ} (h : Ends ks links (wordOf v) slot) (none : getD links slot 0 ≡ 0) where
   -- the other links stay as they are
   link-kept : (s : ℕ) → (getD links s 0 ≡ 0 → ⊥) → getD (set links slot (length ks + 1)) s 0 ≡ getD links s 0
@@ -205,25 +209,24 @@ module _ {ks : List ℤ} {links : List ℕ} (c : Linked ks links) (v : ℤ) {slo
         link-is = link-after (wordAt ks p) (r .passed) (r .passes) (λ z. omega (arith, r .link-is)) ∙ r .link-is;
       }
 
-  -- a link of the new list: the new one, or one of before
-  link-cases : (s : ℕ) → ((s ≡ slot) × (getD (set links slot (length ks + 1)) s 0 ≡ length ks + 1)) ⊎ (getD (set links slot (length ks + 1)) s 0 ≡ getD links s 0)
+  link-cases : (s : ℕ) → LinkCase links slot (length ks + 1) s
   link-cases s = by (ℕ-discrete s slot)
     where
-      by : Dec (s ≡ slot) → ((s ≡ slot) × (getD (set links slot (length ks + 1)) s 0 ≡ length ks + 1)) ⊎ (getD (set links slot (length ks + 1)) s 0 ≡ getD links s 0)
+      by : Dec (s ≡ slot) → LinkCase links slot (length ks + 1) s
       by (yes e) = inl (e, rw e link-new)
       by (no d) = inr (getD-set-other links slot s (length ks + 1) 0 d)
 
   places-more : (s : ℕ) → getD (set links slot (length ks + 1)) s 0 ≤ length ks + 1
   places-more s = by (link-cases s)
     where
-      by : ((s ≡ slot) × (getD (set links slot (length ks + 1)) s 0 ≡ length ks + 1)) ⊎ (getD (set links slot (length ks + 1)) s 0 ≡ getD links s 0) → getD (set links slot (length ks + 1)) s 0 ≤ length ks + 1
+      by : LinkCase links slot (length ks + 1) s → getD (set links slot (length ks + 1)) s 0 ≤ length ks + 1
       by (inl e) = omega arith
       by (inr e) = omega (arith, c .places s)
 
   single-more : (s t : ℕ) → (getD (set links slot (length ks + 1)) s 0 ≡ 0 → ⊥) → getD (set links slot (length ks + 1)) s 0 ≡ getD (set links slot (length ks + 1)) t 0 → s ≡ t
   single-more s t some d = by (link-cases s) (link-cases t)
     where
-      by : ((s ≡ slot) × (getD (set links slot (length ks + 1)) s 0 ≡ length ks + 1)) ⊎ (getD (set links slot (length ks + 1)) s 0 ≡ getD links s 0) → ((t ≡ slot) × (getD (set links slot (length ks + 1)) t 0 ≡ length ks + 1)) ⊎ (getD (set links slot (length ks + 1)) t 0 ≡ getD links t 0) → s ≡ t
+      by : LinkCase links slot (length ks + 1) s → LinkCase links slot (length ks + 1) t → s ≡ t
       by (inl e) (inl f) = e .0 ∙ sym (f .0)
       by (inl e) (inr f) = absurd (omega (arith, c .places t))
       by (inr e) (inl f) = absurd (omega (arith, c .places s))

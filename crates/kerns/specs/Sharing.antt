@@ -28,9 +28,10 @@ pub record Passes (ks : List ℤ) (links : List ℕ) (w n : ℕ) : Type 0 where
   pub linked : (j : ℕ) → j < n → linkAfter links w j ≡ 0 → ⊥
   pub others : (j : ℕ) → j < n → wordAt ks (linkAfter links w j - 1) ≡ w → ⊥
 
--- it ends at a slot that has no link, or w's
+-- it passes at most 32 values and ends at a slot that has no link, or w's
 pub record Ends (ks : List ℤ) (links : List ℕ) (w slot : ℕ) : Type 0 where
   pub passed : ℕ
+  pub near : passed ≤ 32
   pub passes : Passes ks links w passed
   pub slot-is : slot ≡ slotAfter links w passed
   pub stops : (getD links slot 0 ≡ 0 → ⊥) → wordAt ks (getD links slot 0 - 1) ≡ w

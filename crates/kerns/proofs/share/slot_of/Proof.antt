@@ -14,9 +14,6 @@ use Rattle.kerns.proofs.Tree.{passes-none, passes-more, passes-few, slo
 use borrow.Author.Needs.{needs}
 use Rattle.kerns.proofs.share.slot_of.Statement.{statement}
 use Rattle.kerns.proofs.share.slot_of.Tie as tie
-use Rattle.kerns.proofs.share.slot_of.Reads as reads
-use Rattle.kerns.proofs.share.slot_of.Lts as lts
-use Rattle.words.proofs.word_at.Reads as word-at-reads
 
 -- the search for w came to the slot
 record Comes (ks : List ℤ) (links : List ℕ) (w slot bit : ℕ) : Type 0 where
@@ -27,8 +24,8 @@ module _ {ks : List ℤ} {links : List ℕ} {w slot bit : ℕ} (c : Linked ks li
   comes-lt : slot < 65535
   comes-lt = rw (s .slot-is) (slot-lt c w bit (s .passes))
 
-  ends : ((getD links slot 0 ≡ 0 → ⊥) → wordAt ks (getD links slot 0 - 1) ≡ w) → Ends ks links w slot
-  ends h = record { passed = bit; passes = s .passes; slot-is = s .slot-is; stops = h }
+  ends : w < 2 ^ 32 → ((getD links slot 0 ≡ 0 → ⊥) → wordAt ks (getD links slot 0 - 1) ≡ w) → Ends ks links w slot
+  ends l h = record { passed = bit; near = passes-few c w bit l (s .passes); passes = s .passes; slot-is = s .slot-is; stops = h }
 
   -- it goes on past another value
   module _ {r : ℕ} (some : getD links slot 0 ≡ 0 → ⊥) (read : r ≡ wordAt ks (getD links slot 0 - 1)) (other : r ≡ w → ⊥) where
@@ -76,7 +73,7 @@ word-at-requires c κs = search needs
 returns : tie.Need-returns Inv-loop μ-loop
 returns c =
     let l = c .before .before .before .before .before in
-    ends (l .before .pre) (l .loop .inv) (λ some. sym (c .before .word-at .ensures .is) ∙ c .if2 .taken)
+    ends (l .before .pre) (l .loop .inv) (l .before .fits .word .fits) (λ some. sym (c .before .word-at .ensures .is) ∙ c .if2 .taken)
 
 -- a value is passed, so that a bit is left to go on by
 bit-lt-at : (c : tie.Else2 Inv-loop μ-loop) → c .before .before .before .before .before .loop .bit < 32
@@ -119,7 +116,7 @@ loop-again c =
     goes (l .before .pre) (l .loop .inv) (c .before .before .before .if1 .taken) (c .before .word-at .ensures .is) (c .if2 .left)
 
 returns-2 : tie.Need-returns-2 Inv-loop μ-loop
-returns-2 c = let l = c .before .before in ends (l .before .pre) (l .loop .inv) (λ some. absurd (some (c .if1 .left)))
+returns-2 c = let l = c .before .before in ends (l .before .pre) (l .loop .inv) (l .before .fits .word .fits) (λ some. absurd (some (c .if1 .left)))
 
 pub slot-of-spec : {M : Type 1} → statement M
 slot-of-spec =
