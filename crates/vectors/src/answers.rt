@@ -2,6 +2,7 @@
 ghost use Prim.Native.Nat.{_<_, _≤_};
 ghost use lib.ListN.{length};
 use crate::changes;
+use crate::fonts;
 use crate::programs;
 use crate::request::numbers_of;
 use crate::request::part;
@@ -92,6 +93,7 @@ fn answer_by(letter: u8, numbers: &[i32], line: &mut [u8], k: usize) -> usize
         b'B' => programs::seven_bit_safe(numbers, line, k),
         b'R' => programs::reached(numbers, line, k),
         b'P' => changes::packed(numbers, line, k),
+        b'C' => fonts::compiled(numbers, line, k),
         _ => k,
     }
 }

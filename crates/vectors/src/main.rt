@@ -1,21 +1,23 @@
 // Answers the requests of tools/oracle with this port. Standard input is a list of requests, one a line, and `stdout` beside this crate's source
 // holds the Rust's answers to the same list, with which the gate compares what is written here. Where the Rust panics, and the port
-// refuses, both write `panic`.
+// refuses, both write `panic`. The last line alone has no answer of the Rust's: a pair of 2^102 ops, which the Rust would write out one by one and the
+// port refuses at once with 14.
 ghost use mathlib.Core.Path.{_≡_};
 ghost use lib.ListN.{length};
 
 mod answers;
 mod changes;
+mod fonts;
 mod instructions;
 mod programs;
 mod request;
 mod text;
 
 // Room for the requests.
-fn room() -> [u8; 262144]
-    ensures { λ r. ⌜ 262144 ≡ length r ⌝ }
+fn room() -> [u8; 524288]
+    ensures { λ r. ⌜ 524288 ≡ length r ⌝ }
 {
-    [0; 262144]
+    [0; 524288]
 }
 
 fn main() {
