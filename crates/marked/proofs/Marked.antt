@@ -1,4 +1,4 @@
--- Every marked reading of document 01 holds of the definitions: what each row gives is what document 01 says. antt computes it.
+-- Every marked reading of document 01 holds of the definitions: what each row gives is what document 01 says. antt computes all but the loop list of a whole font, which is a lemma.
 -- Assumes nothing.
 use mathlib.Core.Path.{_≡_, refl}
 use mathlib.Core.List.{List, map}
@@ -8,8 +8,12 @@ use Rattle.lang.specs.Operations.{fromBytes, ligature}
 use Rattle.pack.specs.Packing.{insertLabel, labels, redirectsFrom, placeAmong, redirectsTo}
 use Rattle.reading.specs.Depth.{comp, raiseLeft}
 use Rattle.reading.specs.Loops.{loopList, insert, ordered, unfinished, walk, walks, member}
-use Rattle.marked.specs.Rows.{Row, rows, rulesBy, pairsFrom, pairNumbers}
+use Rattle.marked.specs.Rows.{Row, loopRow, otherRows, rows, rulesBy, pairsFrom, pairNumbers}
+use Rattle.marked.proofs.Compiling.{one-loop}
+
+others : map (λ (row : Row). row .given) otherRows ≡ map (λ (row : Row). row .said) otherRows
+unfolding otherRows rulesBy pairsFrom pairNumbers toScaled halve fromBytes ligature comp raiseLeft loopList insert ordered unfinished walk walks member insertLabel labels redirectsFrom placeAmong redirectsTo
+others = refl
 
 pub marked : map (λ (row : Row). row .given) rows ≡ map (λ (row : Row). row .said) rows
-unfolding rows rulesBy pairsFrom pairNumbers toScaled halve fromBytes ligature comp raiseLeft loopList insert ordered unfinished walk walks member insertLabel labels redirectsFrom placeAmong redirectsTo
-marked = refl
+marked = rw (one-loop, others) refl

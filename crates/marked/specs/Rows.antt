@@ -17,6 +17,8 @@ use Rattle.pack.specs.Packing.{Font, packedEntryNumber, fontOffset, fontRedirec
 use Rattle.reading.specs.Items.{Left, bnd, chr, Rule, free, lig, Rules}
 use Rattle.reading.specs.Depth.{Pair}
 use Rattle.reading.specs.Loops.{Ruled, loopList}
+use Rattle.compiler.specs.Fonts.{Font as LentFont}
+use Rattle.compiler.specs.Compiled.{fontLoops}
 
 -- what the definitions give, and what document 01 says
 pub record Row : Type 0 where
@@ -95,10 +97,21 @@ oneEntry e boundary = record { instructions = []; entries = pos 97 ∷ pos e ∷
 abbrev pub packedNumbers : Font → List ℤ
 packedNumbers f = packedEntryNumber f 1 ∷ pos (fontOffset f) ∷ pos (fontRedirects f) ∷ []
 
+-- ---- compiling
+
+-- a font of one entry, that of character 65, and one instruction: right 66, op 3 inserting 66
+abbrev pub oneRule : LentFont
+oneRule = record { instructions = negsuc 0 ∷ pos 66 ∷ pos 2 ∷ pos 834 ∷ []; kerns = []; entries = pos 65 ∷ pos 0 ∷ []; boundary = negsuc 0; left = negsuc 0; design = pos 10485760 }
+
 -- ---- the table
 
-unfoldable pub rows : List Row
-rows =
+-- entry 65 to one instruction, right 66, op 3 inserting 66: loop (65, 66), of the loop list that compiling writes
+abbrev pub loopRow : Row
+loopRow = record { given = fontLoops oneRule; said = pos 65 ∷ pos 66 ∷ [] }
+
+-- the others
+unfoldable pub otherRows : List Row
+otherRows =
     -- op 4: as 0, invalid
     record { given = operationNumbers (fromBytes 4 97); said = pos 0 ∷ pos 97 ∷ pos 1 ∷ [] }
     -- at 10,485,760: 131,072 gives 81,920; -131,072 gives -81,920; -1 gives -1
@@ -108,7 +121,7 @@ rows =
     -- 16,777,215 is scaled, to 10,485,759 (just below sixteen times the design size), and 16,777,216 is 13
     ∷ record { given = scaledNumbers (toScaled (pos 16777215) (pos 10485760)); said = pos 0 ∷ pos 10485759 ∷ [] }
     ∷ record { given = scaledNumbers (toScaled (pos 16777216) (pos 10485760)); said = pos 13 ∷ [] }
-    -- entry 65 to one instruction, right 66, op 3 inserting 66: loop (65, 66)
+    -- the same rule alone, not in a font
     ∷ record { given = loopsOf (record { left = 65; right = 66; rule = lig RetainBothMoveNowhere 66 } ∷ []); said = pos 65 ∷ pos 66 ∷ [] }
     -- TFtoPL 88, first example, after a character 97: (/LIG 120 121) and (/LIG 121 120) replace x by y and y by x
     ∷ record {
@@ -134,3 +147,6 @@ rows =
     ∷ record { given = packedNumbers (oneEntry 255 (pos 65)); said = pos 0 ∷ pos 1 ∷ pos 1 ∷ [] }
     ∷ record { given = front (pos 65) (fontRedirects (oneEntry 255 (pos 65))) (fontOffset (oneEntry 255 (pos 65))) (labelsOf (oneEntry 255 (pos 65) .entries)); said = negsuc 0 ∷ pos 65 ∷ pos 3 ∷ pos 65792 ∷ [] }
     ∷ []
+
+abbrev pub rows : List Row
+rows = loopRow ∷ otherRows
