@@ -20,13 +20,13 @@ use Rattle.reading.specs.Depth.{Pair}
 use Rattle.reading.specs.Loops.{Ruled, finished, loopList}
 use Rattle.compiler.specs.declared.Compiled.{Compiled}
 use Rattle.compiler.specs.declared.Compiled.the-variants.{Tables, Refused}
-use Rattle.compiler.specs.Rows.{at, pairAt, pairs, rules}
-use Rattle.compiler.specs.Ops.{opsBefore, opsTable, pairTable, opTotal, opsWritten, pairsWritten, loopNumbers, Ready}
-use Rattle.compiler.specs.Walks.{loopsOf}
-use Rattle.compiler.specs.Walking.{Listing}
-use Rattle.compiler.specs.Fonts.{Font, pairsOf, rulesOf}
+use Rattle.pairs.specs.Rows.{at, pairAt, pairs, rules}
+use Rattle.pairs.specs.Ops.{opsBefore, opsTable, pairTable, opTotal, opsWritten, pairsWritten, loopNumbers, Ready}
+use Rattle.pairs.specs.Walks.{loopsOf}
+use Rattle.pairs.specs.Walking.{Listing}
+use Rattle.pairs.specs.Fonts.{Font, pairsOf, rulesOf}
 use Rattle.compiler.specs.Compiled.{Room, roomOf, finishedOf, loopsOfFont, totalOps, fontTable, fontOps, fontLoops, fontRefusal, pairsRefusal, kernRefusal, opsRefusal, loopsRefusal, tablesRefusal, compileRefusal, compiledBy, Written, Compiles}
-use Rattle.compiler.specs.declared.stages.Prepared.{Prepared}
+use Rattle.pairs.specs.declared.Prepared.{Prepared}
 use Rattle.compiler.specs.Stages.{PreparesBy, prepareRefusal, measureRefusal, Sized, FontRows, filledBy, Filled, Lists, Blank, Builds}
 
 -- ---- measured rows

@@ -1,28 +1,8 @@
--- The laws of compiling, each file over the definitions of the same concern.
---   Theorems    what is proved of the definitions: the table is the reading, a loop is reported exactly when a pair never ends
---   FontLaws, Tied   a font's rules cover its pairs; rows and rules agree
---   RowLaws, Stores, Tables, Sorted   numbers stored and found again
---   CollectLaws, EncodeLaws   the first two passes
---   Search, Known, Settling, Tally   the search
---   WalkLaws, Turning   the loop list                     OpLaws, Segments, Passes   op counts and ops
---   Measuring, Preparing, Building   the stages put together
-pub mod RowLaws
-pub mod Search
-pub mod Tally
-pub mod Known
-pub mod Stores
-pub mod Settling
-pub mod Turning
-pub mod OpLaws
-pub mod Segments
-pub mod Passes
-pub mod Tables
-pub mod EncodeLaws
-pub mod CollectLaws
-pub mod FontLaws
-pub mod Tied
-pub mod Sorted
-pub mod WalkLaws
+-- What is proved of the contract, and the laws of the stages. The laws of the passes stand in crate `pairs`.
+--   Measuring  settling, counting and finding loops, one after the other
+--   Preparing  the rows of a font, collected and encoded
+--   Building   the stages put together
+--   Theorems   what is proved of the definitions: the table is the reading, a loop is reported exactly when a pair never ends
 pub mod Measuring
 pub mod Preparing
 pub mod Building

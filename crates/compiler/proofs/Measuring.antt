@@ -18,14 +18,14 @@ use Rattle.reading.specs.Loops.{Ruled, walkedBefore, loopList}
 use Rattle.lang.specs.Every.{both}
 use Rattle.lang.specs.Checks.{orElse}
 use Rattle.lang.specs.Answers.{roomRefusal}
-use Rattle.compiler.specs.Rows.{at, leftOf, pairAt, ruledAt, pairs, rules, Ascending, Encoded, SameRows}
-use Rattle.compiler.specs.Lasts.{outcome, finishedRows, Settled}
-use Rattle.compiler.specs.Ops.{opsOf, entryOf, nth, opsBefore, capped, OnlyField, opCount, opTotal, Counts, Exact, Firsts, Ready}
-use Rattle.compiler.specs.Walks.{turn, turnPlace, Turns, Listed, loopsOf}
-use Rattle.compiler.specs.Walking.{Listing}
+use Rattle.pairs.specs.Rows.{at, leftOf, pairAt, ruledAt, pairs, rules, Ascending, Encoded, SameRows}
+use Rattle.pairs.specs.Lasts.{outcome, finishedRows, Settled}
+use Rattle.pairs.specs.Ops.{opsOf, entryOf, nth, opsBefore, capped, OnlyField, opCount, opTotal, Counts, Exact, Firsts, Ready}
+use Rattle.pairs.specs.Walks.{turn, turnPlace, Turns, Listed, loopsOf}
+use Rattle.pairs.specs.Walking.{Listing}
 use Rattle.compiler.specs.Stages.{measureRefusal, Sized}
-use Rattle.compiler.proofs.RowLaws.{SameRules, Keeps, keeps-rules, only-keeps, settled-self, settled-kept, encoded-same, rules-same, pairs-same, finished-same, outcome-same, pair-same, ruled-same}
-use Rattle.compiler.proofs.WalkLaws.{listedPair, listing-of, listed-pairs}
+use Rattle.pairs.proofs.RowLaws.{SameRules, Keeps, keeps-rules, only-keeps, settled-self, settled-kept, encoded-same, rules-same, pairs-same, finished-same, outcome-same, pair-same, ruled-same}
+use Rattle.pairs.proofs.WalkLaws.{listedPair, listing-of, listed-pairs}
 
 -- ---- totals
 

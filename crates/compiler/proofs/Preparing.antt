@@ -15,16 +15,16 @@ use Rattle.lang.specs.Records.{instructionAt}
 use Rattle.lang.proofs.Every.{every-ext}
 use Rattle.chain.specs.Chains.{actsAs}
 use Rattle.reading.specs.Loops.{Ruled}
-use Rattle.compiler.specs.declared.collect.Collected.{Collected}
-use Rattle.compiler.specs.declared.collect.Collected.the-variants.{Rows, Full}
-use Rattle.compiler.specs.Rows.{at, ruledAt, Ascending, Encoded}
-use Rattle.compiler.specs.Ops.{nth}
-use Rattle.compiler.specs.Walks.{Turns}
-use Rattle.compiler.specs.Fonts.{Font, pairsBy, pairsOf, tableOf}
-use Rattle.compiler.specs.Collect.{Collects, CollectsBy, scales, operationAt, allScale, Writes, WritesIf, Encodes}
+use Rattle.pairs.specs.declared.Collected.{Collected}
+use Rattle.pairs.specs.declared.Collected.the-variants.{Rows, Full}
+use Rattle.pairs.specs.Rows.{at, ruledAt, Ascending, Encoded}
+use Rattle.pairs.specs.Ops.{nth}
+use Rattle.pairs.specs.Walks.{Turns}
+use Rattle.pairs.specs.Fonts.{Font, pairsBy, pairsOf, tableOf}
+use Rattle.pairs.specs.Collect.{Collects, CollectsBy, scales, operationAt, allScale, Writes, WritesIf, Encodes}
 use Rattle.compiler.specs.Compiled.{pairScales, kernRefusal}
 use Rattle.compiler.specs.Stages.{prepareRefusal, FontRows}
-use Rattle.compiler.proofs.Tied.{pairs-tied, rules-tied, ascending}
+use Rattle.pairs.proofs.Tied.{pairs-tied, rules-tied, ascending}
 use Rattle.compiler.proofs.Measuring.{turns-same}
 
 module _ (f : Font) (cap : ℕ) where

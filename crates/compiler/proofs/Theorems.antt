@@ -14,10 +14,10 @@ use Rattle.reading.specs.Depth.{Res, Pair}
 use Rattle.reading.specs.Form.{formed}
 use Rattle.reading.proofs.Steps.{key-head, more-not-done, nothing-right, turn-more}
 use Rattle.reading.proofs.Theorems as Reading
-use Rattle.compiler.specs.Rows.{numberOfLeft}
-use Rattle.compiler.specs.Fonts.{Font, pairsOf, rulesOf}
+use Rattle.pairs.specs.Rows.{numberOfLeft}
+use Rattle.pairs.specs.Fonts.{Font, pairsOf, rulesOf}
 use Rattle.compiler.specs.Compiled.{finishedOf, loopsOfFont}
-use Rattle.compiler.proofs.FontLaws.{covers-font, ruled-in-range}
+use Rattle.pairs.proofs.FontLaws.{covers-font, ruled-in-range}
 
 -- Every entry of the table is the reading of its pair: those ops, and that last.
 pub entry-reads : (f : Font) (l : Left) (r : ℕ) (q : Res) → finishedOf f l r ≡ some q → (n : ℕ) × (read (rulesOf f) n (head l) (plain r ∷ []) ≡ done (q .outs) (at (q .last)))

@@ -15,9 +15,9 @@ use Rattle.reading.specs.Depth.{Finished, Pair}
 use Rattle.reading.specs.Loops.{Ruled, finished, loopList}
 use Rattle.compiler.specs.declared.Compiled.{Compiled}
 use Rattle.compiler.specs.declared.Compiled.the-variants.{Tables, Refused}
-use Rattle.compiler.specs.Ops.{nth, opsBefore, opsTable, pairTable, loopNumbers}
-use Rattle.compiler.specs.Fonts.{Font, pairsOf, rulesOf}
-use Rattle.compiler.specs.Collect.{scales}
+use Rattle.pairs.specs.Ops.{nth, opsBefore, opsTable, pairTable, loopNumbers}
+use Rattle.pairs.specs.Fonts.{Font, pairsOf, rulesOf}
+use Rattle.pairs.specs.Collect.{scales}
 
 -- how long the four lists are that are lent to be written
 pub record Room : Type 0 where

@@ -10,15 +10,15 @@ use Rattle.words.specs.Lists.{tabulate}
 use Rattle.lang.specs.Every.{both}
 use Rattle.lang.specs.Checks.{orElse}
 use Rattle.lang.specs.Answers.{padded, listOf, roomRefusal}
-use Rattle.compiler.specs.declared.stages.Prepared.{Prepared}
-use Rattle.compiler.specs.declared.stages.Prepared.the-variants.{Rows, Unfit}
-use Rattle.compiler.specs.declared.stages.Measured.{Measured}
-use Rattle.compiler.specs.declared.stages.Measured.the-variants.{Sizes, Long}
-use Rattle.compiler.specs.Rows.{at, pairAt, pairs, rules, Encoded}
-use Rattle.compiler.specs.Ops.{Ready, opTotal, opsWritten, pairsWritten, loopNumbers}
-use Rattle.compiler.specs.Walks.{Turns, loopsOf}
-use Rattle.compiler.specs.Walking.{Listing}
-use Rattle.compiler.specs.Fonts.{Font, pairsOf, rulesOf}
+use Rattle.pairs.specs.declared.Prepared.{Prepared}
+use Rattle.pairs.specs.declared.Prepared.the-variants.{Rows, Unfit}
+use Rattle.pairs.specs.declared.Measured.{Measured}
+use Rattle.pairs.specs.declared.Measured.the-variants.{Sizes, Long}
+use Rattle.pairs.specs.Rows.{at, pairAt, pairs, rules, Encoded}
+use Rattle.pairs.specs.Ops.{Ready, opTotal, opsWritten, pairsWritten, loopNumbers}
+use Rattle.pairs.specs.Walks.{Turns, loopsOf}
+use Rattle.pairs.specs.Walking.{Listing}
+use Rattle.pairs.specs.Fonts.{Font, pairsOf, rulesOf}
 use Rattle.compiler.specs.declared.Compiled.{Compiled}
 use Rattle.compiler.specs.declared.Compiled.the-variants.{Tables, Refused}
 use Rattle.compiler.specs.Compiled.{kernRefusal, tablesRefusal, compiledBy, roomOf, Written}

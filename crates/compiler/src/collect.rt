@@ -5,29 +5,19 @@ ghost use Prim.Native.Nat.{ℕ, _+_, _*_, _<_, _≤_};
 ghost use lib.ListN.{length, getD, replicate};
 ghost use Rattle.words.specs.Words.{Word};
 ghost use Rattle.lang.specs.Records.{count};
-ghost use Rattle.compiler.specs.Rows.{leftOf};
-ghost use Rattle.compiler.specs.Fonts.{leftEntry};
-ghost use Rattle.compiler.specs.Collect.{CollectsBy};
-ghost use Rattle.compiler.specs.Collecting.{Blank, Surveyed, NotedBy, PutBy, RoomFor, Appended, OrderWritten, Adding, AddsBy, placeOf};
+ghost use Rattle.pairs.specs.Rows.{leftOf};
+ghost use Rattle.pairs.specs.Fonts.{leftEntry};
+ghost use Rattle.pairs.specs.Collect.{CollectsBy};
+ghost use Rattle.pairs.specs.Collecting.{Blank, Surveyed, NotedBy, PutBy, RoomFor, Appended, OrderWritten, Adding, AddsBy, placeOf};
 use crate::rows::put;
 use chain::Next;
 use chain::next_instruction;
 use lang::instruction::field_at;
+use pairs::Added;
+use pairs::Collected;
 use words::put_u32;
 use words::u32_at;
 use words::word_at;
-
-// How many rows there are and how many of them are the boundary's, or that they are more than the cap.
-pub enum Collected {
-    Rows(usize, usize),
-    Full,
-}
-
-// How many rows there are with those of one more left, or that they are more than the cap.
-pub enum Added {
-    Upto(usize),
-    Over,
-}
 
 // A number for each right character.
 fn blank() -> [u32; 256]

@@ -1,11 +1,11 @@
 // Op counts and first ops, in passes over settled rows.
 ghost use mathlib.Core.Path.{_≡_};
 ghost use Prim.Native.Nat.{ℕ, _+_, _<_};
-ghost use Rattle.compiler.specs.Rows.{at, Ascending, Encoded};
-ghost use Rattle.compiler.specs.Lasts.{Settled};
-ghost use Rattle.compiler.specs.Ops.{capped, Counts, Exact, Firsts, opTotal};
-ghost use Rattle.compiler.specs.Writing.{LastFits, PartIn, partCount, rowCount, countsBefore, Stored, Counted};
-use crate::parts::Part;
+ghost use Rattle.pairs.specs.Rows.{at, Ascending, Encoded};
+ghost use Rattle.pairs.specs.Lasts.{Settled};
+ghost use Rattle.pairs.specs.Ops.{capped, Counts, Exact, Firsts, opTotal};
+ghost use Rattle.pairs.specs.Writing.{LastFits, PartIn, partCount, rowCount, countsBefore, Stored, Counted};
+use pairs::Part;
 
 // A sum that stops at 2^31.
 fn capped_sum(a: u32, b: u32) -> u32

@@ -2,22 +2,17 @@
 ghost use mathlib.Core.Path.{_≡_};
 ghost use mathlib.Core.Bool.{true};
 ghost use Prim.Native.Nat.{ℕ, _+_, _*_, _<_, _≤_};
-ghost use Rattle.compiler.specs.Rows.{Ascending};
-ghost use Rattle.compiler.specs.Collect.{Encodes};
-ghost use Rattle.compiler.specs.Collecting.{opByte, isRule, kernOperation, SaysBy};
+ghost use Rattle.pairs.specs.Rows.{Ascending};
+ghost use Rattle.pairs.specs.Collect.{Encodes};
+ghost use Rattle.pairs.specs.Collecting.{opByte, isRule, kernOperation, SaysBy};
 use crate::rows::get;
 use crate::rows::put;
 use chain::operation_at;
 use lang::operation::Operation;
 use lang::operation::PostLigOperation;
+use pairs::Effect;
 use tfm::FixWord;
 use tfm::ToScaled;
-
-// What a row says of its rule: op byte or 128, and inserted character or scaled kern; or that a kern has no scaled value.
-pub enum Effect {
-    Op(u32, u32),
-    Unscaled,
-}
 
 // The standard op byte of an operation.
 fn op_byte(operation: PostLigOperation) -> u32

@@ -3,17 +3,17 @@ ghost use mathlib.Core.Path.{_≡_};
 ghost use Prim.Native.Nat.{ℕ, _+_, _*_, _<_, _≤_};
 ghost use lib.ListN.{length, replicate};
 ghost use lib.IntN.{pos};
-ghost use Rattle.compiler.specs.Rows.{at, Encoded};
-ghost use Rattle.compiler.specs.Ops.{Ready};
-ghost use Rattle.compiler.specs.Walks.{Turns};
-ghost use Rattle.compiler.specs.Walking.{Listing};
+ghost use Rattle.pairs.specs.Rows.{at, Encoded};
+ghost use Rattle.pairs.specs.Ops.{Ready};
+ghost use Rattle.pairs.specs.Walks.{Turns};
+ghost use Rattle.pairs.specs.Walking.{Listing};
 ghost use Rattle.compiler.specs.Stages.{Lists, Blank, Filled};
 use crate::Compiled;
-use crate::stages::Measured;
 use crate::stages::measure;
 use crate::walks::write_loops;
 use crate::write::write_ops;
 use crate::write::write_pairs;
+use pairs::Measured;
 
 // Writes the pair table, the ops and the loop list. Answers how many numbers the pair table has.
 fn write_lists(

@@ -1,4 +1,5 @@
-// Compiling, after ligkern/compiler.rs (reference `CompiledProgram::compile`), in passes over the work buffer; specs/Rows.antt says what a row of it holds.
+// Compiling, after ligkern/compiler.rs (reference `CompiledProgram::compile`), in passes over the work buffer; specs/Rows.antt of crate `pairs` says what
+// a row of it holds.
 //   collect  the pairs that have a rule            encode  what their rules do
 //   settle   which pairs finish, and their lasts   walks   the loop list
 //   count, write  op counts, first ops, the tables
@@ -9,7 +10,7 @@ ghost use lib.ListN.{length, replicate};
 ghost use lib.IntN.{ℤ, pos};
 ghost use Rattle.lang.specs.Checks.{orElse, absentRefusal, designRefusal};
 ghost use Rattle.lang.specs.Records.{count};
-ghost use Rattle.compiler.specs.Fonts.{Font};
+ghost use Rattle.pairs.specs.Fonts.{Font};
 ghost use Rattle.compiler.specs.Compiled.{Compiles, fontRefusal};
 ghost use Rattle.compiler.specs.Stages.{Builds};
 
@@ -29,7 +30,7 @@ use lang::check::design_refusal;
 use lang::check::entries_refusal;
 use lang::check::kerns_refusal;
 use lang::check::program_refusal;
-use stages::Prepared;
+use pairs::Prepared;
 use words::zero::zero_i32;
 use words::zero::zero_u32;
 

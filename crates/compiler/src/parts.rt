@@ -1,21 +1,10 @@
 // The parts that a row's ops are made of. Counting and writing both go by them.
 ghost use mathlib.Core.Path.{_≡_};
 ghost use Prim.Native.Nat.{_<_};
-ghost use Rattle.compiler.specs.Rows.{Ascending, Encoded};
-ghost use Rattle.compiler.specs.Writing.{leftPart, pairPart, lastCode, firstPart, secondPart, LastFits};
-use crate::rows::Row;
-
-pub enum Part {
-    Nothing,
-    // The character with this code.
-    Character(u32),
-    // The ligature with this code.
-    Ligature(u32),
-    // The scaled kern with these bits.
-    Kern(u32),
-    // The ops of this row.
-    OfRow(usize),
-}
+ghost use Rattle.pairs.specs.Rows.{Ascending, Encoded};
+ghost use Rattle.pairs.specs.Writing.{leftPart, pairPart, lastCode, firstPart, secondPart, LastFits};
+use pairs::Part;
+use pairs::Row;
 
 // A left that is finished: 0 is the boundary, which gives nothing.
 fn left_part(left: u32) -> Part

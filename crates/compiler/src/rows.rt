@@ -2,13 +2,8 @@
 ghost use mathlib.Core.Path.{_≡_};
 ghost use Prim.Native.Nat.{_+_, _*_, _<_, _≤_};
 ghost use lib.ListN.{length, getD, set};
-ghost use Rattle.compiler.specs.Rows.{at, rowOf, Ascending, foundRow};
-
-// The row of a pair, or nothing.
-pub enum Row {
-    Found(usize),
-    Missing,
-}
+ghost use Rattle.pairs.specs.Rows.{at, rowOf, Ascending, foundRow};
+use pairs::Row;
 
 // Number f of row k.
 pub fn get(work: &[u32], k: usize, f: usize) -> u32

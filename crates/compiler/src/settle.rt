@@ -1,27 +1,17 @@
 // Which pairs finish, with which last, and what the others wait for: a depth-first search, after TFtoPL 94 and 95 and
 // `calculate_replacements` of ligkern/compiler.rs (lines 158 to 389). Linear in the rows, times a bisection. The path, from the row that the search began
 // with to the one that it looks at, stands in numbers 8 of the first rows.
-use super::rows::Row;
 use super::rows::find;
 use super::rows::get;
 use super::rows::put;
+use pairs::Last;
+use pairs::Progress;
+use pairs::Row;
 ghost use mathlib.Core.Path.{_≡_};
 ghost use Prim.Native.Nat.{ℕ, _<_};
-ghost use Rattle.compiler.specs.Rows.{at, leftOf, Ascending, Encoded};
-ghost use Rattle.compiler.specs.Lasts.{Settled};
-ghost use Rattle.compiler.specs.Search.{Stored, PairSays, RuleSays, SecondSays, flagged, codeOf, Searching, Opened, Stuck, opening, finishing, GivenUp, Turned, Searched};
-
-// The last of a pair, its code and its flag; or the row that has to finish first.
-enum Last {
-    Known(u32, u32),
-    Waits(usize),
-}
-
-// How many rows are on the path, which are open, and how many have finished.
-struct Progress {
-    path: usize,
-    done: usize,
-}
+ghost use Rattle.pairs.specs.Rows.{at, leftOf, Ascending, Encoded};
+ghost use Rattle.pairs.specs.Lasts.{Settled};
+ghost use Rattle.pairs.specs.Search.{Stored, PairSays, RuleSays, SecondSays, flagged, codeOf, Searching, Opened, Stuck, opening, finishing, GivenUp, Turned, Searched};
 
 // The last of the pair of a left and a right: that of its row, or the right as it came.
 fn last_of(work: &[u32], n: usize, left: u32, right: u32) -> Last

@@ -4,11 +4,10 @@ ghost use Prim.Native.Nat.{ℕ, _+_, _*_, _<_, _≤_};
 ghost use lib.ListN.{length, replicate};
 ghost use lib.IntN.{ℤ};
 ghost use Rattle.lang.specs.Records.{count};
-ghost use Rattle.compiler.specs.Rows.{at, Encoded};
-ghost use Rattle.compiler.specs.Walks.{Turns};
-ghost use Rattle.compiler.specs.Fonts.{Font};
+ghost use Rattle.pairs.specs.Rows.{at, Encoded};
+ghost use Rattle.pairs.specs.Walks.{Turns};
+ghost use Rattle.pairs.specs.Fonts.{Font};
 ghost use Rattle.compiler.specs.Stages.{PreparesBy, MeasuresBy};
-use crate::collect::Collected;
 use crate::collect::collect;
 use crate::count::count_ops;
 use crate::count::first_ops;
@@ -16,18 +15,9 @@ use crate::encode::encode;
 use crate::settle::settle;
 use crate::walks::find_loops;
 use lang::entries::entries_table;
-
-// The rows of a font and how many of them are the boundary's, or the number of a refusal.
-pub enum Prepared {
-    Rows(usize, usize),
-    Unfit(u32),
-}
-
-// How many rows finish, how many ops and loops there are, or the number of a refusal.
-pub enum Measured {
-    Sizes(usize, u32, usize),
-    Long(u32),
-}
+use pairs::Collected;
+use pairs::Measured;
+use pairs::Prepared;
 
 // The rows of a font, with their rules. 12, then 13.
 pub fn prepare(

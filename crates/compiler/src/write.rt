@@ -8,11 +8,11 @@ ghost use lib.IntN.{pos};
 ghost use Rattle.words.specs.Words.{numberOf};
 ghost use Rattle.lang.specs.Answers.{padded};
 ghost use Rattle.reading.specs.Items.{Out};
-ghost use Rattle.compiler.specs.Rows.{at, leftOf};
-ghost use Rattle.compiler.specs.Lasts.{outcome};
-ghost use Rattle.compiler.specs.Ops.{Ready, opsOf, opNumbers, leftNumber, opTotal, opsWritten, pairsWritten};
-ghost use Rattle.compiler.specs.Writing.{rowNumbers, raisedOuts, OpsAt, Apart, opsFrom, opsSize, Copies, PartFits, PartWritten, Turn};
-use crate::parts::Part;
+ghost use Rattle.pairs.specs.Rows.{at, leftOf};
+ghost use Rattle.pairs.specs.Lasts.{outcome};
+ghost use Rattle.pairs.specs.Ops.{Ready, opsOf, opNumbers, leftNumber, opTotal, opsWritten, pairsWritten};
+ghost use Rattle.pairs.specs.Writing.{rowNumbers, raisedOuts, OpsAt, Apart, opsFrom, opsSize, Copies, PartFits, PartWritten, Turn};
+use pairs::Part;
 
 // An op at place p. Answers the place after it.
 fn put_op(ops: &mut [i32], p: usize, kind: u32, value: u32) -> usize

@@ -3,7 +3,7 @@
 -- Assumes nothing.
 use native.Mathlib.Omega.{arith}
 use denote.Ref.{now}
-use Rattle.compiler.proofs.CollectLaws.{adds-none, adds-over, order-room, sum-fits, adds-some}
+use Rattle.pairs.proofs.CollectLaws.{adds-none, adds-over, order-room, sum-fits, adds-some}
 use borrow.Author.Needs.{needs}
 use Rattle.compiler.proofs.collect.add_left.Statement.{statement}
 use Rattle.compiler.proofs.collect.add_left.Tie as tie

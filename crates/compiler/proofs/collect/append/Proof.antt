@@ -6,8 +6,8 @@ use Prim.Native.Nat.{_+_, _-_, _≤_}
 use native.Mathlib.Omega.{arith}
 use borrow.Author.Needs.{needs}
 use denote.Ref.{now}
-use Rattle.compiler.specs.Collecting.{rank, Appended}
-use Rattle.compiler.proofs.CollectLaws.{rank-few, rank-start, appended-none, appended-more, appended-all}
+use Rattle.pairs.specs.Collecting.{rank, Appended}
+use Rattle.pairs.proofs.CollectLaws.{rank-few, rank-start, appended-none, appended-more, appended-all}
 use Rattle.compiler.proofs.collect.append.Statement.{statement}
 use Rattle.compiler.proofs.collect.append.Tie as tie
 

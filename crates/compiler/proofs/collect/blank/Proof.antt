@@ -1,6 +1,6 @@
 -- `compiler::collect::blank` meets its contract: 256 zeros.
 -- Assumes nothing.
-use Rattle.compiler.proofs.CollectLaws.{blank-is}
+use Rattle.pairs.proofs.CollectLaws.{blank-is}
 use Rattle.compiler.proofs.collect.blank.Statement.{statement}
 use Rattle.compiler.proofs.collect.blank.Tie as tie
 

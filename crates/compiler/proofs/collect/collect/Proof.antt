@@ -6,7 +6,7 @@ use Prim.Native.Nat.{_-_}
 use native.Mathlib.Omega.{arith}
 use borrow.Author.Needs.{needs}
 use denote.Ref.{now}
-use Rattle.compiler.proofs.CollectLaws.{Gathering, adding-first, upto-is, over-is, gathering-first, adding, gathering-more, gathering-all}
+use Rattle.pairs.proofs.CollectLaws.{Gathering, adding-first, upto-is, over-is, gathering-first, adding, gathering-more, gathering-all}
 use Rattle.compiler.proofs.collect.collect.Statement.{statement}
 use Rattle.compiler.proofs.collect.collect.Tie as tie
 

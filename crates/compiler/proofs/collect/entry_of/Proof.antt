@@ -1,7 +1,7 @@
 -- `compiler::collect::entry_of` meets its contract: the table has 257 places, so none that is asked is past its end.
 -- Assumes nothing.
 use denote.Ref.{now}
-use Rattle.compiler.proofs.CollectLaws.{entry-word}
+use Rattle.pairs.proofs.CollectLaws.{entry-word}
 use borrow.Author.Needs.{needs}
 use Rattle.compiler.proofs.collect.entry_of.Statement.{statement}
 use Rattle.compiler.proofs.collect.entry_of.Tie as tie

@@ -3,7 +3,7 @@
 use mathlib.Core.Path.{sym, _∙_}
 use lib.ListN.{getD}
 use denote.Ref.{now}
-use Rattle.compiler.proofs.CollectLaws.{noted-old, noted-new}
+use Rattle.pairs.proofs.CollectLaws.{noted-old, noted-new}
 use borrow.Author.Needs.{needs}
 use Rattle.compiler.proofs.collect.note.Statement.{statement}
 use Rattle.compiler.proofs.collect.note.Tie as tie

@@ -1,6 +1,6 @@
 -- `compiler::collect::place_of` meets its contract: 256 for the boundary, and a character's own place.
 -- Assumes nothing.
-use Rattle.compiler.proofs.CollectLaws.{place-is}
+use Rattle.pairs.proofs.CollectLaws.{place-is}
 use borrow.Author.Needs.{needs}
 use Rattle.compiler.proofs.collect.place_of.Statement.{statement}
 use Rattle.compiler.proofs.collect.place_of.Tie as tie

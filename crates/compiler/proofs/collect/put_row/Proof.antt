@@ -1,7 +1,7 @@
 -- `compiler::collect::put_row` meets its contract: the two ways out are the two cases of the rule.
 -- Assumes nothing.
 use denote.Ref.{now}
-use Rattle.compiler.proofs.CollectLaws.{put-none, put-some}
+use Rattle.pairs.proofs.CollectLaws.{put-none, put-some}
 use borrow.Author.Needs.{needs}
 use Rattle.compiler.proofs.collect.put_row.Statement.{statement}
 use Rattle.compiler.proofs.collect.put_row.Tie as tie

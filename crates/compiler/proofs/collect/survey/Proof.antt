@@ -8,7 +8,7 @@ use borrow.Author.Needs.{needs}
 use denote.Ref.{now}
 use Rattle.lang.specs.Records.{count, instructionAt}
 use Rattle.chain.proofs.Walks.{Stepped, step-on, step-end}
-use Rattle.compiler.proofs.CollectLaws.{Surveying, surveying-none, surveying-more, surveying-all, few-ruled}
+use Rattle.pairs.proofs.CollectLaws.{Surveying, surveying-none, surveying-more, surveying-all, few-ruled}
 use Rattle.compiler.proofs.collect.survey.Statement.{statement}
 use Rattle.compiler.proofs.collect.survey.Tie as tie
 

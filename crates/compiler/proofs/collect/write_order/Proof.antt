@@ -7,8 +7,8 @@ use native.Mathlib.Omega.{arith}
 use borrow.Author.Needs.{needs}
 use lib.ListN.{getD}
 use denote.Ref.{now}
-use Rattle.compiler.specs.Collecting.{OrderWritten}
-use Rattle.compiler.proofs.CollectLaws.{order-none, order-more, order-all}
+use Rattle.pairs.specs.Collecting.{OrderWritten}
+use Rattle.pairs.proofs.CollectLaws.{order-none, order-more, order-all}
 use Rattle.compiler.proofs.collect.write_order.Statement.{statement}
 use Rattle.compiler.proofs.collect.write_order.Tie as tie
 

@@ -2,8 +2,8 @@
 -- Assumes nothing.
 use mathlib.Core.Path.{ap, _∙_}
 use native.Mathlib.Omega.{arith}
-use Rattle.compiler.specs.Ops.{capped}
-use Rattle.compiler.proofs.Passes.{only-more, encoded-still, settled-still, count-still, total-is, total-same}
+use Rattle.pairs.specs.Ops.{capped}
+use Rattle.pairs.proofs.Passes.{only-more, encoded-still, settled-still, count-still, total-is, total-same}
 use borrow.Author.Needs.{needs}
 use Rattle.compiler.proofs.count.count_ops.Statement.{statement}
 use Rattle.compiler.proofs.count.count_ops.Tie as tie

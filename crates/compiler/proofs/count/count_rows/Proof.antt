@@ -3,7 +3,7 @@
 -- Assumes nothing.
 use Prim.Native.Nat.{_-_}
 use native.Mathlib.Omega.{arith}
-use Rattle.compiler.proofs.Passes.{Counting, counting-none, turn-needs, counting-more, counting-all}
+use Rattle.pairs.proofs.Passes.{Counting, counting-none, turn-needs, counting-more, counting-all}
 use borrow.Author.Needs.{needs}
 use Rattle.compiler.proofs.count.count_rows.Statement.{statement}
 use Rattle.compiler.proofs.count.count_rows.Tie as tie

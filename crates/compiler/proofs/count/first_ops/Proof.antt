@@ -4,9 +4,9 @@
 use mathlib.Core.Path.{_≡_}
 use Prim.Native.Nat.{_-_}
 use native.Mathlib.Omega.{arith}
-use Rattle.compiler.specs.Writing.{Stored}
-use Rattle.compiler.proofs.OpLaws.{opsUpTo}
-use Rattle.compiler.proofs.Passes.{stored-none, before-none, first-again, first-within}
+use Rattle.pairs.specs.Writing.{Stored}
+use Rattle.pairs.proofs.OpLaws.{opsUpTo}
+use Rattle.pairs.proofs.Passes.{stored-none, before-none, first-again, first-within}
 use Rattle.compiler.proofs.count.first_ops.Statement.{statement}
 use Rattle.compiler.proofs.count.first_ops.Tie as tie
 

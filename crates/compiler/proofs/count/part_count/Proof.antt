@@ -2,7 +2,7 @@
 -- Assumes nothing.
 use mathlib.Core.Path.{sym, ap, subst, _∙_}
 use native.Mathlib.Omega.{arith}
-use Rattle.compiler.specs.Writing.{PartIn, partCount}
+use Rattle.pairs.specs.Writing.{PartIn, partCount}
 use borrow.Author.Needs.{needs}
 use Rattle.compiler.proofs.count.part_count.Statement.{statement}
 use Rattle.compiler.proofs.count.part_count.Tie as tie

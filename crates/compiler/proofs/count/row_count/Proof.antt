@@ -2,10 +2,10 @@
 -- Assumes nothing.
 use mathlib.Core.Path.{sym, ap, subst, _∙_}
 use Prim.Native.Nat.{_+_}
-use Rattle.compiler.specs.Rows.{at}
-use Rattle.compiler.specs.Ops.{capped}
-use Rattle.compiler.specs.Writing.{PartIn, partCount}
-use Rattle.compiler.proofs.OpLaws.{first-in, second-in}
+use Rattle.pairs.specs.Rows.{at}
+use Rattle.pairs.specs.Ops.{capped}
+use Rattle.pairs.specs.Writing.{PartIn, partCount}
+use Rattle.pairs.proofs.OpLaws.{first-in, second-in}
 use borrow.Author.Needs.{needs}
 use Rattle.compiler.proofs.count.row_count.Statement.{statement}
 use Rattle.compiler.proofs.count.row_count.Tie as tie

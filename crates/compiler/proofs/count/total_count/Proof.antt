@@ -3,9 +3,9 @@
 use mathlib.Core.Path.{_≡_, ap, _∙_}
 use Prim.Native.Nat.{ℕ, _-_, _+_, _≤_}
 use native.Mathlib.Omega.{arith}
-use Rattle.compiler.specs.Ops.{capped}
-use Rattle.compiler.specs.Writing.{countsBefore}
-use Rattle.compiler.proofs.Passes.{counts-none, counts-more}
+use Rattle.pairs.specs.Ops.{capped}
+use Rattle.pairs.specs.Writing.{countsBefore}
+use Rattle.pairs.proofs.Passes.{counts-none, counts-more}
 use Rattle.compiler.proofs.count.total_count.Statement.{statement}
 use Rattle.compiler.proofs.count.total_count.Tie as tie
 

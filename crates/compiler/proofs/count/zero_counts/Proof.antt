@@ -3,8 +3,8 @@
 use mathlib.Core.Path.{refl}
 use Prim.Native.Nat.{ℕ, _-_}
 use native.Mathlib.Omega.{arith}
-use Rattle.compiler.specs.Writing.{Stored}
-use Rattle.compiler.proofs.Passes.{stored-none, stored-more, stored-all}
+use Rattle.pairs.specs.Writing.{Stored}
+use Rattle.pairs.proofs.Passes.{stored-none, stored-more, stored-all}
 use Rattle.compiler.proofs.count.zero_counts.Statement.{statement}
 use Rattle.compiler.proofs.count.zero_counts.Tie as tie
 

@@ -1,7 +1,7 @@
 -- `compiler::encode::effect_of` meets its contract: a kern scaled, a ligature by its op byte; a rule is nothing else.
 -- Assumes nothing.
 use Rattle.words.proofs.Bits.{number-word}
-use Rattle.compiler.proofs.EncodeLaws.{ligature-says, other-scales, says-of}
+use Rattle.pairs.proofs.EncodeLaws.{ligature-says, other-scales, says-of}
 use borrow.Author.Needs.{needs}
 use Rattle.compiler.proofs.encode.effect_of.Statement.{statement}
 use Rattle.compiler.proofs.encode.effect_of.Tie as tie

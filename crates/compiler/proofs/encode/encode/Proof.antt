@@ -9,8 +9,8 @@ use denote.Ref.{now}
 use Rattle.words.specs.Words.{wordOf, numberOf}
 use Rattle.words.proofs.Bits.{number-word}
 use Rattle.lang.specs.Records.{instructionAt}
-use Rattle.compiler.specs.Collecting.{isRule}
-use Rattle.compiler.proofs.EncodeLaws.{Encoding, encoding-none, encoding-stop, encoding-step, encoding-end, acts-rule}
+use Rattle.pairs.specs.Collecting.{isRule}
+use Rattle.pairs.proofs.EncodeLaws.{Encoding, encoding-none, encoding-stop, encoding-step, encoding-end, acts-rule}
 use Rattle.compiler.proofs.encode.encode.Statement.{statement}
 use Rattle.compiler.proofs.encode.encode.Tie as tie
 

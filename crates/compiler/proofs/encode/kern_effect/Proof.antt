@@ -6,7 +6,7 @@ use mir.Val.{SFits}
 use Rattle.words.specs.Words.{wordOf}
 use Rattle.words.proofs.Bits.{number-word}
 use Rattle.tfm.specs.Scaled.{toScaled}
-use Rattle.compiler.proofs.EncodeLaws.{kern-says, kern-unscaled}
+use Rattle.pairs.proofs.EncodeLaws.{kern-says, kern-unscaled}
 use borrow.Author.Needs.{needs}
 use Rattle.compiler.proofs.encode.kern_effect.Statement.{statement}
 use Rattle.compiler.proofs.encode.kern_effect.Tie as tie

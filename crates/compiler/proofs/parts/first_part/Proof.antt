@@ -3,7 +3,7 @@
 use mathlib.Core.Path.{_∙_}
 use mathlib.Core.Logic.{inl, inr}
 use native.Mathlib.Omega.{arith}
-use Rattle.compiler.proofs.OpLaws.{small-value, first-is, first-high, first-pair, first-none}
+use Rattle.pairs.proofs.OpLaws.{small-value, first-is, first-high, first-pair, first-none}
 use borrow.Author.Needs.{needs}
 use Rattle.compiler.proofs.parts.first_part.Statement.{statement}
 use Rattle.compiler.proofs.parts.first_part.Tie as tie

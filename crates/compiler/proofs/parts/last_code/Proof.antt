@@ -2,10 +2,10 @@
 -- Assumes nothing.
 use mathlib.Core.Path.{sym, ap, _∙_}
 use native.Mathlib.Omega.{arith}
-use Rattle.compiler.specs.Rows.{rowOf}
-use Rattle.compiler.specs.Writing.{lastBy}
-use Rattle.compiler.proofs.RowLaws.{row-found}
-use Rattle.compiler.proofs.OpLaws.{found-some, missing-none}
+use Rattle.pairs.specs.Rows.{rowOf}
+use Rattle.pairs.specs.Writing.{lastBy}
+use Rattle.pairs.proofs.RowLaws.{row-found}
+use Rattle.pairs.proofs.OpLaws.{found-some, missing-none}
 use borrow.Author.Needs.{needs}
 use Rattle.compiler.proofs.parts.last_code.Statement.{statement}
 use Rattle.compiler.proofs.parts.last_code.Tie as tie

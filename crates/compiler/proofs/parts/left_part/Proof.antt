@@ -1,6 +1,6 @@
 -- `compiler::parts::left_part` meets its contract: a number above 0 is one more than its character.
 -- Assumes nothing.
-use Rattle.compiler.proofs.OpLaws.{left-is}
+use Rattle.pairs.proofs.OpLaws.{left-is}
 use borrow.Author.Needs.{needs}
 use Rattle.compiler.proofs.parts.left_part.Statement.{statement}
 use Rattle.compiler.proofs.parts.left_part.Tie as tie

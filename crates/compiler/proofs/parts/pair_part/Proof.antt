@@ -1,9 +1,9 @@
 -- `compiler::parts::pair_part` meets its contract: what `find` answers is the row of the pair, or that it has none.
 -- Assumes nothing.
 use mathlib.Core.Path.{sym, ap, _∙_}
-use Rattle.compiler.specs.Rows.{rowOf}
-use Rattle.compiler.specs.Writing.{partBy}
-use Rattle.compiler.proofs.OpLaws.{found-some, missing-none}
+use Rattle.pairs.specs.Rows.{rowOf}
+use Rattle.pairs.specs.Writing.{partBy}
+use Rattle.pairs.proofs.OpLaws.{found-some, missing-none}
 use borrow.Author.Needs.{needs}
 use Rattle.compiler.proofs.parts.pair_part.Statement.{statement}
 use Rattle.compiler.proofs.parts.pair_part.Tie as tie

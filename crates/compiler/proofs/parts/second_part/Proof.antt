@@ -4,7 +4,7 @@ use mathlib.Core.Path.{_≡_, _∙_}
 use mathlib.Core.Logic.{_⊎_, inl, inr}
 use Prim.Native.Nat.{ℕ, _<_}
 use native.Mathlib.Omega.{arith}
-use Rattle.compiler.proofs.OpLaws.{small-value, small-last, second-is, second-kern, second-ligature, second-inserted, second-last, second-none}
+use Rattle.pairs.proofs.OpLaws.{small-value, small-last, second-is, second-kern, second-ligature, second-inserted, second-last, second-none}
 use borrow.Author.Needs.{needs}
 use Rattle.compiler.proofs.parts.second_part.Statement.{statement}
 use Rattle.compiler.proofs.parts.second_part.Tie as tie

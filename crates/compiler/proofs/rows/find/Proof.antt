@@ -5,7 +5,7 @@ use mathlib.Core.Path.{sym, _∙_}
 use Prim.Native.Nat.{_+_, _-_, _*_, _/_}
 use native.Mathlib.Omega.{arith}
 use denote.Ref.{now}
-use Rattle.compiler.proofs.Search.{Between, between-all, between-up, between-down, found, missing}
+use Rattle.pairs.proofs.Search.{Between, between-all, between-up, between-down, found, missing}
 use Rattle.compiler.proofs.rows.find.Statement.{statement}
 use Rattle.compiler.proofs.rows.find.Tie as tie
 

@@ -6,9 +6,9 @@ use mathlib.Core.Logic.{_⊎_, inl, inr}
 use Prim.Native.Nat.{ℕ, _<_}
 use native.Mathlib.Omega.{arith}
 use denote.Ref.{now}
-use Rattle.compiler.specs.Rows.{at}
-use Rattle.compiler.proofs.RowLaws.{value-small}
-use Rattle.compiler.proofs.Known.{says-small, row-inserted, row-left, row-right, row-both, row-plain, other-op}
+use Rattle.pairs.specs.Rows.{at}
+use Rattle.pairs.proofs.RowLaws.{value-small}
+use Rattle.pairs.proofs.Known.{says-small, row-inserted, row-left, row-right, row-both, row-plain, other-op}
 use borrow.Author.Needs.{needs}
 use Rattle.compiler.proofs.settle.by_rule.Statement.{statement}
 use Rattle.compiler.proofs.settle.by_rule.Tie as tie

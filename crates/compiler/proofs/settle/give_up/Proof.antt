@@ -7,7 +7,7 @@ use Prim.Native.Nat.{ℕ, _+_, _-_, _*_, _<_}
 use native.Mathlib.Omega.{arith}
 use lib.ListN.{set}
 use denote.Ref.{now}
-use Rattle.compiler.proofs.Stores.{Climbs, climbs-none, climbs-more, climbs-few, climbs-below}
+use Rattle.pairs.proofs.Stores.{Climbs, climbs-none, climbs-more, climbs-few, climbs-below}
 use Rattle.compiler.proofs.settle.give_up.Statement.{statement}
 use Rattle.compiler.proofs.settle.give_up.Tie as tie
 

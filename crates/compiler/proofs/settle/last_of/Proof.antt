@@ -5,9 +5,9 @@ use mathlib.Core.Option.{some}
 use Prim.Native.Nat.{_<_}
 use native.Mathlib.Omega.{arith}
 use denote.Ref.{now}
-use Rattle.compiler.specs.Rows.{rowOf}
-use Rattle.compiler.proofs.Search.{found-is, missing-is}
-use Rattle.compiler.proofs.Known.{says-missing, says-done, says-open, found-less}
+use Rattle.pairs.specs.Rows.{rowOf}
+use Rattle.pairs.proofs.Search.{found-is, missing-is}
+use Rattle.pairs.proofs.Known.{says-missing, says-done, says-open, found-less}
 use borrow.Author.Needs.{needs}
 use Rattle.compiler.proofs.settle.last_of.Statement.{statement}
 use Rattle.compiler.proofs.settle.last_of.Tie as tie

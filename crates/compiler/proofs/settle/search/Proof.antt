@@ -5,8 +5,8 @@ use mathlib.Core.Path.{_∙_, ap}
 use native.Mathlib.Omega.{arith}
 use lib.ListN.{length, length-set}
 use denote.Ref.{now}
-use Rattle.compiler.specs.Search.{remaining}
-use Rattle.compiler.proofs.Turning.{Going, going-begin, going-more, going-end}
+use Rattle.pairs.specs.Search.{remaining}
+use Rattle.pairs.proofs.Turning.{Going, going-begin, going-more, going-end}
 use Rattle.compiler.proofs.settle.search.Statement.{statement}
 use Rattle.compiler.proofs.settle.search.Tie as tie
 

@@ -6,7 +6,7 @@ use mathlib.Core.Logic.{⊎-elim}
 use Prim.Native.Nat.{_-_}
 use native.Mathlib.Omega.{arith}
 use denote.Ref.{now}
-use Rattle.compiler.proofs.Turning.{Passed, passed-none, passed-old, passed-new, passed-all}
+use Rattle.pairs.proofs.Turning.{Passed, passed-none, passed-old, passed-new, passed-all}
 use Rattle.compiler.proofs.settle.settle.Statement.{statement}
 use Rattle.compiler.proofs.settle.settle.Tie as tie
 

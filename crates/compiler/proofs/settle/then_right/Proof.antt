@@ -2,7 +2,7 @@
 -- Assumes nothing.
 use native.Mathlib.Omega.{arith}
 use denote.Ref.{now}
-use Rattle.compiler.proofs.Known.{known-code, second-known, second-waits}
+use Rattle.pairs.proofs.Known.{known-code, second-known, second-waits}
 use borrow.Author.Needs.{needs}
 use Rattle.compiler.proofs.settle.then_right.Statement.{statement}
 use Rattle.compiler.proofs.settle.then_right.Tie as tie

@@ -2,8 +2,8 @@
 -- Assumes nothing.
 use native.Mathlib.Omega.{arith}
 use denote.Ref.{now}
-use Rattle.compiler.proofs.Settling.{stored}
-use Rattle.compiler.proofs.Turning.{path-few, top-row, done-few, stuck, turned-finish}
+use Rattle.pairs.proofs.Settling.{stored}
+use Rattle.pairs.proofs.Turning.{path-few, top-row, done-few, stuck, turned-finish}
 use borrow.Author.Needs.{needs}
 use Rattle.compiler.proofs.settle.turn.Statement.{statement}
 use Rattle.compiler.proofs.settle.turn.Tie as tie

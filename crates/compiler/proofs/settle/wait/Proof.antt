@@ -3,9 +3,9 @@
 use mathlib.Core.Path.{_≡_, sym, _∙_}
 use native.Mathlib.Omega.{arith}
 use denote.Ref.{now}
-use Rattle.compiler.specs.Search.{status}
-use Rattle.compiler.proofs.Settling.{path-room}
-use Rattle.compiler.proofs.Turning.{turned-open, turned-given}
+use Rattle.pairs.specs.Search.{status}
+use Rattle.pairs.proofs.Settling.{path-room}
+use Rattle.pairs.proofs.Turning.{turned-open, turned-given}
 use borrow.Author.Needs.{needs}
 use Rattle.compiler.proofs.settle.wait.Statement.{statement}
 use Rattle.compiler.proofs.settle.wait.Tie as tie

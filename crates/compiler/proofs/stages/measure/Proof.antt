@@ -5,8 +5,8 @@ use mathlib.Core.List.{[]}
 use Prim.Native.Nat.{ℕ, _<_, _≤_, _/_}
 use native.Mathlib.Omega.{arith}
 use lib.ListN.{length}
-use Rattle.compiler.specs.Ops.{opTotal}
-use Rattle.compiler.specs.Walks.{loopsOf}
+use Rattle.pairs.specs.Ops.{opTotal}
+use Rattle.pairs.specs.Walks.{loopsOf}
 use Rattle.compiler.proofs.Measuring.{encoded₁, settled₁, encoded₂, settled₂, turns₂, unmet₂, total-is, total-below, encoded₃, settled₃, exact₃, total₃, count-is, sized, too-many, no-room, no-loop-room, taken}
 use borrow.Author.Needs.{needs}
 use Rattle.compiler.proofs.stages.measure.Statement.{statement}

@@ -4,7 +4,7 @@
 use mathlib.Core.Path.{sym, subst}
 use Prim.Native.Nat.{ℕ, _<_, _-_}
 use native.Mathlib.Omega.{arith}
-use Rattle.compiler.proofs.WalkLaws.{Going, going-none, going-walkable, going-row, going-more, going-all}
+use Rattle.pairs.proofs.WalkLaws.{Going, going-none, going-walkable, going-row, going-more, going-all}
 use Rattle.compiler.proofs.walks.find_loops.Statement.{statement}
 use Rattle.compiler.proofs.walks.find_loops.Tie as tie
 

@@ -2,7 +2,7 @@
 -- Assumes nothing.
 use mathlib.Core.Path.{_∙_}
 use borrow.Author.Needs.{needs}
-use Rattle.compiler.proofs.WalkLaws.{turn-up, turn-down}
+use Rattle.pairs.proofs.WalkLaws.{turn-up, turn-down}
 use Rattle.compiler.proofs.walks.row_of_turn.Statement.{statement}
 use Rattle.compiler.proofs.walks.row_of_turn.Tie as tie
 

@@ -4,8 +4,8 @@ use mathlib.Core.Path.{refl, sym, _∙_}
 use Prim.Native.Nat.{_<_}
 use native.Mathlib.Omega.{arith}
 use borrow.Author.Needs.{needs}
-use Rattle.compiler.specs.Walking.{finishes, meets-own, meets-earlier}
-use Rattle.compiler.proofs.WalkLaws.{walk-within}
+use Rattle.pairs.specs.Walking.{finishes, meets-own, meets-earlier}
+use Rattle.pairs.proofs.WalkLaws.{walk-within}
 use Rattle.compiler.proofs.walks.take_turn.Statement.{statement}
 use Rattle.compiler.proofs.walks.take_turn.Tie as tie
 

@@ -3,8 +3,8 @@
 use mathlib.Core.Path.{sym, _∙_}
 use native.Mathlib.Omega.{arith}
 use borrow.Author.Needs.{needs}
-use Rattle.compiler.specs.Walking.{stops}
-use Rattle.compiler.proofs.WalkLaws.{unmarked, Underway, underway-none, underway-more, underway-less}
+use Rattle.pairs.specs.Walking.{stops}
+use Rattle.pairs.proofs.WalkLaws.{unmarked, Underway, underway-none, underway-more, underway-less}
 use Rattle.compiler.proofs.walks.walk_from.Statement.{statement}
 use Rattle.compiler.proofs.walks.walk_from.Tie as tie
 

@@ -5,8 +5,8 @@ use native.Mathlib.Omega.{arith}
 use borrow.Author.Needs.{needs}
 use Rattle.words.specs.Lists.{tabulate, Appending}
 use Rattle.words.proofs.Lists.{appending-length}
-use Rattle.compiler.specs.Ops.{loopNumbers}
-use Rattle.compiler.proofs.WalkLaws.{listedPair, left-small, loops-none, loops-more, loops-all}
+use Rattle.pairs.specs.Ops.{loopNumbers}
+use Rattle.pairs.proofs.WalkLaws.{listedPair, left-small, loops-none, loops-more, loops-all}
 use Rattle.compiler.proofs.walks.write_loops.Statement.{statement}
 use Rattle.compiler.proofs.walks.write_loops.Tie as tie
 

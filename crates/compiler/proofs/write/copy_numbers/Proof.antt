@@ -6,7 +6,7 @@ use Prim.Native.Nat.{ℕ, _-_, _≤_}
 use native.Mathlib.Omega.{arith}
 use lib.ListN.{length, take, drop}
 use lib.Seq.{sets, length-sets}
-use Rattle.compiler.proofs.Tables.{copy-more}
+use Rattle.pairs.proofs.Tables.{copy-more}
 use Rattle.compiler.proofs.write.copy_numbers.Statement.{statement}
 use Rattle.compiler.proofs.write.copy_numbers.Tie as tie
 

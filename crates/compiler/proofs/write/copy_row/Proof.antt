@@ -5,7 +5,7 @@ use Prim.Native.Nat.{ℕ, _+_, _*_}
 use native.Mathlib.Omega.{arith}
 use lib.ListN.{take, drop}
 use lib.Seq.{sets}
-use Rattle.compiler.proofs.Tables.{copies-apart}
+use Rattle.pairs.proofs.Tables.{copies-apart}
 use borrow.Author.Needs.{needs}
 use Rattle.compiler.proofs.write.copy_row.Statement.{statement}
 use Rattle.compiler.proofs.write.copy_row.Tie as tie

@@ -2,9 +2,9 @@
 -- Assumes nothing.
 use mathlib.Core.Path.{sym, ap}
 use Prim.Native.Nat.{ℕ}
-use Rattle.compiler.specs.Ops.{leftNumber}
-use Rattle.compiler.specs.Rows.{leftOf}
-use Rattle.compiler.proofs.Tables.{left-word}
+use Rattle.pairs.specs.Ops.{leftNumber}
+use Rattle.pairs.specs.Rows.{leftOf}
+use Rattle.pairs.proofs.Tables.{left-word}
 use borrow.Author.Needs.{needs}
 use Rattle.compiler.proofs.write.left_word.Statement.{statement}
 use Rattle.compiler.proofs.write.left_word.Tie as tie

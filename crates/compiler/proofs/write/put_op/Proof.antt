@@ -2,7 +2,7 @@
 -- Assumes nothing.
 use mathlib.Core.Path.{refl}
 use Rattle.words.specs.Words.{numberOf}
-use Rattle.compiler.proofs.Tables.{put-two}
+use Rattle.pairs.proofs.Tables.{put-two}
 use borrow.Author.Needs.{needs}
 use Rattle.compiler.proofs.write.put_op.Statement.{statement}
 use Rattle.compiler.proofs.write.put_op.Tie as tie

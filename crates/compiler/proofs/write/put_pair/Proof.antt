@@ -6,9 +6,9 @@ use Prim.Native.Nat.{ℕ}
 use native.Mathlib.Omega.{arith}
 use lib.Seq.{sets}
 use Rattle.words.specs.Words.{numberOf}
-use Rattle.compiler.specs.Ops.{leftNumber}
-use Rattle.compiler.specs.Rows.{leftOf}
-use Rattle.compiler.proofs.Tables.{put-six}
+use Rattle.pairs.specs.Ops.{leftNumber}
+use Rattle.pairs.specs.Rows.{leftOf}
+use Rattle.pairs.proofs.Tables.{put-six}
 use borrow.Author.Needs.{needs}
 use Rattle.compiler.proofs.write.put_pair.Statement.{statement}
 use Rattle.compiler.proofs.write.put_pair.Tie as tie

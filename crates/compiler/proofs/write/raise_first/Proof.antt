@@ -8,8 +8,8 @@ use lib.IntN.{ℤ, pos}
 use lib.ListN.{length, getD, set, length-set}
 use Rattle.words.specs.Words.{numberOf, Word}
 use Rattle.reading.specs.Items.{Out}
-use Rattle.compiler.specs.Writing.{OpsAt}
-use Rattle.compiler.proofs.Tables.{Passed, passed-none, passed-more, raised-at, raised-none}
+use Rattle.pairs.specs.Writing.{OpsAt}
+use Rattle.pairs.proofs.Tables.{Passed, passed-none, passed-more, raised-at, raised-none}
 use Rattle.compiler.proofs.write.raise_first.Statement.{statement}
 use Rattle.compiler.proofs.write.raise_first.Tie as tie
 

@@ -3,7 +3,7 @@
 -- Assumes nothing.
 use Prim.Native.Nat.{_-_}
 use native.Mathlib.Omega.{arith}
-use Rattle.compiler.proofs.Tables.{WritingOps, writing-none, turn-of, writing-more, writing-all}
+use Rattle.pairs.proofs.Tables.{WritingOps, writing-none, turn-of, writing-more, writing-all}
 use borrow.Author.Needs.{needs}
 use Rattle.compiler.proofs.write.write_ops.Statement.{statement}
 use Rattle.compiler.proofs.write.write_ops.Tie as tie

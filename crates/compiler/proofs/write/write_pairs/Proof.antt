@@ -5,7 +5,7 @@ use mathlib.Core.Logic.{⊎-elim}
 use Prim.Native.Nat.{_-_}
 use native.Mathlib.Omega.{arith}
 use Rattle.words.proofs.Lists.{appending-length}
-use Rattle.compiler.proofs.Tables.{WritingPairs, pairs-none, pairs-room, pairs-finished, pairs-never, pairs-all}
+use Rattle.pairs.proofs.Tables.{WritingPairs, pairs-none, pairs-room, pairs-finished, pairs-never, pairs-all}
 use Rattle.compiler.proofs.write.write_pairs.Statement.{statement}
 use Rattle.compiler.proofs.write.write_pairs.Tie as tie
 

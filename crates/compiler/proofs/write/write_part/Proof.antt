@@ -1,8 +1,8 @@
 -- `compiler::write::write_part` meets its contract: each arm is a clause of its definition.
 -- Assumes nothing.
 use mathlib.Core.Path.{sym, subst}
-use Rattle.compiler.specs.Writing.{PartFits, PartWritten}
-use Rattle.compiler.proofs.Tables.{nothing-written, row-copied}
+use Rattle.pairs.specs.Writing.{PartFits, PartWritten}
+use Rattle.pairs.proofs.Tables.{nothing-written, row-copied}
 use borrow.Author.Needs.{needs}
 use Rattle.compiler.proofs.write.write_part.Statement.{statement}
 use Rattle.compiler.proofs.write.write_part.Tie as tie

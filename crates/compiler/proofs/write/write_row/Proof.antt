@@ -1,8 +1,8 @@
 -- `compiler::write::write_row` meets its contract: the first part, and after it the second, whose first character becomes a ligature. What is written does not touch
 -- the rows that are copied from.
 -- Assumes nothing.
-use Rattle.compiler.proofs.OpLaws.{last-of}
-use Rattle.compiler.proofs.Tables.{first-fits, first-done, second-fits, second-done, raise-fits, row-done}
+use Rattle.pairs.proofs.OpLaws.{last-of}
+use Rattle.pairs.proofs.Tables.{first-fits, first-done, second-fits, second-done, raise-fits, row-done}
 use borrow.Author.Needs.{needs}
 use Rattle.compiler.proofs.write.write_row.Statement.{statement}
 use Rattle.compiler.proofs.write.write_row.Tie as tie

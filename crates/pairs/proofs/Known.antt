@@ -22,12 +22,12 @@ use Rattle.reading.proofs.Flags.{code-raised, flag-raised}
 use Rattle.reading.proofs.Right.{both-finished, deeper-by}
 use Rattle.reading.proofs.Enough.{once-more}
 use Rattle.words.specs.Words.{numberOf}
-use Rattle.compiler.specs.declared.settle.Last.{Last}
-use Rattle.compiler.specs.declared.settle.Last.the-variants.{Known, Waits}
-use Rattle.compiler.specs.Rows.{at, leftOf, numberOfLeft, pairAt, ruleOf, ruleAt, rowOf, pairs, rules, opFits, Ascending}
-use Rattle.compiler.specs.Lasts.{bit, finishedRows, outcome, second, consults}
-use Rattle.compiler.specs.Search.{status, knownBy, known, LastIs, Stored, Waiting, PairSays, RuleSays, SecondSays, flagged, codeOf}
-use Rattle.compiler.proofs.RowLaws.{same-or-not, fits-eight, number-left, SameRules, row-same, row-found, row-at, rule-at, covers-rows, finished-same}
+use Rattle.pairs.specs.declared.Last.{Last}
+use Rattle.pairs.specs.declared.Last.the-variants.{Known, Waits}
+use Rattle.pairs.specs.Rows.{at, leftOf, numberOfLeft, pairAt, ruleOf, ruleAt, rowOf, pairs, rules, opFits, Ascending}
+use Rattle.pairs.specs.Lasts.{bit, finishedRows, outcome, second, consults}
+use Rattle.pairs.specs.Search.{status, knownBy, known, LastIs, Stored, Waiting, PairSays, RuleSays, SecondSays, flagged, codeOf}
+use Rattle.pairs.proofs.RowLaws.{same-or-not, fits-eight, number-left, SameRules, row-same, row-found, row-at, rule-at, covers-rows, finished-same}
 
 -- ---- one rule over pairs that finish
 

@@ -6,16 +6,16 @@ use Prim.Native.Nat.{ℕ, zero, suc, _+_, _-_, _<_, _≤_}
 use native.Mathlib.Numerals.{add-one}
 use native.Mathlib.Omega.{arith}
 use borrow.Author.Count.{below-more}
-use Rattle.compiler.specs.declared.settle.Last.{Last}
-use Rattle.compiler.specs.declared.settle.Progress.{Progress}
-use Rattle.compiler.specs.declared.settle.Last.the-variants.{Known, Waits}
-use Rattle.compiler.specs.Rows.{at, Encoded, SameRows}
-use Rattle.compiler.specs.Lasts.{Settled}
-use Rattle.compiler.specs.Search.{status, Waiting, RuleSays, Searching, Stuck, opening, finishing, GivenUp, StillSeen, Turned, Searched}
-use Rattle.compiler.proofs.RowLaws.{same-rows-none, same-rows-more, settled-since}
-use Rattle.compiler.proofs.Tally.{tally-few, tally-less}
-use Rattle.compiler.proofs.Settling.{path-room, open-rows, searching-open, less-open, seen-open, finish-rows, searching-finish, less-finish, seen-finish, given-rows, searching-given, less-given, seen-given, searching-none, settled-end}
-use Rattle.compiler.proofs.Stores.{Opens, opens, Finishes, finishes}
+use Rattle.pairs.specs.declared.Last.{Last}
+use Rattle.pairs.specs.declared.Progress.{Progress}
+use Rattle.pairs.specs.declared.Last.the-variants.{Known, Waits}
+use Rattle.pairs.specs.Rows.{at, Encoded, SameRows}
+use Rattle.pairs.specs.Lasts.{Settled}
+use Rattle.pairs.specs.Search.{status, Waiting, RuleSays, Searching, Stuck, opening, finishing, GivenUp, StillSeen, Turned, Searched}
+use Rattle.pairs.proofs.RowLaws.{same-rows-none, same-rows-more, settled-since}
+use Rattle.pairs.proofs.Tally.{tally-few, tally-less}
+use Rattle.pairs.proofs.Settling.{path-room, open-rows, searching-open, less-open, seen-open, finish-rows, searching-finish, less-finish, seen-finish, given-rows, searching-given, less-given, seen-given, searching-none, settled-end}
+use Rattle.pairs.proofs.Stores.{Opens, opens, Finishes, finishes}
 
 -- ---- a turn
 

@@ -8,7 +8,7 @@ use lib.ListN.{length, getD}
 use Rattle.reading.specs.Items.{bnd}
 use Rattle.reading.specs.Depth.{Pair}
 use Rattle.reading.specs.Loops.{Ruled, walkedBefore, loopList}
-use Rattle.compiler.specs.Rows.{at, pairAt, ruledAt, pairs, rules}
+use Rattle.pairs.specs.Rows.{at, pairAt, ruledAt, pairs, rules}
 
 -- the row of walk number s, of n rows of which the first e are the boundary's: those come last
 abbrev pub turnPlace : ℕ → ℕ → ℕ → ℕ

@@ -25,15 +25,15 @@ use Rattle.reading.specs.Loops.{Ruled}
 use Rattle.reading.proofs.Flags.{raise-left-none, code-raised}
 use Rattle.reading.proofs.Right.{both-finished}
 use Rattle.reading.proofs.Enough.{once-more}
-use Rattle.compiler.specs.declared.rows.Row.{Row as FoundRow}
-use Rattle.compiler.specs.declared.rows.Row.the-variants.{Found, Missing}
-use Rattle.compiler.specs.declared.parts.Part.{Part}
-use Rattle.compiler.specs.declared.parts.Part.the-variants.{Nothing, Character, Ligature, Kern, OfRow}
-use Rattle.compiler.specs.Rows.{at, leftOf, numberOfLeft, pairAt, ruledAt, ruleOf, ruleAt, pairs, rowOf, foundRow, ruleBy, rules, opFits, Encoded}
-use Rattle.compiler.specs.Lasts.{finishedRows, outcome, consults, second, FinishedRow, RowSays, Settled}
-use Rattle.compiler.specs.Ops.{nth, entryOf, opsOf, opsBefore, outNumbers, opNumbers, opsTable, pairNumbers, pairTable, opCount, opTotal}
-use Rattle.compiler.specs.Writing.{leftPart, partBy, pairPart, lastBy, lastCode, anyOf, firstOf, secondOf, firstPart, secondPart, LastFits, PartIn, partOuts, raisedOuts}
-use Rattle.compiler.proofs.RowLaws.{row-found, number-left, rule-at, fits-parts, fits-eight, value-small, covers-rows}
+use Rattle.pairs.specs.declared.Row.{Row as FoundRow}
+use Rattle.pairs.specs.declared.Row.the-variants.{Found, Missing}
+use Rattle.pairs.specs.declared.Part.{Part}
+use Rattle.pairs.specs.declared.Part.the-variants.{Nothing, Character, Ligature, Kern, OfRow}
+use Rattle.pairs.specs.Rows.{at, leftOf, numberOfLeft, pairAt, ruledAt, ruleOf, ruleAt, pairs, rowOf, foundRow, ruleBy, rules, opFits, Encoded}
+use Rattle.pairs.specs.Lasts.{finishedRows, outcome, consults, second, FinishedRow, RowSays, Settled}
+use Rattle.pairs.specs.Ops.{nth, entryOf, opsOf, opsBefore, outNumbers, opNumbers, opsTable, pairNumbers, pairTable, opCount, opTotal}
+use Rattle.pairs.specs.Writing.{leftPart, partBy, pairPart, lastBy, lastCode, anyOf, firstOf, secondOf, firstPart, secondPart, LastFits, PartIn, partOuts, raisedOuts}
+use Rattle.pairs.proofs.RowLaws.{row-found, number-left, rule-at, fits-parts, fits-eight, value-small, covers-rows}
 
 -- ---- ops as numbers, and ops whose first character is a ligature
 

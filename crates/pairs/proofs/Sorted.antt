@@ -13,7 +13,7 @@ use borrow.Author.Tests.{ltb-true, lt-ltb, eqb-true, eq-eqb, ne-eqb}
 use Rattle.words.specs.Lists.{tabulate}
 use Rattle.reading.specs.Items.{Left, bnd, chr}
 use Rattle.reading.specs.Loops.{Ruled, sameLeft, leftBefore, walkedBefore, insert, ordered}
-use Rattle.compiler.proofs.RowLaws.{less-or-not, mem-tabulate}
+use Rattle.pairs.proofs.RowLaws.{less-or-not, mem-tabulate}
 
 -- ---- the order of walks is strict
 

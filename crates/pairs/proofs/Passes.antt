@@ -7,14 +7,14 @@ use Prim.Native.Nat.{ℕ, zero, suc, _+_, _*_, _<_, _≤_}
 use native.Mathlib.Numerals.{add-one}
 use native.Mathlib.Omega.{arith}
 use lib.ListN.{length, set, length-set}
-use Rattle.compiler.specs.declared.parts.Part.{Part}
-use Rattle.compiler.specs.declared.parts.Part.the-variants.{Nothing, Character, Ligature, Kern, OfRow}
-use Rattle.compiler.specs.Rows.{at, Encoded}
-use Rattle.compiler.specs.Lasts.{Settled}
-use Rattle.compiler.specs.Ops.{opsOf, opsBefore, capped, OnlyField, opCount, opTotal, Exact}
-use Rattle.compiler.specs.Writing.{LastFits, firstPart, secondPart, partOuts, partCount, rowCount, countsBefore, Stored, Counted}
-use Rattle.compiler.proofs.RowLaws.{same-or-not, less-or-not, at-stored, at-other, at-row, keeps-rules, only-keeps, settled-kept, encoded-same, outcome-same, finished-same, pairs-same}
-use Rattle.compiler.proofs.OpLaws.{opsUpTo, before-more, ends-within, Sound, finished-row, row-finished, unfinished-row, parts-of, last-of, count-parts}
+use Rattle.pairs.specs.declared.Part.{Part}
+use Rattle.pairs.specs.declared.Part.the-variants.{Nothing, Character, Ligature, Kern, OfRow}
+use Rattle.pairs.specs.Rows.{at, Encoded}
+use Rattle.pairs.specs.Lasts.{Settled}
+use Rattle.pairs.specs.Ops.{opsOf, opsBefore, capped, OnlyField, opCount, opTotal, Exact}
+use Rattle.pairs.specs.Writing.{LastFits, firstPart, secondPart, partOuts, partCount, rowCount, countsBefore, Stored, Counted}
+use Rattle.pairs.proofs.RowLaws.{same-or-not, less-or-not, at-stored, at-other, at-row, keeps-rules, only-keeps, settled-kept, encoded-same, outcome-same, finished-same, pairs-same}
+use Rattle.pairs.proofs.OpLaws.{opsUpTo, before-more, ends-within, Sound, finished-row, row-finished, unfinished-row, parts-of, last-of, count-parts}
 
 -- ---- a number of each row
 

@@ -1,9 +1,9 @@
--- Walks over the rows step by step, as the passes of src/walks take them.
+-- Walks over the rows step by step, as the passes of src/walks of crate `compiler` take them.
 use mathlib.Core.Path.{_≡_}
 use mathlib.Core.List.{List}
 use Prim.Native.Nat.{ℕ, _+_, _*_, _<_, _≤_}
 use lib.ListN.{length, set}
-use Rattle.compiler.specs.Rows.{at}
+use Rattle.pairs.specs.Rows.{at}
 
 -- Rows that can be walked over: what never finishes waits for a row that never finishes.
 pub record Walkable (n : ℕ) (w : List ℕ) : Type 0 where

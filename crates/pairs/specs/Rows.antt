@@ -18,8 +18,8 @@ use lib.ListN.{length, getD}
 use Rattle.words.specs.Words.{numberOf}
 use Rattle.words.specs.Lists.{tabulate}
 use Rattle.lang.specs.Operations.{retains, keepsLeft, keepsRight, advance, isStandard}
-use Rattle.compiler.specs.declared.rows.Row.{Row}
-use Rattle.compiler.specs.declared.rows.Row.the-variants.{Found, Missing}
+use Rattle.pairs.specs.declared.Row.{Row}
+use Rattle.pairs.specs.declared.Row.the-variants.{Found, Missing}
 use Rattle.reading.specs.Items.{Left, bnd, chr, Rule, free, kerned, lig, Rules}
 use Rattle.reading.specs.Depth.{Pair}
 use Rattle.reading.specs.Loops.{Ruled}

@@ -9,11 +9,11 @@ use lib.Dec.{ltb, eqb}
 use lib.ListN.{length, set}
 use Rattle.reading.specs.Items.{Left, chr, plain, code, flag, head, fin}
 use Rattle.reading.specs.Depth.{Res, Finished, compBy, waitsBy}
-use Rattle.compiler.specs.declared.settle.Last.{Last}
-use Rattle.compiler.specs.declared.settle.Last.the-variants.{Known, Waits}
-use Rattle.compiler.specs.declared.settle.Progress.{Progress}
-use Rattle.compiler.specs.Rows.{at, pairAt, ruleAt, rowOf, numberOfLeft, Encoded, SameRows}
-use Rattle.compiler.specs.Lasts.{bit, finishedRows, outcome, consults}
+use Rattle.pairs.specs.declared.Last.{Last}
+use Rattle.pairs.specs.declared.Last.the-variants.{Known, Waits}
+use Rattle.pairs.specs.declared.Progress.{Progress}
+use Rattle.pairs.specs.Rows.{at, pairAt, ruleAt, rowOf, numberOfLeft, Encoded, SameRows}
+use Rattle.pairs.specs.Lasts.{bit, finishedRows, outcome, consults}
 
 -- how many k below n have g k ≡ s
 unfoldable pub tally : (ℕ → ℕ) → ℕ → ℕ → ℕ

@@ -10,8 +10,8 @@ use lib.ListN.{length, getD}
 use Rattle.reading.specs.Items.{Left, bnd, chr, Item, item, code, flag, Out, glyph, kern}
 use Rattle.reading.specs.Depth.{Res, Finished, Pair}
 use Rattle.reading.specs.Loops.{Ruled}
-use Rattle.compiler.specs.Rows.{at, pairs, Encoded}
-use Rattle.compiler.specs.Lasts.{outcome, finishedRows, Settled}
+use Rattle.pairs.specs.Rows.{at, pairs, Encoded}
+use Rattle.pairs.specs.Lasts.{outcome, finishedRows, Settled}
 
 abbrev pub nth : List Ruled → ℕ → Ruled
 nth ps k = getD ps k (record { pair = record { left = bnd; right = 0 }; index = 0 })

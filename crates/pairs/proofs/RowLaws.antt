@@ -21,9 +21,9 @@ use Rattle.reading.specs.Items.{Left, bnd, chr, free}
 use Rattle.reading.specs.Depth.{Res}
 use Rattle.reading.specs.Loops.{finished, waits}
 use Rattle.reading.proofs.Covers.{Covers}
-use Rattle.compiler.specs.Rows.{at, leftOf, numberOfLeft, pairAt, ruledAt, ruleOf, ruleAt, pairs, isPair, orRow, rowOf, ruleBy, rules, opFits, Ascending, Encoded, SameRows}
-use Rattle.compiler.specs.Lasts.{finishedRows, outcome, consults, FinishedRow, NeverRow, RowSays, Settled}
-use Rattle.compiler.specs.Ops.{OnlyField}
+use Rattle.pairs.specs.Rows.{at, leftOf, numberOfLeft, pairAt, ruledAt, ruleOf, ruleAt, pairs, isPair, orRow, rowOf, ruleBy, rules, opFits, Ascending, Encoded, SameRows}
+use Rattle.pairs.specs.Lasts.{finishedRows, outcome, consults, FinishedRow, NeverRow, RowSays, Settled}
+use Rattle.pairs.specs.Ops.{OnlyField}
 
 -- two numbers are the same or not
 pub same-or-not : (a b : ℕ) → (a ≡ b) ⊎ (a ≡ b → ⊥)

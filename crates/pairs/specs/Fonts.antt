@@ -19,7 +19,7 @@ use Rattle.chain.specs.Chains.{ruleIndexOf, actsAs}
 use Rattle.reading.specs.Items.{Left, bnd, chr, Rule, free, kerned, lig, Rules}
 use Rattle.reading.specs.Depth.{Pair}
 use Rattle.reading.specs.Loops.{Ruled}
-use Rattle.compiler.specs.Rows.{leftOf}
+use Rattle.pairs.specs.Rows.{leftOf}
 
 pub record Font : Type 0 where
   pub instructions : List ℤ

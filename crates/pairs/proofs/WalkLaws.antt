@@ -1,4 +1,4 @@
--- Laws of walks. A walk over rows is the walk of `specs/Loops` over their pairs: a row has the mark of an earlier walk where its pair was met
+-- Laws of walks. A walk over rows is the walk of `specs/Loops` of crate `reading` over their pairs: a row has the mark of an earlier walk where its pair was met
 -- by one, and the mark of this walk where its pair is one of its own. So the turns together give the loop list.
 -- Assumes nothing.
 use mathlib.Core.Path.{_≡_, refl, sym, ap, ap₂, _∙_, subst, subst₂}
@@ -25,13 +25,13 @@ use Rattle.reading.specs.Depth.{Res, Finished, Pair}
 use Rattle.reading.specs.Loops.{Ruled, sameLeft, samePair, member, ordered, isFinished, unfinished, follow, waits, Walked, walk, walks, loopList}
 use Rattle.reading.proofs.Count.{count, count-all, grown}
 use Rattle.reading.proofs.Complete.{unfinished-waits}
-use Rattle.compiler.specs.Rows.{at, leftOf, numberOfLeft, pairAt, ruledAt, pairs, rules, Ascending, Encoded}
-use Rattle.compiler.specs.Lasts.{finishedRows, outcome, NeverRow, RowSays, Settled}
-use Rattle.compiler.specs.Ops.{leftNumber, loopNumbers}
-use Rattle.compiler.specs.Walks.{turnPlace, turn, Turns, loopsOf, nthPair, Listed}
-use Rattle.compiler.specs.Walking.{Walkable, Walk, stops, goes, Turn, finishes, meets-own, meets-earlier, Listing}
-use Rattle.compiler.proofs.RowLaws.{same-or-not, at-stored, at-other, at-row, one-row, number-left, pair-same, mem-tabulate, covers-rows}
-use Rattle.compiler.proofs.Sorted.{ordered-keeps, places-sort}
+use Rattle.pairs.specs.Rows.{at, leftOf, numberOfLeft, pairAt, ruledAt, pairs, rules, Ascending, Encoded}
+use Rattle.pairs.specs.Lasts.{finishedRows, outcome, NeverRow, RowSays, Settled}
+use Rattle.pairs.specs.Ops.{leftNumber, loopNumbers}
+use Rattle.pairs.specs.Walks.{turnPlace, turn, Turns, loopsOf, nthPair, Listed}
+use Rattle.pairs.specs.Walking.{Walkable, Walk, stops, goes, Turn, finishes, meets-own, meets-earlier, Listing}
+use Rattle.pairs.proofs.RowLaws.{same-or-not, at-stored, at-other, at-row, one-row, number-left, pair-same, mem-tabulate, covers-rows}
+use Rattle.pairs.proofs.Sorted.{ordered-keeps, places-sort}
 
 -- ---- the pairs of a list as numbers
 

@@ -34,13 +34,13 @@ use Rattle.lang.proofs.operation.Operation.{the-type as operation-type}
 use Rattle.lang.proofs.Every.{every-none, every-more, every-fails, every-to}
 use Rattle.chain.specs.Chains.{kernOf, actsAs}
 use Rattle.reading.specs.Items.{kerned, lig}
-use Rattle.compiler.specs.Rows.{at, ruleOf, ruleAt, opFits}
-use Rattle.compiler.specs.Fonts.{scaledKern, ruleOfOperation}
-use Rattle.compiler.specs.Collect.{operationAt, isScaled, scales, Encodes}
-use Rattle.compiler.specs.Collecting.{opByte, isRule, kernOperation, Says, SaysBy}
-use Rattle.compiler.specs.declared.encode.Effect.{Effect}
-use Rattle.compiler.specs.declared.encode.Effect.the-variants.{Op, Unscaled}
-use Rattle.compiler.proofs.RowLaws.{at-stored, at-kept, at-other}
+use Rattle.pairs.specs.Rows.{at, ruleOf, ruleAt, opFits}
+use Rattle.pairs.specs.Fonts.{scaledKern, ruleOfOperation}
+use Rattle.pairs.specs.Collect.{operationAt, isScaled, scales, Encodes}
+use Rattle.pairs.specs.Collecting.{opByte, isRule, kernOperation, Says, SaysBy}
+use Rattle.pairs.specs.declared.Effect.{Effect}
+use Rattle.pairs.specs.declared.Effect.the-variants.{Op, Unscaled}
+use Rattle.pairs.proofs.RowLaws.{at-stored, at-kept, at-other}
 
 -- ---- the numbers of a kern
 

@@ -9,7 +9,7 @@ use Rattle.lang.specs.declared.operation.PostLigOperation.the-variants.{RetainB
 use Rattle.reading.specs.Items.{Left, chr, Rule, free, kerned, lig, Item, item, code, flag}
 use Rattle.reading.specs.Depth.{Res, Finished, Pair}
 use Rattle.reading.specs.Loops.{finished, waits}
-use Rattle.compiler.specs.Rows.{at, pairAt, ruleAt, pairs, rules, SameRows}
+use Rattle.pairs.specs.Rows.{at, pairAt, ruleAt, pairs, rules, SameRows}
 
 abbrev pub bit : Bool → ℕ
 bit true = 1

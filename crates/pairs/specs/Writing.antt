@@ -12,11 +12,11 @@ use lib.Seq.{sets}
 use Rattle.words.specs.Words.{numberOf}
 use Rattle.reading.specs.Items.{plain, inserted, Out, glyph, kern}
 use Rattle.reading.specs.Depth.{raise}
-use Rattle.compiler.specs.declared.parts.Part.{Part}
-use Rattle.compiler.specs.declared.parts.Part.the-variants.{Nothing, Character, Ligature, Kern, OfRow}
-use Rattle.compiler.specs.Rows.{at, leftOf, rowOf}
-use Rattle.compiler.specs.Lasts.{outcome}
-use Rattle.compiler.specs.Ops.{opsOf, opNumbers, leftNumber, opCount, opTotal, capped, OnlyField, Ready}
+use Rattle.pairs.specs.declared.Part.{Part}
+use Rattle.pairs.specs.declared.Part.the-variants.{Nothing, Character, Ligature, Kern, OfRow}
+use Rattle.pairs.specs.Rows.{at, leftOf, rowOf}
+use Rattle.pairs.specs.Lasts.{outcome}
+use Rattle.pairs.specs.Ops.{opsOf, opNumbers, leftNumber, opCount, opTotal, capped, OnlyField, Ready}
 
 -- ---- the parts of a row's ops
 

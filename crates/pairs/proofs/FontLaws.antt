@@ -21,8 +21,8 @@ use Rattle.reading.specs.Items.{Left, bnd, chr, Rule, free, Rules}
 use Rattle.reading.specs.Depth.{Pair}
 use Rattle.reading.specs.Loops.{Ruled}
 use Rattle.reading.proofs.Covers.{Covers}
-use Rattle.compiler.specs.Rows.{leftOf, numberOfLeft}
-use Rattle.compiler.specs.Fonts.{Font, indexOf, leftEntry, ruleFrom, ruledBy, rowPairs, leftPairs, pairsBy, pairsOf, tableOf, rulesOf, ruleOfIndex}
+use Rattle.pairs.specs.Rows.{leftOf, numberOfLeft}
+use Rattle.pairs.specs.Fonts.{Font, indexOf, leftEntry, ruleFrom, ruledBy, rowPairs, leftPairs, pairsBy, pairsOf, tableOf, rulesOf, ruleOfIndex}
 
 -- the first instruction for a character is one for it
 first-by : (program : Program) (r : ℕ) (j : ℕ) (is : List ℕ) (i : ℕ) (b : Bool) → eqb (program j .«right_char» .0) r ≡ b → (firstFor program r is ≡ some i → program i .«right_char» .0 ≡ r) → cond b (some j) (firstFor program r is) ≡ some i → program i .«right_char» .0 ≡ r

@@ -14,12 +14,12 @@ use Rattle.lang.specs.declared.operation.Operation.the-variants.{Kern, KernAtIn
 use Rattle.lang.specs.Every.{every}
 use Rattle.lang.specs.Records.{instructionAt}
 use Rattle.chain.specs.Chains.{actsAs}
-use Rattle.compiler.specs.declared.collect.Collected.{Collected}
-use Rattle.compiler.specs.declared.collect.Collected.the-variants.{Rows, Full}
-use Rattle.compiler.specs.Rows.{at, ruledAt, ruleAt, opFits, Ascending}
-use Rattle.compiler.specs.Ops.{nth}
-use Rattle.compiler.specs.Walks.{Turns}
-use Rattle.compiler.specs.Fonts.{pairsBy, ruleOfOperation}
+use Rattle.pairs.specs.declared.Collected.{Collected}
+use Rattle.pairs.specs.declared.Collected.the-variants.{Rows, Full}
+use Rattle.pairs.specs.Rows.{at, ruledAt, ruleAt, opFits, Ascending}
+use Rattle.pairs.specs.Ops.{nth}
+use Rattle.pairs.specs.Walks.{Turns}
+use Rattle.pairs.specs.Fonts.{pairsBy, ruleOfOperation}
 
 -- n rows, of which e are the boundary's: each is its pair, and every number but 0, 1, 2 and 15 is 0
 pub record Collects (s table : List ℤ) (w w′ : List ℕ) (n e : ℕ) : Type 0 where

@@ -19,15 +19,15 @@ use Rattle.words.proofs.Lists.{drop-replicate, appending-none, appending-length
 use Rattle.lang.specs.Answers.{padded}
 use Rattle.reading.specs.Items.{item, code, flag, Out, glyph, kern}
 use Rattle.reading.specs.Depth.{Res}
-use Rattle.compiler.specs.declared.parts.Part.{Part}
-use Rattle.compiler.specs.declared.parts.Part.the-variants.{Nothing, Character, Ligature, Kern, OfRow}
-use Rattle.compiler.specs.Rows.{at, leftOf, pairAt, pairs}
-use Rattle.compiler.specs.Lasts.{bit, finishedRows, outcome}
-use Rattle.compiler.specs.Ops.{opsOf, opsBefore, outNumbers, opNumbers, opsTable, leftNumber, flagNumber, pairNumbers, pairTable, opCount, opTotal, Ready, opsWritten, pairsWritten}
-use Rattle.compiler.specs.Writing.{firstPart, secondPart, partOuts, raisedOuts, rowNumbers, Segment, OpsAt, Apart, opsFrom, opsSize, Copies, PartFits, partNumbers, PartWritten, RowWritten, WrittenBefore, Turn}
-use Rattle.compiler.proofs.RowLaws.{same-or-not, less-or-not}
-use Rattle.compiler.proofs.Segments.{getD-apart, part-apart, drop-after, part-stored, part-at, sets-append, sets-over, sets-same, set-within}
-use Rattle.compiler.proofs.OpLaws.{length-numbers, numbers-append, length-raised, opsUpTo, before-more, ops-more, pairs-more, ends-before, ends-within, last-small, Sound, RowParts, finished-row, row-finished, unfinished-row, parts-of, count-parts}
+use Rattle.pairs.specs.declared.Part.{Part}
+use Rattle.pairs.specs.declared.Part.the-variants.{Nothing, Character, Ligature, Kern, OfRow}
+use Rattle.pairs.specs.Rows.{at, leftOf, pairAt, pairs}
+use Rattle.pairs.specs.Lasts.{bit, finishedRows, outcome}
+use Rattle.pairs.specs.Ops.{opsOf, opsBefore, outNumbers, opNumbers, opsTable, leftNumber, flagNumber, pairNumbers, pairTable, opCount, opTotal, Ready, opsWritten, pairsWritten}
+use Rattle.pairs.specs.Writing.{firstPart, secondPart, partOuts, raisedOuts, rowNumbers, Segment, OpsAt, Apart, opsFrom, opsSize, Copies, PartFits, partNumbers, PartWritten, RowWritten, WrittenBefore, Turn}
+use Rattle.pairs.proofs.RowLaws.{same-or-not, less-or-not}
+use Rattle.pairs.proofs.Segments.{getD-apart, part-apart, drop-after, part-stored, part-at, sets-append, sets-over, sets-same, set-within}
+use Rattle.pairs.proofs.OpLaws.{length-numbers, numbers-append, length-raised, opsUpTo, before-more, ops-more, pairs-more, ends-before, ends-within, last-small, Sound, RowParts, finished-row, row-finished, unfinished-row, parts-of, count-parts}
 
 -- ---- a copy of numbers
 
