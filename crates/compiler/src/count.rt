@@ -79,7 +79,7 @@ fn total_count(work: &[u32], n: usize) -> u32
 }
 
 // The op count of each row, in the order in which rows finished, capped at 2^31. Answers their sum, capped.
-pub fn count_ops(work: &mut [u32], n: usize, m: usize) -> u32
+pub(crate) fn count_ops(work: &mut [u32], n: usize, m: usize) -> u32
     requires { ⌜ (Encoded n (now work)) × (Settled n (now work) (now work) m) ⌝ }
     ensures { λ r. ⌜ Counts n (now (work .entry)) (now (work .exit)) r ⌝ }
 {
@@ -89,7 +89,7 @@ pub fn count_ops(work: &mut [u32], n: usize, m: usize) -> u32
 }
 
 // The first op of each row, in the order of rows.
-pub fn first_ops(work: &mut [u32], n: usize, m: usize)
+pub(crate) fn first_ops(work: &mut [u32], n: usize, m: usize)
     requires { ⌜ (Encoded n (now work)) × (Settled n (now work) (now work) m) × (Exact n (now work)) × (opTotal n (now work) < 2147483648) ⌝ }
     ensures { λ _. ⌜ Firsts n (now (work .entry)) (now (work .exit)) ⌝ }
 {

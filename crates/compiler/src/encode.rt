@@ -57,7 +57,7 @@ fn effect_of(operation: Operation, design_size: i32) -> Effect
 }
 
 // False where a kern has no scaled value.
-pub fn encode(
+pub(crate) fn encode(
     instructions: &[i32],
     kerns: &[i32],
     design_size: i32,

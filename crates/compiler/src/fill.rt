@@ -35,7 +35,7 @@ fn write_lists(
 }
 
 // The lists of encoded rows, or the number of a refusal: 14, then 15.
-pub fn fill(
+pub(crate) fn fill(
     n: usize,
     e: usize,
     pairs: &mut [i32],

@@ -40,7 +40,7 @@ fn last_code(work: &[u32], n: usize, left: u32, right: u32) -> u32
 }
 
 // What stands first in row k's ops.
-pub fn first_part(work: &[u32], n: usize, k: usize) -> Part
+pub(crate) fn first_part(work: &[u32], n: usize, k: usize) -> Part
     requires { ⌜ (Encoded n (now work)) × (k < n) ⌝ }
     ensures { λ r. ⌜ r ≡ firstPart n (now (work .entry)) k ⌝ }
 {
@@ -60,7 +60,7 @@ pub fn first_part(work: &[u32], n: usize, k: usize) -> Part
 }
 
 // What follows it, with its first character a ligature.
-pub fn second_part(work: &[u32], n: usize, k: usize) -> Part
+pub(crate) fn second_part(work: &[u32], n: usize, k: usize) -> Part
     requires { ⌜ (Encoded n (now work)) × (k < n) × LastFits n (now work) k ⌝ }
     ensures { λ r. ⌜ r ≡ secondPart n (now (work .entry)) k ⌝ }
 {

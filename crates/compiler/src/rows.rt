@@ -6,7 +6,7 @@ ghost use Rattle.pairs.specs.Rows.{at, rowOf, Ascending, foundRow};
 use pairs::Row;
 
 // Number f of row k.
-pub fn get(work: &[u32], k: usize, f: usize) -> u32
+pub(crate) fn get(work: &[u32], k: usize, f: usize) -> u32
     requires { ⌜ (k < 65792) × (f < 16) ⌝ }
     ensures { λ r. ⌜ r ≡ at (now (work .entry)) k f ⌝ }
 {
@@ -14,7 +14,7 @@ pub fn get(work: &[u32], k: usize, f: usize) -> u32
 }
 
 // Number f of row k becomes v.
-pub fn put(work: &mut [u32], k: usize, f: usize, v: u32)
+pub(crate) fn put(work: &mut [u32], k: usize, f: usize, v: u32)
     requires { ⌜ (k < 65792) × (f < 16) ⌝ }
     ensures { λ _. ⌜ now (work .exit) ≡ set (now (work .entry)) (16 * k + f) v ⌝ }
 {
@@ -32,7 +32,7 @@ fn key(work: &[u32], n: usize, k: usize) -> u32
 }
 
 // The row of the pair of a left (0 the boundary, else 1 + character) and a right character among the first n rows.
-pub fn find(work: &[u32], n: usize, left: u32, right: u32) -> Row
+pub(crate) fn find(work: &[u32], n: usize, left: u32, right: u32) -> Row
     requires { ⌜ (Ascending n (now work)) × (left < 257) × (right < 256) ⌝ }
     ensures { λ r. ⌜ r ≡ foundRow (rowOf (now (work .entry)) n left right) ⌝ }
 {

@@ -161,7 +161,7 @@ fn search(work: &mut [u32], n: usize, k: usize, m: usize) -> usize
 }
 
 // Settles the first n rows. Answers how many finish.
-pub fn settle(work: &mut [u32], n: usize) -> usize
+pub(crate) fn settle(work: &mut [u32], n: usize) -> usize
     requires { ⌜ (Encoded n (now work)) × ((k : ℕ) → k < n → at (now work) k 5 ≡ 0) ⌝ }
     ensures { λ r. ⌜ Settled n (now (work .entry)) (now (work .exit)) r ⌝ }
 {

@@ -20,7 +20,7 @@ use pairs::Measured;
 use pairs::Prepared;
 
 // The rows of a font, with their rules. 12, then 13.
-pub fn prepare(
+pub(crate) fn prepare(
     instructions: &[i32],
     kerns: &[i32],
     entries: &[i32],
@@ -43,7 +43,13 @@ pub fn prepare(
 }
 
 // Settles the rows, counts their ops and finds their loops. 14, then 15.
-pub fn measure(work: &mut [u32], n: usize, e: usize, op_room: usize, loop_room: usize) -> Measured
+pub(crate) fn measure(
+    work: &mut [u32],
+    n: usize,
+    e: usize,
+    op_room: usize,
+    loop_room: usize,
+) -> Measured
     requires { ⌜ (Encoded n (now work)) × (Turns n e (now work)) × ((k : ℕ) → k < n → at (now work) k 5 ≡ 0) × ((k : ℕ) → k < n → at (now work) k 14 ≡ 0) ⌝ }
     ensures { λ r. ⌜ MeasuresBy n (now (work .entry)) (now (work .exit)) «op_room» «loop_room» r ⌝ }
 {

@@ -59,7 +59,7 @@ fn row_of_turn(work: &[u32], n: usize, e: usize, s: usize) -> usize
 }
 
 // Walks from each row that never finishes, by left character, the boundary last, then by rule index. Answers how many pairs are listed.
-pub fn find_loops(work: &mut [u32], n: usize, m: usize, e: usize) -> usize
+pub(crate) fn find_loops(work: &mut [u32], n: usize, m: usize, e: usize) -> usize
     requires { ⌜ (Encoded n (now work)) × (Settled n (now work) (now work) m) × (Turns n e (now work)) × ((k : ℕ) → k < n → at (now work) k 14 ≡ 0) ⌝ }
     ensures { λ r. ⌜ Listed n (now (work .entry)) (now (work .exit)) r ⌝ }
 {
@@ -72,7 +72,7 @@ pub fn find_loops(work: &mut [u32], n: usize, m: usize, e: usize) -> usize
 }
 
 // The pairs of the r rows that are listed, two numbers each.
-pub fn write_loops(work: &[u32], r: usize, out: &mut [i32])
+pub(crate) fn write_loops(work: &[u32], r: usize, out: &mut [i32])
     requires { ⌜ (r ≤ 65792) × (2 * r ≤ length (now out)) × (now out ≡ replicate (length (now out)) (pos 0)) × (Listing r (now work)) ⌝ }
     ensures { λ _. ⌜ now (out .exit) ≡ padded (pos 0) (length (now (out .entry))) (loopNumbers (tabulate r (λ i. pairAt (now (work .entry)) (at (now (work .entry)) i 8)))) ⌝ }
 {

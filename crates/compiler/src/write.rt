@@ -87,7 +87,7 @@ fn write_row(work: &[u32], n: usize, k: usize, ops: &mut [i32])
 }
 
 // The ops of each finished row at its first op, in the order in which rows finished, copied from rows written before.
-pub fn write_ops(work: &[u32], n: usize, m: usize, ops: &mut [i32])
+pub(crate) fn write_ops(work: &[u32], n: usize, m: usize, ops: &mut [i32])
     requires { ⌜ (Ready n m (now work)) × (2 * opTotal n (now work) ≤ length (now ops)) × (now ops ≡ replicate (length (now ops)) (pos 0)) ⌝ }
     ensures { λ _. ⌜ now (ops .exit) ≡ padded (pos 0) (length (now (ops .entry))) (opsWritten n (now (work .entry))) ⌝ }
 {
@@ -98,7 +98,7 @@ pub fn write_ops(work: &[u32], n: usize, m: usize, ops: &mut [i32])
 }
 
 // The bits of a pair's left: -1 for the boundary.
-pub fn left_word(left: u32) -> u32
+pub(crate) fn left_word(left: u32) -> u32
     requires { ⌜ left < 257 ⌝ }
     ensures { λ r. ⌜ numberOf r ≡ leftNumber (leftOf left) ⌝ }
 {
@@ -119,7 +119,7 @@ fn put_pair(work: &[u32], k: usize, pairs: &mut [i32], p: usize)
 }
 
 // The six numbers of each finished row, in the order of rows. Answers how many numbers that are.
-pub fn write_pairs(work: &[u32], n: usize, m: usize, pairs: &mut [i32]) -> usize
+pub(crate) fn write_pairs(work: &[u32], n: usize, m: usize, pairs: &mut [i32]) -> usize
     requires { ⌜ (Ready n m (now work)) × (6 * n ≤ length (now pairs)) × (now pairs ≡ replicate (length (now pairs)) (pos 0)) ⌝ }
     ensures { λ r. ⌜ (r ≡ length (pairsWritten n (now (work .entry)))) × (now (pairs .exit) ≡ padded (pos 0) (length (now (pairs .entry))) (pairsWritten n (now (work .entry)))) ⌝ }
 {
