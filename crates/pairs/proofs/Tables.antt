@@ -79,6 +79,17 @@ put-six d d₁ d₂ d₃ d₄ d₅ d₆ p x₁ x₂ x₃ x₄ x₅ x₆ e₁ e�
     let f₅ : d₅ ≡ sets d p (x₁ ∷ x₂ ∷ x₃ ∷ x₄ ∷ x₅ ∷ []) = e₅ ∙ (λ i. set (f₄ i) (add-four p i) x₅) in
     e₆ ∙ (λ i. set (f₅ i) (add-five p i) x₆)
 
+-- the six numbers of a row, each stored as it was read
+pub put-row : (w : List ℕ) (k p : ℕ) (d d₁ d₂ d₃ d₄ d₅ d₆ : List ℤ) (l r₁ r₂ r₃ r₄ r₅ r₆ : ℕ) → d₁ ≡ set d p (numberOf l) → d₂ ≡ set d₁ (p + 1) (numberOf r₂) → d₃ ≡ set d₂ (p + 2) (numberOf r₃) → d₄ ≡ set d₃ (p + 3) (numberOf r₄) → d₅ ≡ set d₄ (p + 4) (numberOf r₅) → d₆ ≡ set d₅ (p + 5) (numberOf r₆) → numberOf l ≡ leftNumber (leftOf r₁) → r₁ ≡ at w k 0 → r₂ ≡ at w k 1 → r₃ ≡ at w k 6 → r₄ ≡ at w k 7 → r₅ ≡ at w k 13 → r₆ ≡ at w k 12 → d₆ ≡ sets d p (rowNumbers w k)
+put-row w k p d d₁ d₂ d₃ d₄ d₅ d₆ l r₁ r₂ r₃ r₄ r₅ r₆ e₁ e₂ e₃ e₄ e₅ e₆ i₀ i₁ i₂ i₃ i₄ i₅ i₆ =
+    let j : numberOf l ≡ leftNumber (leftOf (at w k 0)) = i₀ ∙ ap (λ (x : ℕ). leftNumber (leftOf x)) i₁ in
+    put-six d d₁ d₂ d₃ d₄ d₅ d₆ p (numberOf l) (numberOf r₂) (numberOf r₃) (numberOf r₄) (numberOf r₅) (numberOf r₆) e₁ e₂ e₃ e₄ e₅ e₆
+    ∙ (λ i. sets d p (j i ∷ numberOf (i₂ i) ∷ numberOf (i₃ i) ∷ numberOf (i₄ i) ∷ numberOf (i₅ i) ∷ numberOf (i₆ i) ∷ []))
+
+-- the ops of a row, copied from where it says that they stand
+pub copied-row : (w : List ℕ) (k p x y : ℕ) (d d′ : List ℤ) → x ≡ at w k 13 → y ≡ at w k 12 → d′ ≡ sets d p (take (2 * y) (drop (2 * x) d)) → (p + 2 * y ≡ p + opsSize w k) × (d′ ≡ sets d p (take (opsSize w k) (drop (opsFrom w k) d)))
+copied-row w k p x y d d′ e f h = (ap (λ (z : ℕ). p + 2 * z) f, h ∙ (λ i. sets d p (take (2 * f i) (drop (2 * e i) d))))
+
 -- ---- the first character becomes a ligature
 
 -- the ops before place i are kerns

@@ -1,11 +1,7 @@
 -- `compiler::write::copy_row` meets its contract: a copy from where the row says that its ops stand.
 -- Assumes nothing.
-use mathlib.Core.Path.{ap, _∙_}
-use Prim.Native.Nat.{ℕ, _+_, _*_}
 use native.Mathlib.Omega.{arith}
-use lib.ListN.{take, drop}
-use lib.Seq.{sets}
-use Rattle.pairs.proofs.Tables.{copies-apart}
+use Rattle.pairs.proofs.Tables.{copies-apart, copied-row}
 use borrow.Author.Needs.{needs}
 use Rattle.compiler.proofs.write.copy_row.Statement.{statement}
 use Rattle.compiler.proofs.write.copy_row.Tie as tie
@@ -44,9 +40,9 @@ same-length c = search needs
 returns : tie.Need-returns
 returns c =
     let a = c .before .before .before .before .before .before .args in
-    let x = c .before .before .before .before .get .ensures in
-    let y = c .before .before .before .get2 .ensures in
-    (ap (λ (z : ℕ). a .p + 2 * z) y, c .before .copy-numbers .ensures ∙ (λ i. sets (a .ops .now) (a .p) (take (2 * y i) (drop (2 * x i) (a .ops .now)))))
+    let x = c .before .before .before .before .get in
+    let y = c .before .before .before .get2 in
+    copied-row (a .work .now) (a .k) (a .p) (x .result) (y .result) (a .ops .now) (c .before .copy-numbers .last .0) (x .ensures) (y .ensures) (c .before .copy-numbers .ensures)
 
 pub copy-row-spec : {M : Type 1} → statement M
 copy-row-spec =

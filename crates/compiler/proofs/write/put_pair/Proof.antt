@@ -1,14 +1,7 @@
 -- `compiler::write::put_pair` meets its contract: six stores in a row.
 -- Assumes nothing.
-use mathlib.Core.Path.{ap, _∙_}
-use mathlib.Core.List.{[], _∷_}
-use Prim.Native.Nat.{ℕ}
 use native.Mathlib.Omega.{arith}
-use lib.Seq.{sets}
-use Rattle.words.specs.Words.{numberOf}
-use Rattle.pairs.specs.Ops.{leftNumber}
-use Rattle.pairs.specs.Rows.{leftOf}
-use Rattle.pairs.proofs.Tables.{put-six}
+use Rattle.pairs.proofs.Tables.{put-row}
 use borrow.Author.Needs.{needs}
 use Rattle.compiler.proofs.write.put_pair.Statement.{statement}
 use Rattle.compiler.proofs.write.put_pair.Tie as tie
@@ -75,22 +68,20 @@ same-length c = search needs
 returns : tie.Need-returns
 returns c =
     let s = c .before .before .before .before .before .before .before .before .before .before .before .before .before .before .before .before .before .before .before .before .before .before .before .before .before .before in
-    let d = s .args .pairs .now in
-    let p = s .args .p in
     let p1 = c .before .before .before .before .before .before .before .before .before .before .before .before .before .before .before .before .before .before .before .before .before .put-word in
     let p2 = c .before .before .before .before .before .before .before .before .before .before .before .before .before .before .before .before .before .put-word2 in
     let p3 = c .before .before .before .before .before .before .before .before .before .before .before .before .before .put-word3 in
     let p4 = c .before .before .before .before .before .before .before .before .before .put-word4 in
     let p5 = c .before .before .before .before .before .put-word5 in
     let p6 = c .before .put-word6 in
-    let g1 = c .before .before .before .before .before .before .before .before .before .before .before .before .before .before .before .before .before .before .before .before .before .before .left-word .ensures ∙ ap (λ (x : ℕ). leftNumber (leftOf x)) (c .before .before .before .before .before .before .before .before .before .before .before .before .before .before .before .before .before .before .before .before .before .before .before .get .ensures) in
+    let l = c .before .before .before .before .before .before .before .before .before .before .before .before .before .before .before .before .before .before .before .before .before .before .left-word in
+    let g1 = c .before .before .before .before .before .before .before .before .before .before .before .before .before .before .before .before .before .before .before .before .before .before .before .get in
     let g2 = c .before .before .before .before .before .before .before .before .before .before .before .before .before .before .before .before .before .before .get2 in
     let g3 = c .before .before .before .before .before .before .before .before .before .before .before .before .before .before .get3 in
     let g4 = c .before .before .before .before .before .before .before .before .before .before .get4 in
     let g5 = c .before .before .before .before .before .before .get5 in
     let g6 = c .before .before .get6 in
-    put-six d (p1 .last .0) (p2 .last .0) (p3 .last .0) (p4 .last .0) (p5 .last .0) (p6 .last .0) p (numberOf (c .before .before .before .before .before .before .before .before .before .before .before .before .before .before .before .before .before .before .before .before .before .before .left-word .result)) (numberOf (g2 .result)) (numberOf (g3 .result)) (numberOf (g4 .result)) (numberOf (g5 .result)) (numberOf (g6 .result)) (p1 .ensures) (p2 .ensures) (p3 .ensures) (p4 .ensures) (p5 .ensures) (p6 .ensures)
-    ∙ (λ i. sets d p (g1 i ∷ numberOf (g2 .ensures i) ∷ numberOf (g3 .ensures i) ∷ numberOf (g4 .ensures i) ∷ numberOf (g5 .ensures i) ∷ numberOf (g6 .ensures i) ∷ []))
+    put-row (s .args .work .now) (s .args .k) (s .args .p) (s .args .pairs .now) (p1 .last .0) (p2 .last .0) (p3 .last .0) (p4 .last .0) (p5 .last .0) (p6 .last .0) (l .result) (g1 .result) (g2 .result) (g3 .result) (g4 .result) (g5 .result) (g6 .result) (p1 .ensures) (p2 .ensures) (p3 .ensures) (p4 .ensures) (p5 .ensures) (p6 .ensures) (l .ensures) (g1 .ensures) (g2 .ensures) (g3 .ensures) (g4 .ensures) (g5 .ensures) (g6 .ensures)
 
 pub put-pair-spec : {M : Type 1} → statement M
 put-pair-spec =
