@@ -19,9 +19,9 @@ use Rattle.chain.specs.Chains.{chainFrom, firstFor}
 use Rattle.reading.specs.Items.{Left, bnd, chr}
 use Rattle.reading.specs.Depth.{Pair, comp, raiseLeft}
 use Rattle.reading.specs.Loops.{Ruled, loopList, insert, ordered, unfinished, walk, walks, member}
-use Rattle.compiler.specs.Rows.{leftOf}
-use Rattle.compiler.specs.Fonts.{leftEntry, ruleFrom, ruledBy, rowPairs, leftPairs, pairsOf, tableOf, rulesOf}
-use Rattle.compiler.specs.Ops.{loopNumbers}
+use Rattle.pairs.specs.Rows.{leftOf}
+use Rattle.pairs.specs.Fonts.{leftEntry, ruleFrom, ruledBy, rowPairs, leftPairs, pairsOf, tableOf, rulesOf}
+use Rattle.pairs.specs.Ops.{loopNumbers}
 use Rattle.compiler.specs.Compiled.{fontLoops}
 use Rattle.marked.specs.Rows.{oneRule}
 

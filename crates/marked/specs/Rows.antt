@@ -17,7 +17,7 @@ use Rattle.pack.specs.Packing.{Font, packedEntryNumber, fontOffset, fontRedirec
 use Rattle.reading.specs.Items.{Left, bnd, chr, Rule, free, lig, Rules}
 use Rattle.reading.specs.Depth.{Pair}
 use Rattle.reading.specs.Loops.{Ruled, loopList}
-use Rattle.compiler.specs.Fonts.{Font as LentFont}
+use Rattle.pairs.specs.Fonts.{Font as LentFont}
 use Rattle.compiler.specs.Compiled.{fontLoops}
 
 -- what the definitions give, and what document 01 says
