@@ -1,0 +1,27 @@
+-- The laws of captions.
+--   Theorems   demand 3, whose statement is specs/Demand3
+--   Finding, Bisecting   a pair that is found has the key; on a table in ascending order every pair is found
+--   Codes, FontCodes     every code in the reading of a font's pair is below 256
+--   Decoding   what compile writes, as a list of finished pairs, and what the numbers of one of them say
+--   Forming    such a list has the form of a table
+--   FontPairs  a font's pairs, and those that finish, are in range and ascend
+--   FontTable  the table that compile writes: its form, and what it holds
+--   Raising    a left that is a ligature puts its flag into the first character op
+--   Sound      the states that a run can be in, and the plain run that each stands for
+--   Giving, Following, Turning   a step answers as the plain run does: ops, what is given at once, and lefts that are looked up
+--   Running    any number of steps from a fresh state
+pub mod Finding
+pub mod Bisecting
+pub mod Codes
+pub mod FontCodes
+pub mod Decoding
+pub mod Forming
+pub mod FontPairs
+pub mod FontTable
+pub mod Raising
+pub mod Sound
+pub mod Giving
+pub mod Following
+pub mod Turning
+pub mod Running
+pub mod Theorems

@@ -1,0 +1,133 @@
+-- Any number of steps from a fresh state: they answer what the plain run over the decoded table answers, and none is refused.
+-- Assumes nothing.
+use mathlib.Core.Path.{_≡_, refl, sym, ap, _∙_, subst}
+use mathlib.Core.Bool.{Bool, true, false, cond, not}
+use mathlib.Core.List.{List, [], _∷_, map}
+use mathlib.Core.Option.{Option, none, some}
+use Prim.Native.Nat.{ℕ, zero, suc, _+_, _-_, _<_, _≤_}
+use native.Mathlib.Omega.{arith}
+use lib.IntN.{ℤ, pos, negsuc}
+use lib.Dec.{leb}
+use lib.ListN.{length, drop, getD}
+use borrow.Author.Tests.{le-leb, leb-true}
+use Rattle.lang.specs.Every.{both, every}
+use Rattle.lang.specs.Records.{absentOr}
+use Rattle.lang.specs.Checks.{unless, orElse, absentRefusal}
+use Rattle.lang.proofs.Every.{every-at}
+use Rattle.reading.specs.Items.{Out}
+use Rattle.reading.specs.Depth.{Finished}
+use Rattle.reading.specs.Form.{noPlain}
+use Rattle.reading.specs.Run as plainly
+use Rattle.captions.specs.declared.RunOptions.{RunOptions}
+use Rattle.captions.specs.declared.NextLeft.the-variants as next
+use Rattle.captions.specs.declared.Consumes.the-variants as consumes
+use Rattle.captions.specs.declared.State.{State}
+use Rattle.captions.specs.declared.Answer.{Answer}
+use Rattle.captions.specs.declared.Answer.the-variants.{Char, Ligature, Kern, End, Refused}
+use Rattle.captions.specs.declared.Step.{Step}
+use Rattle.captions.specs.declared.Begun.the-variants.{Run}
+use Rattle.captions.specs.Tables.{opCount, entries, opsFrom}
+use Rattle.captions.specs.Form.{tableForm, tableRefusal}
+use Rattle.captions.specs.Begin.{edgesRefusal, lettersRefusal, wordRefusal, beginRefusal, fresh, withoutBoundary, freshState, begunBy, beginOf}
+use Rattle.captions.specs.Steps.{placed, stepRefusal, handBack, stepped, stepOf, rightItem, nextFits}
+use Rattle.captions.specs.Runs.{answers, Shown, shows, ends, refuses, shown, thenEnds}
+use Rattle.captions.proofs.Raising.{raiseFirst}
+use Rattle.captions.proofs.Sound.{state, shownOf, Sound, opsOf, runOf, Follows}
+use Rattle.captions.proofs.FontTable.{below}
+use Rattle.captions.proofs.Turning.{follows}
+
+-- an answer that is shown as an item or as the end is handed on with its state
+handed : (s t : State) (a : Answer) (o : Option Out) → shown a ≡ shownOf o → handBack s t a ≡ record { answer = a; state = t }
+handed s t (Char c p) o h = refl
+handed s t (Ligature c p n a b) o h = refl
+handed s t (Kern k) o h = refl
+handed s t End o h = refl
+handed s t (Refused n) none h = absurd (let z : _≡_ {A = ℕ} 0 1 = cc in omega arith)
+handed s t (Refused n) (some o) h = absurd (let z : _≡_ {A = ℕ} 0 1 = cc in omega arith)
+
+-- the plain run's list in order, shown
+in-order : (n : ℕ) (os : List Out) → map shownOf (plainly.inOrder n os) ≡ thenEnds n os
+unfolding plainly.inOrder thenEnds
+in-order zero os = refl
+in-order (suc n) [] = ap (λ (ss : List Shown). ends ∷ ss) (in-order n [])
+in-order (suc n) (o ∷ os) = ap (λ (ss : List Shown). shows o ∷ ss) (in-order n os)
+
+-- the right item of a word is a character
+right-item : (boundary override : ℤ) (y : ℕ) → absentOr 255 boundary ≡ true → absentOr 255 override ≡ true → rightItem boundary override ≡ some y → y ≤ 255
+right-item boundary (pos c) y h i e = let m : c ≡ y = cc in omega (arith, leb-true c 255 i)
+right-item (pos b) (negsuc n) y h i e = let m : b ≡ y = cc in omega (arith, leb-true b 255 h)
+right-item (negsuc b) (negsuc n) y h i e = absurd (let z : _≡_ {A = ℕ} 0 1 = cc in omega arith)
+
+-- What begin and step ask of a word, of the boundary character and of the options.
+pub record Fit (boundary : ℤ) (word : List ℕ) (options : RunOptions) : Type 0 where
+  pub boundary-fits : absentOr 255 boundary ≡ true
+  pub override-fits : absentOr 255 (options .«right_boundary_override») ≡ true
+  pub letters-fit : every (length word) (λ i. leb (getD word i 0) 255) ≡ true
+  pub word-fits : length word ≤ 65535
+
+module _ (pairs ops : List ℤ) (table : tableForm pairs ops ≡ true) (boundary : ℤ) (word : List ℕ) (options : RunOptions) (fit : Fit boundary word options) where
+  abbrev held : Finished
+  held = below 256 (entries pairs ops)
+
+  abbrev right : Option ℕ
+  right = rightItem boundary (options .«right_boundary_override»)
+
+  letters : (i : ℕ) → i < length word → getD word i 0 ≤ 255
+  letters i h = leb-true (getD word i 0) 255 (every-at (length word) i (λ j. leb (getD word j 0) 255) (fit .letters-fit) h)
+
+  edges : edgesRefusal boundary options ≡ 0
+  edges = rw (fit .boundary-fits, fit .override-fits) refl
+
+  word-taken : wordRefusal word ≡ 0
+  word-taken = rw (le-leb (length word) 65535 (fit .word-fits)) refl
+
+  is-placed : (s : State) → Sound ops word s (opsOf ops word s) → placed ops word s ≡ true
+  is-placed s h =
+      rw (le-leb (s .read) (length word) (h .inside), le-leb (s .given) (s .read) (omega (arith, h .counted)), le-leb (s .pending) (s .read) (omega (arith, h .counted)), le-leb (s .op + s .ops) (opCount ops) (h .among), h .fits) refl
+
+  not-refused : (s : State) → Sound ops word s (opsOf ops word s) → stepRefusal ops boundary word options s ≡ 0
+  not-refused s h = rw (edges, word-taken, is-placed s h) refl
+
+  -- a step
+  pub step-follows : (s : State) → Sound ops word s (opsOf ops word s) → Follows ops word (stepOf pairs ops boundary word options s) (plainly.step held right (runOf ops word s))
+  step-follows s h =
+      let t = stepped pairs ops boundary word options s in
+      let f : Follows ops word t (plainly.step held right (runOf ops word s)) =
+      follows pairs ops table word right letters (λ y e. right-item boundary (options .«right_boundary_override») y (fit .boundary-fits) (fit .override-fits) e) (suc (length word - s .read))
+      (s .«next_left») (s .op) (s .ops) (s .read) (s .given) (s .pending) (s .«pending_boundary») (s .«consumes_left») (λ _. omega arith) h in
+      rw (not-refused s h, handed s (t .state) (t .answer) (plainly.step held right (runOf ops word s) .gives) (f .answers)) f
+
+  -- any number of steps
+  steps-follow : (n : ℕ) (s : State) → Sound ops word s (opsOf ops word s) → map shown (answers pairs ops boundary word options n s) ≡ map shownOf (plainly.answers held right n (runOf ops word s))
+  unfolding answers plainly.answers
+  steps-follow zero s h = refl
+  steps-follow (suc n) s h =
+      let f = step-follows s h in
+      rw (f .answers, steps-follow n (stepOf pairs ops boundary word options s .state) (f .sound), f .leaves) refl
+
+  -- ---- a fresh state
+
+  abbrev Starts : Bool → List ℕ → State → Type 0
+  Starts b cs s = Sound ops word s (opsOf ops word s) × (runOf ops word s ≡ plainly.begin b cs)
+
+  begin-taken : beginOf pairs ops boundary word options ≡ Run (freshState word options)
+  begin-taken = rw (edges, fit .letters-fit, word-taken, table) refl
+
+  starts-by : (cs : List ℕ) → word ≡ cs → (d : Bool) → Starts (not d) word (cond d (withoutBoundary cs) (fresh next.Boundary 0))
+  unfolding opsFrom raiseFirst noPlain
+  starts-by cs e false = (record { inside = omega arith; counted = omega arith; among = omega arith; fits = refl; holds = refl }, refl)
+  starts-by [] e true = (record { inside = omega arith; counted = omega arith; among = omega arith; fits = refl; holds = refl }, rw e refl)
+  starts-by (c ∷ cs) e true =
+      let l : 0 < length word = rw e (omega arith) in
+      let z : getD word 0 0 ≡ c = rw e refl in
+      let h : c ≤ 255 = omega (arith, letters 0 l, z) in
+      (record { inside = omega arith; counted = omega arith; among = omega arith; fits = le-leb c 255 h; holds = refl }, rw e refl)
+
+  starts : Starts (not (options .«disable_left_boundary»)) word (freshState word options)
+  starts = starts-by word refl (options .«disable_left_boundary»)
+
+  -- Begin is taken, and whatever list the plain run's answers are, the steps from it answer that list, and then the end for ever.
+  pub runs : (os : List Out) → ((n : ℕ) → plainly.answers held right n (plainly.begin (not (options .«disable_left_boundary»)) word) ≡ plainly.inOrder n os) →
+      (s : State) × (beginOf pairs ops boundary word options ≡ Run s) × ((n : ℕ) → map shown (answers pairs ops boundary word options n s) ≡ thenEnds n os)
+  runs os h =
+      (freshState word options, begin-taken, λ n. steps-follow n (freshState word options) (starts .0) ∙ ap (λ (r : plainly.Run). map shownOf (plainly.answers held right n r)) (starts .1) ∙ ap (λ (a : List (Option Out)). map shownOf a) (h n) ∙ in-order n os)

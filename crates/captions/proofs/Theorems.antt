@@ -1,0 +1,175 @@
+-- Demand 3: what compile writes, begin and the steps from it, and the one-by-one reading agree. The statement is specs/Demand3.
+-- Assumes nothing.
+use mathlib.Core.Path.{_≡_, refl, sym, ap, _∙_, subst}
+use mathlib.Core.Bool.{Bool, true, false, cond, not}
+use mathlib.Core.List.{List, [], _∷_, _++_, map, List·Memᴰ}
+use mathlib.Core.Logic.{_↔_}
+use mathlib.Core.Option.{Option, none, some}
+use Prim.Native.Nat.{ℕ, zero, suc, _+_, _-_, _*_, _/_, _%_, _<_, _≤_}
+use native.Mathlib.Omega.{arith}
+use lib.IntN.{ℤ, pos, negsuc}
+use lib.Dec.{leb, eqb}
+use lib.ListN.{length, replicate, take, length-append}
+use lib.Seq.{take-at}
+use borrow.Author.Tests.{leb-true, eqb-true}
+use Rattle.lang.specs.Every.{both}
+use Rattle.lang.specs.Records.{absentOr}
+use Rattle.lang.specs.Checks.{unless, orElse, programRefusal, kernsRefusal, entriesRefusal, absentRefusal, designRefusal}
+use Rattle.lang.specs.Answers.{padded, listOf}
+use Rattle.lang.proofs.Every.{both-left}
+use Rattle.reading.specs.Items.{Left, Out, glyph, kern, Item, item}
+use Rattle.reading.specs.Reading.{NeverEnds, Ends}
+use Rattle.reading.proofs.Steps.{more-not-done}
+use Rattle.reading.specs.Run as plainly
+use Rattle.reading.specs.Depth.{Finished, Pair}
+use Rattle.reading.specs.Loops.{Ruled}
+use Rattle.reading.proofs.Holds.{Holds}
+use Rattle.reading.proofs.Theorems as Reading
+use Rattle.compiler.specs.declared.Compiled.{Compiled}
+use Rattle.compiler.specs.declared.Compiled.the-variants.{Tables, Refused}
+use Rattle.pairs.specs.Ops.{opsOf, entryOf, outNumbers, opNumbers, opsBefore, opsTable, loopNumbers}
+use Rattle.pairs.specs.Fonts.{Font, pairsOf, rulesOf}
+use Rattle.compiler.specs.Compiled.{Room, roomOf, finishedOf, loopsOfFont, totalOps, fontTable, fontOps, fontLoops, fontRefusal, pairsRefusal, kernRefusal, opsRefusal, loopsRefusal, tablesRefusal, compileRefusal, compiledBy, Written, Compiles}
+use Rattle.compiler.proofs.Theorems as Compiling
+use Rattle.captions.specs.declared.RunOptions.{RunOptions}
+use Rattle.captions.specs.Tables.{entries}
+use Rattle.captions.specs.Form.{tableForm}
+use Rattle.captions.specs.Steps.{rightItem}
+use Rattle.captions.specs.Demand3.{Caption, Answered, Reads, Loop, Demand3}
+use Rattle.captions.proofs.FontCodes.{font-form}
+use Rattle.captions.proofs.FontTable.{below, font-holds-below}
+use Rattle.captions.proofs.Running.{Fit, runs}
+
+-- ---- an accepted font
+
+-- no number holds
+or-none : (a b : ℕ) → orElse a b ≡ 0 → (a ≡ 0) × (b ≡ 0)
+or-none zero b h = (refl, h)
+or-none (suc a) b h = absurd (omega (arith, h))
+
+pub accepted : (n : ℕ) (f : Font) (p o l : ℕ) → Tables p o l ≡ compiledBy n f → (n ≡ 0) × (p ≡ length (fontTable f) / 6) × (o ≡ totalOps f) × (l ≡ length (loopsOfFont f))
+accepted zero f p o l e = (refl, cc, cc, cc)
+accepted (suc n) f p o l e = absurd (let z : _≡_ {A = ℕ} 0 1 = cc in omega arith)
+
+passes : (n : ℕ) (t : Bool) → unless (suc n) t ≡ 0 → t ≡ true
+passes n true h = refl
+passes n false h = absurd (omega (arith, h))
+
+module _ (f : Font) (room : Room) (taken : compileRefusal f room ≡ 0) where
+  boundary-fits : absentOr 255 (f .boundary) ≡ true
+  boundary-fits =
+      let edges = orElse (absentRefusal 255 (f .boundary)) (orElse (absentRefusal 65535 (f .left)) (designRefusal (f .design))) in
+      let a = or-none (programRefusal (f .instructions)) (orElse (kernsRefusal (f .kerns)) (orElse (entriesRefusal 65535 (f .entries)) edges)) (or-none (fontRefusal f) (tablesRefusal f room) taken .0) .1 in
+      let b = or-none (kernsRefusal (f .kerns)) (orElse (entriesRefusal 65535 (f .entries)) edges) a .1 in
+      let c = or-none (entriesRefusal 65535 (f .entries)) edges b .1 in
+      passes 3 (absentOr 255 (f .boundary)) (or-none (absentRefusal 255 (f .boundary)) (orElse (absentRefusal 65535 (f .left)) (designRefusal (f .design))) c .0)
+
+-- ---- what was written, without the zeroed rest
+
+two-each : (os : List Out) → length (opNumbers os) ≡ 2 * length os
+unfolding opNumbers
+two-each [] = refl
+two-each (glyph (item false c) ∷ os) = omega (arith, two-each os)
+two-each (glyph (item true c) ∷ os) = omega (arith, two-each os)
+two-each (kern k ∷ os) = omega (arith, two-each os)
+
+ops-length : (t : Finished) (ps : List Ruled) (k : ℕ) → length (opsTable t ps k) ≡ 2 * opsBefore t ps k
+unfolding opsTable opsBefore
+ops-length t ps zero = refl
+ops-length t ps (suc k) = omega (arith, length-append (opsTable t ps k) (opNumbers (opsOf (entryOf t ps k))), ops-length t ps k, two-each (opsOf (entryOf t ps k)))
+
+loops-length : (ps : List Pair) → length (loopNumbers ps) ≡ 2 * length ps
+unfolding loopNumbers
+loops-length [] = refl
+loops-length (p ∷ ps) = omega (arith, loops-length ps)
+
+-- of a list that was padded with zeros
+written : (n m : ℕ) (xs ys : List ℤ) → length xs ≡ n → ys ≡ padded (pos 0) m xs → take n ys ≡ xs
+written n m xs ys e h = rw h (take-at xs (replicate (m - length xs) (pos 0)) n e)
+
+-- ---- the theorem
+
+-- the lists of an accepted font are those of its definitions
+pub record Lists (f : Font) (p o l : ℕ) (pairs ops loops : List ℤ) : Type 0 where
+  pub table : take (6 * p) pairs ≡ fontTable f
+  pub op-table : take (2 * o) ops ≡ fontOps f
+  pub loop-table : take (2 * l) loops ≡ fontLoops f
+
+in-sixes : (f : Font) → length (fontTable f) % 6 ≡ 0
+in-sixes f =
+    let a = both-left (both (eqb (length (fontTable f) % 6) 0) (eqb (length (fontOps f) % 2) 0)) _ (font-form f) in
+    eqb-true (length (fontTable f) % 6) 0 (both-left (eqb (length (fontTable f) % 6) 0) (eqb (length (fontOps f) % 2) 0) a)
+
+lists-by : (f : Font) (p o l n : ℕ) (pairs ops loops pairs′ ops′ loops′ : List ℤ) → (n ≡ 0) × (p ≡ length (fontTable f) / 6) × (o ≡ totalOps f) × (l ≡ length (loopsOfFont f)) → Written f n pairs ops loops pairs′ ops′ loops′ → Lists f p o l pairs′ ops′ loops′
+lists-by f p o l zero pairs ops loops pairs′ ops′ loops′ a w =
+    record {
+      table = written (6 * p) (length pairs) (fontTable f) pairs′ (omega (arith, in-sixes f, a .1)) (w .table);
+      op-table = written (2 * o) (length ops) (fontOps f) ops′ (omega (arith, ops-length (finishedOf f) (pairsOf f) (length (pairsOf f)), a .2)) (w .ops-table);
+      loop-table = written (2 * l) (length loops) (fontLoops f) loops′ (omega (arith, loops-length (loopsOfFont f), a .3)) (w .loop-list);
+    }
+lists-by f p o l (suc n) pairs ops loops pairs′ ops′ loops′ a w = absurd (omega (arith, a .0))
+
+-- runs over what was written
+module _ (f : Font) (fits : absentOr 255 (f .boundary) ≡ true) (word : List ℕ) (options : RunOptions) (caption : Caption word options) where
+  fit : Fit (f .boundary) word options
+  fit = record { boundary-fits = fits; override-fits = caption .override-fits; letters-fit = caption .letters-fit; word-fits = caption .word-fits }
+
+  answer-all : (items : List Out) → ((n : ℕ) → plainly.answers (below 256 (entries (fontTable f) (fontOps f))) (rightItem (f .boundary) (options .«right_boundary_override»)) n (plainly.begin (not (options .«disable_left_boundary»)) word) ≡ plainly.inOrder n items) → Answered f (fontTable f) (fontOps f) word options items
+  answer-all items h =
+      let d = runs (fontTable f) (fontOps f) (font-form f) (f .boundary) word options fit items h in
+      record { start = d .0; begins = d .1; answered = d .2 }
+
+  ended-run : (items : List Out) × Answered f (fontTable f) (fontOps f) word options items
+  ended-run =
+      let d = Reading.run-ends (below 256 (entries (fontTable f) (fontOps f))) (not (options .«disable_left_boundary»)) word (rightItem (f .boundary) (options .«right_boundary_override»)) in
+      (d .0, answer-all (d .0) (d .1))
+
+  read-run : (items : List Out) → Reads f word options items → Answered f (fontTable f) (fontOps f) word options items
+  read-run items r =
+      answer-all items (Reading.run-right (rulesOf f) (below 256 (entries (fontTable f) (fontOps f))) (font-holds-below f 256 (omega arith) (omega arith)) (r .steps) (not (options .«disable_left_boundary»)) word (rightItem (f .boundary) (options .«right_boundary_override»)) (r .reads))
+
+  set-run : loopsOfFont f ≡ [] → (items : List Out) × Reads f word options items × Answered f (fontTable f) (fontOps f) word options items
+  set-run e =
+      let d = Reading.word-ends (rulesOf f) (Compiling.no-loops f .0 e) (not (options .«disable_left_boundary»)) word (rightItem (f .boundary) (options .«right_boundary_override»)) in
+      let r : Reads f word options (d .1) = record { steps = d .0; reads = d .2 } in
+      (d .1, r, read-run (d .1) r)
+
+-- loops, by the length of the list
+none-listed : {A : Type 0} (xs : List A) → length xs ≡ 0 → xs ≡ []
+none-listed [] e = refl
+none-listed (x ∷ xs) e = absurd (omega (arith, e))
+
+a-loop : (f : Font) → 0 < length (loopsOfFont f) → Loop f
+a-loop f h =
+    let d = Compiling.some-loop f (λ e. let z : length (loopsOfFont f) ≡ 0 = rw e refl in omega (arith, h)) in
+    let r = Compiling.never-in-range f (d .0 .left) (d .0 .right) (d .1) in
+    record { left = d .0 .left; right = d .0 .right; left-fits = r .0; right-fits = r .1; never = d .1 }
+
+loop-listed : (f : Font) → Loop f → (xs : List Pair) → loopsOfFont f ≡ xs → 0 < length xs
+loop-listed f k [] e =
+    let n = Compiling.no-loops f .0 e (k .left) (k .right) in
+    absurd (more-not-done (sym (k .never (n .steps)) ∙ n .ends))
+loop-listed f k (q ∷ qs) e = omega arith
+
+-- compile's own loop list
+demand-by : (f : Font) (l : ℕ) → absentOr 255 (f .boundary) ≡ true → l ≡ length (loopsOfFont f) → Demand3 f l (fontTable f) (fontOps f) (fontLoops f)
+demand-by f l fits e =
+    record {
+      reported = loopsOfFont f;
+      loop-list = (refl, sym e);
+      reported-never = Compiling.reported-never f;
+      some-loop = (λ h. a-loop f (omega (arith, h, e)), λ k. omega (arith, loop-listed f k (loopsOfFont f) refl, e));
+      no-loop = (λ h. Compiling.no-loops f .0 (none-listed (loopsOfFont f) (sym e ∙ h)), λ h. e ∙ ap (λ (qs : List Pair). length qs) (Compiling.no-loops f .1 h));
+      set-as-read = λ h word options c. set-run f fits word options c (none-listed (loopsOfFont f) (sym e ∙ h));
+      run-ends = λ word options c. ended-run f fits word options c;
+      run-reads = λ word options c items r. read-run f fits word options c items r;
+    }
+
+-- DEMAND 3. Whatever font compile accepts: what it says of loops is true, and what it wrote sets every word as the reading reads it.
+pub demand-3 : (f : Font) (pairs ops loops : List ℤ) (work : List ℕ) (p o l : ℕ) (pairs′ ops′ loops′ : List ℤ) (work′ : List ℕ) →
+    Compiles f pairs ops loops work (Tables p o l) pairs′ ops′ loops′ work′ → Demand3 f l (take (6 * p) pairs′) (take (2 * o) ops′) (take (2 * l) loops′)
+demand-3 f pairs ops loops work p o l pairs′ ops′ loops′ work′ c =
+    let room = roomOf pairs ops loops work in
+    let a = accepted (compileRefusal f room) f p o l (c .answer) in
+    let w = lists-by f p o l (compileRefusal f room) pairs ops loops pairs′ ops′ loops′ a (c .lists) in
+    rw (w .table, w .op-table, w .loop-table) (demand-by f l (boundary-fits f room (a .0)) (a .3))

@@ -1,0 +1,55 @@
+-- A fresh run: document 01, 'Caption items'; after `run_with_options` of ligkern/mod.rs.
+use mathlib.Core.Bool.{Bool, true, false, cond}
+use mathlib.Core.List.{List, [], _∷_}
+use Prim.Native.Nat.{ℕ, zero, suc}
+use lib.IntN.{ℤ}
+use lib.Dec.{leb}
+use lib.ListN.{length, getD}
+use Rattle.lang.specs.Every.{every}
+use Rattle.lang.specs.Checks.{unless, orElse, absentRefusal}
+use Rattle.captions.specs.declared.RunOptions.{RunOptions}
+use Rattle.captions.specs.declared.NextLeft.{NextLeft}
+use Rattle.captions.specs.declared.NextLeft.the-variants as next
+use Rattle.captions.specs.declared.Consumes.the-variants as consumes
+use Rattle.captions.specs.declared.State.{State}
+use Rattle.captions.specs.declared.Begun.{Begun}
+use Rattle.captions.specs.declared.Begun.the-variants.{Run, Refused}
+use Rattle.captions.specs.Form.{tableRefusal}
+
+-- the boundary character and the options that go with a word
+abbrev pub edgesRefusal : ℤ → RunOptions → ℕ
+edgesRefusal boundary options = orElse (absentRefusal 255 boundary) (absentRefusal 255 (options .«right_boundary_override»))
+
+-- 4: a letter out of range
+abbrev pub lettersRefusal : List ℕ → ℕ
+lettersRefusal word = unless 4 (every (length word) (λ i. leb (getD word i 0) 255))
+
+-- 6: a word over 65,535
+abbrev pub wordRefusal : List ℕ → ℕ
+wordRefusal word = unless 6 (leb (length word) 65535)
+
+-- 4, 6 or 7, the lowest that holds
+abbrev pub beginRefusal : List ℤ → List ℤ → ℤ → List ℕ → RunOptions → ℕ
+beginRefusal pairs ops boundary word options =
+    orElse (edgesRefusal boundary options) (orElse (lettersRefusal word) (orElse (wordRefusal word) (tableRefusal pairs ops)))
+
+-- a state with no ops, no letters given and no pending ligature
+abbrev pub fresh : NextLeft → ℕ → State
+fresh n r =
+    record { «next_left» = n; op = 0; ops = 0; read = r; given = 0; pending = 0; «pending_boundary» = false; «consumes_left» = consumes.Nothing }
+
+-- without the left boundary the first letter stands left of the cursor
+abbrev pub withoutBoundary : List ℕ → State
+withoutBoundary [] = fresh next.None 0
+withoutBoundary (c ∷ cs) = fresh (next.Char c) 1
+
+abbrev pub freshState : List ℕ → RunOptions → State
+freshState word options = cond (options .«disable_left_boundary») (withoutBoundary word) (fresh next.Boundary 0)
+
+abbrev pub begunBy : ℕ → State → Begun
+begunBy zero s = Run s
+begunBy (suc n) s = Refused (suc n)
+
+-- THE contract of begin: its answer
+abbrev pub beginOf : List ℤ → List ℤ → ℤ → List ℕ → RunOptions → Begun
+beginOf pairs ops boundary word options = begunBy (beginRefusal pairs ops boundary word options) (freshState word options)

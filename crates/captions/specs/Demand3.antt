@@ -1,0 +1,66 @@
+-- Demand 3, of the whole list, in the terms of the calls: document 01, 'What every contract owes the setter', c and e. `Compiles` is the contract of
+-- compile, and begin's and step's contracts are equations with `beginOf` and `stepOf`; `answers` are n steps, each handed the state that the last one
+-- returned. What is proved of an accepted font is the record `Demand3`; the theorem is `demand-3` of proofs/Theorems.
+use mathlib.Core.Path.{_≡_}
+use mathlib.Core.Bool.{Bool, true, false, not}
+use mathlib.Core.List.{List, map, List·Memᴰ}
+use mathlib.Core.Logic.{_↔_}
+use Prim.Native.Nat.{ℕ, _<_, _≤_}
+use lib.IntN.{ℤ}
+use lib.Dec.{leb}
+use lib.ListN.{length, getD}
+use Rattle.lang.specs.Every.{every}
+use Rattle.lang.specs.Records.{absentOr}
+use Rattle.reading.specs.Items.{Left, Out}
+use Rattle.reading.specs.Reading.{reading, ended, NeverEnds, Ends}
+use Rattle.reading.specs.Depth.{Pair}
+use Rattle.pairs.specs.Rows.{numberOfLeft}
+use Rattle.pairs.specs.Ops.{loopNumbers}
+use Rattle.pairs.specs.Fonts.{Font, rulesOf}
+use Rattle.captions.specs.declared.RunOptions.{RunOptions}
+use Rattle.captions.specs.declared.State.{State}
+use Rattle.captions.specs.declared.Begun.the-variants.{Run}
+use Rattle.captions.specs.Begin.{beginOf}
+use Rattle.captions.specs.Steps.{rightItem}
+use Rattle.captions.specs.Runs.{answers, shown, thenEnds}
+
+-- a word of at most 65,535 characters of 0 to 255, either boundary choice, any override from -1 to 255
+pub record Caption (word : List ℕ) (options : RunOptions) : Type 0 where
+  pub letters-fit : every (length word) (λ i. leb (getD word i 0) 255) ≡ true
+  pub word-fits : length word ≤ 65535
+  pub override-fits : absentOr 255 (options .«right_boundary_override») ≡ true
+
+-- Begin, lent these pairs and ops and the font's boundary character, is not refused; and for every n the answers of the n steps from it are the first n of
+-- the items, by kind and by code or scaled kern, followed by the end at each step. So no step is refused.
+pub record Answered (f : Font) (pairs ops : List ℤ) (word : List ℕ) (options : RunOptions) (items : List Out) : Type 0 where
+  pub start : State
+  pub begins : beginOf pairs ops (f .boundary) word options ≡ Run start
+  pub answered : (n : ℕ) → map shown (answers pairs ops (f .boundary) word options n start) ≡ thenEnds n items
+
+-- the reading of the word ends, and gives these items
+pub record Reads (f : Font) (word : List ℕ) (options : RunOptions) (items : List Out) : Type 0 where
+  pub steps : ℕ
+  pub reads : reading (rulesOf f) steps (not (options .«disable_left_boundary»)) word (rightItem (f .boundary) (options .«right_boundary_override»)) ≡ ended items
+
+-- a pair of a left of -1 to 255 and a right of 0 to 255 that never ends
+pub record Loop (f : Font) : Type 0 where
+  pub left : Left
+  pub right : ℕ
+  pub left-fits : numberOfLeft left < 257
+  pub right-fits : right < 256
+  pub never : NeverEnds (rulesOf f) left right
+
+-- Of a font that compile accepts: l loops, and the pairs, ops and loop list that it wrote, without the zeroed rest.
+pub record Demand3 (f : Font) (l : ℕ) (pairs ops loops : List ℤ) : Type 0 where
+  -- the loop list is a list of l pairs, and every pair that is reported never ends
+  pub reported : List Pair
+  pub loop-list : (loops ≡ loopNumbers reported) × (length reported ≡ l)
+  pub reported-never : (q : Pair) → List·Memᴰ q reported → NeverEnds (rulesOf f) (q .left) (q .right)
+  -- a loop is reported exactly when some pair never ends; none exactly when every pair ends
+  pub some-loop : (0 < l) ↔ Loop f
+  pub no-loop : (l ≡ 0) ↔ ((x : Left) (y : ℕ) → Ends (rulesOf f) x y)
+  -- where none is reported, the reading of every word ends, and the run gives its items in order, then the end for ever
+  pub set-as-read : l ≡ 0 → (word : List ℕ) (options : RunOptions) → Caption word options → (items : List Out) × Reads f word options items × Answered f pairs ops word options items
+  -- loops or not: no step is refused, and every run ends; and whatever the reading of the word gives once it ends, the run gives
+  pub run-ends : (word : List ℕ) (options : RunOptions) → Caption word options → (items : List Out) × Answered f pairs ops word options items
+  pub run-reads : (word : List ℕ) (options : RunOptions) → Caption word options → (items : List Out) → Reads f word options items → Answered f pairs ops word options items

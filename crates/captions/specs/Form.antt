@@ -1,0 +1,48 @@
+-- The form of a pair table: document 01, last paragraph before the marked readings. Begin checks all of it.
+use mathlib.Core.Bool.{Bool, true, false, cond}
+use mathlib.Core.List.{List}
+use Prim.Native.Nat.{ℕ, zero, suc, _+_, _%_}
+use lib.IntN.{ℤ}
+use lib.Dec.{ltb, eqb}
+use lib.ListN.{length}
+use Rattle.words.specs.Words.{wordOf}
+use Rattle.lang.specs.Every.{both, every}
+use Rattle.lang.specs.Records.{within, absentOr}
+use Rattle.lang.specs.Checks.{unless}
+use Rattle.reading.specs.Form.{formed}
+use Rattle.pairs.specs.Rows.{leftOf}
+use Rattle.captions.specs.Tables.{pairCount, opCount, number, leftPlace, keyAt, firstOp, countOf, entryAt, opFits, recordFits}
+
+-- where the ops of the first k pairs end, which is where those of the next begin
+abbrev pub opsEnd : List ℤ → ℕ → ℕ
+opsEnd pairs zero = 0
+opsEnd pairs (suc k) = firstOp pairs k + countOf pairs k
+
+-- pair k comes after the pair before it
+abbrev pub comesAfter : List ℤ → ℕ → Bool
+comesAfter pairs zero = true
+comesAfter pairs (suc k) = ltb (keyAt pairs k) (keyAt pairs (suc k))
+
+-- left and right in range, and in ascending order
+abbrev pub keyForm : List ℤ → ℕ → Bool
+keyForm pairs k = both (absentOr 255 (number pairs k 0)) (both (within 255 (number pairs k 1)) (comesAfter pairs k))
+
+-- its ops follow those of the pair before it, and they and its last are such as a pair's reading gives
+abbrev pub pairForm : List ℤ → List ℤ → ℕ → Bool
+pairForm pairs ops k =
+    both (keyForm pairs k)
+    (both (recordFits pairs ops k)
+    (both (eqb (firstOp pairs k) (opsEnd pairs k))
+    (formed (leftOf (leftPlace (number pairs k 0))) (wordOf (number pairs k 1)) (entryAt pairs ops k))))
+
+-- no op is left over
+abbrev pub tableForm : List ℤ → List ℤ → Bool
+tableForm pairs ops =
+    both (both (eqb (length pairs % 6) 0) (eqb (length ops % 2) 0))
+    (both (every (opCount ops) (opFits ops))
+    (both (every (pairCount pairs) (pairForm pairs ops))
+    (eqb (opsEnd pairs (pairCount pairs)) (opCount ops))))
+
+-- 7: a table not of the form
+abbrev pub tableRefusal : List ℤ → List ℤ → ℕ
+tableRefusal pairs ops = unless 7 (tableForm pairs ops)

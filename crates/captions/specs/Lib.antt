@@ -1,0 +1,15 @@
+-- The definitions of captions, in the order in which to read them:
+--   Tables   a pair table and its ops as they are lent, and how a pair is found
+--   Form     the form of a table, which begin checks
+--   Begin    a fresh run
+--   Steps    one step, over any table and any state
+--   Runs     any number of steps, as demand 3 speaks of them
+--   Demand3  what is proved of an accepted font, in the terms of the calls
+--   Queries  separation points, originals, and questions about a table
+pub mod Tables
+pub mod Form
+pub mod Begin
+pub mod Steps
+pub mod Runs
+pub mod Queries
+pub mod Demand3

@@ -1,0 +1,257 @@
+-- One step of a run, over any table and any state: document 01, 'Caption items'; after `RunIter::next` of ligkern/mod.rs, whose call of itself is
+-- here a turn that reads one letter. A step checks what it reads, and a refused step hands its state back.
+use mathlib.Core.Bool.{Bool, true, false, cond}
+use mathlib.Core.List.{List, [], _∷_}
+use mathlib.Core.Option.{Option, none, some}
+use Prim.Native.Nat.{ℕ, zero, suc, _+_, _-_}
+use lib.IntN.{ℤ, pos, negsuc}
+use lib.Dec.{ltb, leb, eqb}
+use lib.ListN.{length, getD}
+use Rattle.words.specs.Words.{wordOf}
+use Rattle.lang.specs.Every.{both}
+use Rattle.lang.specs.Checks.{unless, orElse}
+use Rattle.reading.specs.Items.{Item, item, plain}
+use Rattle.captions.specs.declared.RunOptions.{RunOptions}
+use Rattle.captions.specs.declared.NextLeft.{NextLeft}
+use Rattle.captions.specs.declared.NextLeft.the-variants as next
+use Rattle.captions.specs.declared.Consumes.{Consumes}
+use Rattle.captions.specs.declared.Consumes.the-variants as consumes
+use Rattle.captions.specs.declared.State.{State}
+use Rattle.captions.specs.declared.Answer.{Answer}
+use Rattle.captions.specs.declared.Answer.the-variants.{Char, Ligature, Kern, End, Refused}
+use Rattle.captions.specs.declared.Step.{Step}
+use Rattle.captions.specs.declared.Turned.{Turned}
+use Rattle.captions.specs.declared.Turned.the-variants.{Gives, Goes}
+use Rattle.captions.specs.Tables.{opCount, number, opKind, opValue, keyBy, find, firstOp, countOf, lastCode, lastFlag, opFits, recordFits}
+use Rattle.captions.specs.Begin.{edgesRefusal, wordRefusal}
+
+abbrev pub refused : ℕ → State → Step
+refused n s = record { answer = Refused n; state = s }
+
+-- ---- giving an item
+
+-- what a ligature takes in of its pair's left
+abbrev pub leftLetters : Consumes → ℕ
+leftLetters consumes.Nothing = 0
+leftLetters consumes.Letter = 1
+leftLetters consumes.Boundary = 0
+
+abbrev pub leftBoundary : Consumes → Bool
+leftBoundary consumes.Nothing = false
+leftBoundary consumes.Letter = false
+leftBoundary consumes.Boundary = true
+
+-- what it takes in in all: what a pending ligature had taken in, and the left
+abbrev pub taken : State → ℕ
+taken s = s .pending + leftLetters (s .«consumes_left»)
+
+abbrev pub takesBoundary : State → Bool
+takesBoundary s = cond (s .«pending_boundary») true (leftBoundary (s .«consumes_left»))
+
+-- n letters more are given; nothing is pending, and the left is taken
+abbrev pub settled : ℕ → State → State
+settled n s =
+    record { «next_left» = s .«next_left»; op = s .op; ops = s .ops; read = s .read; given = s .given + n; pending = 0; «pending_boundary» = false; «consumes_left» = consumes.Nothing }
+
+-- an item whose original is n letters long; 7 where that passes the letters that were read
+abbrev pub giveItem : Answer → ℕ → State → Step
+giveItem a n s = cond (leb (s .given + n) (s .read)) (record { answer = a; state = settled n s }) (refused 7 s)
+
+-- the left as it stands: a character, or the ligature that is pending
+abbrev pub giveCharacter : ℕ → State → Step
+giveCharacter c s =
+    cond (eqb (s .pending) 0)
+    (giveItem (Char c (s .given)) 1 s)
+    (giveItem (Ligature c (s .given) (s .pending) (s .«pending_boundary») false) (s .pending) s)
+
+-- a ligature that takes in the left; `right` is whether it took in the right boundary
+abbrev pub giveLigature : ℕ → Bool → State → Step
+giveLigature c right s = giveItem (Ligature c (s .given) (taken s) (takesBoundary s) right) (taken s) s
+
+-- ---- ops
+
+-- the state after an op
+abbrev pub afterOp : State → State
+afterOp s =
+    record { «next_left» = s .«next_left»; op = suc (s .op); ops = s .ops - 1; read = s .read; given = s .given; pending = s .pending; «pending_boundary» = s .«pending_boundary»; «consumes_left» = s .«consumes_left» }
+
+abbrev pub isNone : NextLeft → Bool
+isNone next.Boundary = false
+isNone (next.Char c) = false
+isNone (next.Lig c) = false
+isNone (next.FinalLig c) = false
+isNone next.None = true
+
+-- at the word's end, with an unflagged last, nothing or one kern only is still to be given
+abbrev pub endsWord : List ℤ → State → Bool
+endsWord ops s = both (isNone (s .«next_left»)) (cond (eqb (s .ops) 0) true (both (eqb (s .ops) 1) (eqb (wordOf (opKind ops (s .op))) 2)))
+
+abbrev pub giveOp : List ℤ → State → Step
+giveOp ops s =
+    cond (eqb (wordOf (opKind ops (s .op))) 0) (giveCharacter (wordOf (opValue ops (s .op))) (afterOp s))
+    (cond (eqb (wordOf (opKind ops (s .op))) 1) (giveLigature (wordOf (opValue ops (s .op))) (endsWord ops (afterOp s)) (afterOp s))
+    (record { answer = Kern (opValue ops (s .op)); state = afterOp s }))
+
+-- a step reads the op that it gives and the one after it
+abbrev pub opsFit : List ℤ → State → Bool
+opsFit ops s = both (opFits ops (s .op)) (cond (leb 2 (s .ops)) (opFits ops (suc (s .op))) true)
+
+abbrev pub readOp : List ℤ → State → Step
+readOp ops s = cond (opsFit ops s) (giveOp ops s) (refused 7 s)
+
+-- ---- looking a left up
+
+-- a left that is a ligature takes in the letter that it was made of
+abbrev pub gathered : NextLeft → State → State
+gathered next.Boundary s = s
+gathered (next.Char c) s = s
+gathered (next.Lig c) s =
+    record { «next_left» = s .«next_left»; op = s .op; ops = s .ops; read = s .read; given = s .given; pending = suc (taken s); «pending_boundary» = takesBoundary s; «consumes_left» = consumes.Nothing }
+gathered (next.FinalLig c) s = s
+gathered next.None s = s
+
+abbrev pub leftNumber : NextLeft → ℕ
+leftNumber next.Boundary = 0
+leftNumber (next.Char c) = suc c
+leftNumber (next.Lig c) = suc c
+leftNumber (next.FinalLig c) = suc c
+leftNumber next.None = 0
+
+abbrev pub leftConsumed : NextLeft → Consumes
+leftConsumed next.Boundary = consumes.Boundary
+leftConsumed (next.Char c) = consumes.Letter
+leftConsumed (next.Lig c) = consumes.Nothing
+leftConsumed (next.FinalLig c) = consumes.Nothing
+leftConsumed next.None = consumes.Nothing
+
+-- what is next after a right: a letter of the word (true), or the right item at the word's end
+abbrev pub afterRight : Bool → Item → NextLeft
+afterRight true (item false c) = next.Char c
+afterRight true (item true c) = next.Lig c
+afterRight false (item false c) = next.None
+afterRight false (item true c) = next.FinalLig c
+
+-- letters read: one more where there is a letter
+abbrev pub readOn : Bool → ℕ → ℕ
+readOn true n = suc n
+readOn false n = n
+
+abbrev pub withNext : NextLeft → ℕ → State → State
+withNext n r s =
+    record { «next_left» = n; op = s .op; ops = s .ops; read = r; given = s .given; pending = s .pending; «pending_boundary» = s .«pending_boundary»; «consumes_left» = consumes.Nothing }
+
+-- a left without an entry is given as it stands; a left boundary gives nothing
+abbrev pub giveLeft : NextLeft → State → Turned
+giveLeft next.Boundary s = Goes s
+giveLeft (next.Char c) s = Gives (giveCharacter c s)
+giveLeft (next.Lig c) s = Gives (giveCharacter c s)
+giveLeft (next.FinalLig c) s = Goes s
+giveLeft next.None s = Goes s
+
+-- the ops of an entry are to be given, and its last is next
+abbrev pub entered : List ℤ → NextLeft → Bool → State → ℕ → State
+entered pairs x letter s k =
+    record { «next_left» = afterRight letter (item (lastFlag pairs k) (lastCode pairs k)); op = firstOp pairs k; ops = countOf pairs k; read = readOn letter (s .read); given = s .given; pending = s .pending; «pending_boundary» = s .«pending_boundary»; «consumes_left» = leftConsumed x }
+
+abbrev pub turnBy : List ℤ → List ℤ → NextLeft → Bool → ℕ → State → Option ℕ → Turned
+turnBy pairs ops x letter y s none = giveLeft x (withNext (afterRight letter (plain y)) (readOn letter (s .read)) s)
+turnBy pairs ops x letter y s (some k) = cond (recordFits pairs ops k) (Goes (entered pairs x letter s k)) (Gives (refused 7 s))
+
+abbrev pub turnWith : List ℤ → List ℤ → NextLeft → Bool → ℕ → State → Turned
+turnWith pairs ops x letter y s = turnBy pairs ops x letter y s (find pairs (keyBy (leftNumber x) y))
+
+-- the right item of a word: the override, else the boundary character
+abbrev pub orBoundary : ℤ → Option ℕ
+orBoundary (pos c) = some c
+orBoundary (negsuc n) = none
+
+abbrev pub rightItem : ℤ → ℤ → Option ℕ
+rightItem boundary (pos c) = some c
+rightItem boundary (negsuc n) = orBoundary boundary
+
+-- at the word's end; an empty word reads as nothing
+abbrev pub turnAtEnd : List ℤ → List ℤ → Option ℕ → NextLeft → State → Turned
+turnAtEnd pairs ops right next.Boundary s = Gives (record { answer = End; state = s })
+turnAtEnd pairs ops none (next.Char c) s = giveLeft (next.Char c) (withNext next.None (s .read) s)
+turnAtEnd pairs ops (some r) (next.Char c) s = turnWith pairs ops (next.Char c) false r s
+turnAtEnd pairs ops none (next.Lig c) s = giveLeft (next.Lig c) (withNext next.None (s .read) s)
+turnAtEnd pairs ops (some r) (next.Lig c) s = turnWith pairs ops (next.Lig c) false r s
+turnAtEnd pairs ops right (next.FinalLig c) s = Gives (record { answer = End; state = s })
+turnAtEnd pairs ops right next.None s = Gives (record { answer = End; state = s })
+
+-- 4: a letter out of range
+abbrev pub turnAtLetter : List ℤ → List ℤ → NextLeft → ℕ → State → Turned
+turnAtLetter pairs ops x y s = cond (leb y 255) (turnWith pairs ops x true y s) (Gives (refused 4 s))
+
+-- one turn: the next left with the next letter, or with the right item
+abbrev pub turn : List ℤ → List ℤ → Option ℕ → List ℕ → NextLeft → State → Turned
+turn pairs ops right word x s =
+    cond (ltb (s .read) (length word))
+    (turnAtLetter pairs ops x (getD word (s .read) 0) (gathered x s))
+    (turnAtEnd pairs ops right x (gathered x s))
+
+-- ---- the step
+
+abbrev pub onward : (State → Step) → Turned → Step
+onward go (Gives t) = t
+onward go (Goes s) = go s
+
+-- no ops are to be given: a last ligature is given as it stands, and a left is looked up
+abbrev pub byNext : (NextLeft → State → Turned) → (State → Step) → State → NextLeft → Step
+byNext look go s next.Boundary = onward go (look next.Boundary s)
+byNext look go s (next.Char c) = onward go (look (next.Char c) s)
+byNext look go s (next.Lig c) = onward go (look (next.Lig c) s)
+byNext look go s (next.FinalLig c) =
+    giveLigature c true
+    (record { «next_left» = next.None; op = s .op; ops = s .ops; read = s .read; given = s .given; pending = s .pending; «pending_boundary» = s .«pending_boundary»; «consumes_left» = s .«consumes_left» })
+byNext look go s next.None = record { answer = End; state = s }
+
+abbrev pub stepBy : List ℤ → (NextLeft → State → Turned) → (State → Step) → State → Step
+stepBy ops look go s = cond (eqb (s .ops) 0) (byNext look go s (s .«next_left»)) (readOp ops s)
+
+-- at most n turns
+unfoldable pub runOn : List ℤ → (NextLeft → State → Turned) → ℕ → State → Step
+runOn ops look zero s = stepBy ops look (refused 7) s
+runOn ops look (suc n) s = stepBy ops look (runOn ops look n) s
+
+-- 7: a state that points outside
+abbrev pub nextFits : NextLeft → Bool
+nextFits next.Boundary = true
+nextFits (next.Char c) = leb c 255
+nextFits (next.Lig c) = leb c 255
+nextFits (next.FinalLig c) = leb c 255
+nextFits next.None = true
+
+abbrev pub placed : List ℤ → List ℕ → State → Bool
+placed ops word s =
+    both (leb (s .read) (length word))
+    (both (leb (s .given) (s .read))
+    (both (leb (s .pending) (s .read))
+    (both (leb (s .op + s .ops) (opCount ops)) (nextFits (s .«next_left»)))))
+
+-- 4, 6 or 7: what is checked before anything is looked up
+abbrev pub stepRefusal : List ℤ → ℤ → List ℕ → RunOptions → State → ℕ
+stepRefusal ops boundary word options s =
+    orElse (edgesRefusal boundary options) (orElse (wordRefusal word) (unless 7 (placed ops word s)))
+
+-- a refused step hands back the state that it was handed
+abbrev pub handBack : State → State → Answer → Step
+handBack s t (Char c p) = record { answer = Char c p; state = t }
+handBack s t (Ligature c p n a b) = record { answer = Ligature c p n a b; state = t }
+handBack s t (Kern k) = record { answer = Kern k; state = t }
+handBack s t End = record { answer = End; state = t }
+handBack s t (Refused n) = refused n s
+
+-- one letter a turn, and a turn for the right item
+abbrev pub stepped : List ℤ → List ℤ → ℤ → List ℕ → RunOptions → State → Step
+stepped pairs ops boundary word options s =
+    runOn ops (turn pairs ops (rightItem boundary (options .«right_boundary_override»)) word) (suc (length word - s .read)) s
+
+abbrev pub steppedBy : ℕ → State → Step → Step
+steppedBy zero s t = handBack s (t .state) (t .answer)
+steppedBy (suc n) s t = refused (suc n) s
+
+-- THE contract of step: its answer and the state that it leaves
+abbrev pub stepOf : List ℤ → List ℤ → ℤ → List ℕ → RunOptions → State → Step
+stepOf pairs ops boundary word options s =
+    steppedBy (stepRefusal ops boundary word options s) s (stepped pairs ops boundary word options s)

@@ -1,0 +1,125 @@
+-- A pair table and its ops as they are lent, whatever they hold: document 01, 'The pair table'. Six numbers a pair (0 left, 1 right, 2 last code,
+-- 3 last flag, 4 first op, 5 op count), two an op (kind and value). A pair is found by bisection, in the definition too, so that what a step answers
+-- is said of any table; on a table in ascending order bisection finds the pair.
+use mathlib.Core.Path.{_≡_}
+use mathlib.Core.Bool.{Bool, true, false, cond}
+use mathlib.Core.List.{List, [], _∷_}
+use mathlib.Core.Option.{Option, none, some, Option·map}
+use Prim.Native.Nat.{ℕ, zero, suc, _+_, _-_, _*_, _/_, _%_}
+use lib.IntN.{ℤ, pos}
+use lib.Dec.{ltb, leb, eqb}
+use lib.ListN.{length, getD}
+use Rattle.words.specs.Words.{wordOf}
+use Rattle.lang.specs.Every.{both}
+use Rattle.lang.specs.Records.{within}
+use Rattle.reading.specs.Items.{Left, Item, item, plain, inserted, Out, glyph, kern}
+use Rattle.reading.specs.Depth.{Res, Finished}
+use Rattle.pairs.specs.Rows.{numberOfLeft}
+use Rattle.captions.specs.declared.Found.{Found}
+use Rattle.captions.specs.declared.Found.the-variants.{At, Nothing}
+
+abbrev pub pairCount : List ℤ → ℕ
+pairCount pairs = length pairs / 6
+
+abbrev pub opCount : List ℤ → ℕ
+opCount ops = length ops / 2
+
+-- number j of pair k
+abbrev pub number : List ℤ → ℕ → ℕ → ℤ
+number pairs k j = getD pairs (6 * k + j) (pos 0)
+
+abbrev pub opKind : List ℤ → ℕ → ℤ
+opKind ops i = getD ops (2 * i) (pos 0)
+
+abbrev pub opValue : List ℤ → ℕ → ℤ
+opValue ops i = getD ops (2 * i + 1) (pos 0)
+
+-- ---- finding a pair
+
+-- a pair's place in the order of pairs: by left, -1 first, then by right. Two pairs have one key only where they have the same left and right.
+abbrev pub keyBy : ℕ → ℕ → ℕ
+keyBy left right = 4294967296 * left + right
+
+abbrev pub keyOf : Left → ℕ → ℕ
+keyOf l r = keyBy (numberOfLeft l) r
+
+-- -1 is 0, and c is 1 + c
+abbrev pub leftPlace : ℤ → ℕ
+leftPlace z = (wordOf z + 1) % 4294967296
+
+abbrev pub keyAt : List ℤ → ℕ → ℕ
+keyAt pairs k = keyBy (leftPlace (number pairs k 0)) (wordOf (number pairs k 1))
+
+-- the first of the pairs from lo up to hi that does not come before the wanted key, if they ascend; at most n halvings
+unfoldable pub bisect : List ℤ → ℕ → ℕ → ℕ → ℕ → ℕ
+bisect pairs wanted zero lo hi = lo
+bisect pairs wanted (suc n) lo hi =
+    let mid = lo + (hi - lo) / 2 in
+    cond (ltb lo hi)
+    (cond (ltb (keyAt pairs mid) wanted) (bisect pairs wanted n (suc mid) hi) (bisect pairs wanted n lo mid))
+    lo
+
+-- where the search for a key ends
+abbrev pub placeFor : List ℤ → ℕ → ℕ
+placeFor pairs wanted = bisect pairs wanted (pairCount pairs) 0 (pairCount pairs)
+
+-- the pair of a key
+abbrev pub find : List ℤ → ℕ → Option ℕ
+find pairs wanted =
+    cond (both (ltb (placeFor pairs wanted) (pairCount pairs)) (eqb (keyAt pairs (placeFor pairs wanted)) wanted))
+    (some (placeFor pairs wanted))
+    none
+
+abbrev pub foundAt : Option ℕ → Found
+foundAt none = Nothing
+foundAt (some k) = At k
+
+-- ---- what a pair becomes
+
+-- kind 0 is a character, 1 a ligature, 2 a scaled kern
+abbrev pub opOf : ℤ → ℤ → Out
+opOf kind value =
+    cond (eqb (wordOf kind) 0) (glyph (plain (wordOf value)))
+    (cond (eqb (wordOf kind) 1) (glyph (inserted (wordOf value))) (kern value))
+
+abbrev pub opAt : List ℤ → ℕ → Out
+opAt ops i = opOf (opKind ops i) (opValue ops i)
+
+-- n ops from i on
+unfoldable pub opsFrom : List ℤ → ℕ → ℕ → List Out
+opsFrom ops i zero = []
+opsFrom ops i (suc n) = opAt ops i ∷ opsFrom ops (suc i) n
+
+abbrev pub firstOp : List ℤ → ℕ → ℕ
+firstOp pairs k = wordOf (number pairs k 4)
+
+abbrev pub countOf : List ℤ → ℕ → ℕ
+countOf pairs k = wordOf (number pairs k 5)
+
+abbrev pub lastCode : List ℤ → ℕ → ℕ
+lastCode pairs k = wordOf (number pairs k 2)
+
+abbrev pub lastFlag : List ℤ → ℕ → Bool
+lastFlag pairs k = eqb (wordOf (number pairs k 3)) 1
+
+abbrev pub entryAt : List ℤ → List ℤ → ℕ → Res
+entryAt pairs ops k =
+    record { outs = opsFrom ops (firstOp pairs k) (countOf pairs k); last = item (lastFlag pairs k) (lastCode pairs k) }
+
+-- the table as a function of a left and a right
+abbrev pub entries : List ℤ → List ℤ → Finished
+entries pairs ops l r = Option·map (entryAt pairs ops) (find pairs (keyOf l r))
+
+-- ---- what one pair and one op must be for a step to read them
+
+-- kinds 0 and 1 hold a code, kind 2 any number
+abbrev pub opFits : List ℤ → ℕ → Bool
+opFits ops i = cond (within 1 (opKind ops i)) (within 255 (opValue ops i)) (eqb (wordOf (opKind ops i)) 2)
+
+-- last code and flag in range, an unflagged last equal to the right, and its ops among the ops
+abbrev pub recordFits : List ℤ → List ℤ → ℕ → Bool
+recordFits pairs ops k =
+    both (within 255 (number pairs k 2))
+    (both (within 1 (number pairs k 3))
+    (both (cond (lastFlag pairs k) true (eqb (lastCode pairs k) (wordOf (number pairs k 1))))
+    (leb (firstOp pairs k + countOf pairs k) (opCount ops))))
