@@ -25,11 +25,11 @@ mod stages;
 mod walks;
 mod write;
 
-use lang::check::absent_refusal;
-use lang::check::design_refusal;
-use lang::check::entries_refusal;
-use lang::check::kerns_refusal;
-use lang::check::program_refusal;
+use checks::absent_refusal;
+use checks::design_refusal;
+use checks::entries_refusal;
+use checks::kerns_refusal;
+use checks::program_refusal;
 use pairs::Prepared;
 use words::zero::zero_i32;
 use words::zero::zero_u32;

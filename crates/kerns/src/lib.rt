@@ -19,8 +19,8 @@ mod share;
 use crate::share::gather;
 use crate::share::place_of;
 use lang::Written;
-use lang::check::kerns_refusal;
-use lang::check::program_refusal;
+use checks::kerns_refusal;
+use checks::program_refusal;
 use lang::instruction::field_at;
 
 // 15: a list of `room` places is too short for `needed`.

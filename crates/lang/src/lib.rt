@@ -1,10 +1,8 @@
 // The lig/kern programming language, after ligkern/lang.rs. Files by concern:
 //   operation    op bytes and what they mean (lang.rs lines 342 to 434)
 //   instruction  the record at an index of a lent list, as a struct (lines 29 to 92)
-//   check        the refusals 1 to 5 of what is lent
 //   entries      the table of 257 places
-// What else lang.rs has stands in crates of their own, above this one: chain, kerns, unpack, reach, pack.
-pub mod check;
+// The refusals 1 to 5 of what is lent are crate checks, and what else lang.rs has stands in crates of their own above it: chain, kerns, unpack, reach, pack.
 pub mod entries;
 pub mod instruction;
 pub mod operation;

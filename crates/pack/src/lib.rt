@@ -22,9 +22,9 @@ use crate::labels::place_among;
 use crate::labels::present_or_zero;
 use crate::labels::redirect_number;
 use crate::labels::redirects_of;
-use lang::check::absent_refusal;
-use lang::check::entries_refusal;
-use lang::check::program_refusal;
+use checks::absent_refusal;
+use checks::entries_refusal;
+use checks::program_refusal;
 
 // What packing answers.
 pub enum Packed {

@@ -12,10 +12,10 @@ ghost use Rattle.reach.specs.Reach.{entriesMarked, leftMarked, passed, r
 use chain::Next;
 use chain::next_instruction;
 use lang::Written;
-use lang::check::absent_refusal;
-use lang::check::entries_refusal;
-use lang::check::passthrough_refusal;
-use lang::check::program_refusal;
+use checks::absent_refusal;
+use checks::entries_refusal;
+use checks::passthrough_refusal;
+use checks::program_refusal;
 use lang::instruction::NextInstruction;
 use lang::instruction::instruction_at;
 

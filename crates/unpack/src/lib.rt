@@ -10,10 +10,10 @@ ghost use Rattle.lang.specs.Records.{isKind};
 ghost use Rattle.unpack.specs.Unpacking.{unpacks, unpackEntry, passes, passthroughAfter, UnpacksEntry, insertsSevenBit, allSevenBit, entrySafe, isSevenBitSafe, sevenBit};
 use chain::Next;
 use chain::next_instruction;
-use lang::check::entries_refusal;
-use lang::check::passthrough_refusal;
-use lang::check::program_refusal;
-use lang::check::range_refusal;
+use checks::entries_refusal;
+use checks::passthrough_refusal;
+use checks::program_refusal;
+use checks::range_refusal;
 use lang::instruction::field_at;
 
 // What unpacking an entry answers.
