@@ -18,9 +18,9 @@ mod share;
 
 use crate::share::gather;
 use crate::share::place_of;
-use lang::Written;
 use checks::kerns_refusal;
 use checks::program_refusal;
+use lang::Written;
 use lang::instruction::field_at;
 
 // 15: a list of `room` places is too short for `needed`.

@@ -11,11 +11,11 @@ ghost use Rattle.lang.specs.Answers.{roomRefusal};
 ghost use Rattle.reach.specs.Reach.{entriesMarked, leftMarked, passed, reachable, marksFrom, adjustedSkip, stateOf, skipOf, reachNumber, reachRefusal, Reaches};
 use chain::Next;
 use chain::next_instruction;
-use lang::Written;
 use checks::absent_refusal;
 use checks::entries_refusal;
 use checks::passthrough_refusal;
 use checks::program_refusal;
+use lang::Written;
 use lang::instruction::NextInstruction;
 use lang::instruction::instruction_at;
 

@@ -1,0 +1,3 @@
+-- What the contracts of ligkern cite beside the definitions of captions:
+--   Stepping  the loop of a step while it runs
+pub mod Stepping
