@@ -31,7 +31,7 @@ use Rattle.captions.specs.declared.Step.{Step}
 use Rattle.captions.specs.declared.Turned.{Turned}
 use Rattle.captions.specs.declared.Turned.the-variants.{Gives, Goes}
 use Rattle.captions.specs.Tables.{pairCount, opCount, number, leftPlace, keyBy, keyAt, find, firstOp, countOf, lastCode, lastFlag, entryAt, entries, opsFrom, opFits, recordFits}
-use Rattle.captions.specs.Form.{pairForm, tableForm, keyForm, opsEnd, comesAfter}
+use Rattle.captions.specs.Form.{pairForm, tableForm, keyForm, opsEnd, comesAfter, sizesForm}
 use Rattle.captions.specs.Steps.{refused, leftLetters, gathered, leftNumber, leftConsumed, afterRight, readOn, withNext, giveLeft, entered, turnBy, turnWith, turnAtEnd, turnAtLetter, turn, onward, byNext, stepBy, runOn, nextFits, giveCharacter}
 use Rattle.captions.proofs.Finding.{find-inside}
 use Rattle.captions.proofs.Raising.{raiseFirst, raise-none, raise-outs, raise-last, raise-last-none, hasGlyph, plainFirst, form-ops, left-plain-first, left-carried, boundary-no-plain}
@@ -57,8 +57,11 @@ three : (a b c : Bool) → both a (both b c) ≡ true → (a ≡ true) × (b ≡
 three a b c h = (both-left a (both b c) h, both-left b c (both-right a (both b c) h), both-right b c (both-right a (both b c) h))
 
 module _ (pairs ops : List ℤ) (table : tableForm pairs ops ≡ true) where
-  parts : (both (eqb (length pairs % 6) 0) (eqb (length ops % 2) 0) ≡ true) × (every (opCount ops) (opFits ops) ≡ true) × (every (pairCount pairs) (pairForm pairs ops) ≡ true) × (eqb (opsEnd pairs (pairCount pairs)) (opCount ops) ≡ true)
-  parts = four (both (eqb (length pairs % 6) 0) (eqb (length ops % 2) 0)) (every (opCount ops) (opFits ops)) (every (pairCount pairs) (pairForm pairs ops)) (eqb (opsEnd pairs (pairCount pairs)) (opCount ops)) table
+  parts : (sizesForm pairs ops ≡ true) × (every (opCount ops) (opFits ops) ≡ true) × (every (pairCount pairs) (pairForm pairs ops) ≡ true) × (eqb (opsEnd pairs (pairCount pairs)) (opCount ops) ≡ true)
+  parts = four (sizesForm pairs ops) (every (opCount ops) (opFits ops)) (every (pairCount pairs) (pairForm pairs ops)) (eqb (opsEnd pairs (pairCount pairs)) (opCount ops)) table
+
+  pub few-ops : opCount ops ≤ 2147483647
+  few-ops = leb-true (opCount ops) 2147483647 (three (eqb (length pairs % 6) 0) (eqb (length ops % 2) 0) (leb (opCount ops) 2147483647) (parts .0) .2)
 
   pub all-ops : every (opCount ops) (opFits ops) ≡ true
   all-ops = parts .1

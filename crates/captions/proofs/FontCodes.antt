@@ -21,6 +21,7 @@ use Rattle.reading.specs.Depth.{Res, comp}
 use Rattle.pairs.specs.Rows.{numberOfLeft}
 use Rattle.pairs.specs.Fonts.{Font, indexOf, tableOf, scaledKern, ruleOfOperation, ruleOfIndex, rulesOf}
 use Rattle.compiler.specs.Compiled.{fontTable, fontOps}
+use Rattle.captions.specs.Tables.{opCount}
 use Rattle.captions.specs.Form.{tableForm}
 use Rattle.captions.proofs.Codes.{Coded, RuleSmall, SmallRules, small-codes}
 use Rattle.captions.proofs.FontTable.{font-form-by}
@@ -73,6 +74,6 @@ rule-small f l r = index-small f (indexOf (f .instructions) (tableOf f) l r)
 pub small : (f : Font) (d : ℕ) (l : Left) (r : ℕ) (q : Res) → numberOfLeft l < 257 → r < 256 → comp (rulesOf f) d l r ≡ some q → Coded q
 small f d l r q i j e = small-codes (rulesOf f) (rule-small f) d l r q i j e
 
--- What compile writes of any font has the form of a table.
-pub font-form : (f : Font) → tableForm (fontTable f) (fontOps f) ≡ true
-font-form f = font-form-by f (rule-small f)
+-- What compile writes of a font has the form of a table, where an i32 counts the ops.
+pub font-form : (f : Font) → opCount (fontOps f) ≤ 2147483647 → tableForm (fontTable f) (fontOps f) ≡ true
+font-form f few = font-form-by f (rule-small f) few

@@ -7,6 +7,7 @@ use mathlib.Core.Logic.{_⊎_, inl, inr}
 use mathlib.Core.Option.{none, some, Option·map, map-eq-some-iff, Option·none-ne-some}
 use Prim.Native.Nat.{ℕ, zero, suc, _<_, _≤_}
 use native.Mathlib.Omega.{arith}
+use lib.IntN.{ℤ}
 use lib.Dec.{T, ltb}
 use lib.ListN.{length}
 use borrow.Author.Tests.{ltb-true, lt-ltb}
@@ -22,7 +23,7 @@ use Rattle.pairs.proofs.RowLaws.{left-number}
 use Rattle.pairs.proofs.FontLaws.{covers-font, ruled-in-range}
 use Rattle.pairs.proofs.Sorted.{Pairwise}
 use Rattle.compiler.proofs.Theorems.{entry-formed}
-use Rattle.captions.specs.Tables.{keyOf, keyAt, find, entryAt, entries}
+use Rattle.captions.specs.Tables.{opCount, keyOf, keyAt, find, entryAt, entries}
 use Rattle.captions.specs.Form.{tableForm}
 use Rattle.captions.proofs.Finding.{find-inside}
 use Rattle.captions.proofs.Bisecting.{finds}
@@ -119,8 +120,8 @@ module _ (f : Font) where
       }
 
   -- The table has the form that begin checks.
-  pub font-form-by : SmallRules (rulesOf f) → tableForm (fontTable f) (fontOps f) ≡ true
-  font-form-by s = ap₂ tableForm (whole-table (finishedOf f) (pairsOf f)) (whole-ops (finishedOf f) (pairsOf f)) ∙ table-form finishing (good s) sorted
+  pub font-form-by : SmallRules (rulesOf f) → opCount (fontOps f) ≤ 2147483647 → tableForm (fontTable f) (fontOps f) ≡ true
+  font-form-by s few = ap₂ tableForm (whole-table (finishedOf f) (pairsOf f)) (whole-ops (finishedOf f) (pairsOf f)) ∙ table-form finishing (good s) sorted (subst (λ (o : List ℤ). opCount o ≤ 2147483647) (whole-ops (finishedOf f) (pairsOf f)) few)
 
   -- Every entry is that of its pair, of any left and any u32.
   pub font-sound : (l : Left) (r : ℕ) (q : Res) → r < 4294967296 → entries (fontTable f) (fontOps f) l r ≡ some q → (d : ℕ) × (comp (rulesOf f) d l r ≡ some q)

@@ -213,10 +213,10 @@ module _ (xs : List Entry) (good : (x : Entry) → List·Memᴰ x xs → Good x)
   ends-all : opsEnd (pairs xs) (pairCount (pairs xs)) ≡ opCount (ops xs)
   ends-all = ap (opsEnd (pairs xs)) (pair-count xs) ∙ ends-is (length xs) (omega arith) ∙ ap (λ (l : List Entry). length (opsAll l)) (take-length xs) ∙ sym (op-count xs)
 
-  pub table-form : tableForm (pairs xs) (ops xs) ≡ true
-  table-form =
+  pub table-form : opCount (ops xs) ≤ 2147483647 → tableForm (pairs xs) (ops xs) ≡ true
+  table-form few =
       let p = pairs xs in
       let o = ops xs in
-      both-of (both-of (eq-eqb (length p % 6) 0 (omega (arith, length-table 0 xs))) (eq-eqb (length o % 2) 0 (omega (arith, length-numbers (opsAll xs)))))
+      both-of (both-of (eq-eqb (length p % 6) 0 (omega (arith, length-table 0 xs))) (both-of (eq-eqb (length o % 2) 0 (omega (arith, length-numbers (opsAll xs)))) (le-leb (opCount o) 2147483647 few)))
       (both-of (every-all (opCount o) (opFits o) (λ i h. ops-fit (opsAll xs) (small-all xs good) i (omega (arith, op-count xs))))
       (both-of (every-all (pairCount p) (pairForm p o) (λ m h. pair-form m (omega (arith, pair-count xs)))) (eq-eqb (opsEnd p (pairCount p)) (opCount o) ends-all)))

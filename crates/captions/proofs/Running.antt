@@ -34,6 +34,7 @@ use Rattle.captions.specs.Runs.{answers, Shown, shows, ends, refuses, sh
 use Rattle.captions.proofs.Raising.{raiseFirst}
 use Rattle.captions.proofs.Sound.{state, shownOf, Sound, opsOf, runOf, Follows}
 use Rattle.captions.proofs.FontTable.{below}
+use Rattle.captions.proofs.Following.{few-ops}
 use Rattle.captions.proofs.Turning.{follows}
 
 -- an answer that is shown as an item or as the end is handed on with its state
@@ -83,7 +84,7 @@ module _ (pairs ops : List ℤ) (table : tableForm pairs ops ≡ true) (boundary
 
   is-placed : (s : State) → Sound ops word s (opsOf ops word s) → placed ops word s ≡ true
   is-placed s h =
-      rw (le-leb (s .read) (length word) (h .inside), le-leb (s .given) (s .read) (omega (arith, h .counted)), le-leb (s .pending) (s .read) (omega (arith, h .counted)), le-leb (s .op + s .ops) (opCount ops) (h .among), h .fits) refl
+      rw (le-leb (s .read) (length word) (h .inside), le-leb (s .given) (s .read) (omega (arith, h .counted)), le-leb (s .pending) (s .read) (omega (arith, h .counted)), le-leb (opCount ops) 2147483647 (few-ops pairs ops table), le-leb (s .op + s .ops) (opCount ops) (h .among), h .fits) refl
 
   not-refused : (s : State) → Sound ops word s (opsOf ops word s) → stepRefusal ops boundary word options s ≡ 0
   not-refused s h = rw (edges, word-taken, is-placed s h) refl

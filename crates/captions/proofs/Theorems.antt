@@ -32,8 +32,8 @@ use Rattle.pairs.specs.Fonts.{Font, pairsOf, rulesOf}
 use Rattle.compiler.specs.Compiled.{Room, roomOf, finishedOf, loopsOfFont, totalOps, fontTable, fontOps, fontLoops, fontRefusal, pairsRefusal, kernRefusal, opsRefusal, loopsRefusal, tablesRefusal, compileRefusal, compiledBy, Written, Compiles}
 use Rattle.compiler.proofs.Theorems as Compiling
 use Rattle.captions.specs.declared.RunOptions.{RunOptions}
-use Rattle.captions.specs.Tables.{entries}
-use Rattle.captions.specs.Form.{tableForm}
+use Rattle.captions.specs.Tables.{opCount, entries}
+use Rattle.captions.specs.Form.{sizesForm, tableForm}
 use Rattle.captions.specs.Steps.{rightItem}
 use Rattle.captions.specs.Demand3.{Caption, Answered, Reads, Loop, Demand3}
 use Rattle.captions.proofs.FontCodes.{font-form}
@@ -56,6 +56,14 @@ passes n true h = refl
 passes n false h = absurd (omega (arith, h))
 
 module _ (f : Font) (room : Room) (taken : compileRefusal f room ≡ 0) where
+  few-ops : totalOps f ≤ 2147483647
+  few-ops =
+      let a = or-none (pairsRefusal f room) (orElse (kernRefusal f) (orElse (opsRefusal f room) (loopsRefusal f room))) (or-none (fontRefusal f) (tablesRefusal f room) taken .1) .1 in
+      let b = or-none (kernRefusal f) (orElse (opsRefusal f room) (loopsRefusal f room)) a .1 in
+      let c = or-none (opsRefusal f room) (loopsRefusal f room) b .0 in
+      let t = passes 13 (both (leb (totalOps f) 2147483647) (leb (2 * totalOps f) (room .ops))) c in
+      leb-true (totalOps f) 2147483647 (both-left (leb (totalOps f) 2147483647) (leb (2 * totalOps f) (room .ops)) t)
+
   boundary-fits : absentOr 255 (f .boundary) ≡ true
   boundary-fits =
       let edges = orElse (absentRefusal 255 (f .boundary)) (orElse (absentRefusal 65535 (f .left)) (designRefusal (f .design))) in
@@ -95,28 +103,28 @@ pub record Lists (f : Font) (p o l : ℕ) (pairs ops loops : List ℤ) : Type 0 
   pub op-table : take (2 * o) ops ≡ fontOps f
   pub loop-table : take (2 * l) loops ≡ fontLoops f
 
-in-sixes : (f : Font) → length (fontTable f) % 6 ≡ 0
-in-sixes f =
-    let a = both-left (both (eqb (length (fontTable f) % 6) 0) (eqb (length (fontOps f) % 2) 0)) _ (font-form f) in
-    eqb-true (length (fontTable f) % 6) 0 (both-left (eqb (length (fontTable f) % 6) 0) (eqb (length (fontOps f) % 2) 0) a)
+in-sixes : (f : Font) → opCount (fontOps f) ≤ 2147483647 → length (fontTable f) % 6 ≡ 0
+in-sixes f few =
+    eqb-true (length (fontTable f) % 6) 0
+    (both-left (eqb (length (fontTable f) % 6) 0) (both (eqb (length (fontOps f) % 2) 0) (leb (opCount (fontOps f)) 2147483647)) (both-left (sizesForm (fontTable f) (fontOps f)) _ (font-form f few)))
 
-lists-by : (f : Font) (p o l n : ℕ) (pairs ops loops pairs′ ops′ loops′ : List ℤ) → (n ≡ 0) × (p ≡ length (fontTable f) / 6) × (o ≡ totalOps f) × (l ≡ length (loopsOfFont f)) → Written f n pairs ops loops pairs′ ops′ loops′ → Lists f p o l pairs′ ops′ loops′
-lists-by f p o l zero pairs ops loops pairs′ ops′ loops′ a w =
+lists-by : (f : Font) (p o l n : ℕ) (pairs ops loops pairs′ ops′ loops′ : List ℤ) → (n ≡ 0) × (p ≡ length (fontTable f) / 6) × (o ≡ totalOps f) × (l ≡ length (loopsOfFont f)) → opCount (fontOps f) ≤ 2147483647 → Written f n pairs ops loops pairs′ ops′ loops′ → Lists f p o l pairs′ ops′ loops′
+lists-by f p o l zero pairs ops loops pairs′ ops′ loops′ a few w =
     record {
-      table = written (6 * p) (length pairs) (fontTable f) pairs′ (omega (arith, in-sixes f, a .1)) (w .table);
+      table = written (6 * p) (length pairs) (fontTable f) pairs′ (omega (arith, in-sixes f few, a .1)) (w .table);
       op-table = written (2 * o) (length ops) (fontOps f) ops′ (omega (arith, ops-length (finishedOf f) (pairsOf f) (length (pairsOf f)), a .2)) (w .ops-table);
       loop-table = written (2 * l) (length loops) (fontLoops f) loops′ (omega (arith, loops-length (loopsOfFont f), a .3)) (w .loop-list);
     }
-lists-by f p o l (suc n) pairs ops loops pairs′ ops′ loops′ a w = absurd (omega (arith, a .0))
+lists-by f p o l (suc n) pairs ops loops pairs′ ops′ loops′ a few w = absurd (omega (arith, a .0))
 
 -- runs over what was written
-module _ (f : Font) (fits : absentOr 255 (f .boundary) ≡ true) (word : List ℕ) (options : RunOptions) (caption : Caption word options) where
+module _ (f : Font) (few : opCount (fontOps f) ≤ 2147483647) (fits : absentOr 255 (f .boundary) ≡ true) (word : List ℕ) (options : RunOptions) (caption : Caption word options) where
   fit : Fit (f .boundary) word options
   fit = record { boundary-fits = fits; override-fits = caption .override-fits; letters-fit = caption .letters-fit; word-fits = caption .word-fits }
 
   answer-all : (items : List Out) → ((n : ℕ) → plainly.answers (below 256 (entries (fontTable f) (fontOps f))) (rightItem (f .boundary) (options .«right_boundary_override»)) n (plainly.begin (not (options .«disable_left_boundary»)) word) ≡ plainly.inOrder n items) → Answered f (fontTable f) (fontOps f) word options items
   answer-all items h =
-      let d = runs (fontTable f) (fontOps f) (font-form f) (f .boundary) word options fit items h in
+      let d = runs (fontTable f) (fontOps f) (font-form f few) (f .boundary) word options fit items h in
       record { start = d .0; begins = d .1; answered = d .2 }
 
   ended-run : (items : List Out) × Answered f (fontTable f) (fontOps f) word options items
@@ -152,17 +160,17 @@ loop-listed f k [] e =
 loop-listed f k (q ∷ qs) e = omega arith
 
 -- compile's own loop list
-demand-by : (f : Font) (l : ℕ) → absentOr 255 (f .boundary) ≡ true → l ≡ length (loopsOfFont f) → Demand3 f l (fontTable f) (fontOps f) (fontLoops f)
-demand-by f l fits e =
+demand-by : (f : Font) (l : ℕ) → opCount (fontOps f) ≤ 2147483647 → absentOr 255 (f .boundary) ≡ true → l ≡ length (loopsOfFont f) → Demand3 f l (fontTable f) (fontOps f) (fontLoops f)
+demand-by f l few fits e =
     record {
       reported = loopsOfFont f;
       loop-list = (refl, sym e);
       reported-never = Compiling.reported-never f;
       some-loop = (λ h. a-loop f (omega (arith, h, e)), λ k. omega (arith, loop-listed f k (loopsOfFont f) refl, e));
       no-loop = (λ h. Compiling.no-loops f .0 (none-listed (loopsOfFont f) (sym e ∙ h)), λ h. e ∙ ap (λ (qs : List Pair). length qs) (Compiling.no-loops f .1 h));
-      set-as-read = λ h word options c. set-run f fits word options c (none-listed (loopsOfFont f) (sym e ∙ h));
-      run-ends = λ word options c. ended-run f fits word options c;
-      run-reads = λ word options c items r. read-run f fits word options c items r;
+      set-as-read = λ h word options c. set-run f few fits word options c (none-listed (loopsOfFont f) (sym e ∙ h));
+      run-ends = λ word options c. ended-run f few fits word options c;
+      run-reads = λ word options c items r. read-run f few fits word options c items r;
     }
 
 -- DEMAND 3. Whatever font compile accepts: what it says of loops is true, and what it wrote sets every word as the reading reads it.
@@ -171,5 +179,6 @@ pub demand-3 : (f : Font) (pairs ops loops : List ℤ) (work : List ℕ) (p o l 
 demand-3 f pairs ops loops work p o l pairs′ ops′ loops′ work′ c =
     let room = roomOf pairs ops loops work in
     let a = accepted (compileRefusal f room) f p o l (c .answer) in
-    let w = lists-by f p o l (compileRefusal f room) pairs ops loops pairs′ ops′ loops′ a (c .lists) in
-    rw (w .table, w .op-table, w .loop-table) (demand-by f l (boundary-fits f room (a .0)) (a .3))
+    let few : opCount (fontOps f) ≤ 2147483647 = omega (arith, few-ops f room (a .0), ops-length (finishedOf f) (pairsOf f) (length (pairsOf f))) in
+    let w = lists-by f p o l (compileRefusal f room) pairs ops loops pairs′ ops′ loops′ a few (c .lists) in
+    rw (w .table, w .op-table, w .loop-table) (demand-by f l few (boundary-fits f room (a .0)) (a .3))

@@ -3,7 +3,7 @@ use mathlib.Core.Bool.{Bool, true, false, cond}
 use mathlib.Core.List.{List}
 use Prim.Native.Nat.{ℕ, zero, suc, _+_, _%_}
 use lib.IntN.{ℤ}
-use lib.Dec.{ltb, eqb}
+use lib.Dec.{ltb, leb, eqb}
 use lib.ListN.{length}
 use Rattle.words.specs.Words.{wordOf}
 use Rattle.lang.specs.Every.{both, every}
@@ -35,10 +35,14 @@ pairForm pairs ops k =
     (both (eqb (firstOp pairs k) (opsEnd pairs k))
     (formed (leftOf (leftPlace (number pairs k 0))) (wordOf (number pairs k 1)) (entryAt pairs ops k))))
 
+-- whole pairs, whole ops, and no more ops than an i32 counts
+abbrev pub sizesForm : List ℤ → List ℤ → Bool
+sizesForm pairs ops = both (eqb (length pairs % 6) 0) (both (eqb (length ops % 2) 0) (leb (opCount ops) 2147483647))
+
 -- no op is left over
 abbrev pub tableForm : List ℤ → List ℤ → Bool
 tableForm pairs ops =
-    both (both (eqb (length pairs % 6) 0) (eqb (length ops % 2) 0))
+    both (sizesForm pairs ops)
     (both (every (opCount ops) (opFits ops))
     (both (every (pairCount pairs) (pairForm pairs ops))
     (eqb (opsEnd pairs (pairCount pairs)) (opCount ops))))

@@ -222,12 +222,16 @@ nextFits (next.Lig c) = leb c 255
 nextFits (next.FinalLig c) = leb c 255
 nextFits next.None = true
 
+-- an i32 counts the ops, and those that are to be given are among them
+abbrev pub opsPlaced : List ℤ → State → Bool
+opsPlaced ops s = both (leb (opCount ops) 2147483647) (leb (s .op + s .ops) (opCount ops))
+
 abbrev pub placed : List ℤ → List ℕ → State → Bool
 placed ops word s =
     both (leb (s .read) (length word))
     (both (leb (s .given) (s .read))
     (both (leb (s .pending) (s .read))
-    (both (leb (s .op + s .ops) (opCount ops)) (nextFits (s .«next_left»)))))
+    (both (opsPlaced ops s) (nextFits (s .«next_left»)))))
 
 -- 4, 6 or 7: what is checked before anything is looked up
 abbrev pub stepRefusal : List ℤ → ℤ → List ℕ → RunOptions → State → ℕ

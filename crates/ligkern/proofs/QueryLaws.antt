@@ -20,7 +20,7 @@ use Rattle.captions.specs.declared.State.{State}
 use Rattle.captions.specs.declared.Found.the-variants.{At, Nothing}
 use Rattle.captions.specs.declared.Told.the-variants.{Is, Refused}
 use Rattle.captions.specs.Tables.{pairCount, opCount, opFits, keyBy, leftPlace, find, foundAt, number, opKind, opValue, firstOp, lastCode, entryAt, recordFits}
-use Rattle.captions.specs.Form.{opsEnd, keyForm, pairForm, tableForm, tableRefusal}
+use Rattle.captions.specs.Form.{opsEnd, keyForm, pairForm, sizesForm, tableForm, tableRefusal}
 use Rattle.captions.specs.Steps.{rightItem}
 use Rattle.captions.specs.Queries.{notLigature, isSeparationPoint, originalOf, toldBy, isFound, hasEntry, opIsSevenBit, becomesSevenBit, pairIsSafe}
 use Rattle.ligkern.proofs.Filled.{unless-none}
@@ -81,7 +81,7 @@ module _ (pairs : List ℤ) (boundary left right : ℤ) {w v place : ℕ} (p : W
 pub table-fits : (pairs ops : List ℤ) (k : ℕ) → tableRefusal pairs ops ≡ 0 → k < pairCount pairs → recordFits pairs ops k ≡ true
 table-fits pairs ops k e h =
     let t = unless-none 7 (tableForm pairs ops) (λ z. omega arith) e in
-    let a = both-right (both (eqb (length pairs % 6) 0) (eqb (length ops % 2) 0)) (both (every (opCount ops) (opFits ops)) (both (every (pairCount pairs) (pairForm pairs ops)) (eqb (opsEnd pairs (pairCount pairs)) (opCount ops)))) t in
+    let a = both-right (sizesForm pairs ops) (both (every (opCount ops) (opFits ops)) (both (every (pairCount pairs) (pairForm pairs ops)) (eqb (opsEnd pairs (pairCount pairs)) (opCount ops)))) t in
     let b = both-right (every (opCount ops) (opFits ops)) (both (every (pairCount pairs) (pairForm pairs ops)) (eqb (opsEnd pairs (pairCount pairs)) (opCount ops))) a in
     let f = every-at (pairCount pairs) k (pairForm pairs ops) (both-left (every (pairCount pairs) (pairForm pairs ops)) (eqb (opsEnd pairs (pairCount pairs)) (opCount ops)) b) h in
     fits (keyForm pairs k) (recordFits pairs ops k) (both (eqb (firstOp pairs k) (opsEnd pairs k)) (formed (leftOf (leftPlace (number pairs k 0))) (wordOf (number pairs k 1)) (entryAt pairs ops k))) f

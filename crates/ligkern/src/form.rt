@@ -8,7 +8,7 @@ ghost use Rattle.lang.specs.Every.{every};
 ghost use Rattle.lang.specs.Records.{absentOr};
 ghost use Rattle.reading.specs.Form.{noPlain};
 ghost use Rattle.captions.specs.Tables.{pairCount, opCount, opFits, recordFits};
-ghost use Rattle.captions.specs.Form.{opsEnd, comesAfter, keyForm, pairForm, tableRefusal};
+ghost use Rattle.captions.specs.Form.{opsEnd, comesAfter, keyForm, pairForm, sizesForm, tableRefusal};
 ghost use Rattle.ligkern.specs.Parts.{leftBy, firstFits, opsTo, Leads, entryForm};
 use tables::key_at;
 use tables::kind_at;
@@ -169,14 +169,24 @@ fn pairs_form(pairs: &[i32], ops: &[i32]) -> bool
     true
 }
 
+// Whole pairs, whole ops, and no more ops than an i32 counts.
+fn sizes_form(pairs: &[i32], ops: &[i32]) -> bool
+    ensures { λ r. ⌜ r ≡ sizesForm (now (pairs .entry)) (now (ops .entry)) ⌝ }
+{
+    if pairs.len() % 6 != 0 {
+        return false;
+    }
+    if ops.len() % 2 != 0 {
+        return false;
+    }
+    ops.len() / 2 <= 2147483647
+}
+
 // 7: a table not of the form.
 pub(crate) fn table_refusal(pairs: &[i32], ops: &[i32]) -> u32
     ensures { λ r. ⌜ r ≡ tableRefusal (now (pairs .entry)) (now (ops .entry)) ⌝ }
 {
-    if pairs.len() % 6 != 0 {
-        return 7;
-    }
-    if ops.len() % 2 != 0 {
+    if !sizes_form(pairs, ops) {
         return 7;
     }
     if !ops_fit(ops) {

@@ -24,7 +24,7 @@ use Rattle.captions.specs.declared.Turned.{Turned}
 use Rattle.captions.specs.declared.Turned.the-variants.{Gives, Goes}
 use Rattle.captions.specs.declared.Found.the-variants.{At, Nothing}
 use Rattle.captions.specs.Tables.{opCount, opKind, opValue, opFits, keyBy, find, foundAt, recordFits}
-use Rattle.captions.specs.Steps.{refused, leftLetters, settled, giveItem, giveCharacter, giveLigature, afterOp, isNone, endsWord, giveOp, opsFit, readOp, gathered, leftNumber, afterRight, readOn, withNext, giveLeft, entered, turnBy, turnWith, orBoundary, rightItem, turnAtEnd, turnAtLetter, turn, nextFits, placed}
+use Rattle.captions.specs.Steps.{refused, leftLetters, settled, giveItem, giveCharacter, giveLigature, afterOp, isNone, endsWord, giveOp, opsFit, readOp, opsPlaced, gathered, leftNumber, afterRight, readOn, withNext, giveLeft, entered, turnBy, turnWith, orBoundary, rightItem, turnAtEnd, turnAtLetter, turn, nextFits, placed}
 use Rattle.steps.specs.Stepping.{turnLast, turnNext, lefts}
 
 -- ---- giving an item
@@ -180,10 +180,10 @@ module _ (ops : List ℤ) (word : List ℕ) (s : State) where
       pub placed-pending : s .read < s .pending → placed ops word s ≡ false
       placed-pending h = rw (le-leb (s .read) (length word) r, le-leb (s .given) (s .read) g, lt-leb (s .pending) (s .read) h)
 
-      pub placed-ops : s .pending ≤ s .read → leb (s .op + s .ops) (opCount ops) ≡ false → placed ops word s ≡ false
+      pub placed-ops : s .pending ≤ s .read → opsPlaced ops s ≡ false → placed ops word s ≡ false
       placed-ops p h = rw (le-leb (s .read) (length word) r, le-leb (s .given) (s .read) g, le-leb (s .pending) (s .read) p, h)
 
-      pub placed-next : s .pending ≤ s .read → leb (s .op + s .ops) (opCount ops) ≡ true → placed ops word s ≡ nextFits (s .«next_left»)
+      pub placed-next : s .pending ≤ s .read → opsPlaced ops s ≡ true → placed ops word s ≡ nextFits (s .«next_left»)
       placed-next p h = rw (le-leb (s .read) (length word) r, le-leb (s .given) (s .read) g, le-leb (s .pending) (s .read) p, h)
 
 -- a left is looked up

@@ -29,7 +29,7 @@ use Rattle.captions.specs.declared.Turned.{Turned}
 use Rattle.captions.specs.declared.Turned.the-variants.{Gives, Goes}
 use Rattle.captions.specs.Tables.{opCount, number, keyBy, find, firstOp, countOf, lastCode, lastFlag, recordFits}
 use Rattle.captions.specs.Begin.{edgesRefusal, wordRefusal}
-use Rattle.captions.specs.Steps.{refused, readOp, gathered, leftNumber, afterRight, readOn, giveLeft, entered, turnBy, turnWith, turnAtEnd, turnAtLetter, turn, onward, byNext, stepBy, runOn, nextFits, placed, stepRefusal, rightItem, handBack, stepped, steppedBy, stepOf}
+use Rattle.captions.specs.Steps.{refused, readOp, gathered, leftNumber, afterRight, readOn, giveLeft, entered, turnBy, turnWith, turnAtEnd, turnAtLetter, turn, onward, byNext, stepBy, runOn, nextFits, opsPlaced, placed, stepRefusal, rightItem, handBack, stepped, steppedBy, stepOf}
 use Rattle.steps.specs.Stepping.{lefts, turnsLeft, turnNext, turnOnce, Within}
 use Rattle.steps.proofs.Stepping.{letters-few}
 
@@ -241,7 +241,7 @@ module _ (ops : List ℤ) (boundary : ℤ) (word : List ℕ) (options : RunOptio
       let h3 = both-right (leb (s .pending) (s .read)) _ h2 in
       let r = leb-true (s .read) (length word) (both-left (leb (s .read) (length word)) _ h) in
       let p = leb-true (s .pending) (s .read) (both-left (leb (s .pending) (s .read)) _ h2) in
-      record { short = l; read = r; pending = omega (arith, r, p, left-few (s .«next_left»)); ops = leb-true (s .op + s .ops) (opCount ops) (both-left (leb (s .op + s .ops) (opCount ops)) _ h3); next = both-right (leb (s .op + s .ops) (opCount ops)) _ h3 }
+      record { short = l; read = r; pending = omega (arith, r, p, left-few (s .«next_left»)); ops = leb-true (s .op + s .ops) (opCount ops) (both-right (leb (opCount ops) 2147483647) (leb (s .op + s .ops) (opCount ops)) (both-left (opsPlaced ops s) (nextFits (s .«next_left»)) h3)); next = both-right (opsPlaced ops s) (nextFits (s .«next_left»)) h3 }
 
   pub accepted : stepRefusal ops boundary word options s ≡ 0 → Within (length word) (opCount ops) s
   accepted h =

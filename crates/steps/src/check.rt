@@ -1,9 +1,6 @@
 // What a step checks before anything is looked up.
 ghost use mathlib.Core.Path.{_≡_};
-ghost use Prim.Native.Nat.{_+_};
-ghost use lib.Dec.{leb};
-ghost use Rattle.captions.specs.Tables.{opCount};
-ghost use Rattle.captions.specs.Steps.{nextFits, placed, stepRefusal};
+ghost use Rattle.captions.specs.Steps.{nextFits, opsPlaced, placed, stepRefusal};
 use captions::NextLeft;
 use captions::RunOptions;
 use captions::State;
@@ -23,11 +20,14 @@ fn next_fits(x: NextLeft) -> bool
     }
 }
 
-// The ops that are to be given are among the ops.
+// An i32 counts the ops, and those that are to be given are among them.
 fn ops_placed(ops: &[i32], s: State) -> bool
-    ensures { λ r. ⌜ r ≡ leb (s .op + s .ops) (opCount (now (ops .entry))) ⌝ }
+    ensures { λ r. ⌜ r ≡ opsPlaced (now (ops .entry)) s ⌝ }
 {
     let count = ops.len() / 2;
+    if 2147483647 < count {
+        return false;
+    }
     if count < s.op {
         return false;
     }
