@@ -1,33 +1,29 @@
 -- The stages joined: what is refused, and what the lists hold, of measured rows and then of a font.
 -- Assumes nothing.
-use mathlib.Core.Path.{_≡_, refl, sym, ap, ap₂, _∙_, subst}
+use mathlib.Core.Path.{_≡_, refl, sym, ap, _∙_, subst}
 use mathlib.Core.Bool.{Bool, true, false, cond}
 use mathlib.Core.List.{List}
-use Prim.Native.Nat.{ℕ, zero, suc, _+_, _*_, _/_, _%_, _<_, _≤_, min}
+use Prim.Native.Nat.{ℕ, zero, suc, _*_, _/_, _%_, _<_, _≤_, min}
 use native.Mathlib.Omega.{arith}
 use lib.Dec.{leb, eqb}
 use lib.IntN.{ℤ, pos}
 use lib.ListN.{length, replicate, length-replicate}
 use borrow.Author.Tests.{leb-true, leb-false, le-leb, lt-leb}
-use Rattle.words.specs.Lists.{tabulate}
 use Rattle.words.proofs.Lists.{length-tabulate}
 use Rattle.lang.specs.Every.{both}
 use Rattle.lang.specs.Checks.{orElse, programRefusal, sizeRefusal, recordRefusal}
 use Rattle.lang.specs.Records.{count}
-use Rattle.lang.specs.Answers.{padded, listOf, roomRefusal}
-use Rattle.reading.specs.Items.{Rules}
-use Rattle.reading.specs.Depth.{Pair}
-use Rattle.reading.specs.Loops.{Ruled, finished, loopList}
+use Rattle.lang.specs.Answers.{listOf, roomRefusal}
+use Rattle.reading.specs.Loops.{finished, loopList}
 use Rattle.compiler.specs.declared.Compiled.{Compiled}
 use Rattle.compiler.specs.declared.Compiled.the-variants.{Tables, Refused}
-use Rattle.pairs.specs.Rows.{at, pairAt, pairs, rules}
-use Rattle.pairs.specs.Ops.{opsBefore, opsTable, pairTable, opTotal, opsWritten, pairsWritten, loopNumbers, Ready}
+use Rattle.pairs.specs.Rows.{at, pairAt, pairs}
+use Rattle.pairs.specs.Ops.{opsBefore, opsTable, pairTable, opTotal, opsWritten, pairsWritten, loopNumbers}
 use Rattle.pairs.specs.Walks.{loopsOf}
-use Rattle.pairs.specs.Walking.{Listing}
-use Rattle.pairs.specs.Fonts.{Font, pairsOf, rulesOf}
-use Rattle.compiler.specs.Compiled.{Room, roomOf, finishedOf, loopsOfFont, totalOps, fontTable, fontOps, fontLoops, fontRefusal, pairsRefusal, kernRefusal, opsRefusal, loopsRefusal, tablesRefusal, compileRefusal, compiledBy, Written, Compiles}
-use Rattle.pairs.specs.declared.Prepared.{Prepared}
-use Rattle.compiler.specs.Stages.{PreparesBy, prepareRefusal, measureRefusal, Sized, FontRows, filledBy, Filled, Lists, Blank, Builds}
+use Rattle.pairs.specs.Fonts.{Font, pairsOf}
+use Rattle.compiler.specs.Compiled.{Room, roomOf, loopsOfFont, totalOps, fontTable, fontOps, fontLoops, fontRefusal, pairsRefusal, kernRefusal, opsRefusal, loopsRefusal, tablesRefusal, compileRefusal, compiledBy, Written, Compiles}
+use Rattle.rows.specs.Prepares.{prepareRefusal, FontRows}
+use Rattle.compiler.specs.Stages.{measureRefusal, Sized, filledBy, Filled, Lists, Blank, Builds}
 
 -- ---- measured rows
 
@@ -92,29 +88,23 @@ module _ (n : ℕ) (w : List ℕ) (ps os ls : List ℤ) where
 
 -- ---- a font
 
--- what was prepared, of the font as it was lent
-pub prepared-as : (s kerns entries : List ℤ) (b l l′ d d′ : ℤ) (cap : ℕ) (w w′ : List ℕ) (u t : Prepared) →
-    PreparesBy (record { instructions = s; kerns = kerns; entries = entries; boundary = b; left = l; design = d }) cap w w′ u → u ≡ t → l ≡ l′ → d ≡ d′ →
-    PreparesBy (record { instructions = s; kerns = kerns; entries = entries; boundary = b; left = l′; design = d′ }) cap w w′ t
-prepared-as s kerns entries b l l′ d d′ cap w w′ u t h e p q =
-    subst (λ (x : ℤ). PreparesBy (record { instructions = s; kerns = kerns; entries = entries; boundary = b; left = l′; design = x }) cap w w′ t) q
-    (subst (λ (x : ℤ). PreparesBy (record { instructions = s; kerns = kerns; entries = entries; boundary = b; left = x; design = d }) cap w w′ t) p
-    (subst (PreparesBy (record { instructions = s; kerns = kerns; entries = entries; boundary = b; left = l; design = d }) cap w w′) e h))
-
-pub room-for : (n cap a p : ℕ) → cap ≡ min a (p / 6) → n ≤ cap → 6 * n ≤ p
-room-for n cap a p e h = omega arith
+pub room-for : (n p a : ℕ) → n ≤ min (p / 6) a → 6 * n ≤ p
+room-for n p a h = omega arith
 
 -- the cap is both rooms at once
-cap-by : (l a b : ℕ) (x y : Bool) → leb l a ≡ x → leb l b ≡ y → leb l (min a b) ≡ both x y
-cap-by l a b true true p q = le-leb l (min a b) (omega (arith, leb-true l a p, leb-true l b q))
-cap-by l a b true false p q = lt-leb l (min a b) (omega (arith, leb-false l b q))
-cap-by l a b false y p q = lt-leb l (min a b) (omega (arith, leb-false l a p))
+cap-by : (l a b : ℕ) (x y : Bool) → leb l a ≡ x → leb l b ≡ y → leb l (min b a) ≡ both x y
+cap-by l a b true true p q = le-leb l (min b a) (omega (arith, leb-true l a p, leb-true l b q))
+cap-by l a b true false p q = lt-leb l (min b a) (omega (arith, leb-false l b q))
+cap-by l a b false y p q = lt-leb l (min b a) (omega (arith, leb-false l a p))
 
 or-assoc : (a b c : ℕ) → orElse a (orElse b c) ≡ orElse (orElse a b) c
 or-assoc zero b c = refl
 or-assoc (suc a) b c = refl
 
-module _ (f : Font) (ps os ls : List ℤ) (work : List ℕ) (cap : ℕ) (c : cap ≡ min (length work / 16) (length ps / 6)) where
+module _ (f : Font) (ps os ls : List ℤ) (work : List ℕ) where
+  abbrev cap : ℕ
+  cap = min (length ps / 6) (length work / 16)
+
   abbrev room : Room
   room = roomOf ps os ls work
 
@@ -125,7 +115,7 @@ module _ (f : Font) (ps os ls : List ℤ) (work : List ℕ) (cap : ℕ) (c : cap
   unfolding rest
   split =
       let l = length (pairsOf f) in
-      let e : leb l cap ≡ both (leb l (length work / 16)) (leb l (length ps / 6)) = ap (leb l) c ∙ cap-by l (length work / 16) (length ps / 6) (leb l (length work / 16)) (leb l (length ps / 6)) refl refl in
+      let e : leb l cap ≡ both (leb l (length work / 16)) (leb l (length ps / 6)) = cap-by l (length work / 16) (length ps / 6) (leb l (length work / 16)) (leb l (length ps / 6)) refl refl in
       or-assoc (pairsRefusal f room) (kernRefusal f) rest ∙ ap (λ (b : Bool). orElse (orElse (cond b 0 12) (kernRefusal f)) rest) (sym e)
 
   unfit-by : (k r : ℕ) → r ≡ k → 0 < k → ps ≡ replicate (length ps) (pos 0) → os ≡ replicate (length os) (pos 0) → ls ≡ replicate (length ls) (pos 0) → (Refused k ≡ compiledBy r f) × Written f r ps os ls ps os ls
@@ -254,14 +244,13 @@ module _ (f : Font) (ps os ls : List ℤ) (work : List ℕ) (r : Compiled) (ps�
       first zero i = absurd (i refl)
       first (suc j) i = refl
 
-  pub compiled : (zp zo zl : List ℤ) (zw : List ℕ) → zp ≡ z ps → zo ≡ z os → zl ≡ z ls → zw ≡ replicate (length work) 0 → 0 ≡ fontRefusal f → Builds f zp zo zl zw r ps′ os′ ls′ → work′ ≡ replicate (length work) 0 → Compiles f ps os ls work r ps′ os′ ls′ work′
-  compiled zp zo zl zw p o l q e b w =
+  pub compiled : (zp zo zl : List ℤ) → zp ≡ z ps → zo ≡ z os → zl ≡ z ls → 0 ≡ fontRefusal f → Builds f zp zo zl work r ps′ os′ ls′ → work′ ≡ replicate (length work) 0 → Compiles f ps os ls work r ps′ os′ ls′ work′
+  compiled zp zo zl p o l e b w =
       let a : length zp ≡ length ps = ap length p ∙ length-replicate (length ps) (pos 0) in
       let c : length zo ≡ length os = ap length o ∙ length-replicate (length os) (pos 0) in
       let d : length zl ≡ length ls = ap length l ∙ length-replicate (length ls) (pos 0) in
-      let g : length zw ≡ length work = ap length q ∙ length-replicate (length work) 0 in
-      let m : tablesRefusal f (roomOf zp zo zl zw) ≡ compileRefusal f (roomOf ps os ls work) =
-      (λ i. tablesRefusal f (record { pairs = a i; ops = c i; loops = d i; work = g i })) ∙ ap (λ (x : ℕ). orElse x (tablesRefusal f (roomOf ps os ls work))) e in
+      let m : tablesRefusal f (roomOf zp zo zl work) ≡ compileRefusal f (roomOf ps os ls work) =
+      (λ i. tablesRefusal f (record { pairs = a i; ops = c i; loops = d i; work = length work })) ∙ ap (λ (x : ℕ). orElse x (tablesRefusal f (roomOf ps os ls work))) e in
       record {
         answer = b .answer ∙ ap (λ (x : ℕ). compiledBy x f) m;
         lists =

@@ -1,31 +1,25 @@
 -- The measuring stage: settling, counting, finding loops and first ops, one after the other, each keeping what the next one needs.
 -- Assumes nothing.
-use mathlib.Core.Path.{_≡_, refl, sym, ap, ap₂, _∙_, subst}
-use mathlib.Core.Bool.{Bool, true, false, cond}
+use mathlib.Core.Path.{_≡_, sym, ap, _∙_}
 use mathlib.Core.List.{List}
 use mathlib.Core.Logic.{_⊎_, inl, inr}
-use Prim.Native.Nat.{ℕ, zero, suc, _+_, _*_, _-_, _/_, _<_, _≤_, min}
+use Prim.Native.Nat.{ℕ, zero, suc, _+_, _*_, _/_, _<_, _≤_}
 use native.Mathlib.Nat.{eq-or-lt-of-le, le-of-suc-le-suc}
 use native.Mathlib.Omega.{arith}
-use lib.Dec.{leb, ltb}
 use lib.ListN.{length}
-use borrow.Author.Tests.{le-leb, lt-leb, ltb-true, ltb-false}
-use Rattle.words.specs.Lists.{tabulate}
+use borrow.Author.Tests.{le-leb, lt-leb}
 use Rattle.words.proofs.Lists.{tabulate-ext, getD-tabulate}
 use Rattle.reading.specs.Items.{bnd}
-use Rattle.reading.specs.Depth.{Pair, Finished}
-use Rattle.reading.specs.Loops.{Ruled, walkedBefore, loopList}
-use Rattle.lang.specs.Every.{both}
-use Rattle.lang.specs.Checks.{orElse}
-use Rattle.lang.specs.Answers.{roomRefusal}
-use Rattle.pairs.specs.Rows.{at, leftOf, pairAt, ruledAt, pairs, rules, Ascending, Encoded, SameRows}
+use Rattle.reading.specs.Depth.{Finished}
+use Rattle.reading.specs.Loops.{Ruled, loopList}
+use Rattle.pairs.specs.Rows.{at, pairAt, ruledAt, pairs, Encoded}
 use Rattle.pairs.specs.Lasts.{outcome, finishedRows, Settled}
-use Rattle.pairs.specs.Ops.{opsOf, entryOf, nth, opsBefore, capped, OnlyField, opCount, opTotal, Counts, Exact, Firsts, Ready}
-use Rattle.pairs.specs.Walks.{turn, turnPlace, Turns, Listed, loopsOf}
+use Rattle.pairs.specs.Ops.{opsOf, entryOf, opsBefore, capped, opCount, opTotal, Counts, Exact, Firsts, Ready}
+use Rattle.pairs.specs.Walks.{Turns, Listed, loopsOf}
 use Rattle.pairs.specs.Walking.{Listing}
 use Rattle.compiler.specs.Stages.{measureRefusal, Sized}
-use Rattle.pairs.proofs.RowLaws.{SameRules, Keeps, keeps-rules, only-keeps, settled-self, settled-kept, encoded-same, rules-same, pairs-same, finished-same, outcome-same, pair-same, ruled-same}
-use Rattle.pairs.proofs.WalkLaws.{listedPair, listing-of, listed-pairs}
+use Rattle.pairs.proofs.RowLaws.{SameRules, Keeps, keeps-rules, only-keeps, settled-self, settled-kept, encoded-same, rules-same, pairs-same, finished-same, outcome-same, pair-same}
+use Rattle.pairs.proofs.WalkLaws.{turns-same, listedPair, listing-of, listed-pairs}
 
 -- ---- totals
 
@@ -44,36 +38,6 @@ loops-same n w u s =
 
 count-same : (n : ℕ) (w u : List ℕ) → SameRules n w u → (k : ℕ) → k < n → opCount n u k ≡ opCount n w k
 count-same n w u s k h = ap (λ o. length (opsOf o)) (outcome-same n w u s k h)
-
-place-by : (n e i : ℕ) (b : Bool) → ltb (e + i) n ≡ b → e ≤ n → i < n → cond b (e + i) (e + i - n) < n
-place-by n e i true t h l = ltb-true (e + i) n t
-place-by n e i false t h l = omega (arith, ltb-false (e + i) n t)
-
-place-below : (n e i : ℕ) → e ≤ n → i < n → turnPlace n e i < n
-place-below n e i h l = place-by n e i (ltb (e + i) n) refl h l
-
-pub turns-same : (n e : ℕ) (w u : List ℕ) → ((k f : ℕ) → k < n → f < 3 → at u k f ≡ at w k f) → ((k : ℕ) → k < n → at u k 15 ≡ at w k 15) → Turns n e w → Turns n e u
-turns-same n e w u s t h = record {
-  few = h .few;
-  boundary = λ k l. s k 0 (omega (arith, h .few)) (omega arith) ∙ h .boundary k l;
-  others = λ k l i. rw (s k 0 i (omega arith)) (h .others k l i);
-  row = λ i l. rw (same i l) (h .row i l);
-  sorted = λ i l. ap₂ walkedBefore (turned i (omega arith)) (turned (suc i) l) ∙ h .sorted i l;
-  each = λ k l. let q = h .each k l in (q .0, q .1, same (q .0) (q .1) ∙ q .2);
-}
-  where
-    same : (i : ℕ) → i < n → turn n e u i ≡ turn n e w i
-    same i l = t (turnPlace n e i) (place-below n e i (h .few) l)
-
-    ruled : (k : ℕ) → k < n → ruledAt u k ≡ ruledAt w k
-    ruled k l =
-        let a = s k 0 l (omega arith) in
-        let b = s k 1 l (omega arith) in
-        let d = s k 2 l (omega arith) in
-        λ i. record { pair = record { left = leftOf (a i); right = b i }; index = d i }
-
-    turned : (i : ℕ) → i < n → ruledAt u (turn n e u i) ≡ ruledAt w (turn n e w i)
-    turned i l = ap (ruledAt u) (same i l) ∙ ruled (turn n e w i) (h .row i l)
 
 part-by : (f : Finished) (ps : List Ruled) (k n : ℕ) → (k ≡ n) ⊎ (k < n) → (k < n → length (opsOf (entryOf f ps k)) ≤ opsBefore f ps n) → length (opsOf (entryOf f ps k)) ≤ opsBefore f ps n + length (opsOf (entryOf f ps n))
 part-by f ps k n (inl e) i = rw e (omega arith)

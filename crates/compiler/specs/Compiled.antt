@@ -1,23 +1,21 @@
 -- What compiling answers, and what it leaves in every list: the contract of `compile`. Document 01, 'The pair table' and the table of numbers.
 use mathlib.Core.Path.{_≡_}
-use mathlib.Core.Bool.{Bool, true, false, cond}
+use mathlib.Core.Bool.{cond}
 use mathlib.Core.List.{List}
 use Prim.Native.Nat.{ℕ, zero, suc, _*_, _/_}
 use lib.IntN.{ℤ, pos}
 use lib.Dec.{leb}
 use lib.ListN.{length, replicate}
-use Rattle.lang.specs.Every.{both, every}
-use Rattle.lang.specs.Records.{instructionAt}
+use Rattle.lang.specs.Every.{both}
 use Rattle.lang.specs.Checks.{programRefusal, kernsRefusal, entriesRefusal, absentRefusal, designRefusal, orElse}
 use Rattle.lang.specs.Answers.{listOf, roomRefusal}
-use Rattle.chain.specs.Chains.{actsAs}
 use Rattle.reading.specs.Depth.{Finished, Pair}
-use Rattle.reading.specs.Loops.{Ruled, finished, loopList}
+use Rattle.reading.specs.Loops.{finished, loopList}
 use Rattle.compiler.specs.declared.Compiled.{Compiled}
 use Rattle.compiler.specs.declared.Compiled.the-variants.{Tables, Refused}
-use Rattle.pairs.specs.Ops.{nth, opsBefore, opsTable, pairTable, loopNumbers}
+use Rattle.pairs.specs.Ops.{opsBefore, opsTable, pairTable, loopNumbers}
 use Rattle.pairs.specs.Fonts.{Font, pairsOf, rulesOf}
-use Rattle.pairs.specs.Collect.{scales}
+pub use Rattle.rows.specs.Prepares.{pairScales, kernRefusal}
 
 -- how long the four lists are that are lent to be written
 pub record Room : Type 0 where
@@ -46,7 +44,7 @@ fontOps f = opsTable (finishedOf f) (pairsOf f) (length (pairsOf f))
 abbrev pub fontLoops : Font → List ℤ
 fontLoops f = loopNumbers (loopsOfFont f)
 
--- ---- refusals, the lowest first
+-- ---- refusals, the lowest first; 13 is `kernRefusal` of crate `rows`
 
 -- 1 to 5
 abbrev pub fontRefusal : Font → ℕ
@@ -61,13 +59,6 @@ fontRefusal f =
 abbrev pub pairsRefusal : Font → Room → ℕ
 pairsRefusal f room =
     cond (both (leb (length (pairsOf f)) (room .work / 16)) (leb (length (pairsOf f)) (room .pairs / 6))) 0 12
-
--- 13: a kern that is the rule of some pair has a top byte neither 0 nor 255
-abbrev pub pairScales : Font → ℕ → Bool
-pairScales f k = scales (f .design) (actsAs (f .kerns) (instructionAt (f .instructions) (nth (pairsOf f) k .index) .operation))
-
-abbrev pub kernRefusal : Font → ℕ
-kernRefusal f = cond (every (length (pairsOf f)) (pairScales f)) 0 13
 
 -- 14: the finished pairs' ops exceed the op table, or 2,147,483,647
 abbrev pub opsRefusal : Font → Room → ℕ

@@ -1,5 +1,6 @@
--- What compiling is held to. The definitions of a font's rules, its pairs and the tables stand in crate `pairs` (Fonts, Ops), and so do those of the rows.
+-- What compiling is held to. The definitions of a font's rules, its pairs and the tables stand in crate `pairs` (Fonts, Ops), and so do those of the rows; that of 13
+-- stands in crate `rows` (Prepares), with the contract of the first stage.
 --   Compiled  THE contract: refusals, answer, and the content of every list
---   Stages    the passes one after the other
+--   Stages    the stages after the first, one after the other
 pub mod Compiled
 pub mod Stages

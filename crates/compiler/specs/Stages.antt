@@ -1,6 +1,6 @@
--- The three stages of compiling: the rows of a font, what they measure, and the lists written from them.
+-- The stages of compiling after the rows of a font (crate `rows`): what they measure, and the lists written from them.
 use mathlib.Core.Path.{_≡_}
-use mathlib.Core.Bool.{Bool, true, false, cond}
+use mathlib.Core.Bool.{cond}
 use mathlib.Core.List.{List}
 use Prim.Native.Nat.{ℕ, zero, suc, _*_, _/_, _<_, _≤_}
 use lib.IntN.{ℤ, pos}
@@ -10,36 +10,16 @@ use Rattle.words.specs.Lists.{tabulate}
 use Rattle.lang.specs.Every.{both}
 use Rattle.lang.specs.Checks.{orElse}
 use Rattle.lang.specs.Answers.{padded, listOf, roomRefusal}
-use Rattle.pairs.specs.declared.Prepared.{Prepared}
-use Rattle.pairs.specs.declared.Prepared.the-variants.{Rows, Unfit}
 use Rattle.pairs.specs.declared.Measured.{Measured}
 use Rattle.pairs.specs.declared.Measured.the-variants.{Sizes, Long}
-use Rattle.pairs.specs.Rows.{at, pairAt, pairs, rules, Encoded}
+use Rattle.pairs.specs.Rows.{at, pairAt, pairs, rules}
 use Rattle.pairs.specs.Ops.{Ready, opTotal, opsWritten, pairsWritten, loopNumbers}
-use Rattle.pairs.specs.Walks.{Turns, loopsOf}
+use Rattle.pairs.specs.Walks.{loopsOf}
 use Rattle.pairs.specs.Walking.{Listing}
-use Rattle.pairs.specs.Fonts.{Font, pairsOf, rulesOf}
+use Rattle.pairs.specs.Fonts.{Font}
 use Rattle.compiler.specs.declared.Compiled.{Compiled}
 use Rattle.compiler.specs.declared.Compiled.the-variants.{Tables, Refused}
-use Rattle.compiler.specs.Compiled.{kernRefusal, tablesRefusal, compiledBy, roomOf, Written}
-
--- ---- the rows of a font: 12 where there are more than the cap, 13
-
-abbrev pub prepareRefusal : Font → ℕ → ℕ
-prepareRefusal f cap = orElse (cond (leb (length (pairsOf f)) cap) 0 12) (kernRefusal f)
-
-pub record FontRows (f : Font) (w : List ℕ) (n e : ℕ) : Type 0 where
-  pub encoded : Encoded n w
-  pub pairs-are : pairs n w ≡ pairsOf f
-  pub rules-are : rules n w ≡ rulesOf f
-  pub turns : Turns n e w
-  pub new : (k : ℕ) → k < n → at w k 5 ≡ 0
-  pub unmet : (k : ℕ) → k < n → at w k 14 ≡ 0
-  pub count-is : n ≡ length (pairsOf f)
-
-abbrev pub PreparesBy : Font → ℕ → List ℕ → List ℕ → Prepared → Type 0
-PreparesBy f cap w w′ (Rows n e) = (prepareRefusal f cap ≡ 0) × (length w′ ≡ length w) × (n ≤ cap) × FontRows f w′ n e
-PreparesBy f cap w w′ (Unfit r) = (prepareRefusal f cap ≡ r) × (0 < r)
+use Rattle.compiler.specs.Compiled.{tablesRefusal, compiledBy, roomOf, Written}
 
 -- ---- what the rows measure: 14 where their ops pass the room for ops, 15 where the loops do
 

@@ -29,7 +29,7 @@ fn part_count(work: &[u32], part: Part) -> u32
         Part::Character(_) => 1,
         Part::Ligature(_) => 1,
         Part::Kern(_) => 1,
-        Part::OfRow(k) => crate::rows::get(work, k, 12),
+        Part::OfRow(k) => crate::row::get(work, k, 12),
     }
 }
 
@@ -49,7 +49,7 @@ fn zero_counts(work: &mut [u32], n: usize)
     ensures { λ _. ⌜ Stored 12 n (λ (_ : ℕ). 0) (now (work .entry)) (now (work .exit)) n ⌝ }
 {
     for k in 0..n {
-        crate::rows::put(work, k, 12, 0);
+        crate::row::put(work, k, 12, 0);
     }
 }
 
@@ -59,9 +59,9 @@ fn count_rows(work: &mut [u32], n: usize, m: usize)
     ensures { λ _. ⌜ Counted n (now (work .entry)) (now (work .exit)) ⌝ }
 {
     for i in 0..m {
-        let k = crate::rows::get(work, i, 10) as usize;
+        let k = crate::row::get(work, i, 10) as usize;
         let count = row_count(work, n, k);
-        crate::rows::put(work, k, 12, count);
+        crate::row::put(work, k, 12, count);
     }
 }
 
@@ -72,7 +72,7 @@ fn total_count(work: &[u32], n: usize) -> u32
 {
     let mut total = 0;
     for k in 0..n {
-        let count = crate::rows::get(work, k, 12);
+        let count = crate::row::get(work, k, 12);
         total = capped_sum(total, count);
     }
     total
@@ -95,8 +95,8 @@ pub(crate) fn first_ops(work: &mut [u32], n: usize, m: usize)
 {
     let mut total = 0;
     for k in 0..n {
-        crate::rows::put(work, k, 13, total);
-        let count = crate::rows::get(work, k, 12);
+        crate::row::put(work, k, 13, total);
+        let count = crate::row::get(work, k, 12);
         total += count;
     }
 }

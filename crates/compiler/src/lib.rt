@@ -1,11 +1,11 @@
 // Compiling, after ligkern/compiler.rs (reference `CompiledProgram::compile`), in passes over the work buffer; specs/Rows.antt of crate `pairs` says what
 // a row of it holds.
-//   collect  the pairs that have a rule            encode  what their rules do
 //   settle   which pairs finish, and their lasts   walks   the loop list
 //   count, write  op counts, first ops, the tables
 //   stages, fill  the passes one after the other
+// The first stage, the rows of the font, is crate `rows`.
 ghost use mathlib.Core.Path.{_≡_};
-ghost use Prim.Native.Nat.{_≤_, min};
+ghost use Prim.Native.Nat.{_≤_};
 ghost use lib.ListN.{length, replicate};
 ghost use lib.IntN.{ℤ, pos};
 ghost use Rattle.lang.specs.Checks.{orElse, absentRefusal, designRefusal};
@@ -14,12 +14,10 @@ ghost use Rattle.pairs.specs.Fonts.{Font};
 ghost use Rattle.compiler.specs.Compiled.{Compiles, fontRefusal};
 ghost use Rattle.compiler.specs.Stages.{Builds};
 
-mod collect;
 mod count;
-mod encode;
 mod fill;
 mod parts;
-mod rows;
+mod row;
 mod settle;
 mod stages;
 mod walks;
@@ -81,12 +79,6 @@ fn font_refusal(
     edge_refusal(boundary, left_entry, design_size)
 }
 
-fn smaller(a: usize, b: usize) -> usize
-    ensures { λ r. ⌜ r ≡ min a b ⌝ }
-{
-    if a <= b { a } else { b }
-}
-
 // The lists of a font that is not refused by 1 to 5: the rows, and then the lists. 12 to 15.
 fn build(
     instructions: &[i32],
@@ -99,18 +91,17 @@ fn build(
     loops: &mut [i32],
     work: &mut [u32],
 ) -> Compiled
-    requires { ⌜ (count (now instructions) ≤ 32767) × (now pairs ≡ replicate (length (now pairs)) (pos 0)) × (now ops ≡ replicate (length (now ops)) (pos 0)) × (now loops ≡ replicate (length (now loops)) (pos 0)) × (now work ≡ replicate (length (now work)) 0) ⌝ }
+    requires { ⌜ (count (now instructions) ≤ 32767) × (now pairs ≡ replicate (length (now pairs)) (pos 0)) × (now ops ≡ replicate (length (now ops)) (pos 0)) × (now loops ≡ replicate (length (now loops)) (pos 0)) ⌝ }
     ensures { λ r. ⌜ ((b : ℤ) → Builds (record { instructions = now (instructions .entry); kerns = now (kerns .entry); entries = now (entries .entry); boundary = b; left = «left_entry»; design = «design_size» }) (now (pairs .entry)) (now (ops .entry)) (now (loops .entry)) (now (work .entry)) r (now (pairs .exit)) (now (ops .exit)) (now (loops .exit))) ⌝ }
 {
-    let cap = smaller(work.len() / 16, pairs.len() / 6);
-    match stages::prepare(
+    match rows::prepare(
         instructions,
         kerns,
         entries,
         left_entry,
         design_size,
         work,
-        cap,
+        pairs.len() / 6,
     ) {
         Prepared::Unfit(number) => Compiled::Refused(number),
         Prepared::Rows(n, e) => fill::fill(n, e, pairs, ops, loops, work),
@@ -135,7 +126,6 @@ pub fn compile(
     zero_i32(pairs);
     zero_i32(ops);
     zero_i32(loops);
-    zero_u32(work);
     let number = font_refusal(
         instructions,
         kerns,
@@ -145,6 +135,7 @@ pub fn compile(
         design_size,
     );
     if number != 0 {
+        zero_u32(work);
         return Compiled::Refused(number);
     }
     let compiled = build(

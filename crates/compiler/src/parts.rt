@@ -22,7 +22,7 @@ fn pair_part(work: &[u32], n: usize, left: u32, right: u32) -> Part
     requires { ⌜ (Ascending n (now work)) × (left < 257) × (right < 256) ⌝ }
     ensures { λ r. ⌜ r ≡ pairPart n (now (work .entry)) left right ⌝ }
 {
-    match crate::rows::find(work, n, left, right) {
+    match crate::row::find(work, n, left, right) {
         Row::Found(k) => Part::OfRow(k),
         Row::Missing => left_part(left),
     }
@@ -33,8 +33,8 @@ fn last_code(work: &[u32], n: usize, left: u32, right: u32) -> u32
     requires { ⌜ (Ascending n (now work)) × (left < 257) × (right < 256) ⌝ }
     ensures { λ r. ⌜ r ≡ lastCode n (now (work .entry)) left right ⌝ }
 {
-    match crate::rows::find(work, n, left, right) {
-        Row::Found(k) => crate::rows::get(work, k, 6),
+    match crate::row::find(work, n, left, right) {
+        Row::Found(k) => crate::row::get(work, k, 6),
         Row::Missing => right,
     }
 }
@@ -44,9 +44,9 @@ pub(crate) fn first_part(work: &[u32], n: usize, k: usize) -> Part
     requires { ⌜ (Encoded n (now work)) × (k < n) ⌝ }
     ensures { λ r. ⌜ r ≡ firstPart n (now (work .entry)) k ⌝ }
 {
-    let op = crate::rows::get(work, k, 3);
-    let left = crate::rows::get(work, k, 0);
-    let value = crate::rows::get(work, k, 4);
+    let op = crate::row::get(work, k, 3);
+    let left = crate::row::get(work, k, 0);
+    let value = crate::row::get(work, k, 4);
     if 6 <= op {
         return left_part(left);
     }
@@ -64,10 +64,10 @@ pub(crate) fn second_part(work: &[u32], n: usize, k: usize) -> Part
     requires { ⌜ (Encoded n (now work)) × (k < n) × LastFits n (now work) k ⌝ }
     ensures { λ r. ⌜ r ≡ secondPart n (now (work .entry)) k ⌝ }
 {
-    let op = crate::rows::get(work, k, 3);
-    let left = crate::rows::get(work, k, 0);
-    let right = crate::rows::get(work, k, 1);
-    let value = crate::rows::get(work, k, 4);
+    let op = crate::row::get(work, k, 3);
+    let left = crate::row::get(work, k, 0);
+    let right = crate::row::get(work, k, 1);
+    let value = crate::row::get(work, k, 4);
     match op {
         128 => Part::Kern(value),
         5 | 11 => Part::Ligature(value),

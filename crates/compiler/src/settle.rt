@@ -1,9 +1,9 @@
 // Which pairs finish, with which last, and what the others wait for: a depth-first search, after TFtoPL 94 and 95 and
 // `calculate_replacements` of ligkern/compiler.rs (lines 158 to 389). Linear in the rows, times a bisection. The path, from the row that the search began
 // with to the one that it looks at, stands in numbers 8 of the first rows.
-use super::rows::find;
-use super::rows::get;
-use super::rows::put;
+use super::row::find;
+use super::row::get;
+use super::row::put;
 use pairs::Last;
 use pairs::Progress;
 use pairs::Row;

@@ -11,8 +11,8 @@ ghost use Rattle.pairs.specs.Lasts.{Settled};
 ghost use Rattle.pairs.specs.Ops.{leftNumber, loopNumbers};
 ghost use Rattle.pairs.specs.Walks.{turn, Turns, Listed};
 ghost use Rattle.pairs.specs.Walking.{Walkable, Walk, Turn, Listing};
-use crate::rows::get;
-use crate::rows::put;
+use crate::row::get;
+use crate::row::put;
 use crate::write::left_word;
 
 // Marks rows from row k on with id, each time going on to the row that is waited for, up to one that has a mark. Answers that row.

@@ -40,8 +40,8 @@ fn copy_row(work: &[u32], k: usize, ops: &mut [i32], p: usize) -> usize
     requires { ⌜ Copies (now work) (now ops) p k ⌝ }
     ensures { λ r. ⌜ (r ≡ p + opsSize (now (work .entry)) k) × (now (ops .exit) ≡ sets (now (ops .entry)) p (take (opsSize (now (work .entry)) k) (drop (opsFrom (now (work .entry)) k) (now (ops .entry))))) ⌝ }
 {
-    let from = 2 * (crate::rows::get(work, k, 13) as usize);
-    let count = 2 * (crate::rows::get(work, k, 12) as usize);
+    let from = 2 * (crate::row::get(work, k, 13) as usize);
+    let count = 2 * (crate::row::get(work, k, 12) as usize);
     copy_numbers(ops, from, p, count);
     p + count
 }
@@ -80,7 +80,7 @@ fn write_row(work: &[u32], n: usize, k: usize, ops: &mut [i32])
     requires { ⌜ Turn n (now work) (now ops) k ⌝ }
     ensures { λ _. ⌜ now (ops .exit) ≡ sets (now (ops .entry)) (opsFrom (now (work .entry)) k) (opNumbers (opsOf (outcome n (now (work .entry)) k))) ⌝ }
 {
-    let from = 2 * (crate::rows::get(work, k, 13) as usize);
+    let from = 2 * (crate::row::get(work, k, 13) as usize);
     let next = write_part(work, crate::parts::first_part(work, n, k), ops, from);
     let end = write_part(work, crate::parts::second_part(work, n, k), ops, next);
     raise_first(ops, next, end)
@@ -92,7 +92,7 @@ pub(crate) fn write_ops(work: &[u32], n: usize, m: usize, ops: &mut [i32])
     ensures { λ _. ⌜ now (ops .exit) ≡ padded (pos 0) (length (now (ops .entry))) (opsWritten n (now (work .entry))) ⌝ }
 {
     for i in 0..m {
-        let k = crate::rows::get(work, i, 10) as usize;
+        let k = crate::row::get(work, i, 10) as usize;
         write_row(work, n, k, ops);
     }
 }
@@ -110,12 +110,12 @@ fn put_pair(work: &[u32], k: usize, pairs: &mut [i32], p: usize)
     requires { ⌜ (k < 65792) × (at (now work) k 0 < 257) × (p + 6 ≤ length (now pairs)) ⌝ }
     ensures { λ _. ⌜ now (pairs .exit) ≡ sets (now (pairs .entry)) p (rowNumbers (now (work .entry)) k) ⌝ }
 {
-    words::put_word(pairs, p, left_word(crate::rows::get(work, k, 0)));
-    words::put_word(pairs, p + 1, crate::rows::get(work, k, 1));
-    words::put_word(pairs, p + 2, crate::rows::get(work, k, 6));
-    words::put_word(pairs, p + 3, crate::rows::get(work, k, 7));
-    words::put_word(pairs, p + 4, crate::rows::get(work, k, 13));
-    words::put_word(pairs, p + 5, crate::rows::get(work, k, 12));
+    words::put_word(pairs, p, left_word(crate::row::get(work, k, 0)));
+    words::put_word(pairs, p + 1, crate::row::get(work, k, 1));
+    words::put_word(pairs, p + 2, crate::row::get(work, k, 6));
+    words::put_word(pairs, p + 3, crate::row::get(work, k, 7));
+    words::put_word(pairs, p + 4, crate::row::get(work, k, 13));
+    words::put_word(pairs, p + 5, crate::row::get(work, k, 12));
 }
 
 // The six numbers of each finished row, in the order of rows. Answers how many numbers that are.
@@ -125,7 +125,7 @@ pub(crate) fn write_pairs(work: &[u32], n: usize, m: usize, pairs: &mut [i32]) -
 {
     let mut end = 0;
     for k in 0..n {
-        if crate::rows::get(work, k, 5) == 2 {
+        if crate::row::get(work, k, 5) == 2 {
             put_pair(work, k, pairs, end);
             end += 6;
         }

@@ -22,7 +22,7 @@ use Rattle.words.proofs.Bits.{number-pos}
 use Rattle.lang.specs.Answers.{padded}
 use Rattle.reading.specs.Items.{Left, bnd, chr}
 use Rattle.reading.specs.Depth.{Res, Finished, Pair}
-use Rattle.reading.specs.Loops.{Ruled, sameLeft, samePair, member, ordered, isFinished, unfinished, follow, waits, Walked, walk, walks, loopList}
+use Rattle.reading.specs.Loops.{Ruled, sameLeft, samePair, member, ordered, walkedBefore, isFinished, unfinished, follow, waits, Walked, walk, walks, loopList}
 use Rattle.reading.proofs.Count.{count, count-all, grown}
 use Rattle.reading.proofs.Complete.{unfinished-waits}
 use Rattle.pairs.specs.Rows.{at, leftOf, numberOfLeft, pairAt, ruledAt, pairs, rules, Ascending, Encoded}
@@ -99,6 +99,30 @@ place-within n e s h l = go (ltb (e + s) n) refl
     go : (b : Bool) → ltb (e + s) n ≡ b → cond b (e + s) (e + s - n) < n
     go true i = ltb-true (e + s) n i
     go false i = omega (arith, ltb-false (e + s) n i)
+
+-- rows whose numbers 0, 1, 2 and 15 are the same have the same turns
+pub turns-same : (n e : ℕ) (w u : List ℕ) → ((k f : ℕ) → k < n → f < 3 → at u k f ≡ at w k f) → ((k : ℕ) → k < n → at u k 15 ≡ at w k 15) → Turns n e w → Turns n e u
+turns-same n e w u s t h = record {
+  few = h .few;
+  boundary = λ k l. s k 0 (omega (arith, h .few)) (omega arith) ∙ h .boundary k l;
+  others = λ k l i. rw (s k 0 i (omega arith)) (h .others k l i);
+  row = λ i l. rw (same i l) (h .row i l);
+  sorted = λ i l. ap₂ walkedBefore (turned i (omega arith)) (turned (suc i) l) ∙ h .sorted i l;
+  each = λ k l. let q = h .each k l in (q .0, q .1, same (q .0) (q .1) ∙ q .2);
+}
+  where
+    same : (i : ℕ) → i < n → turn n e u i ≡ turn n e w i
+    same i l = t (turnPlace n e i) (place-within n e i (h .few) l)
+
+    ruled : (k : ℕ) → k < n → ruledAt u k ≡ ruledAt w k
+    ruled k l =
+        let a = s k 0 l (omega arith) in
+        let b = s k 1 l (omega arith) in
+        let d = s k 2 l (omega arith) in
+        λ i. record { pair = record { left = leftOf (a i); right = b i }; index = d i }
+
+    turned : (i : ℕ) → i < n → ruledAt u (turn n e u i) ≡ ruledAt w (turn n e w i)
+    turned i l = ap (ruledAt u) (same i l) ∙ ruled (turn n e w i) (h .row i l)
 
 -- ---- what marking a row and a walk keep
 

@@ -1,5 +1,5 @@
-// The definitions (specs/) and laws (proofs/) of compiling's passes over the rows of the work buffer, and the types that the passes answer with. Crate `compiler`
-// holds the passes.
+// The definitions (specs/) and laws (proofs/) of compiling's passes over the rows of the work buffer, and the types that the passes answer with. Crates `rows`
+// and `compiler` hold the passes.
 
 // The row of a pair, or nothing.
 pub enum Row {

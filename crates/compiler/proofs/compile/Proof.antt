@@ -1,9 +1,9 @@
 -- `compiler::compile` meets its contract: proofs/Building, of the lists as they were zeroed.
 -- Assumes nothing.
-use mathlib.Core.Path.{_≡_, sym, ap, _∙_}
+use mathlib.Core.Path.{sym, ap, _∙_}
 use Prim.Native.Nat.{ℕ}
 use lib.IntN.{pos}
-use lib.ListN.{length, replicate, length-replicate}
+use lib.ListN.{replicate}
 use Rattle.words.proofs.Bits.{number-word}
 use Rattle.compiler.specs.declared.Compiled.the-variants.{Refused}
 use Rattle.compiler.proofs.Building.{blank-of, few-instructions, number-as, builds-as, refused, compiled}
@@ -20,11 +20,11 @@ zero-i32-requires-2 c κs = search needs
 zero-i32-requires-3 : tie.Need-zero-i32-requires-3
 zero-i32-requires-3 c κs = search needs
 
-zero-u32-requires : tie.Need-zero-u32-requires
-zero-u32-requires c κs = search needs
-
 font-refusal-requires : tie.Need-font-refusal-requires
 font-refusal-requires c κs = search needs
+
+zero-u32-requires : tie.Need-zero-u32-requires
+zero-u32-requires c κs = search needs
 
 same-length : tie.Need-same-length
 same-length c = search needs
@@ -40,31 +40,32 @@ same-length-4 c = search needs
 
 returns : tie.Need-returns
 returns c =
-    let a = c .before .before .before .before .before .before .before .before .before .before .before .before .before .before .before .before .args in
-    let x = number-word (a .boundary) (c .before .before .before .before .before .before .before .before .before .before .before .before .before .before .before .before .fits .boundary) in
-    let y = number-word (a .«left-entry») (c .before .before .before .before .before .before .before .before .before .before .before .before .before .before .before .before .fits .«left-entry») in
-    let z = number-word (a .«design-size») (c .before .before .before .before .before .before .before .before .before .before .before .before .before .before .before .before .fits .«design-size») in
+    let s = c .before .before .before .before .before .before .before .before .before .before .before .before .before .before .before .before in
+    let a = s .args in
+    let x = number-word (a .boundary) (s .fits .boundary) in
+    let y = number-word (a .«left-entry») (s .fits .«left-entry») in
+    let z = number-word (a .«design-size») (s .fits .«design-size») in
     let zp = c .before .before .before .before .before .before .before .before .before .before .before .before .before .zero-i32 in
     let zo = c .before .before .before .before .before .before .before .before .before .before .zero-i322 in
     let zl = c .before .before .before .before .before .before .before .zero-i323 in
-    let zw = c .before .before .before .before .zero-u32 in
-    let k = c .before .font-refusal in
+    let k = c .before .before .before .before .before .font-refusal in
     let e = number-as (a .instructions .now) (a .kerns .now) (a .entries .now) _ (a .boundary) _ (a .«left-entry») _ (a .«design-size») (k .result) (k .ensures) x y z in
-    refused (record { instructions = a .instructions .now; kerns = a .kerns .now; entries = a .entries .now; boundary = a .boundary; left = a .«left-entry»; design = a .«design-size» }) (a .pairs .now) (a .ops .now) (a .loops .now) (a .work .now) (Refused (k .result)) (zp .last .0) (zo .last .0) (zl .last .0) (zw .last .0) (k .result) e (c .if1 .taken) (zp .ensures) (zo .ensures) (zl .ensures) (zw .ensures)
+    let v = c .before .before .zero-u32 in
+    refused (record { instructions = a .instructions .now; kerns = a .kerns .now; entries = a .entries .now; boundary = a .boundary; left = a .«left-entry»; design = a .«design-size» }) (a .pairs .now) (a .ops .now) (a .loops .now) (a .work .now) (Refused (k .result)) (zp .last .0) (zo .last .0) (zl .last .0) (v .last .0) (k .result) e (c .before .before .before .before .if1 .taken) (zp .ensures) (zo .ensures) (zl .ensures) (v .ensures)
 
 build-requires : tie.Need-build-requires
 build-requires c κs =
-    let a = c .before .before .before .before .before .before .before .before .before .before .before .before .before .before .before .before .before .before .before .before .args in
-    let x = number-word (a .boundary) (c .before .before .before .before .before .before .before .before .before .before .before .before .before .before .before .before .before .before .before .before .fits .boundary) in
-    let y = number-word (a .«left-entry») (c .before .before .before .before .before .before .before .before .before .before .before .before .before .before .before .before .before .before .before .before .fits .«left-entry») in
-    let z = number-word (a .«design-size») (c .before .before .before .before .before .before .before .before .before .before .before .before .before .before .before .before .before .before .before .before .fits .«design-size») in
-    let zp = c .before .before .before .before .before .before .before .before .before .before .before .before .before .before .before .before .before .zero-i32 in
-    let zo = c .before .before .before .before .before .before .before .before .before .before .before .before .before .before .zero-i322 in
-    let zl = c .before .before .before .before .before .before .before .before .before .before .before .zero-i323 in
-    let zw = c .before .before .before .before .before .before .before .before .zero-u32 in
+    let s = c .before .before .before .before .before .before .before .before .before .before .before .before .before .before .before .before in
+    let a = s .args in
+    let x = number-word (a .boundary) (s .fits .boundary) in
+    let y = number-word (a .«left-entry») (s .fits .«left-entry») in
+    let z = number-word (a .«design-size») (s .fits .«design-size») in
+    let zp = c .before .before .before .before .before .before .before .before .before .before .before .before .before .zero-i32 in
+    let zo = c .before .before .before .before .before .before .before .before .before .before .zero-i322 in
+    let zl = c .before .before .before .before .before .before .before .zero-i323 in
     let k = c .before .before .before .before .before .font-refusal in
     let e = number-as (a .instructions .now) (a .kerns .now) (a .entries .now) _ (a .boundary) _ (a .«left-entry») _ (a .«design-size») (k .result) (k .ensures) x y z in
-    (few-instructions (record { instructions = a .instructions .now; kerns = a .kerns .now; entries = a .entries .now; boundary = a .boundary; left = a .«left-entry»; design = a .«design-size» }) (sym e ∙ c .before .before .before .before .if1 .left), blank-of (pos 0) (a .pairs .now) (zp .last .0) (zp .ensures), blank-of (pos 0) (a .ops .now) (zo .last .0) (zo .ensures), blank-of (pos 0) (a .loops .now) (zl .last .0) (zl .ensures), blank-of 0 (a .work .now) (zw .last .0) (zw .ensures))
+    (few-instructions (record { instructions = a .instructions .now; kerns = a .kerns .now; entries = a .entries .now; boundary = a .boundary; left = a .«left-entry»; design = a .«design-size» }) (sym e ∙ c .before .before .before .before .if1 .left), blank-of (pos 0) (a .pairs .now) (zp .last .0) (zp .ensures), blank-of (pos 0) (a .ops .now) (zo .last .0) (zo .ensures), blank-of (pos 0) (a .loops .now) (zl .last .0) (zl .ensures))
 
 zero-u32-requires-2 : tie.Need-zero-u32-requires-2
 zero-u32-requires-2 c κs = search needs
@@ -83,21 +84,22 @@ same-length-8 c = search needs
 
 returns-2 : tie.Need-returns-2
 returns-2 c =
-    let a = c .before .before .before .before .before .before .before .before .before .before .before .before .before .before .before .before .before .before .before .before .before .before .before .before .before .before .before .before .before .before .args in
-    let x = number-word (a .boundary) (c .before .before .before .before .before .before .before .before .before .before .before .before .before .before .before .before .before .before .before .before .before .before .before .before .before .before .before .before .before .before .fits .boundary) in
-    let y = number-word (a .«left-entry») (c .before .before .before .before .before .before .before .before .before .before .before .before .before .before .before .before .before .before .before .before .before .before .before .before .before .before .before .before .before .before .fits .«left-entry») in
-    let z = number-word (a .«design-size») (c .before .before .before .before .before .before .before .before .before .before .before .before .before .before .before .before .before .before .before .before .before .before .before .before .before .before .before .before .before .before .fits .«design-size») in
-    let zp = c .before .before .before .before .before .before .before .before .before .before .before .before .before .before .before .before .before .before .before .before .before .before .before .before .before .before .before .zero-i32 in
-    let zo = c .before .before .before .before .before .before .before .before .before .before .before .before .before .before .before .before .before .before .before .before .before .before .before .before .zero-i322 in
-    let zl = c .before .before .before .before .before .before .before .before .before .before .before .before .before .before .before .before .before .before .before .before .before .zero-i323 in
-    let zw = c .before .before .before .before .before .before .before .before .before .before .before .before .before .before .before .before .before .before .zero-u32 in
+    let s = c .before .before .before .before .before .before .before .before .before .before .before .before .before .before .before .before .before .before .before .before .before .before .before .before .before .before in
+    let a = s .args in
+    let x = number-word (a .boundary) (s .fits .boundary) in
+    let y = number-word (a .«left-entry») (s .fits .«left-entry») in
+    let z = number-word (a .«design-size») (s .fits .«design-size») in
+    let zp = c .before .before .before .before .before .before .before .before .before .before .before .before .before .before .before .before .before .before .before .before .before .before .before .zero-i32 in
+    let zo = c .before .before .before .before .before .before .before .before .before .before .before .before .before .before .before .before .before .before .before .before .zero-i322 in
+    let zl = c .before .before .before .before .before .before .before .before .before .before .before .before .before .before .before .before .before .zero-i323 in
     let k = c .before .before .before .before .before .before .before .before .before .before .before .before .before .before .before .font-refusal in
     let e = number-as (a .instructions .now) (a .kerns .now) (a .entries .now) _ (a .boundary) _ (a .«left-entry») _ (a .«design-size») (k .result) (k .ensures) x y z in
     let t = c .before .before .before .before .before .before .before .before .before .build in
     let o = t .last .1 .1 .1 .1 .1 in
-    let d = builds-as (a .instructions .now) (a .kerns .now) (a .entries .now) (a .boundary) _ (a .«left-entry») _ (a .«design-size») (zp .last .0) (zo .last .0) (zl .last .0) (zw .last .0) (t .result) (o .0) (o .1 .0) (o .1 .1 .0) (t .ensures (a .boundary)) y z in
-    compiled (record { instructions = a .instructions .now; kerns = a .kerns .now; entries = a .entries .now; boundary = a .boundary; left = a .«left-entry»; design = a .«design-size» }) (a .pairs .now) (a .ops .now) (a .loops .now) (a .work .now) (t .result) (o .0) (o .1 .0) (o .1 .1 .0) (c .before .before .zero-u322 .last .0) (zp .last .0) (zo .last .0) (zl .last .0) (zw .last .0) (zp .ensures) (zo .ensures) (zl .ensures) (zw .ensures) (sym (c .before .before .before .before .before .before .before .before .before .before .before .before .before .before .if1 .left) ∙ e) d
-    (c .before .before .zero-u322 .ensures ∙ ap (λ (n : ℕ). replicate n 0) (t .kept .1 .1 .1 .1 .1 .1 .1 .1 .0 ∙ ap length (zw .ensures) ∙ length-replicate (length (a .work .now)) 0))
+    let v = c .before .before .zero-u322 in
+    let d = builds-as (a .instructions .now) (a .kerns .now) (a .entries .now) (a .boundary) _ (a .«left-entry») _ (a .«design-size») (zp .last .0) (zo .last .0) (zl .last .0) (a .work .now) (t .result) (o .0) (o .1 .0) (o .1 .1 .0) (t .ensures (a .boundary)) y z in
+    compiled (record { instructions = a .instructions .now; kerns = a .kerns .now; entries = a .entries .now; boundary = a .boundary; left = a .«left-entry»; design = a .«design-size» }) (a .pairs .now) (a .ops .now) (a .loops .now) (a .work .now) (t .result) (o .0) (o .1 .0) (o .1 .1 .0) (v .last .0) (zp .last .0) (zo .last .0) (zl .last .0) (zp .ensures) (zo .ensures) (zl .ensures) (sym (c .before .before .before .before .before .before .before .before .before .before .before .before .before .before .if1 .left) ∙ e) d
+    (v .ensures ∙ ap (λ (n : ℕ). replicate n 0) (t .kept .1 .1 .1 .1 .1 .1 .1 .1 .0))
 
 pub compile-spec : {M : Type 1} → statement M
 compile-spec =
@@ -106,8 +108,8 @@ compile-spec =
     zero-i32-requires
     zero-i32-requires-2
     zero-i32-requires-3
-    zero-u32-requires
     font-refusal-requires
+    zero-u32-requires
     same-length
     same-length-2
     same-length-3
