@@ -1,9 +1,9 @@
--- Laws of the refusals: the first of two, a negative number, and the marks by which a character that is entered twice is found.
+-- Laws of what the refusals 1 to 5 test: a negative number, and the marks by which a character that is entered twice is found.
 -- Assumes nothing.
 use mathlib.Core.Path.{_≡_, refl, sym, _∙_}
 use mathlib.Core.Bool.{Bool, true, false, not}
 use mathlib.Core.List.{List}
-use Prim.Native.Nat.{ℕ, zero, suc, _+_, _<_}
+use Prim.Native.Nat.{ℕ, _+_, _<_}
 use native.Mathlib.Omega.{arith}
 use lib.IntN.{ℤ, pos, negsuc}
 use lib.Dec.{eqb}
@@ -17,18 +17,10 @@ use borrow.Author.Tests.{le-ltb, eq-eqb, eqb-true, eqb-false}
 use Rattle.words.specs.Words.{wordOf}
 use Rattle.lang.specs.Every.{both, every}
 use Rattle.lang.specs.Records.{within}
-use Rattle.lang.specs.Checks.{orElse, charAt, entryAt, enteredOnce, entryFits}
+use Rattle.lang.specs.Checks.{charAt, entryAt, enteredOnce, entryFits}
 use Rattle.lang.proofs.Every.{both-left, both-true, both-false, every-none, every-step}
 use Rattle.lang.proofs.Records.{within-bound}
-
--- ---- the first of two numbers that is not 0
-
-pub first-is : (m n : ℕ) → (m ≡ 0 → ⊥) → orElse m n ≡ m
-first-is zero n h = absurd (h refl)
-first-is (suc m) n h = refl
-
-pub second-is : (m n : ℕ) → m ≡ 0 → orElse m n ≡ n
-second-is m n e = rw e
+pub use Rattle.lang.proofs.Refusals.{first-is, second-is}
 
 -- ---- a number's sign, by the code's test of its bits
 

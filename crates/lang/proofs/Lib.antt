@@ -4,12 +4,16 @@
 --   Standard  the eight standard op bytes
 --   Every     every index below a number passes a test
 --   Records   the numbers of an instruction
---   Checks    refusals
+--   Refusals  refusals in a row, room, and the answer by the refusal
+--   Filled    a list that is filled from the front, and the list by the refusal
+--   Checks    what the refusals 1 to 5 test
 --   Tables    the table of 257 places
 pub mod Table
 pub mod Arms
 pub mod Standard
 pub mod Every
 pub mod Records
+pub mod Refusals
+pub mod Filled
 pub mod Checks
 pub mod Tables
