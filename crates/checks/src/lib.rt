@@ -1,4 +1,4 @@
-// The refusals 1 to 5 of document 01, each a function whose result is the number where it holds and 0 where it does not.
+// The refusals 1 to 5 and 15 of document 01, each a function whose result is the number where it holds and 0 where it does not.
 // Every one is linear in what it is lent.
 ghost use mathlib.Core.Path.{_≡_};
 ghost use Prim.Native.Nat.{_<_, _≤_, _/_};
@@ -7,6 +7,7 @@ ghost use lib.ListN.{length, getD};
 ghost use Rattle.lang.specs.Every.{both};
 ghost use Rattle.lang.specs.Records.{count, isInstruction, absentOr, within, operandFits};
 ghost use Rattle.lang.specs.Checks.{sizeRefusal, recordRefusal, kernsRefusal, charAt, entryAt, entriesRefusal, absentRefusal, rangeRefusal, passthroughRefusal, designRefusal, orElse, programRefusal};
+ghost use Rattle.lang.specs.Answers.{roomRefusal};
 ghost use Rattle.words.specs.Words.{wordOf, numberOf};
 use lang::instruction::field_at;
 
@@ -176,4 +177,11 @@ pub fn design_refusal(design_size: i32) -> u32
     ensures { λ r. ⌜ r ≡ designRefusal «design_size» ⌝ }
 {
     if design_size < 0 { 5 } else { 0 }
+}
+
+// 15: a list of `room` places is too short for an answer that needs `needed`.
+pub fn room_refusal(needed: usize, room: usize) -> u32
+    ensures { λ r. ⌜ r ≡ roomRefusal needed room ⌝ }
+{
+    if needed <= room { 0 } else { 15 }
 }
