@@ -20,15 +20,9 @@ use crate::share::gather;
 use crate::share::place_of;
 use checks::kerns_refusal;
 use checks::program_refusal;
+use checks::room_refusal;
 use lang::Written;
 use lang::instruction::field_at;
-
-// 15: a list of `room` places is too short for `needed`.
-fn room_refusal(needed: usize, room: usize) -> u32
-    ensures { λ r. ⌜ r ≡ roomRefusal needed room ⌝ }
-{
-    if needed <= room { 0 } else { 15 }
-}
 
 // 1, 2, 3 or 15.
 fn pack_refusal(instructions: &[i32], kerns: &[i32], room: usize) -> u32

@@ -12,7 +12,8 @@ use Rattle.lang.specs.Answers.{roomRefusal}
 use Rattle.lang.specs.Records.{isKind}
 use Rattle.kerns.specs.Kerns.{changed, kernAt, packed, packRefusal, PacksKerns}
 use Rattle.lang.specs.declared.Written.the-variants.{Count, Refused}
-use Rattle.kerns.proofs.Changes.{orElse-right, room-fits, refused-answer, refused-list, written-list}
+use Rattle.lang.proofs.Refusals.{orElse-none, room-fits, refused-answer, taken-answer}
+use Rattle.lang.proofs.Filled.{refused-list, written-list}
 use borrow.Author.Needs.{needs}
 use Rattle.kerns.proofs.pack_kerns.Statement.{statement}
 use Rattle.kerns.proofs.pack_kerns.Tie as tie
@@ -30,20 +31,20 @@ module _ {s kerns out z : List ℤ} {r : ℕ} (b : Begun s kerns out z r) where
   refused : (r ≡ 0 → ⊥) → PacksKerns s kerns out (Refused r) z
   refused h =
       record {
-        answer = rw (← number) (sym (refused-answer r (count s) h));
-        list = rw (← number) (b .zeros ∙ sym (refused-list r (pos 0) (length out) (packed s kerns) h));
+        answer = refused-answer (count s) number h;
+        list = refused-list (pos 0) (length out) (packed s kerns) number h (b .zeros);
       }
 
   enough : r ≡ 0 → length s ≤ length z
   enough e =
       room-fits (length s) (length z)
-      (orElse-right (kernsRefusal kerns) (roomRefusal (length s) (length z)) (orElse-right (programRefusal s) (orElse (kernsRefusal kerns) (roomRefusal (length s) (length z))) (sym (b .refusal) ∙ e)))
+      (orElse-none (kernsRefusal kerns) (roomRefusal (length s) (length z)) (orElse-none (programRefusal s) (orElse (kernsRefusal kerns) (roomRefusal (length s) (length z))) (sym (b .refusal) ∙ e) .1) .1)
 
   done : {out′ : List ℤ} → r ≡ 0 → out′ ≡ packed s kerns ++ drop (length s) z → PacksKerns s kerns out (Count (count s)) out′
-  done {out′} e w =
+  done e w =
       record {
-        answer = rw (sym number ∙ e);
-        list = written-list (changed s (isKind 1 s) (pos 0) (kernAt s kerns)) (packRefusal s kerns (length out)) (length out) (length s) z out′ (sym number ∙ e) (b .zeros) w;
+        answer = taken-answer (count s) (sym number ∙ e);
+        list = written-list (pos 0) (length out) (length s) (changed s (isKind 1 s) (pos 0) (kernAt s kerns)) (sym number ∙ e) (b .zeros) w;
       }
 
 begun : (c : tie.After-pack-refusal) → Begun (now (c .before .before .before .before .args .instructions)) (now (c .before .before .before .before .args .kerns)) (now (c .before .before .before .before .args .out)) (c .before .before .zero-i32 .last .0) (c .pack-refusal .result)

@@ -17,7 +17,8 @@ use Rattle.lang.specs.Records.{isKind}
 use Rattle.kerns.specs.Kerns.{changed, placeOf, kernsOf, unpacked, unpackRefusal, UnpacksKerns}
 use Rattle.kerns.specs.Sharing.{Linked, Gathered, Counted}
 use Rattle.lang.specs.declared.Written.the-variants.{Count, Refused}
-use Rattle.kerns.proofs.Changes.{orElse-assoc, orElse-left, orElse-right, first-is, room-fits, room-short, room-is, program-size, refused-answer, refused-list, written-list}
+use Rattle.lang.proofs.Refusals.{orElse-assoc, orElse-none, first-refusal, room-fits, room-short, room-is, program-size, refused-answer}
+use Rattle.lang.proofs.Filled.{refused-list, written-list}
 use Rattle.kerns.proofs.Sharing.{gathered-none, gathered-front}
 use borrow.Author.Needs.{needs}
 use Rattle.kerns.proofs.unpack_kerns.Statement.{statement}
@@ -25,11 +26,11 @@ use Rattle.kerns.proofs.unpack_kerns.Tie as tie
 
 -- zeros for both lists, whatever the refusal
 refused : {s out kerns out′ kerns′ : List ℤ} {r : ℕ} → out′ ≡ replicate (length out) (pos 0) → kerns′ ≡ replicate (length kerns) (pos 0) → r ≡ unpackRefusal s (length out) (length kerns) → (r ≡ 0 → ⊥) → UnpacksKerns s out kerns (Refused r) out′ kerns′
-refused {s} {out} {kerns} {r = r} e f n h =
+refused {s} {out} {kerns} e f n h =
     record {
-      answer = rw (← n) (sym (refused-answer r (length (kernsOf s)) h));
-      list = rw (← n) (e ∙ sym (refused-list r (pos 0) (length out) (unpacked s) h));
-      shares = rw (← n) (f ∙ sym (refused-list r (pos 0) (length kerns) (kernsOf s) h));
+      answer = refused-answer (length (kernsOf s)) n h;
+      list = refused-list (pos 0) (length out) (unpacked s) n h e;
+      shares = refused-list (pos 0) (length kerns) (kernsOf s) n h f;
     }
 
 -- z and y are the lists of zeros, r the refusal before the kerns are counted
@@ -52,7 +53,7 @@ module _ {s out kerns z y : List ℤ} {r : ℕ} (b : Begun s out kerns z y r) wh
       ∙ rw (b .early, b .out-same)
 
   refused-early : (r ≡ 0 → ⊥) → UnpacksKerns s out kerns (Refused r) z y
-  refused-early h = refused (b .out-zeros) (b .kerns-zeros) (first-is r (roomRefusal (length (kernsOf s)) (length kerns)) r refl h ∙ sym number) h
+  refused-early h = refused (b .out-zeros) (b .kerns-zeros) (first-refusal (roomRefusal (length (kernsOf s)) (length kerns)) refl h ∙ sym number) h
 
   module _ (passed : r ≡ 0) where
     -- what is left to refuse is the room for the kerns
@@ -60,10 +61,10 @@ module _ {s out kerns z y : List ℤ} {r : ℕ} (b : Begun s out kerns z y r) wh
     late = number ∙ rw passed
 
     size : count s ≤ 32767
-    size = program-size s (orElse-left (programRefusal s) (roomRefusal (length s) (length z)) (sym (b .early) ∙ passed))
+    size = program-size s (orElse-none (programRefusal s) (roomRefusal (length s) (length z)) (sym (b .early) ∙ passed) .0)
 
     enough : length s ≤ length z
-    enough = room-fits (length s) (length z) (orElse-right (programRefusal s) (roomRefusal (length s) (length z)) (sym (b .early) ∙ passed))
+    enough = room-fits (length s) (length z) (orElse-none (programRefusal s) (roomRefusal (length s) (length z)) (sym (b .early) ∙ passed) .1)
 
     starts : Gathered s 0 (length y) y (replicate 65536 0) 0
     starts = gathered-none s (length y) y (replicate 65536 0) (rw (b .kerns-same) (b .kerns-zeros)) refl
@@ -82,11 +83,11 @@ module _ {s out kerns z y : List ℤ} {r : ℕ} (b : Begun s out kerns z y r) wh
         linked = rw (gathered-front all) (all .linked)
 
         done : {out′ : List ℤ} → out′ ≡ tabulate (length s) (changed s (isKind 0 s) (pos 1) (λ i. pos (placeOf (field s i 3) (take m kerns′)))) ++ drop (length s) z → UnpacksKerns s out kerns (Count m) out′ kerns′
-        done {out′} w =
+        done w =
             let none : unpackRefusal s (length out) (length kerns) ≡ 0 = late ∙ room-is (length (kernsOf s)) (length kerns) (omega (arith, all .counted, e .kept, b .kerns-same)) in
             record {
               answer = rw (none, all .counted);
-              list = written-list (changed s (isKind 0 s) (pos 1) (λ i. pos (placeOf (field s i 3) (kernsOf s)))) (unpackRefusal s (length out) (length kerns)) (length out) (length s) z out′ none (b .out-zeros) (rw (gathered-front all) at w);
+              list = written-list (pos 0) (length out) (length s) (changed s (isKind 0 s) (pos 1) (λ i. pos (placeOf (field s i 3) (kernsOf s)))) none (b .out-zeros) (rw (gathered-front all) at w);
               shares = rw (none, ← b .kerns-same) (appending-rest (replicate (length y) (pos 0)) (pos 0) (length y) refl (all .stands));
             }
 

@@ -1,10 +1,6 @@
 -- `kerns::unpack_refusal` meets its contract: the first of two numbers that is not 0.
 -- Assumes nothing.
-use lib.ListN.{length}
-use denote.Ref.{now}
-use Rattle.lang.specs.Checks.{programRefusal}
-use Rattle.lang.specs.Answers.{roomRefusal}
-use Rattle.kerns.proofs.Changes.{first-is, second-is}
+use Rattle.lang.proofs.Refusals.{first-refusal, later-refusal}
 use borrow.Author.Needs.{needs}
 use Rattle.kerns.proofs.unpack_refusal.Statement.{statement}
 use Rattle.kerns.proofs.unpack_refusal.Tie as tie
@@ -13,18 +9,13 @@ program-refusal-requires : tie.Need-program-refusal-requires
 program-refusal-requires c κs = search needs
 
 returns : tie.Need-returns
-returns c =
-    let a = c .before .before .args in
-    first-is (programRefusal (now (a .instructions))) (roomRefusal (length (now (a .instructions))) (a .room)) (c .before .program-refusal .result) (c .before .program-refusal .ensures) (c .if1 .taken)
+returns c = first-refusal _ (c .before .program-refusal .ensures) (c .if1 .taken)
 
 room-refusal-requires : tie.Need-room-refusal-requires
 room-refusal-requires c κs = search needs
 
 returns-2 : tie.Need-returns-2
-returns-2 c =
-    let a = c .before .before .before .args in
-    let p = c .before .before .program-refusal in
-    second-is (programRefusal (now (a .instructions))) (roomRefusal (length (now (a .instructions))) (a .room)) (p .result) (c .room-refusal .result) (p .ensures) (c .before .if1 .left) (c .room-refusal .ensures)
+returns-2 c = later-refusal (c .before .before .program-refusal .ensures) (c .before .if1 .left) (c .room-refusal .ensures)
 
 pub unpack-refusal-spec : {M : Type 1} → statement M
 unpack-refusal-spec = tie.close (tie.spec program-refusal-requires returns room-refusal-requires returns-2)

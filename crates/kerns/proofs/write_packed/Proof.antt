@@ -7,10 +7,11 @@ use lib.IntN.{ℤ, pos}
 use lib.ListN.{length}
 use denote.Ref.{now}
 use Rattle.words.specs.Lists.{Filling}
+use Rattle.words.proofs.Bits.{number-is}
 use Rattle.words.proofs.Lists.{filling-none, filling-length}
 use Rattle.lang.specs.Records.{isKind}
+use Rattle.lang.proofs.Filled.{filling-put, filling-to}
 use Rattle.kerns.specs.Kerns.{changed, kernAt}
-use Rattle.kerns.proofs.Changes.{filling-put, filling-to}
 use borrow.Author.Needs.{needs}
 use Rattle.kerns.proofs.write_packed.Statement.{statement}
 use Rattle.kerns.proofs.write_packed.Tie as tie
@@ -46,8 +47,7 @@ loop-again c =
     let w = c .before .before .packed-word in
     let p = c .before .put-word in (
       omega (arith, c .before .before .before .before .loop-test .taken),
-      filling-put (packedAt (now (a .args .instructions)) (now (a .args .kerns))) (now (a .args .out)) (l .out) (p .last .0) (l .j) (w .result) (l .inv .1)
-          (omega (arith, c .before .before .before .before .loop-test .taken, a .pre)) (w .ensures) (p .ensures),
+      filling-put (l .inv .1) (omega (arith, c .before .before .before .before .loop-test .taken, a .pre)) (p .ensures) (number-is (w .ensures)),
     )
 
 same-length : tie.Need-same-length Inv-loop μ-loop
@@ -59,8 +59,7 @@ returns : tie.Need-returns Inv-loop μ-loop
 returns c =
     let a = c .before .before .args in
     let l = c .before .loop in
-    filling-to (packedAt (now (a .instructions)) (now (a .kerns))) (now (a .out)) (l .out) (l .j) (length (now (a .instructions))) (l .inv .1)
-    (omega (arith, l .inv .0, c .loop-test .left))
+    filling-to (length (now (a .instructions))) (l .inv .1) (omega (arith, l .inv .0, c .loop-test .left))
 
 pub write-packed-spec : {M : Type 1} → statement M
 write-packed-spec =
