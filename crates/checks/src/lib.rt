@@ -1,12 +1,12 @@
 // The refusals 1 to 5 and 15 of document 01, each a function whose result is the number where it holds and 0 where it does not.
 // Every one is linear in what it is lent.
 ghost use mathlib.Core.Path.{_≡_};
-ghost use Prim.Native.Nat.{_<_, _≤_, _/_};
+ghost use Prim.Native.Nat.{_<_, _/_};
 ghost use lib.Dec.{eqb};
 ghost use lib.ListN.{length, getD};
 ghost use Rattle.lang.specs.Every.{both};
-ghost use Rattle.lang.specs.Records.{count, isInstruction, absentOr, within, operandFits};
-ghost use Rattle.lang.specs.Checks.{sizeRefusal, recordRefusal, kernsRefusal, charAt, entryAt, entriesRefusal, absentRefusal, rangeRefusal, passthroughRefusal, designRefusal, orElse, programRefusal};
+ghost use Rattle.lang.specs.Records.{isInstruction, absentOr, within, operandFits};
+ghost use Rattle.lang.specs.Checks.{sizeRefusal, recordRefusal, kernsRefusal, charAt, entryAt, entriesRefusal, absentRefusal, rangeRefusal, passthroughRefusal, designRefusal, programRefusal};
 ghost use Rattle.lang.specs.Answers.{roomRefusal};
 ghost use Rattle.words.specs.Words.{wordOf, numberOf};
 use lang::instruction::field_at;

@@ -1,101 +1,28 @@
--- Laws of the marks of instructions (specs/Reach), of refusals asked in a row, and of the answer of a function that fills a list.
+-- Laws of the marks of instructions (specs/Reach).
 -- Assumes nothing.
 use mathlib.Core.Path.{_≡_, refl, sym, ap, _∙_}
 use mathlib.Core.Bool.{Bool, true, false, cond}
-use mathlib.Core.List.{List, _++_}
+use mathlib.Core.List.{List}
 use Prim.Native.Nat.{ℕ, zero, suc, _+_, _*_, _/_, _%_, _<_, _≤_}
 use native.Mathlib.Numerals.{add-one}
 use native.Mathlib.Omega.{arith}
 use lib.IntN.{ℤ, pos, negsuc}
-use lib.Dec.{leb, eqb}
-use lib.ListN.{length, getD, set, replicate, drop, length-set, length-replicate}
-use borrow.Author.Tests.{eq-eqb, ne-eqb, le-leb, lt-leb, lt-ltb, leb-true}
+use lib.Dec.{eqb}
+use lib.ListN.{length, getD, set, replicate, length-set, length-replicate}
+use borrow.Author.Tests.{eq-eqb, ne-eqb, le-leb, lt-leb, lt-ltb}
 use Rattle.words.specs.Words.{wordOf, numberOf}
-use Rattle.words.specs.Lists.{tabulate, Filling}
+use Rattle.words.specs.Lists.{Filling}
 use Rattle.words.proofs.Bits.{number-pos}
-use Rattle.words.proofs.Lists.{filling-more, length-tabulate, drop-replicate}
-use Rattle.lang.specs.declared.Written.the-variants.{Count, Refused}
 use Rattle.lang.specs.declared.instruction.NextInstruction.{NextInstruction}
 use Rattle.lang.specs.declared.instruction.NextInstruction.the-variants.{Stop, Skip}
 use Rattle.lang.specs.declared.instruction.Instruction.{Instruction}
 use Rattle.chain.specs.declared.Next.{Next}
 use Rattle.chain.specs.declared.Next.the-variants.{At, End}
 use Rattle.lang.specs.Records.{count, instructionAt}
-use Rattle.lang.specs.Checks.{orElse, unless, sizeRefusal, recordRefusal, programRefusal, entryAt}
-use Rattle.lang.specs.Every.{both}
-use Rattle.lang.specs.Answers.{answerOf, listOf, padded, roomRefusal}
+use Rattle.lang.specs.Checks.{entryAt}
+use Rattle.lang.proofs.Filled.{filling-put}
 use Rattle.chain.specs.Chains.{Program, onward, stepAt}
 use Rattle.reach.specs.Reach.{entriesMarked, leftMarked, passed, marksAfter, marksFrom, adjustedSkip, stateOf, skipOf, reachNumber}
-
--- ---- refusals in a row: the first that is not 0
-
--- the refusal that was asked first holds, or it does not and the answer is that of the rest
-pub or-else-first : (r m n : ℕ) → r ≡ m → (r ≡ 0 → ⊥) → r ≡ orElse m n
-or-else-first r zero n e h = absurd (h e)
-or-else-first r (suc m) n e h = e
-
-pub or-else-next : (r m n x : ℕ) → r ≡ m → r ≡ 0 → x ≡ n → x ≡ orElse m n
-or-else-next r zero n x e z g = g
-or-else-next r (suc m) n x e z g = absurd (omega arith)
-
--- where none holds: not the first, and none of the rest
-pub or-else-none : (m n : ℕ) → orElse m n ≡ 0 → m ≡ 0
-or-else-none zero n e = refl
-or-else-none (suc m) n e = e
-
-pub or-else-rest : (m n : ℕ) → orElse m n ≡ 0 → n ≡ 0
-or-else-rest zero n e = e
-or-else-rest (suc m) n e = absurd (omega arith)
-
-pub unless-passed : (n : ℕ) (t : Bool) → unless (suc n) t ≡ 0 → t ≡ true
-unless-passed n true e = refl
-unless-passed n false e = absurd (omega arith)
-
-both-second : (a b : Bool) → both a b ≡ true → b ≡ true
-both-second true b e = e
-both-second false b e = absurd (let z : _≡_ {A = ℕ} 0 1 = cc in omega arith)
-
--- a program that is not refused has at most 32,767 instructions
-pub program-small : (s : List ℤ) → programRefusal s ≡ 0 → count s ≤ 32767
-program-small s e =
-    leb-true (count s) 32767
-    (both-second (eqb (length s % 4) 0) (leb (count s) 32767)
-    (unless-passed 0 (both (eqb (length s % 4) 0) (leb (count s) 32767)) (or-else-none (sizeRefusal s) (recordRefusal s) e)))
-
-pub room-holds : (needed room : ℕ) → needed ≤ room → 0 ≡ roomRefusal needed room
-room-holds needed room h = rw (le-leb needed room h)
-
-pub room-lacks : (needed room : ℕ) → room < needed → 15 ≡ roomRefusal needed room
-room-lacks needed room h = rw (lt-leb needed room h)
-
-pub room-enough : (needed room : ℕ) → roomRefusal needed room ≡ 0 → needed ≤ room
-room-enough needed room e = leb-true needed room (unless-passed 14 (leb needed room) e)
-
--- ---- the answer by the refusal, and the list
-
-module _ (r R n : ℕ) (e : r ≡ R) where
-  pub refused-answer : (r ≡ 0 → ⊥) → Refused r ≡ answerOf R n
-  refused-answer h = go R e
-    where
-      go : (R : ℕ) → r ≡ R → Refused r ≡ answerOf R n
-      go zero e = absurd (h e)
-      go (suc R) e = ap Refused e
-
-  pub refused-list : {A : Type 0} (o : A) (d xs : List A) → (r ≡ 0 → ⊥) → d ≡ replicate n o → d ≡ listOf R o n xs
-  refused-list {A} o d xs h g = go R e
-    where
-      go : (R : ℕ) → r ≡ R → d ≡ listOf R o n xs
-      go zero e = absurd (h e)
-      go (suc R) e = g
-
-  pub taken-answer : r ≡ 0 → Count n ≡ answerOf R n
-  taken-answer z = ap (λ (x : ℕ). answerOf x n) (sym z ∙ e)
-
-  pub taken-list : {A : Type 0} (o : A) (d xs : List A) → r ≡ 0 → d ≡ padded o n xs → d ≡ listOf R o n xs
-  taken-list {A} o d xs z g = g ∙ ap (λ (x : ℕ). listOf x o n xs) (sym z ∙ e)
-
-pub tabulated-list : {A : Type 0} (k n : ℕ) (o : A) (f : ℕ → A) → tabulate k f ++ drop k (replicate n o) ≡ padded o n (tabulate k f)
-tabulated-list k n o f = rw (drop-replicate k n o, length-tabulate k f)
 
 -- ---- the entries are marked (TFtoPL 68)
 
@@ -240,10 +167,6 @@ state-bare m p i e h = rw (eq-eqb (getD m i 0) 0 e, eq-eqb (getD p i 0) 0 h)
 
 -- ---- the numbers of the answer
 
--- a store at the end of what is filled, of the number that belongs there
-pub filling-put : {A : Type 0} (f : ℕ → A) (d₀ d d′ : List A) (j k : ℕ) (v : A) → Filling f d₀ d j → j < length d → d′ ≡ set d j v → v ≡ f j → k ≡ j + 1 → Filling f d₀ d′ k
-filling-put f d₀ d d′ j k v h l e g q = rw (e, g, q) (filling-more f d₀ h l)
-
 pub state-small : (m p : List ℕ) (i : ℕ) → stateOf m p i ≤ 2
 state-small m p i = go (eqb (getD m i 0) 0) (eqb (getD p i 0) 0)
   where
@@ -276,12 +199,7 @@ module _ (s : List ℤ) (m p : List ℕ) where
   skip-number i v e = e ∙ sym (number-odd (λ (k : ℕ). pos (stateOf m p k)) (λ (k : ℕ). skipOf s m k) i)
 
   -- two more numbers are written
-  pub written-more : (d₀ d d₁ d₂ : List ℤ) (i w v : ℕ) → Filling (reachNumber s m p) d₀ d (2 * i) → 2 * i + 1 < length d → w ≡ stateOf m p i → numberOf v ≡ skipOf s m i → d₁ ≡ set d (2 * i) (numberOf w) → d₂ ≡ set d₁ (2 * i + 1) (numberOf v) → Filling (reachNumber s m p) d₀ d₂ (2 * (i + 1))
+  pub written-more : (d₀ d d₁ d₂ : List ℤ) (i w v : ℕ) → Filling (reachNumber s m p) d₀ d (2 * i) → 2 * i + 1 < length d₀ → w ≡ stateOf m p i → numberOf v ≡ skipOf s m i → d₁ ≡ set d (2 * i) (numberOf w) → d₂ ≡ set d₁ (2 * i + 1) (numberOf v) → Filling (reachNumber s m p) d₀ d₂ (2 * (i + 1))
   written-more d₀ d d₁ d₂ i w v h l e f g k =
-      let n : length d₁ ≡ length d = ap length g ∙ length-set d (2 * i) (numberOf w) in
-      filling-put (reachNumber s m p) d₀ d₁ d₂ (2 * i + 1) (2 * (i + 1)) (numberOf v)
-      (filling-put (reachNumber s m p) d₀ d d₁ (2 * i) (2 * i + 1) (numberOf w) h (omega arith) g (state-number i w e) refl)
-      (omega arith)
-      k
-      (skip-number i v f)
-      (omega arith)
+      let n : 2 * i + 1 + 1 ≡ 2 * (i + 1) = omega arith in
+      rw n at (filling-put (filling-put h (omega arith) g (state-number i w e)) l k (skip-number i v f))

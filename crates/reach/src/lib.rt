@@ -7,7 +7,6 @@ ghost use lib.ListN.{length, drop};
 ghost use Rattle.words.specs.Words.{numberOf};
 ghost use Rattle.words.specs.Lists.{tabulate};
 ghost use Rattle.lang.specs.Records.{count};
-ghost use Rattle.lang.specs.Answers.{roomRefusal};
 ghost use Rattle.reach.specs.Reach.{entriesMarked, leftMarked, passed, reachable, marksFrom, adjustedSkip, stateOf, skipOf, reachNumber, reachRefusal, Reaches};
 use chain::Next;
 use chain::next_instruction;
@@ -15,19 +14,13 @@ use checks::absent_refusal;
 use checks::entries_refusal;
 use checks::passthrough_refusal;
 use checks::program_refusal;
+use checks::room_refusal;
 use lang::Written;
 use lang::instruction::NextInstruction;
 use lang::instruction::instruction_at;
 
 // The bits of -1: no skip.
 const NONE: u32 = 4294967295;
-
-// 15: the answer needs more places than the output has.
-fn room_refusal(needed: usize, room: usize) -> u32
-    ensures { λ r. ⌜ r ≡ roomRefusal needed room ⌝ }
-{
-    if needed <= room { 0 } else { 15 }
-}
 
 // The first refusal that holds, 0 where none does; `room` is the output's length.
 fn reach_refusal(

@@ -13,9 +13,10 @@ use Rattle.words.specs.Lists.{tabulate}
 use Rattle.words.proofs.Bits.{number-word}
 use Rattle.lang.specs.Records.{count}
 use Rattle.lang.specs.Checks.{programRefusal, entriesRefusal, absentRefusal, passthroughRefusal}
-use Rattle.lang.specs.Answers.{padded}
+use Rattle.lang.specs.Answers.{listOf}
 use Rattle.reach.specs.Reach.{reachable, reachNumber, reachList, reachRefusal}
-use Rattle.reach.proofs.Marks.{or-else-none, or-else-rest, program-small, room-enough, refused-answer, refused-list, taken-answer, taken-list, tabulated-list}
+use Rattle.lang.proofs.Refusals.{orElse-none, program-size, room-fits, refused-answer, taken-answer}
+use Rattle.lang.proofs.Filled.{refused-list, written-list}
 use Rattle.reach.proofs.reachable_iter.Statement.{statement}
 use Rattle.reach.proofs.reachable_iter.Tie as tie
 
@@ -25,22 +26,20 @@ same-refusal : (s es : List ℤ) (left left′ : ℤ) (p : List ℕ) (n n′ r :
 same-refusal s es left left′ p n n′ r e f g = e ∙ ap (λ (z : ℤ). reachRefusal s es z p n′) f ∙ ap (λ (k : ℕ). reachRefusal s es left p k) g
 
 program-fits : (s es : List ℤ) (left : ℤ) (p : List ℕ) (n : ℕ) → reachRefusal s es left p n ≡ 0 → count s ≤ 32767
-program-fits s es left p n e = program-small s (or-else-none (programRefusal s) _ e)
+program-fits s es left p n e = program-size s (orElse-none (programRefusal s) _ e .0)
 
-room-fits : (s es : List ℤ) (left : ℤ) (p : List ℕ) (n : ℕ) → reachRefusal s es left p n ≡ 0 → 2 * count s ≤ n
-room-fits s es left p n e =
-    room-enough (2 * count s) n
-    (or-else-rest (passthroughRefusal p s) _ (or-else-rest (absentRefusal 65535 left) _ (or-else-rest (entriesRefusal 65535 es) _ (or-else-rest (programRefusal s) _ e))))
+enough : (s es : List ℤ) (left : ℤ) (p : List ℕ) (n : ℕ) → reachRefusal s es left p n ≡ 0 → 2 * count s ≤ n
+enough s es left p n e =
+    room-fits (2 * count s) n
+    (orElse-none (passthroughRefusal p s) _ (orElse-none (absentRefusal 65535 left) _ (orElse-none (entriesRefusal 65535 es) _ (orElse-none (programRefusal s) _ e .1) .1) .1) .1)
 
 front-length : (n : ℕ) (m q : List ℕ) → length m ≡ n → length (take n (m ++ drop n q)) ≡ n
 front-length n m q l = ap length (take-at m (drop n q) n l) ∙ l
 
-written : (s es : List ℤ) (left : ℤ) (p m : List ℕ) (n : ℕ) (out₁ out₂ : List ℤ) → m ≡ reachable s es left → out₁ ≡ replicate n (pos 0) → out₂ ≡ tabulate (2 * count s) (reachNumber s m p) ++ drop (2 * count s) out₁ → out₂ ≡ padded (pos 0) n (reachList s es left p)
-written s es left p m n out₁ out₂ e f g =
-    g
-    ∙ ap (λ (k : List ℕ). tabulate (2 * count s) (reachNumber s k p) ++ drop (2 * count s) out₁) e
-    ∙ ap (λ (d : List ℤ). reachList s es left p ++ drop (2 * count s) d) f
-    ∙ tabulated-list (2 * count s) n (pos 0) (reachNumber s (reachable s es left) p)
+written : (s es : List ℤ) (left : ℤ) (p m : List ℕ) (n : ℕ) (out₁ out₂ : List ℤ) → reachRefusal s es left p n ≡ 0 → m ≡ reachable s es left → out₁ ≡ replicate n (pos 0) → out₂ ≡ tabulate (2 * count s) (reachNumber s m p) ++ drop (2 * count s) out₁ → out₂ ≡ listOf (reachRefusal s es left p n) (pos 0) n (reachList s es left p)
+written s es left p m n out₁ out₂ z e f g =
+    written-list (pos 0) n (2 * count s) (reachNumber s (reachable s es left) p) z f
+    (g ∙ ap (λ (k : List ℕ). tabulate (2 * count s) (reachNumber s k p) ++ drop (2 * count s) out₁) e)
 
 -- what is known at a place
 
@@ -83,8 +82,8 @@ returns c =
     let a = c .before .before .before .before .before .before .args in
     let e = refusal-is (c .before) in
     record {
-      answer = refused-answer _ _ (count (a .instructions .now)) e (c .if1 .taken);
-      list = refused-list _ _ (length (a .out .now)) e (pos 0) _ (reachList (a .instructions .now) (a .entries .now) (a .left-entry) (a .passthrough .now)) (c .if1 .taken) (c .before .before .before .zero-i32 .ensures);
+      answer = refused-answer (count (a .instructions .now)) e (c .if1 .taken);
+      list = refused-list (pos 0) (length (a .out .now)) (reachList (a .instructions .now) (a .entries .now) (a .left-entry) (a .passthrough .now)) e (c .if1 .taken) (c .before .before .before .zero-i32 .ensures);
     }
 
 places-requires : tie.Need-places-requires
@@ -110,7 +109,7 @@ slice-aggregate-write-reach c = sym (front (c .before .before))
 write-reach-requires : tie.Need-write-reach-requires
 write-reach-requires c κs =
     let a = c .before .before .before .before .before .before .before .before .before .before .before .before .args in
-    (front (c .before .before .before), omega (arith, c .before .before .before .before .before .before .before .before .before .zero-i32 .kept .0, room-fits (a .instructions .now) (a .entries .now) (a .left-entry) (a .passthrough .now) (length (a .out .now)) (none-holds (c .before .before .before .before .before .before))))
+    (front (c .before .before .before), omega (arith, c .before .before .before .before .before .before .before .before .before .zero-i32 .kept .0, enough (a .instructions .now) (a .entries .now) (a .left-entry) (a .passthrough .now) (length (a .out .now)) (none-holds (c .before .before .before .before .before .before))))
 
 same-length-2 : tie.Need-same-length-2
 same-length-2 c = search needs
@@ -119,18 +118,17 @@ returns-2 : tie.Need-returns-2
 returns-2 c =
     let s = c .before .before .before .before .before .before .before .before .before .before .before .before .before .before in
     let a = s .args in
-    let e = refusal-is (c .before .before .before .before .before .before .before .before .before) in
+    let none = none-holds (c .before .before .before .before .before .before .before .before) in
     let m = c .before .before .before .before .before in
     record {
-      answer = taken-answer _ _ (count (a .instructions .now)) e (c .before .before .before .before .before .before .before .before .if1 .left);
+      answer = taken-answer (count (a .instructions .now)) none;
       list =
-          taken-list _ _ (length (a .out .now)) e (pos 0) _ (reachList (a .instructions .now) (a .entries .now) (a .left-entry) (a .passthrough .now)) (c .before .before .before .before .before .before .before .before .if1 .left)
-          (written (a .instructions .now) (a .entries .now) (a .left-entry) (a .passthrough .now) _ (length (a .out .now)) _ _
+          written (a .instructions .now) (a .entries .now) (a .left-entry) (a .passthrough .now) _ (length (a .out .now)) _ _ none
           (take-at (m .mark-reached .last .1 .1 .1 .0) (drop (count (a .instructions .now)) (m .before .before .places .result)) (count (a .instructions .now)) (marks-length m)
           ∙ m .mark-reached .ensures
           ∙ ap (λ (z : ℤ). reachable (a .instructions .now) (a .entries .now) z) (number-word (a .left-entry) (s .fits .left-entry)))
           (c .before .before .before .before .before .before .before .before .before .before .before .zero-i32 .ensures)
-          (c .before .write-reach .ensures));
+          (c .before .write-reach .ensures);
     }
 
 pub reachable-iter-spec : {M : Type 1} → statement M

@@ -1,14 +1,13 @@
 -- `reach::write_reach` meets its contract. The loop's invariant: the output is filled with two numbers for each instruction passed.
 -- The measure is what is left of the instructions. Assumes nothing.
-use mathlib.Core.Path.{_≡_, ap, _∙_}
-use Prim.Native.Nat.{ℕ, _+_, _*_, _-_, _<_, _≤_}
+use Prim.Native.Nat.{_+_, _*_, _-_, _<_, _≤_}
 use borrow.Author.Needs.{needs}
 use native.Mathlib.Omega.{arith}
-use mathlib.Core.List.{_++_}
-use lib.ListN.{length, drop}
-use Rattle.words.specs.Lists.{tabulate, Filling}
+use lib.ListN.{length}
+use Rattle.words.specs.Lists.{Filling}
 use Rattle.words.proofs.Lists.{filling-none, filling-length}
 use Rattle.lang.specs.Records.{count}
+use Rattle.lang.proofs.Filled.{filling-to}
 use Rattle.reach.specs.Reach.{reachNumber}
 use Rattle.reach.proofs.Marks.{written-more}
 use Rattle.reach.proofs.write_reach.Statement.{statement}
@@ -57,7 +56,7 @@ loop-again c =
     let h = c .before .before .before .before .before .before .before .before .before in
     let s = h .before .before .before in
     let a = s .args in
-    let l : 2 * h .loop .i + 1 < length (h .loop .out) = omega (arith, s .pre .0, s .pre .1, c .before .before .before .before .before .before .before .before .loop-test .taken, filling-length (reachNumber (a .instructions .now) (a .marks .now) (a .passthrough .now)) (a .out .now) (h .loop .inv .1)) in
+    let l : 2 * h .loop .i + 1 < length (a .out .now) = omega (arith, s .pre .0, s .pre .1, c .before .before .before .before .before .before .before .before .loop-test .taken) in
     (omega arith, written-more (a .instructions .now) (a .marks .now) (a .passthrough .now) (a .out .now) (h .loop .out) (c .before .before .before .before .before .put-word .last .0) (c .before .put-word2 .last .0) (h .loop .i) (c .before .before .before .before .before .before .state-of .result) (c .before .before .skip-of .result) (h .loop .inv .1) l (c .before .before .before .before .before .before .state-of .ensures) (c .before .before .skip-of .ensures) (c .before .before .before .before .before .put-word .ensures) (c .before .put-word2 .ensures))
 
 same-length : tie.Need-same-length Inv-loop μ-loop
@@ -70,9 +69,7 @@ returns : tie.Need-returns Inv-loop μ-loop
 returns c =
     let h = c .before in
     let s = h .before .before .before in
-    let a = s .args in
-    let e : 2 * h .loop .i ≡ 2 * count (a .instructions .now) = omega (arith, s .pre .0, h .loop .inv .0, c .loop-test .left) in
-    h .loop .inv .1 .filled ∙ ap (λ (k : ℕ). tabulate k (reachNumber (a .instructions .now) (a .marks .now) (a .passthrough .now)) ++ drop k (a .out .now)) e
+    filling-to (2 * count (s .args .instructions .now)) (h .loop .inv .1) (omega (arith, s .pre .0, h .loop .inv .0, c .loop-test .left))
 
 pub write-reach-spec : {M : Type 1} → statement M
 write-reach-spec =
