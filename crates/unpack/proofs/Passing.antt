@@ -13,28 +13,17 @@ use borrow.Author.Tests.{leb-true, lt-ltb, le-ltb, le-leb, lt-leb, eq-eqb, ne-eq
 use types.Run.{OneOf}
 use denote.Enum.Declared.{declared, tagOf}
 use Rattle.words.specs.Words.{wordOf}
-use Rattle.words.proofs.Lists.{length-tabulate, drop-replicate}
 use Rattle.unpack.specs.declared.Unpacked.{Unpacked}
 use Rattle.unpack.specs.declared.Unpacked.the-variants.{Entry, Direct, Indirect, Unfit}
 use Rattle.unpack.specs.declared.SevenBit.the-variants.{Safe, Unfit as UnfitFont}
 use Rattle.lang.specs.Records.{count, field, instructionAt}
 use Rattle.lang.specs.Checks.{programRefusal, rangeRefusal, passthroughRefusal, orElse, charAt, entryAt}
-use Rattle.lang.specs.Answers.{listOf}
+use Rattle.lang.proofs.Filled.{refused-list, written-list}
 use Rattle.chain.specs.Chains.{chainOf}
 use Rattle.lang.specs.Records.{isKind}
 use Rattle.unpack.specs.Unpacking.{UnpacksEntry, targetAt, unpacks, fits, roomFor, unpackEntry, unpackedNumber, passes, passthroughAfter, insertsSevenBit, allSevenBit, entrySafe, sevenBitBy}
 use Rattle.unpack.proofs.Unpacked.{enum}
 use Rattle.chain.proofs.Walks.{Stepped}
-
--- ---- refusals in ascending order
-
-pub first-refusal : {m r : ℕ} (n : ℕ) → r ≡ m → (r ≡ 0 → ⊥) → r ≡ orElse m n
-first-refusal {m = zero} n e h = absurd (h e)
-first-refusal {m = suc k} n e h = e
-
-pub later-refusal : {m r : ℕ} (n : ℕ) → r ≡ m → r ≡ 0 → orElse m n ≡ n
-later-refusal {m = zero} n e z = refl
-later-refusal {m = suc k} n e z = absurd (omega arith)
 
 -- ---- the answer of unpacking an entry
 
@@ -93,12 +82,12 @@ numbered s e p room =
     (numbered-fits (refusals s e p) (unpacks s w)
     (numbered-unpacks (ltb w (count s)) (isKind 3 s w) (ltb (targetAt s w) (count s)) (targetAt s w) w))
 
-refused-list : (n : ℕ) (xs : List ℕ) (u : Unpacked) → Numbered u → IsOther u → replicate n 0 ≡ listOf (unpackedNumber u) 0 n xs
-refused-list n xs (Entry e) g h = no-other h
-refused-list n xs Direct g h = refl
-refused-list n xs Indirect g h = refl
-refused-list n xs (Unfit zero) g h = absurd g
-refused-list n xs (Unfit (suc m)) g h = refl
+other-number : (u : Unpacked) → Numbered u → IsOther u → unpackedNumber u ≡ 0 → ⊥
+other-number (Entry e) g h z = no-other h
+other-number Direct g h z = omega arith
+other-number Indirect g h z = omega arith
+other-number (Unfit zero) g h z = g
+other-number (Unfit (suc m)) g h z = omega arith
 
 entry-number : (u : Unpacked) → IsEntry u → unpackedNumber u ≡ 0
 entry-number (Entry e) h = refl
@@ -162,9 +151,6 @@ module _ (s : List ℤ) (e : ℤ) (p : List ℕ) (room : ℕ) {r : ℕ} (rs : r 
     pub answer-short : IsEntry u → room < length p → Unfit 15 ≡ unpackEntry s e p room
     answer-short h l = entry-short p room u h l ∙ answer-by
 
-over-zeros : (xs : List ℕ) (k n : ℕ) (zeros : List ℕ) → length xs ≡ k → zeros ≡ replicate n 0 → xs ++ drop k zeros ≡ listOf 0 0 n xs
-over-zeros xs k n zeros l zs = rw (zs, ← l) (ap (λ (t : List ℕ). xs ++ t) (drop-replicate (length xs) n 0))
-
 -- the list by steps: zeros, then passthrough over them where the answer is an entry
 module _ (s : List ℤ) (e : ℤ) (p out zeros : List ℕ) (u : Unpacked) (zs : zeros ≡ replicate (length out) 0) (us : u ≡ unpackEntry s e p (length zeros)) where
   answer-here : u ≡ unpackEntry s e p (length out)
@@ -174,7 +160,7 @@ module _ (s : List ℤ) (e : ℤ) (p out zeros : List ℕ) (u : Unpacked) (zs : 
   unpacks-other h =
       record {
         answer = answer-here;
-        list = zs ∙ refused-list (length out) (passthroughAfter s (wordOf e) p) u (rw answer-here (numbered s e p (length out))) h ∙ rw answer-here;
+        list = refused-list 0 (length out) (passthroughAfter s (wordOf e) p) (ap unpackedNumber answer-here) (other-number u (rw answer-here (numbered s e p (length out))) h) zs;
       }
 
   pub entry-room : IsEntry u → length p ≤ length zeros
@@ -182,14 +168,10 @@ module _ (s : List ℤ) (e : ℤ) (p out zeros : List ℕ) (u : Unpacked) (zs : 
   entry-room h = room-there p (length zeros) (fits (refusals s e p) (unpacks s (wordOf e))) (rw us at h)
 
   pub unpacks-entry : IsEntry u → {w : ℕ} → w ≡ wordOf e → {last : List ℕ} → last ≡ passthroughAfter s w p ++ drop (length p) zeros → UnpacksEntry s e p out u last
-  unpacks-entry h {w} ws {last} ls =
+  unpacks-entry h ws ls =
       record {
         answer = answer-here;
-        list =
-            ls
-            ∙ over-zeros (passthroughAfter s w p) (length p) (length out) zeros (length-tabulate (length p) (passes s w p)) zs
-            ∙ ap (λ (x : ℕ). listOf 0 0 (length out) (passthroughAfter s x p)) ws
-            ∙ ap (λ (m : ℕ). listOf m 0 (length out) (passthroughAfter s (wordOf e) p)) (sym (entry-number u h) ∙ ap unpackedNumber answer-here);
+        list = written-list 0 (length out) (length p) (passes s (wordOf e) p) (sym (ap unpackedNumber answer-here) ∙ entry-number u h) zs (rw ws at ls);
       }
 
 -- ---- passthrough at one place

@@ -2,7 +2,8 @@
 -- Assumes nothing.
 use mathlib.Core.Path.{sym, ap, _∙_}
 use Rattle.unpack.specs.declared.SevenBit.the-variants.{Safe}
-use Rattle.unpack.proofs.Passing.{first-refusal, later-refusal, unfit-font, fit-font}
+use Rattle.lang.proofs.Refusals.{first-refusal, later-refusal}
+use Rattle.unpack.proofs.Passing.{unfit-font, fit-font}
 use borrow.Author.Needs.{needs}
 use Rattle.unpack.proofs.is_seven_bit_safe.Statement.{statement}
 use Rattle.unpack.proofs.is_seven_bit_safe.Tie as tie
@@ -17,7 +18,7 @@ entries-refusal-requires : tie.Need-entries-refusal-requires
 entries-refusal-requires c κs = search needs
 
 returns-2 : tie.Need-returns-2
-returns-2 c = unfit-font _ (c .before .entries-refusal .ensures ∙ sym (later-refusal _ (c .before .before .before .program-refusal .ensures) (c .before .before .if1 .left))) (c .if2 .taken)
+returns-2 c = unfit-font _ (later-refusal (c .before .before .before .program-refusal .ensures) (c .before .before .if1 .left) (c .before .entries-refusal .ensures)) (c .if2 .taken)
 
 all-are-safe-requires : tie.Need-all-are-safe-requires
 all-are-safe-requires c κs = search needs
@@ -25,7 +26,7 @@ all-are-safe-requires c κs = search needs
 returns-3 : tie.Need-returns-3
 returns-3 c =
     ap Safe (c .all-are-safe .ensures)
-    ∙ sym (fit-font _ (c .before .before .entries-refusal .ensures ∙ sym (later-refusal _ (c .before .before .before .before .program-refusal .ensures) (c .before .before .before .if1 .left))) (c .before .if2 .left))
+    ∙ sym (fit-font _ (later-refusal (c .before .before .before .before .program-refusal .ensures) (c .before .before .before .if1 .left) (c .before .before .entries-refusal .ensures)) (c .before .if2 .left))
 
 pub is-seven-bit-safe-spec : {M : Type 1} → statement M
 is-seven-bit-safe-spec =
