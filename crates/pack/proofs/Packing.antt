@@ -9,7 +9,7 @@ use native.Mathlib.Nat.{zero-add}
 use native.Mathlib.Omega.{arith}
 use lib.IntN.{ℤ, pos, negsuc}
 use lib.Dec.{leb, ltb, eqb}
-use lib.ListN.{length, getD, set, replicate, length-append, length-set, length-replicate, List·getD-append}
+use lib.ListN.{length, getD, set, replicate, length-append, length-replicate, List·getD-append}
 use lib.Seq.{getD-append-add, ext-getD}
 use lib.Signed.{nonNeg}
 use mir.Syntax.{w32}
@@ -18,7 +18,7 @@ use borrow.Author.Tests.{lt-ltb, le-ltb, le-leb, lt-leb, eq-eqb, ne-eqb, ltb-tru
 use Rattle.words.specs.Words.{wordOf, numberOf}
 use Rattle.words.specs.Lists.{tabulate, Filling, Appending}
 use Rattle.words.proofs.Bits.{number-pos, number-neg, number-word}
-use Rattle.words.proofs.Lists.{length-tabulate, getD-tabulate, filling-more, appending-rest}
+use Rattle.words.proofs.Lists.{length-tabulate, getD-tabulate, appending-rest}
 use Rattle.lang.specs.declared.instruction.Instruction.{Instruction}
 use Rattle.unpack.specs.declared.Unpacked.the-variants.{Entry}
 use Rattle.lang.specs.Records.{count, field, within, nextOf, operationOf, instructionAt}
@@ -27,33 +27,13 @@ use Rattle.unpack.specs.Unpacking.{targetAt, unpacks}
 use Rattle.lang.specs.Checks.{programRefusal, entriesRefusal, absentRefusal, orElse, charAt, entryAt}
 use Rattle.pack.specs.declared.Packed.{Packed}
 use Rattle.pack.specs.declared.Packed.the-variants.{Sizes, Refused}
-use Rattle.lang.specs.Answers.{roomRefusal, listOf}
+use Rattle.lang.specs.Answers.{roomRefusal}
+use Rattle.lang.proofs.Refusals.{first-refusal, orElse-none, unless-none, room-fits}
+use Rattle.lang.proofs.Filled.{filling-put, refused-list}
 use Rattle.pack.specs.Packing.{Font, labelsOf, redirectsOf, offsetBy, redirectsTo, redirect, presentOr, leftOr, largest, front, back, fontRedirects, fontOffset, fontRefusal, redirectRefusal, fitsShifted, shiftRefusal, packingRefusal, packedInstructions, packedEntry, packedEntryNumber, packedEntries, packedBy, placeAmong, Packs}
 use Rattle.pack.proofs.Labelling.{Under, labels-under, largest-le, first-largest, entry-le, redirects-le, offset-some, present-test, present-is, place-is, place-lt, labels-has, unredirected}
 
 -- ---- refusals in their order
-
-pub or-first : {r m : ℕ} (n : ℕ) → r ≡ m → (r ≡ 0 → ⊥) → r ≡ orElse m n
-or-first {m = zero} n e h = absurd (h e)
-or-first {m = suc m} n e h = e
-
-or-next : {r m : ℕ} (n : ℕ) → m ≡ 0 → r ≡ n → r ≡ orElse m n
-or-next n e g = g ∙ rw e
-
--- of four, the first that is not 0
-module _ (a b c d : ℕ) {r : ℕ} where
-  pub or-second : a ≡ 0 → r ≡ b → (r ≡ 0 → ⊥) → r ≡ orElse a (orElse b (orElse c d))
-  or-second e g h = or-next (orElse b (orElse c d)) e (or-first (orElse c d) g h)
-
-  pub or-third : a ≡ 0 → b ≡ 0 → r ≡ c → (r ≡ 0 → ⊥) → r ≡ orElse a (orElse b (orElse c d))
-  or-third e f g h = or-next (orElse b (orElse c d)) e (or-next (orElse c d) f (or-first d g h))
-
-  pub or-fourth : a ≡ 0 → b ≡ 0 → c ≡ 0 → r ≡ d → r ≡ orElse a (orElse b (orElse c d))
-  or-fourth e f g h = or-next (orElse b (orElse c d)) e (or-next (orElse c d) f (or-next d g h))
-
-or-zero : (m n : ℕ) → orElse m n ≡ 0 → (m ≡ 0) × (n ≡ 0)
-or-zero zero n e = (refl, e)
-or-zero (suc m) n e = absurd (omega arith)
 
 -- the refusals of packing, from the numbers that decide them
 abbrev pub refusalBy : ℕ → ℕ → ℕ → ℕ → ℕ → ℕ → ℕ → ℕ → ℕ → ℕ
@@ -87,11 +67,6 @@ module _ (k o big left size room n entryRoom : ℕ) where
         refusal-none g h =
             rw (le-leb k 255 few, le-leb (big + o) 65535 shifts, le-leb (left + o) 65535 shifts-left, le-leb size room g, le-leb n entryRoom h)
 
--- a test that gives 0 passed
-test-zero : (b : Bool) (n : ℕ) → cond b 0 (suc n) ≡ 0 → b ≡ true
-test-zero true n e = refl
-test-zero false n e = absurd (omega arith)
-
 -- what a font is that can be packed
 pub record Packable (f : Font) (room entryRoom : ℕ) : Type 0 where
   pub entered : entriesRefusal 65535 (f .entries) ≡ 0
@@ -102,7 +77,7 @@ pub record Packable (f : Font) (room entryRoom : ℕ) : Type 0 where
   pub entry-size : length (f .entries) ≤ entryRoom
 
 shift-zero : (a b : Bool) → _≡_ {A = ℕ} (cond a (cond b 0 11) 11) 0 → (a ≡ true) × (b ≡ true)
-shift-zero true b e = (refl, test-zero b 10 e)
+shift-zero true b e = (refl, unless-none 10 b e)
 shift-zero false b e = absurd (omega arith)
 
 module _ (font k o big left size room n entryRoom : ℕ) (e : refusalBy font k o big left size room n entryRoom ≡ 0) where
@@ -112,21 +87,21 @@ module _ (font k o big left size room n entryRoom : ℕ) (e : refusalBy font k o
   parts : (font ≡ 0) × (k ≤ 255) × (big + o ≤ 65535) × (left + o ≤ 65535) × (size ≤ room) × (n ≤ entryRoom)
   unfolding shift
   parts =
-      let a = or-zero font (orElse (redirectRefusal k) (orElse shift (orElse (roomRefusal size room) (roomRefusal n entryRoom)))) e in
-      let b = or-zero (redirectRefusal k) (orElse shift (orElse (roomRefusal size room) (roomRefusal n entryRoom))) (a .1) in
-      let c = or-zero shift (orElse (roomRefusal size room) (roomRefusal n entryRoom)) (b .1) in
-      let d = or-zero (roomRefusal size room) (roomRefusal n entryRoom) (c .1) in
+      let a = orElse-none font (orElse (redirectRefusal k) (orElse shift (orElse (roomRefusal size room) (roomRefusal n entryRoom)))) e in
+      let b = orElse-none (redirectRefusal k) (orElse shift (orElse (roomRefusal size room) (roomRefusal n entryRoom))) (a .1) in
+      let c = orElse-none shift (orElse (roomRefusal size room) (roomRefusal n entryRoom)) (b .1) in
+      let d = orElse-none (roomRefusal size room) (roomRefusal n entryRoom) (c .1) in
       let g = shift-zero (fitsShifted big o) (fitsShifted left o) (c .0) in (
         a .0,
-        leb-true k 255 (test-zero (leb k 255) 9 (b .0)),
+        leb-true k 255 (unless-none 9 (leb k 255) (b .0)),
         leb-true (big + o) 65535 (g .0),
         leb-true (left + o) 65535 (g .1),
-        leb-true size room (test-zero (leb size room) 14 (d .0)),
-        leb-true n entryRoom (test-zero (leb n entryRoom) 14 (d .1)),
+        room-fits size room (d .0),
+        room-fits n entryRoom (d .1),
       )
 
 second : (a b c : ℕ) → orElse a (orElse b c) ≡ 0 → b ≡ 0
-second a b c e = or-zero b c (or-zero a (orElse b c) e .1) .0
+second a b c e = orElse-none b c (orElse-none a (orElse b c) e .1) .0
 
 abbrev pub fontOf : List ℤ → List ℤ → ℤ → ℤ → Font
 fontOf s es b l = record { instructions = s; entries = es; boundary = b; left = l }
@@ -244,9 +219,6 @@ filling-appends f n v = record { within = rw (length-tabulate n f) (v .within); 
 pub filling-is : {A : Type 0} (xs : List A) (z : A) {d₀ d : List A} → Filling (λ j. getD xs j z) d₀ d (length xs) → Appending xs d₀ d
 filling-is xs z v = rw (tabulate-getD xs z) at (filling-appends (λ j. getD xs j z) (length xs) v)
 
-pub filling-put : {A : Type 0} (f : ℕ → A) {d₀ d : List A} (d′ : List A) {i : ℕ} {v : A} → Filling f d₀ d i → i < length d → d′ ≡ set d i v → v ≡ f i → Filling f d₀ d′ (i + 1)
-filling-put f {d₀} d′ h l e g = rw (e, g) (filling-more f d₀ h l)
-
 -- ---- what the numbers in front, the old ones and those at the end are
 
 abbrev pub packedNumber : ℤ → ℕ → ℕ → List ℕ → List ℤ → ℤ → ℕ → ℤ
@@ -324,11 +296,10 @@ module _ (es : List ℤ) (k o : ℕ) (ls : List ℕ) (i : ℕ) where
   entry-entry = rw (ne-eqb ((2 * i + 1) % 2) 0 (λ g. omega arith))
 
   -- a character and its entry
-  pub filling-entry : {d₀ d : List ℤ} (d′ d″ : List ℤ) {v w : ℤ} → Filling (entryNumber es k o ls) d₀ d (2 * i) → 2 * i + 1 < length d → d′ ≡ set d (2 * i) v → v ≡ getD es (2 * i) (pos 0) → d″ ≡ set d′ (2 * i + 1) w → w ≡ pos (packedEntry k o ls (wordOf (getD es (2 * i + 1) (pos 0)))) → Filling (entryNumber es k o ls) d₀ d″ (2 * (i + 1))
-  filling-entry {d₀} {d} d′ d″ {v} {w} h l e g e′ g′ =
+  pub filling-entry : {d₀ d : List ℤ} (d′ d″ : List ℤ) {v w : ℤ} → Filling (entryNumber es k o ls) d₀ d (2 * i) → 2 * i + 1 < length d₀ → d′ ≡ set d (2 * i) v → v ≡ getD es (2 * i) (pos 0) → d″ ≡ set d′ (2 * i + 1) w → w ≡ pos (packedEntry k o ls (wordOf (getD es (2 * i + 1) (pos 0)))) → Filling (entryNumber es k o ls) d₀ d″ (2 * (i + 1))
+  filling-entry d′ d″ h l e g e′ g′ =
       let n : 2 * i + 1 + 1 ≡ 2 * (i + 1) = omega arith in
-      let same : length d′ ≡ length d = ap length e ∙ length-set d (2 * i) v in
-      rw n at (filling-put (entryNumber es k o ls) d″ (filling-put (entryNumber es k o ls) d′ h (omega arith) e (g ∙ entry-char)) (omega arith) e′ (g′ ∙ entry-entry))
+      rw n at (filling-put (filling-put h (omega arith) e (g ∙ entry-char)) l e′ (g′ ∙ entry-entry))
 
 -- ---- the redirects and the offset of a font, from its labels
 
@@ -411,11 +382,11 @@ refusal-of room entryRoom e h = h ∙ ap (λ (x : Font). packingRefusal x room e
 
 pub packing-first : (f : Font) (room entryRoom : ℕ) {r : ℕ} → r ≡ fontRefusal f → (r ≡ 0 → ⊥) → r ≡ packingRefusal f room entryRoom
 packing-first f room entryRoom e h =
-    or-first (orElse (redirectRefusal (fontRedirects f)) (orElse (shiftRefusal f) (orElse (roomRefusal (length (packedInstructions f)) room) (roomRefusal (length (f .entries)) entryRoom)))) e h
+    first-refusal (orElse (redirectRefusal (fontRedirects f)) (orElse (shiftRefusal f) (orElse (roomRefusal (length (packedInstructions f)) room) (roomRefusal (length (f .entries)) entryRoom)))) e h
 
-refused : (f : Font) (out entriesOut : List ℤ) (r R : ℕ) → r ≡ R → (r ≡ 0 → ⊥) → (Refused r ≡ packedBy R f) × ((replicate (length out) (pos 0) ≡ listOf R (pos 0) (length out) (packedInstructions f)) × (replicate (length entriesOut) (pos 0) ≡ listOf R (pos 0) (length entriesOut) (packedEntries f)))
-refused f out entriesOut r zero e h = absurd (h e)
-refused f out entriesOut r (suc R) e h = (ap Refused e, (refl, refl))
+refused : (f : Font) {r m : ℕ} → r ≡ m → (r ≡ 0 → ⊥) → Refused r ≡ packedBy m f
+refused f {m = zero} e h = absurd (h e)
+refused f {m = suc m} e h = ap Refused e
 
 module _ (f : Font) (out entriesOut zeros zerosOut : List ℤ) (e : zeros ≡ replicate (length out) (pos 0)) (g : zerosOut ≡ replicate (length entriesOut) (pos 0)) where
   rooms : packingRefusal f (length zeros) (length zerosOut) ≡ packingRefusal f (length out) (length entriesOut)
@@ -425,8 +396,11 @@ module _ (f : Font) (out entriesOut zeros zerosOut : List ℤ) (e : zeros ≡ re
 
   pub packs-refused : (r : ℕ) → r ≡ packingRefusal f (length zeros) (length zerosOut) → (r ≡ 0 → ⊥) → Packs f out entriesOut (Refused r) zeros zerosOut
   packs-refused r t h =
-      let q = refused f out entriesOut r (packingRefusal f (length out) (length entriesOut)) (t ∙ rooms) h in
-      record { answer = q .0; instructions = e ∙ q .1 .0; entries = g ∙ q .1 .1 }
+      record {
+        answer = refused f (t ∙ rooms) h;
+        instructions = refused-list (pos 0) (length out) (packedInstructions f) (t ∙ rooms) h e;
+        entries = refused-list (pos 0) (length entriesOut) (packedEntries f) (t ∙ rooms) h g;
+      }
 
   pub packs-taken : (r : Packed) (out′ entriesOut′ : List ℤ) → packingRefusal f (length zeros) (length zerosOut) ≡ 0 → r ≡ packedBy 0 f → Appending (packedInstructions f) zeros out′ → Appending (packedEntries f) zerosOut entriesOut′ → Packs f out entriesOut r out′ entriesOut′
   packs-taken r out′ entriesOut′ t a x y =

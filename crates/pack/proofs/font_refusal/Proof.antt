@@ -1,45 +1,40 @@
 -- `pack::font_refusal` meets its contract: the first of four refusals that is not 0.
 -- Assumes nothing.
-use mathlib.Core.Path.{sym, ap, _∙_}
+use mathlib.Core.Path.{_≡_, ap, _∙_}
 use Rattle.words.proofs.Bits.{number-word}
-use Rattle.lang.specs.Checks.{programRefusal, entriesRefusal, absentRefusal, orElse}
-use Rattle.pack.proofs.Packing.{or-first, or-second, or-third, or-fourth}
+use Rattle.lang.specs.Checks.{absentRefusal}
+use Rattle.lang.proofs.Refusals.{first-refusal, later-refusal}
 use borrow.Author.Needs.{needs}
 use Rattle.pack.proofs.font_refusal.Statement.{statement}
 use Rattle.pack.proofs.font_refusal.Tie as tie
+
+edge : (c : tie.After-absent-refusal) → c .absent-refusal .result ≡ absentRefusal 255 (c .before .before .before .before .before .args .boundary)
+edge c =
+    let s = c .before .before .before .before .before in
+    c .absent-refusal .ensures ∙ ap (absentRefusal 255) (number-word (s .args .boundary) (s .fits .boundary))
 
 program-refusal-requires : tie.Need-program-refusal-requires
 program-refusal-requires c κs = search needs
 
 returns : tie.Need-returns
-returns c =
-    let a = c .before .before .args in
-    or-first (orElse (entriesRefusal 65535 (a .entries .now)) (orElse (absentRefusal 255 (a .boundary)) (absentRefusal 65535 (a .left-entry))))
-    (c .before .program-refusal .ensures) (c .if1 .taken)
+returns c = first-refusal _ (c .before .program-refusal .ensures) (c .if1 .taken)
 
 entries-refusal-requires : tie.Need-entries-refusal-requires
 entries-refusal-requires c κs = search needs
 
 returns-2 : tie.Need-returns-2
 returns-2 c =
-    let s = c .before .before .before .before in
-    let a = s .args in
-    or-second (programRefusal (a .instructions .now)) (entriesRefusal 65535 (a .entries .now)) (absentRefusal 255 (a .boundary))
-    (absentRefusal 65535 (a .left-entry)) (sym (c .before .before .before .program-refusal .ensures) ∙ c .before .before .if1 .left)
-    (c .before .entries-refusal .ensures) (c .if2 .taken)
+    later-refusal (c .before .before .before .program-refusal .ensures) (c .before .before .if1 .left)
+    (first-refusal _ (c .before .entries-refusal .ensures) (c .if2 .taken))
 
 absent-refusal-requires : tie.Need-absent-refusal-requires
 absent-refusal-requires c κs = search needs
 
 returns-3 : tie.Need-returns-3
 returns-3 c =
-    let s = c .before .before .before .before .before .before in
-    let a = s .args in
-    or-third (programRefusal (a .instructions .now)) (entriesRefusal 65535 (a .entries .now)) (absentRefusal 255 (a .boundary))
-    (absentRefusal 65535 (a .left-entry))
-    (sym (c .before .before .before .before .before .program-refusal .ensures) ∙ c .before .before .before .before .if1 .left)
-    (sym (c .before .before .before .entries-refusal .ensures) ∙ c .before .before .if2 .left)
-    (c .before .absent-refusal .ensures ∙ ap (absentRefusal 255) (number-word (a .boundary) (s .fits .boundary))) (c .if3 .taken)
+    later-refusal (c .before .before .before .before .before .program-refusal .ensures) (c .before .before .before .before .if1 .left)
+    (later-refusal (c .before .before .before .entries-refusal .ensures) (c .before .before .if2 .left)
+    (first-refusal _ (edge (c .before)) (c .if3 .taken)))
 
 absent-refusal-requires-2 : tie.Need-absent-refusal-requires-2
 absent-refusal-requires-2 c κs = search needs
@@ -47,13 +42,10 @@ absent-refusal-requires-2 c κs = search needs
 returns-4 : tie.Need-returns-4
 returns-4 c =
     let s = c .before .before .before .before .before .before .before in
-    let a = s .args in
-    or-fourth (programRefusal (a .instructions .now)) (entriesRefusal 65535 (a .entries .now)) (absentRefusal 255 (a .boundary))
-    (absentRefusal 65535 (a .left-entry))
-    (sym (c .before .before .before .before .before .before .program-refusal .ensures) ∙ c .before .before .before .before .before .if1 .left)
-    (sym (c .before .before .before .before .entries-refusal .ensures) ∙ c .before .before .before .if2 .left)
-    (sym (c .before .before .absent-refusal .ensures ∙ ap (absentRefusal 255) (number-word (a .boundary) (s .fits .boundary))) ∙ c .before .if3 .left)
-    (c .absent-refusal2 .ensures ∙ ap (absentRefusal 65535) (number-word (a .left-entry) (s .fits .left-entry)))
+    later-refusal (c .before .before .before .before .before .before .program-refusal .ensures) (c .before .before .before .before .before .if1 .left)
+    (later-refusal (c .before .before .before .before .entries-refusal .ensures) (c .before .before .before .if2 .left)
+    (later-refusal (edge (c .before .before)) (c .before .if3 .left)
+    (c .absent-refusal2 .ensures ∙ ap (absentRefusal 65535) (number-word (s .args .left-entry) (s .fits .left-entry)))))
 
 pub font-refusal-spec : {M : Type 1} → statement M
 font-refusal-spec =

@@ -26,8 +26,8 @@ kept s =
     let a = s .before .before .args in
     filling-length (entryNumber (a .entries .now) (a .redirects) (a .offset) (a .labels .now)) (a .out .now) (s .loop .inv .0)
 
-room : (c : tie.In-loop Inv-loop μ-loop) → 2 * c .before .loop .i + 1 < length (c .before .loop .out)
-room c = omega (arith, kept (c .before), c .before .before .before .pre, c .loop-test .taken)
+room : (c : tie.In-loop Inv-loop μ-loop) → 2 * c .before .loop .i + 1 < length (c .before .before .before .args .out .now)
+room c = omega (arith, c .before .before .before .pre, c .loop-test .taken)
 
 loop-holds : tie.Need-loop-holds Inv-loop μ-loop
 loop-holds c =

@@ -10,7 +10,8 @@ use Rattle.words.specs.Words.{numberOf}
 use Rattle.words.specs.Lists.{Filling}
 use Rattle.words.proofs.Lists.{filling-none, filling-length}
 use Rattle.pack.specs.Packing.{front, back}
-use Rattle.pack.proofs.Packing.{packedNumber, number-count, filling-put, filling-is}
+use Rattle.lang.proofs.Filled.{filling-put}
+use Rattle.pack.proofs.Packing.{packedNumber, number-count, filling-is}
 use borrow.Author.Needs.{needs}
 use Rattle.pack.proofs.put_instructions.Statement.{statement}
 use Rattle.pack.proofs.put_instructions.Tie as tie
@@ -34,8 +35,8 @@ kept s =
     let a = s .before .before .before .args in
     filling-length (packedNumber (numberOf (a .boundary)) (a .redirects) (a .offset) (a .labels .now) (a .instructions .now) (numberOf (a .left))) (a .out .now) (s .loop .inv .0)
 
-room : (c : tie.In-loop Inv-loop μ-loop) → c .before .loop .j < length (c .before .loop .out)
-room c = omega (arith, size (c .before), kept (c .before), c .before .before .before .before .pre .1, c .loop-test .taken)
+room : (c : tie.In-loop Inv-loop μ-loop) → c .before .loop .j < length (c .before .before .before .before .args .out .now)
+room c = omega (arith, size (c .before), c .before .before .before .before .pre .1, c .loop-test .taken)
 
 packed-size-requires : tie.Need-packed-size-requires Inv-loop μ-loop
 packed-size-requires c κs = omega (arith, c .before .pre .0 .1 .1 .0 0)
@@ -62,11 +63,8 @@ loop-less c = omega arith
 
 loop-again : tie.Need-loop-again Inv-loop μ-loop
 loop-again c =
-    let s = c .before .before .before .before .before in
-    let a = s .before .before .before .args in (
-      filling-put (packedNumber (numberOf (a .boundary)) (a .redirects) (a .offset) (a .labels .now) (a .instructions .now) (numberOf (a .left)))
-          (c .before .put-word .last .0) (s .loop .inv .0) (room (c .before .before .before .before)) (c .before .put-word .ensures)
-          (c .before .before .before .packed-number .ensures),
+    let s = c .before .before .before .before .before in (
+      filling-put (s .loop .inv .0) (room (c .before .before .before .before)) (c .before .put-word .ensures) (c .before .before .before .packed-number .ensures),
       omega arith,
     )
 
