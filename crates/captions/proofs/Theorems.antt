@@ -1,39 +1,35 @@
 -- Demand 3: what compile writes, begin and the steps from it, and the one-by-one reading agree. The statement is specs/Demand3.
 -- Assumes nothing.
-use mathlib.Core.Path.{_≡_, refl, sym, ap, _∙_, subst}
-use mathlib.Core.Bool.{Bool, true, false, cond, not}
-use mathlib.Core.List.{List, [], _∷_, _++_, map, List·Memᴰ}
-use mathlib.Core.Logic.{_↔_}
-use mathlib.Core.Option.{Option, none, some}
-use Prim.Native.Nat.{ℕ, zero, suc, _+_, _-_, _*_, _/_, _%_, _<_, _≤_}
+use mathlib.Core.Path.{_≡_, refl, sym, ap, _∙_}
+use mathlib.Core.Bool.{true, false, not}
+use mathlib.Core.List.{List, [], _∷_}
+use Prim.Native.Nat.{ℕ, zero, suc, _-_, _*_, _/_, _%_, _<_}
 use native.Mathlib.Omega.{arith}
-use lib.IntN.{ℤ, pos, negsuc}
-use lib.Dec.{leb, eqb}
+use lib.IntN.{ℤ, pos}
+use lib.Dec.{eqb}
 use lib.ListN.{length, replicate, take, length-append}
 use lib.Seq.{take-at}
-use borrow.Author.Tests.{leb-true, eqb-true}
+use borrow.Author.Tests.{eqb-true}
 use Rattle.lang.specs.Every.{both}
 use Rattle.lang.specs.Records.{absentOr}
-use Rattle.lang.specs.Checks.{unless, orElse, programRefusal, kernsRefusal, entriesRefusal, absentRefusal, designRefusal}
-use Rattle.lang.specs.Answers.{padded, listOf}
+use Rattle.lang.specs.Checks.{orElse, programRefusal, kernsRefusal, entriesRefusal, absentRefusal, designRefusal}
+use Rattle.lang.specs.Answers.{padded}
 use Rattle.lang.proofs.Every.{both-left}
-use Rattle.reading.specs.Items.{Left, Out, glyph, kern, Item, item}
-use Rattle.reading.specs.Reading.{NeverEnds, Ends}
+use Rattle.lang.proofs.Refusals.{orElse-none, unless-none}
+use Rattle.reading.specs.Items.{Out, glyph, kern, item}
 use Rattle.reading.proofs.Steps.{more-not-done}
 use Rattle.reading.specs.Run as plainly
 use Rattle.reading.specs.Depth.{Finished, Pair}
 use Rattle.reading.specs.Loops.{Ruled}
-use Rattle.reading.proofs.Holds.{Holds}
 use Rattle.reading.proofs.Theorems as Reading
-use Rattle.compiler.specs.declared.Compiled.{Compiled}
-use Rattle.compiler.specs.declared.Compiled.the-variants.{Tables, Refused}
-use Rattle.pairs.specs.Ops.{opsOf, entryOf, outNumbers, opNumbers, opsBefore, opsTable, loopNumbers}
+use Rattle.compiler.specs.declared.Compiled.the-variants.{Tables}
+use Rattle.pairs.specs.Ops.{opsOf, entryOf, opNumbers, opsBefore, opsTable, loopNumbers}
 use Rattle.pairs.specs.Fonts.{Font, pairsOf, rulesOf}
-use Rattle.compiler.specs.Compiled.{Room, roomOf, finishedOf, loopsOfFont, totalOps, fontTable, fontOps, fontLoops, fontRefusal, pairsRefusal, kernRefusal, opsRefusal, loopsRefusal, tablesRefusal, compileRefusal, compiledBy, Written, Compiles}
+use Rattle.compiler.specs.Compiled.{Room, roomOf, finishedOf, loopsOfFont, totalOps, fontTable, fontOps, fontLoops, fontRefusal, tablesRefusal, compileRefusal, compiledBy, Written, Compiles}
 use Rattle.compiler.proofs.Theorems as Compiling
 use Rattle.captions.specs.declared.RunOptions.{RunOptions}
 use Rattle.captions.specs.Tables.{opCount, entries}
-use Rattle.captions.specs.Form.{sizesForm, tableForm}
+use Rattle.captions.specs.Form.{sizesForm}
 use Rattle.captions.specs.Steps.{rightItem}
 use Rattle.captions.specs.Demand3.{Caption, Answered, Reads, Loop, Demand3}
 use Rattle.captions.proofs.FontCodes.{font-form}
@@ -42,18 +38,9 @@ use Rattle.captions.proofs.Running.{Fit, runs}
 
 -- ---- an accepted font
 
--- no number holds
-or-none : (a b : ℕ) → orElse a b ≡ 0 → (a ≡ 0) × (b ≡ 0)
-or-none zero b h = (refl, h)
-or-none (suc a) b h = absurd (omega (arith, h))
-
 pub accepted : (n : ℕ) (f : Font) (p o l : ℕ) → Tables p o l ≡ compiledBy n f → (n ≡ 0) × (p ≡ length (fontTable f) / 6) × (o ≡ totalOps f) × (l ≡ length (loopsOfFont f))
 accepted zero f p o l e = (refl, cc, cc, cc)
 accepted (suc n) f p o l e = absurd (let z : _≡_ {A = ℕ} 0 1 = cc in omega arith)
-
-passes : (n : ℕ) (t : Bool) → unless (suc n) t ≡ 0 → t ≡ true
-passes n true h = refl
-passes n false h = absurd (omega (arith, h))
 
 module _ (f : Font) (room : Room) (taken : compileRefusal f room ≡ 0) where
   few-ops : totalOps f ≤ 2147483647
@@ -67,10 +54,10 @@ module _ (f : Font) (room : Room) (taken : compileRefusal f room ≡ 0) where
   boundary-fits : absentOr 255 (f .boundary) ≡ true
   boundary-fits =
       let edges = orElse (absentRefusal 255 (f .boundary)) (orElse (absentRefusal 65535 (f .left)) (designRefusal (f .design))) in
-      let a = or-none (programRefusal (f .instructions)) (orElse (kernsRefusal (f .kerns)) (orElse (entriesRefusal 65535 (f .entries)) edges)) (or-none (fontRefusal f) (tablesRefusal f room) taken .0) .1 in
-      let b = or-none (kernsRefusal (f .kerns)) (orElse (entriesRefusal 65535 (f .entries)) edges) a .1 in
-      let c = or-none (entriesRefusal 65535 (f .entries)) edges b .1 in
-      passes 3 (absentOr 255 (f .boundary)) (or-none (absentRefusal 255 (f .boundary)) (orElse (absentRefusal 65535 (f .left)) (designRefusal (f .design))) c .0)
+      let a = orElse-none (programRefusal (f .instructions)) (orElse (kernsRefusal (f .kerns)) (orElse (entriesRefusal 65535 (f .entries)) edges)) (orElse-none (fontRefusal f) (tablesRefusal f room) taken .0) .1 in
+      let b = orElse-none (kernsRefusal (f .kerns)) (orElse (entriesRefusal 65535 (f .entries)) edges) a .1 in
+      let c = orElse-none (entriesRefusal 65535 (f .entries)) edges b .1 in
+      unless-none 3 (absentOr 255 (f .boundary)) (orElse-none (absentRefusal 255 (f .boundary)) (orElse (absentRefusal 65535 (f .left)) (designRefusal (f .design))) c .0)
 
 -- ---- what was written, without the zeroed rest
 

@@ -14,6 +14,7 @@ use Rattle.words.specs.Words.{Word, wordOf}
 use Rattle.words.proofs.Bits.{read-pos, read-neg}
 use Rattle.lang.specs.Every.{both, every}
 use Rattle.lang.proofs.Every.{both-left, both-right, every-at}
+use Rattle.lang.proofs.Refusals.{unless-none}
 use Rattle.reading.specs.Form.{formed}
 use Rattle.pairs.specs.Rows.{leftOf}
 use Rattle.captions.specs.declared.State.{State}
@@ -23,7 +24,6 @@ use Rattle.captions.specs.Tables.{pairCount, opCount, opFits, keyBy, leftPlace,
 use Rattle.captions.specs.Form.{opsEnd, keyForm, pairForm, sizesForm, tableForm, tableRefusal}
 use Rattle.captions.specs.Steps.{rightItem}
 use Rattle.captions.specs.Queries.{notLigature, isSeparationPoint, originalOf, toldBy, isFound, hasEntry, opIsSevenBit, becomesSevenBit, pairIsSafe}
-use Rattle.ligkern.proofs.Filled.{unless-none}
 
 -- ---- a separation point
 
@@ -80,7 +80,7 @@ module _ (pairs : List ℤ) (boundary left right : ℤ) {w v place : ℕ} (p : W
 
 pub table-fits : (pairs ops : List ℤ) (k : ℕ) → tableRefusal pairs ops ≡ 0 → k < pairCount pairs → recordFits pairs ops k ≡ true
 table-fits pairs ops k e h =
-    let t = unless-none 7 (tableForm pairs ops) (λ z. omega arith) e in
+    let t = unless-none 6 (tableForm pairs ops) e in
     let a = both-right (sizesForm pairs ops) (both (every (opCount ops) (opFits ops)) (both (every (pairCount pairs) (pairForm pairs ops)) (eqb (opsEnd pairs (pairCount pairs)) (opCount ops)))) t in
     let b = both-right (every (opCount ops) (opFits ops)) (both (every (pairCount pairs) (pairForm pairs ops)) (eqb (opsEnd pairs (pairCount pairs)) (opCount ops))) a in
     let f = every-at (pairCount pairs) k (pairForm pairs ops) (both-left (every (pairCount pairs) (pairForm pairs ops)) (eqb (opsEnd pairs (pairCount pairs)) (opCount ops)) b) h in

@@ -1,9 +1,9 @@
 -- `ligkern::begin::begin_refusal` meets its contract: the first of four numbers that is not 0.
 -- Assumes nothing.
-use mathlib.Core.Path.{_≡_, sym, ap, _∙_}
+use mathlib.Core.Path.{_≡_, ap, _∙_}
 use lib.IntN.{ℤ}
 use Rattle.words.proofs.Bits.{number-word}
-use Rattle.lang.proofs.Checks.{first-is, second-is}
+use Rattle.lang.proofs.Refusals.{first-refusal, later-refusal}
 use Rattle.captions.specs.Begin.{edgesRefusal}
 use borrow.Author.Needs.{needs}
 use Rattle.ligkern.proofs.begin.begin_refusal.Statement.{statement}
@@ -18,7 +18,7 @@ edges-refusal-requires : tie.Need-edges-refusal-requires
 edges-refusal-requires c κs = search needs
 
 returns : tie.Need-returns
-returns c = let e = edges (c .before) in e ∙ sym (first-is _ _ (λ h. c .if1 .taken (e ∙ h)))
+returns c = first-refusal _ (edges (c .before)) (c .if1 .taken)
 
 letters-refusal-requires : tie.Need-letters-refusal-requires
 letters-refusal-requires c κs = search needs
@@ -26,8 +26,7 @@ letters-refusal-requires c κs = search needs
 returns-2 : tie.Need-returns-2
 returns-2 c =
     let d = c .before .before in
-    let e = c .before .letters-refusal .ensures in
-    e ∙ sym (second-is _ _ (sym (edges (d .before)) ∙ d .if1 .left) ∙ first-is _ _ (λ h. c .if2 .taken (e ∙ h)))
+    later-refusal (edges (d .before)) (d .if1 .left) (first-refusal _ (c .before .letters-refusal .ensures) (c .if2 .taken))
 
 word-refusal-requires : tie.Need-word-refusal-requires
 word-refusal-requires c κs = search needs
@@ -36,8 +35,8 @@ returns-3 : tie.Need-returns-3
 returns-3 c =
     let l = c .before .before in
     let d = l .before .before in
-    let e = c .before .word-refusal .ensures in
-    e ∙ sym (second-is _ _ (sym (edges (d .before)) ∙ d .if1 .left) ∙ second-is _ _ (sym (l .before .letters-refusal .ensures) ∙ l .if2 .left) ∙ first-is _ _ (λ h. c .if3 .taken (e ∙ h)))
+    later-refusal (edges (d .before)) (d .if1 .left)
+    (later-refusal (l .before .letters-refusal .ensures) (l .if2 .left) (first-refusal _ (c .before .word-refusal .ensures) (c .if3 .taken)))
 
 table-refusal-requires : tie.Need-table-refusal-requires
 table-refusal-requires c κs = search needs
@@ -47,8 +46,9 @@ returns-4 c =
     let w = c .before in
     let l = w .before .before in
     let d = l .before .before in
-    c .table-refusal .ensures
-    ∙ sym (second-is _ _ (sym (edges (d .before)) ∙ d .if1 .left) ∙ second-is _ _ (sym (l .before .letters-refusal .ensures) ∙ l .if2 .left) ∙ second-is _ _ (sym (w .before .word-refusal .ensures) ∙ w .if3 .left))
+    later-refusal (edges (d .before)) (d .if1 .left)
+    (later-refusal (l .before .letters-refusal .ensures) (l .if2 .left)
+    (later-refusal (w .before .word-refusal .ensures) (w .if3 .left) (c .table-refusal .ensures)))
 
 pub begin-refusal-spec : {M : Type 1} → statement M
 begin-refusal-spec =

@@ -7,9 +7,10 @@ use native.Mathlib.Omega.{arith}
 use lib.IntN.{ℤ}
 use denote.Ref.{now}
 use Rattle.words.specs.Lists.{Filling}
+use Rattle.words.proofs.Bits.{number-is}
 use Rattle.words.proofs.Lists.{filling-none, filling-length}
+use Rattle.lang.proofs.Filled.{filling-put, filling-to}
 use Rattle.captions.specs.Tables.{pairCount, number}
-use Rattle.ligkern.proofs.Filled.{filling-put, filling-to}
 use borrow.Author.Needs.{needs}
 use Rattle.ligkern.proofs.keys.write_keys.Statement.{statement}
 use Rattle.ligkern.proofs.keys.write_keys.Tie as tie
@@ -51,8 +52,7 @@ loop-again c =
     let w = c .before .before .number-at in
     let p = c .before .put-word in (
       omega (arith, c .before .before .before .before .loop-test .taken),
-      filling-put (keyNumber (now (a .args .pairs))) (now (a .args .out)) (l .out) (p .last .0) (l .j) (w .result) (l .inv .1)
-          (omega (arith, c .before .before .before .before .loop-test .taken, a .pre)) (w .ensures) (p .ensures),
+      filling-put (l .inv .1) (omega (arith, c .before .before .before .before .loop-test .taken, a .pre)) (p .ensures) (number-is (w .ensures)),
     )
 
 same-length : tie.Need-same-length Inv-loop μ-loop
@@ -64,8 +64,7 @@ returns : tie.Need-returns Inv-loop μ-loop
 returns c =
     let a = c .before .before .args in
     let l = c .before .loop in
-    filling-to (keyNumber (now (a .pairs))) (now (a .out)) (l .out) (l .j) (2 * pairCount (now (a .pairs))) (l .inv .1)
-    (omega (arith, l .inv .0, c .loop-test .left))
+    filling-to (2 * pairCount (now (a .pairs))) (l .inv .1) (omega (arith, l .inv .0, c .loop-test .left))
 
 pub write-keys-spec : {M : Type 1} → statement M
 write-keys-spec =

@@ -11,10 +11,11 @@ use Rattle.lang.specs.declared.Written.the-variants.{Count, Refused}
 use Rattle.lang.specs.Every.{both, every}
 use Rattle.lang.specs.Checks.{unless}
 use Rattle.lang.specs.Answers.{roomRefusal}
+use Rattle.lang.proofs.Refusals.{orElse-none, room-fits, refused-answer, taken-answer}
+use Rattle.lang.proofs.Filled.{refused-list, written-list}
 use Rattle.captions.specs.Tables.{pairCount, number}
 use Rattle.captions.specs.Form.{keyForm}
 use Rattle.captions.specs.Queries.{keysOf, keysRefusal, ListsPairs}
-use Rattle.ligkern.proofs.Filled.{orElse-right, room-fits, refused-answer, refused-list, written-list}
 use borrow.Author.Needs.{needs}
 use Rattle.ligkern.proofs.queries.all_pairs_with_replacements.Statement.{statement}
 use Rattle.ligkern.proofs.queries.all_pairs_with_replacements.Tie as tie
@@ -32,20 +33,20 @@ module _ {pairs out z : List ℤ} {r : ℕ} (b : Begun pairs out z r) where
   refused : (r ≡ 0 → ⊥) → ListsPairs pairs out (Refused r) z
   refused h =
       record {
-        answer = rw (← number-is) (sym (refused-answer r (pairCount pairs) h));
-        list = rw (← number-is) (b .zeros ∙ sym (refused-list r (length out) (keysOf pairs) h));
+        answer = refused-answer (pairCount pairs) number-is h;
+        list = refused-list (pos 0) (length out) (keysOf pairs) number-is h (b .zeros);
       }
 
   enough : r ≡ 0 → 2 * pairCount pairs ≤ length z
   enough e =
       room-fits (2 * pairCount pairs) (length z)
-      (orElse-right (unless 7 (both (eqb (length pairs % 6) 0) (every (pairCount pairs) (keyForm pairs)))) (roomRefusal (2 * pairCount pairs) (length z)) (sym (b .refusal) ∙ e))
+      (orElse-none (unless 7 (both (eqb (length pairs % 6) 0) (every (pairCount pairs) (keyForm pairs)))) (roomRefusal (2 * pairCount pairs) (length z)) (sym (b .refusal) ∙ e) .1)
 
   done : {out′ : List ℤ} → r ≡ 0 → out′ ≡ keysOf pairs ++ drop (2 * pairCount pairs) z → ListsPairs pairs out (Count (pairCount pairs)) out′
-  done {out′} e w =
+  done e w =
       record {
-        answer = rw (sym number-is ∙ e);
-        list = written-list (λ j. number pairs (j / 2) (j % 2)) (keysRefusal pairs (length out)) (length out) (2 * pairCount pairs) z out′ (sym number-is ∙ e) (b .zeros) w;
+        answer = taken-answer (pairCount pairs) (sym number-is ∙ e);
+        list = written-list (pos 0) (length out) (2 * pairCount pairs) (λ j. number pairs (j / 2) (j % 2)) (sym number-is ∙ e) (b .zeros) w;
       }
 
 begun : (c : tie.After-keys-refusal) → Begun (now (c .before .before .before .before .args .pairs)) (now (c .before .before .before .before .args .out)) (c .before .before .zero-i32 .last .0) (c .keys-refusal .result)

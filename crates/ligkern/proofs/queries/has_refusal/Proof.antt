@@ -1,13 +1,13 @@
 -- `ligkern::queries::has_refusal` meets its contract: the first of four numbers that is not 0.
 -- Assumes nothing.
-use mathlib.Core.Path.{_≡_, sym, ap, _∙_}
+use mathlib.Core.Path.{_≡_, refl, sym, ap, _∙_}
 use Prim.Native.Nat.{_%_}
 use lib.Dec.{eqb}
 use lib.ListN.{length}
 use denote.Ref.{now}
 use borrow.Author.Tests.{eq-eqb, ne-eqb}
 use Rattle.lang.specs.Checks.{unless, absentRefusal}
-use Rattle.lang.proofs.Checks.{first-is, second-is}
+use Rattle.lang.proofs.Refusals.{first-refusal, later-refusal}
 use Rattle.captions.specs.Queries.{hasRefusal}
 use Rattle.tables.proofs.Passed.{absent-passed}
 use borrow.Author.Needs.{needs}
@@ -28,13 +28,13 @@ passed : (c : tie.Else3) → unless 7 (eqb (length (now (c .before .before .befo
 passed c =
     let f = c .before .before in
     let e = f .before .before in
-    sym (second-is _ _ (sym (edge (e .before)) ∙ e .if1 .left) ∙ second-is _ _ (sym (first (f .before)) ∙ f .if2 .left) ∙ second-is _ _ (sym (second (c .before)) ∙ c .if3 .left))
+    later-refusal (edge (e .before)) (e .if1 .left) (later-refusal (first (f .before)) (f .if2 .left) (later-refusal (second (c .before)) (c .if3 .left) refl))
 
 absent-refusal-requires : tie.Need-absent-refusal-requires
 absent-refusal-requires c κs = search needs
 
 returns : tie.Need-returns
-returns c = let e = edge (c .before) in e ∙ sym (first-is _ _ (λ h. c .if1 .taken (e ∙ h)))
+returns c = first-refusal _ (edge (c .before)) (c .if1 .taken)
 
 absent-refusal-requires-2 : tie.Need-absent-refusal-requires-2
 absent-refusal-requires-2 c κs = search needs
@@ -42,8 +42,7 @@ absent-refusal-requires-2 c κs = search needs
 returns-2 : tie.Need-returns-2
 returns-2 c =
     let d = c .before .before in
-    let e = first (c .before) in
-    e ∙ sym (second-is _ _ (sym (edge (d .before)) ∙ d .if1 .left) ∙ first-is _ _ (λ h. c .if2 .taken (e ∙ h)))
+    later-refusal (edge (d .before)) (d .if1 .left) (first-refusal _ (first (c .before)) (c .if2 .taken))
 
 absent-refusal-requires-3 : tie.Need-absent-refusal-requires-3
 absent-refusal-requires-3 c κs = search needs
@@ -52,8 +51,7 @@ returns-3 : tie.Need-returns-3
 returns-3 c =
     let f = c .before .before in
     let d = f .before .before in
-    let e = second (c .before) in
-    e ∙ sym (second-is _ _ (sym (edge (d .before)) ∙ d .if1 .left) ∙ second-is _ _ (sym (first (f .before)) ∙ f .if2 .left) ∙ first-is _ _ (λ h. c .if3 .taken (e ∙ h)))
+    later-refusal (edge (d .before)) (d .if1 .left) (later-refusal (first (f .before)) (f .if2 .left) (first-refusal _ (second (c .before)) (c .if3 .taken)))
 
 returns-4 : tie.Need-returns-4
 returns-4 c =
