@@ -93,7 +93,7 @@ fn answer_by(letter: u8, numbers: &[i32], line: &mut [u8], k: usize) -> usize
         b'B' => programs::seven_bit_safe(numbers, line, k),
         b'R' => programs::reached(numbers, line, k),
         b'P' => changes::packed(numbers, line, k),
-        b'C' => fonts::compiled(numbers, line, k),
+        b'C' | b'W' | b'A' => fonts::compiled(letter, numbers, line, k),
         _ => k,
     }
 }

@@ -1,12 +1,15 @@
-// The answers about a font as a whole: C. The lists have room for 1,024 pairs with a rule, 1,024 ops and 64 loops.
+// The answers about a font as a whole, which is compiled first: C here, W in runs, A in questions. The lists have room for 1,024 pairs with a rule, 1,024 ops and 64 loops.
 ghost use mathlib.Core.Path.{_≡_};
 ghost use Prim.Native.Nat.{_≤_};
 ghost use lib.ListN.{length};
+use crate::questions;
 use crate::request::Read;
+use crate::request::after;
 use crate::request::font_at;
 use crate::request::items;
 use crate::request::number_at;
 use crate::request::part;
+use crate::runs;
 use crate::text::put_count;
 use crate::text::put_refusal;
 use crate::text::put_words;
@@ -66,11 +69,63 @@ fn put_pairs(line: &mut [u8], k: usize, pairs: &[i32], ops: &[i32]) -> usize
     at
 }
 
-// The number of pairs, the pairs, and the loop list; or the refusal.
-fn put_compiled(
+// The number of pairs, the pairs, and the loop list.
+fn put_compiled(line: &mut [u8], k: usize, pairs: &[i32], ops: &[i32], loops: &[i32]) -> usize
+    requires { ⌜ k ≤ length (now line) ⌝ }
+    ensures { λ r. ⌜ r ≤ length (now (line .exit)) ⌝ }
+{
+    let a = put_count(line, k, pairs.len() / 6);
+    let b = put_pairs(line, a, pairs, ops);
+    let c = put_count(line, b, loops.len() / 2);
+    put_words(line, c, loops, loops.len())
+}
+
+// Compiles the font at the end of a request; its design size stands at `design`, just before it.
+fn compile_at(
+    numbers: &[i32],
+    design: usize,
+    pairs: &mut [i32],
+    ops: &mut [i32],
+    loops: &mut [i32],
+) -> Compiled {
+    let Read::Whole(font) = font_at(numbers, after(numbers, design, 0)) else {
+        return Compiled::Refused(0);
+    };
+    let instructions = items(numbers, font.instructions, 4);
+    let kerns = items(numbers, font.kerns, 1);
+    let entries = items(numbers, font.entries, 2);
+    let boundary = number_at(numbers, font.boundary);
+    let left = number_at(numbers, font.left);
+    let size = number_at(numbers, design);
+    let mut work = rows();
+    compiler::compile(
+        instructions,
+        kerns,
+        entries,
+        boundary,
+        left,
+        size,
+        pairs,
+        ops,
+        loops,
+        &mut work,
+    )
+}
+
+// Where the design size stands: after the word of W, else first.
+fn design_of(letter: u8, numbers: &[i32]) -> usize {
+    if letter == b'W' {
+        return after(numbers, 2, 1);
+    }
+    0
+}
+
+// The answer to C, W or A, from the pairs, ops and loops of the font.
+fn put_asked(
+    letter: u8,
+    numbers: &[i32],
     line: &mut [u8],
     k: usize,
-    answer: Compiled,
     pairs: &[i32],
     ops: &[i32],
     loops: &[i32],
@@ -78,72 +133,29 @@ fn put_compiled(
     requires { ⌜ k ≤ length (now line) ⌝ }
     ensures { λ r. ⌜ r ≤ length (now (line .exit)) ⌝ }
 {
-    match answer {
-        Compiled::Tables(n, _, m) => {
-            let a = put_count(line, k, n);
-            let b = put_pairs(line, a, part(pairs, 0, n % 4294967296 * 6), ops);
-            let c = put_count(line, b, m);
-            put_words(line, c, loops, m % 4294967296 * 2)
-        }
-        Compiled::Refused(n) => put_refusal(line, k, n),
+    match letter {
+        b'C' => put_compiled(line, k, pairs, ops, loops),
+        b'W' => runs::put_word(numbers, line, k, pairs, ops),
+        _ => questions::put_table(numbers, line, k, pairs, ops),
     }
 }
 
-// What compiling a font writes.
-fn put_font(
-    line: &mut [u8],
-    k: usize,
-    instructions: &[i32],
-    kerns: &[i32],
-    entries: &[i32],
-    boundary: i32,
-    left: i32,
-    design: i32,
-) -> usize
+// C design FONT, A design FONT, or W left override WORD design FONT
+pub fn compiled(letter: u8, numbers: &[i32], line: &mut [u8], k: usize) -> usize
     requires { ⌜ k ≤ length (now line) ⌝ }
     ensures { λ r. ⌜ r ≤ length (now (line .exit)) ⌝ }
 {
     let mut pairs = table();
     let mut ops = op_list();
     let mut loops = loop_list();
-    let mut work = rows();
-    let answer = compiler::compile(
-        instructions,
-        kerns,
-        entries,
-        boundary,
-        left,
-        design,
-        &mut pairs,
-        &mut ops,
-        &mut loops,
-        &mut work,
-    );
-    put_compiled(line, k, answer, &pairs, &ops, &loops)
-}
-
-// C design FONT
-pub fn compiled(numbers: &[i32], line: &mut [u8], k: usize) -> usize
-    requires { ⌜ k ≤ length (now line) ⌝ }
-    ensures { λ r. ⌜ r ≤ length (now (line .exit)) ⌝ }
-{
-    let Read::Whole(font) = font_at(numbers, 1) else {
-        return k;
-    };
-    let design = number_at(numbers, 0);
-    let instructions = items(numbers, font.instructions, 4);
-    let kerns = items(numbers, font.kerns, 1);
-    let entries = items(numbers, font.entries, 2);
-    let boundary = number_at(numbers, font.boundary);
-    let left = number_at(numbers, font.left);
-    put_font(
-        line,
-        k,
-        instructions,
-        kerns,
-        entries,
-        boundary,
-        left,
-        design,
-    )
+    let design = design_of(letter, numbers);
+    match compile_at(numbers, design, &mut pairs, &mut ops, &mut loops) {
+        Compiled::Tables(p, o, m) => {
+            let of_pairs = part(&pairs, 0, p % 4294967296 * 6);
+            let of_ops = part(&ops, 0, o % 4294967296 * 2);
+            let of_loops = part(&loops, 0, m % 4294967296 * 2);
+            put_asked(letter, numbers, line, k, of_pairs, of_ops, of_loops)
+        }
+        Compiled::Refused(n) => put_refusal(line, k, n),
+    }
 }

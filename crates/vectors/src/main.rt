@@ -10,14 +10,16 @@ mod changes;
 mod fonts;
 mod instructions;
 mod programs;
+mod questions;
 mod request;
+mod runs;
 mod text;
 
 // Room for the requests.
-fn room() -> [u8; 524288]
-    ensures { λ r. ⌜ 524288 ≡ length r ⌝ }
+fn room() -> [u8; 786432]
+    ensures { λ r. ⌜ 786432 ≡ length r ⌝ }
 {
-    [0; 524288]
+    [0; 786432]
 }
 
 fn main() {

@@ -88,6 +88,14 @@ pub fn number_at(numbers: &[i32], i: usize) -> i32 {
     words::number_of(words::word_at(numbers, i))
 }
 
+// The boundary of the font at the end of a request: the last number but one.
+pub fn boundary_of(numbers: &[i32]) -> i32 {
+    if numbers.len() < 2 {
+        return -1;
+    }
+    number_at(numbers, numbers.len() - 2)
+}
+
 // The first n bytes.
 pub fn front(bytes: &[u8], n: usize) -> &[u8] {
     if n <= bytes.len() {

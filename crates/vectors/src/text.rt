@@ -179,17 +179,23 @@ pub fn put_panic(line: &mut [u8], k: usize) -> usize
     put_byte(line, e, b'c')
 }
 
-// The Rust panics where the port answers 10, 11 or 13. Another refusal, which the Rust does not have, is written as `?` and its number.
+// A refusal that the Rust does not have: `?` and its number.
+pub fn put_unknown(line: &mut [u8], k: usize, refusal: u32) -> usize
+    requires { ⌜ k ≤ length (now line) ⌝ }
+    ensures { λ r. ⌜ r ≤ length (now (line .exit)) ⌝ }
+{
+    let a = put_byte(line, k, b' ');
+    let b = put_byte(line, a, b'?');
+    put_number(line, b, refusal)
+}
+
+// The Rust panics where the port answers 10, 11 or 13.
 pub fn put_refusal(line: &mut [u8], k: usize, refusal: u32) -> usize
     requires { ⌜ k ≤ length (now line) ⌝ }
     ensures { λ r. ⌜ r ≤ length (now (line .exit)) ⌝ }
 {
     match refusal {
         10 | 11 | 13 => put_panic(line, k),
-        _ => {
-            let a = put_byte(line, k, b' ');
-            let b = put_byte(line, a, b'?');
-            put_number(line, b, refusal)
-        }
+        _ => put_unknown(line, k, refusal),
     }
 }
