@@ -2,7 +2,7 @@
 ghost use mathlib.Core.Path.{_≡_};
 ghost use Rattle.captions.specs.Begin.{lettersRefusal, beginRefusal, freshState, beginOf};
 ghost use Rattle.captions.specs.Begin as begun;
-use crate::form::table_refusal;
+use form::table_refusal;
 use captions::Begun;
 use captions::Consumes;
 use captions::NextLeft;

@@ -7,7 +7,7 @@ ghost use Rattle.lang.specs.Every.{every};
 ghost use Rattle.captions.specs.Tables.{pairCount};
 ghost use Rattle.captions.specs.Form.{keyForm};
 ghost use Rattle.captions.specs.Queries.{keysOf, keysRefusal};
-use crate::form::key_form;
+use form::key_form;
 use tables::number_at;
 
 // Left and right of every pair are in range, and the pairs ascend.

@@ -5,7 +5,7 @@ ghost use Rattle.captions.specs.Tables.{keyBy};
 ghost use Rattle.captions.specs.Tables as tables;
 ghost use Rattle.captions.specs.Steps.{rightItem};
 ghost use Rattle.captions.specs.Queries.{notLigature, isSeparationPoint, originalOf, isFound, hasEntry, hasRefusal, hasOf, ListsPairs, safeOf};
-use crate::form::table_refusal;
+use form::table_refusal;
 use crate::keys::keys_refusal;
 use crate::keys::write_keys;
 use crate::seven_bit::all_are_safe;

@@ -11,6 +11,7 @@ use Rattle.lang.specs.Every.{every}
 use Rattle.lang.proofs.Every.{every-none, every-more, every-fails, every-to}
 use Rattle.captions.specs.Tables.{pairCount}
 use Rattle.captions.specs.Form.{keyForm}
+use borrow.Author.Needs.{needs}
 use Rattle.ligkern.proofs.keys.keys_form.Statement.{statement}
 use Rattle.ligkern.proofs.keys.keys_form.Tie as tie
 
@@ -24,7 +25,7 @@ loop-holds : tie.Need-loop-holds Inv-loop μ-loop
 loop-holds c = (omega arith, every-none (keyForm (now (c .args .pairs))))
 
 key-form-requires : tie.Need-key-form-requires Inv-loop μ-loop
-key-form-requires c κs = omega arith
+key-form-requires c κs = search needs
 
 returns : tie.Need-returns Inv-loop μ-loop
 returns c =

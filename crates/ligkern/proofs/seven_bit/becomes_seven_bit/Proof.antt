@@ -7,7 +7,7 @@ use borrow.Author.Tests.{not-true, not-false}
 use Rattle.lang.specs.Every.{both}
 use Rattle.captions.specs.Tables.{lastCode}
 use Rattle.captions.specs.Queries.{becomesSevenBit}
-use Rattle.ligkern.proofs.Entries.{entry-end}
+use Rattle.form.proofs.Entries.{entry-end}
 use Rattle.ligkern.proofs.QueryLaws.{becomes-by}
 use borrow.Author.Needs.{needs}
 use Rattle.ligkern.proofs.seven_bit.becomes_seven_bit.Statement.{statement}
