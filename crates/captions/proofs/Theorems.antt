@@ -3,13 +3,13 @@
 use mathlib.Core.Path.{_≡_, refl, sym, ap, _∙_}
 use mathlib.Core.Bool.{true, false, not}
 use mathlib.Core.List.{List, [], _∷_}
-use Prim.Native.Nat.{ℕ, zero, suc, _-_, _*_, _/_, _%_, _<_}
+use Prim.Native.Nat.{ℕ, zero, suc, _-_, _*_, _/_, _%_, _<_, _≤_}
 use native.Mathlib.Omega.{arith}
 use lib.IntN.{ℤ, pos}
-use lib.Dec.{eqb}
+use lib.Dec.{leb, eqb}
 use lib.ListN.{length, replicate, take, length-append}
 use lib.Seq.{take-at}
-use borrow.Author.Tests.{eqb-true}
+use borrow.Author.Tests.{leb-true, eqb-true}
 use Rattle.lang.specs.Every.{both}
 use Rattle.lang.specs.Records.{absentOr}
 use Rattle.lang.specs.Checks.{orElse, programRefusal, kernsRefusal, entriesRefusal, absentRefusal, designRefusal}
@@ -25,7 +25,7 @@ use Rattle.reading.proofs.Theorems as Reading
 use Rattle.compiler.specs.declared.Compiled.the-variants.{Tables}
 use Rattle.pairs.specs.Ops.{opsOf, entryOf, opNumbers, opsBefore, opsTable, loopNumbers}
 use Rattle.pairs.specs.Fonts.{Font, pairsOf, rulesOf}
-use Rattle.compiler.specs.Compiled.{Room, roomOf, finishedOf, loopsOfFont, totalOps, fontTable, fontOps, fontLoops, fontRefusal, tablesRefusal, compileRefusal, compiledBy, Written, Compiles}
+use Rattle.compiler.specs.Compiled.{Room, roomOf, finishedOf, loopsOfFont, totalOps, fontTable, fontOps, fontLoops, fontRefusal, pairsRefusal, kernRefusal, opsRefusal, loopsRefusal, tablesRefusal, compileRefusal, compiledBy, Written, Compiles}
 use Rattle.compiler.proofs.Theorems as Compiling
 use Rattle.captions.specs.declared.RunOptions.{RunOptions}
 use Rattle.captions.specs.Tables.{opCount, entries}
@@ -45,10 +45,10 @@ accepted (suc n) f p o l e = absurd (let z : _≡_ {A = ℕ} 0 1 = cc in omega a
 module _ (f : Font) (room : Room) (taken : compileRefusal f room ≡ 0) where
   few-ops : totalOps f ≤ 2147483647
   few-ops =
-      let a = or-none (pairsRefusal f room) (orElse (kernRefusal f) (orElse (opsRefusal f room) (loopsRefusal f room))) (or-none (fontRefusal f) (tablesRefusal f room) taken .1) .1 in
-      let b = or-none (kernRefusal f) (orElse (opsRefusal f room) (loopsRefusal f room)) a .1 in
-      let c = or-none (opsRefusal f room) (loopsRefusal f room) b .0 in
-      let t = passes 13 (both (leb (totalOps f) 2147483647) (leb (2 * totalOps f) (room .ops))) c in
+      let a = orElse-none (pairsRefusal f room) (orElse (kernRefusal f) (orElse (opsRefusal f room) (loopsRefusal f room))) (orElse-none (fontRefusal f) (tablesRefusal f room) taken .1) .1 in
+      let b = orElse-none (kernRefusal f) (orElse (opsRefusal f room) (loopsRefusal f room)) a .1 in
+      let c = orElse-none (opsRefusal f room) (loopsRefusal f room) b .0 in
+      let t = unless-none 13 (both (leb (totalOps f) 2147483647) (leb (2 * totalOps f) (room .ops))) c in
       leb-true (totalOps f) 2147483647 (both-left (leb (totalOps f) 2147483647) (leb (2 * totalOps f) (room .ops)) t)
 
   boundary-fits : absentOr 255 (f .boundary) ≡ true
