@@ -2,12 +2,12 @@
 ghost use mathlib.Core.Path.{_≡_};
 ghost use Rattle.captions.specs.Begin.{lettersRefusal, beginRefusal, freshState, beginOf};
 ghost use Rattle.captions.specs.Begin as begun;
-use form::table_refusal;
 use captions::Begun;
 use captions::Consumes;
 use captions::NextLeft;
 use captions::RunOptions;
 use captions::State;
+use form::table_refusal;
 use tables::edges::edges_refusal;
 use tables::edges::word_refusal;
 
