@@ -99,7 +99,7 @@ fn answer_by(letter: u8, numbers: &[i32], line: &mut [u8], k: usize) -> usize
 }
 
 // Writes the answer to the request from `at` to `to`.
-pub fn answer(text: &[u8], at: usize, to: usize)
+pub(crate) fn answer(text: &[u8], at: usize, to: usize)
     requires { ⌜ (at ≤ to) × (to ≤ length (now text)) ⌝ }
 {
     if at == to {

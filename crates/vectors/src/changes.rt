@@ -48,7 +48,7 @@ fn put_program(line: &mut [u8], k: usize, answer: Written, program: &[i32]) -> u
 }
 
 // J FONT
-pub fn with_kerns(numbers: &[i32], line: &mut [u8], k: usize) -> usize
+pub(crate) fn with_kerns(numbers: &[i32], line: &mut [u8], k: usize) -> usize
     requires { ⌜ k ≤ length (now line) ⌝ }
     ensures { λ r. ⌜ r ≤ length (now (line .exit)) ⌝ }
 {
@@ -85,7 +85,7 @@ fn put_shared(
 }
 
 // K FONT
-pub fn with_indices(numbers: &[i32], line: &mut [u8], k: usize) -> usize
+pub(crate) fn with_indices(numbers: &[i32], line: &mut [u8], k: usize) -> usize
     requires { ⌜ k ≤ length (now line) ⌝ }
     ensures { λ r. ⌜ r ≤ length (now (line .exit)) ⌝ }
 {
@@ -123,7 +123,7 @@ fn put_packed(
 }
 
 // P FONT
-pub fn packed(numbers: &[i32], line: &mut [u8], k: usize) -> usize
+pub(crate) fn packed(numbers: &[i32], line: &mut [u8], k: usize) -> usize
     requires { ⌜ k ≤ length (now line) ⌝ }
     ensures { λ r. ⌜ r ≤ length (now (line .exit)) ⌝ }
 {

@@ -141,7 +141,7 @@ fn put_asked(
 }
 
 // C design FONT, A design FONT, or W left override WORD design FONT
-pub fn compiled(letter: u8, numbers: &[i32], line: &mut [u8], k: usize) -> usize
+pub(crate) fn compiled(letter: u8, numbers: &[i32], line: &mut [u8], k: usize) -> usize
     requires { ⌜ k ≤ length (now line) ⌝ }
     ensures { λ r. ⌜ r ≤ length (now (line .exit)) ⌝ }
 {

@@ -41,7 +41,7 @@ fn put_instruction(line: &mut [u8], k: usize, instructions: &[i32], i: usize) ->
 }
 
 // The first n instructions of a list.
-pub fn put_instructions(line: &mut [u8], k: usize, instructions: &[i32], n: usize) -> usize
+pub(crate) fn put_instructions(line: &mut [u8], k: usize, instructions: &[i32], n: usize) -> usize
     requires { ⌜ k ≤ length (now line) ⌝ }
     ensures { λ r. ⌜ r ≤ length (now (line .exit)) ⌝ }
 {

@@ -39,7 +39,7 @@ fn pairs() -> [i32; 8192]
 }
 
 // I entry FONT
-pub fn chain_from(numbers: &[i32], line: &mut [u8], k: usize) -> usize
+pub(crate) fn chain_from(numbers: &[i32], line: &mut [u8], k: usize) -> usize
     requires { ⌜ k ≤ length (now line) ⌝ }
     ensures { λ r. ⌜ r ≤ length (now (line .exit)) ⌝ }
 {
@@ -127,7 +127,7 @@ fn put_unpacked(line: &mut [u8], k: usize, answer: Unpacked, marks: &[u8]) -> us
 }
 
 // U entry PASSTHROUGH FONT
-pub fn unpacked(numbers: &[i32], line: &mut [u8], k: usize) -> usize
+pub(crate) fn unpacked(numbers: &[i32], line: &mut [u8], k: usize) -> usize
     requires { ⌜ k ≤ length (now line) ⌝ }
     ensures { λ r. ⌜ r ≤ length (now (line .exit)) ⌝ }
 {
@@ -145,7 +145,7 @@ pub fn unpacked(numbers: &[i32], line: &mut [u8], k: usize) -> usize
 }
 
 // B FONT
-pub fn seven_bit_safe(numbers: &[i32], line: &mut [u8], k: usize) -> usize
+pub(crate) fn seven_bit_safe(numbers: &[i32], line: &mut [u8], k: usize) -> usize
     requires { ⌜ k ≤ length (now line) ⌝ }
     ensures { λ r. ⌜ r ≤ length (now (line .exit)) ⌝ }
 {
@@ -175,7 +175,7 @@ fn put_reach(line: &mut [u8], k: usize, answer: Written, pairs: &[i32]) -> usize
 }
 
 // R PASSTHROUGH FONT
-pub fn reached(numbers: &[i32], line: &mut [u8], k: usize) -> usize
+pub(crate) fn reached(numbers: &[i32], line: &mut [u8], k: usize) -> usize
     requires { ⌜ k ≤ length (now line) ⌝ }
     ensures { λ r. ⌜ r ≤ length (now (line .exit)) ⌝ }
 {

@@ -53,7 +53,13 @@ fn put_told(line: &mut [u8], k: usize, answer: Told) -> usize
 }
 
 // The pairs with a replacement, and whether the table is seven-bit safe; 7 where a listed pair is said to have no replacement.
-pub fn put_table(numbers: &[i32], line: &mut [u8], k: usize, pairs: &[i32], ops: &[i32]) -> usize
+pub(crate) fn put_table(
+    numbers: &[i32],
+    line: &mut [u8],
+    k: usize,
+    pairs: &[i32],
+    ops: &[i32],
+) -> usize
     requires { ⌜ k ≤ length (now line) ⌝ }
     ensures { λ r. ⌜ r ≤ length (now (line .exit)) ⌝ }
 {

@@ -20,7 +20,7 @@ pub enum Read {
 }
 
 // The numbers of a request, from the place after its letter. How many there are.
-pub fn numbers_of(text: &[u8], at: usize, to: usize, numbers: &mut [i32]) -> usize
+pub(crate) fn numbers_of(text: &[u8], at: usize, to: usize, numbers: &mut [i32]) -> usize
     requires { ⌜ to ≤ length (now text) ⌝ }
 {
     let mut i = at;
@@ -35,7 +35,7 @@ pub fn numbers_of(text: &[u8], at: usize, to: usize, numbers: &mut [i32]) -> usi
 }
 
 // The numbers from one place to another.
-pub fn part(numbers: &[i32], from: usize, to: usize) -> &[i32] {
+pub(crate) fn part(numbers: &[i32], from: usize, to: usize) -> &[i32] {
     if from <= to {
         if to <= numbers.len() {
             return &numbers[from..to];
@@ -45,7 +45,7 @@ pub fn part(numbers: &[i32], from: usize, to: usize) -> &[i32] {
 }
 
 // The place after the list whose length stands at `at`, each item `width` numbers; where it does not fit, the end.
-pub fn after(numbers: &[i32], at: usize, width: u8) -> usize {
+pub(crate) fn after(numbers: &[i32], at: usize, width: u8) -> usize {
     let size = (width as usize) * (words::word_at(numbers, at) as usize);
     if at < numbers.len() {
         let from = at + 1;
@@ -57,7 +57,7 @@ pub fn after(numbers: &[i32], at: usize, width: u8) -> usize {
 }
 
 // The items of that list.
-pub fn items(numbers: &[i32], at: usize, width: u8) -> &[i32] {
+pub(crate) fn items(numbers: &[i32], at: usize, width: u8) -> &[i32] {
     if at < numbers.len() {
         return part(numbers, at + 1, after(numbers, at, width));
     }
@@ -65,7 +65,7 @@ pub fn items(numbers: &[i32], at: usize, width: u8) -> &[i32] {
 }
 
 // The font whose first number stands at `at`.
-pub fn font_at(numbers: &[i32], at: usize) -> Read {
+pub(crate) fn font_at(numbers: &[i32], at: usize) -> Read {
     let kerns = after(numbers, at, 4);
     let entries = after(numbers, kerns, 1);
     let boundary = after(numbers, entries, 2);
@@ -84,12 +84,12 @@ pub fn font_at(numbers: &[i32], at: usize) -> Read {
 }
 
 // The number at place i.
-pub fn number_at(numbers: &[i32], i: usize) -> i32 {
+pub(crate) fn number_at(numbers: &[i32], i: usize) -> i32 {
     words::number_of(words::word_at(numbers, i))
 }
 
 // The boundary of the font at the end of a request: the last number but one.
-pub fn boundary_of(numbers: &[i32]) -> i32 {
+pub(crate) fn boundary_of(numbers: &[i32]) -> i32 {
     if numbers.len() < 2 {
         return -1;
     }
@@ -97,7 +97,7 @@ pub fn boundary_of(numbers: &[i32]) -> i32 {
 }
 
 // The first n bytes.
-pub fn front(bytes: &[u8], n: usize) -> &[u8] {
+pub(crate) fn front(bytes: &[u8], n: usize) -> &[u8] {
     if n <= bytes.len() {
         return &bytes[..n];
     }

@@ -181,7 +181,13 @@ fn first(word: &[u32], n: usize) -> &[u32] {
 }
 
 // The items and the separation flags of a word, after the left boundary, the override and the word that the numbers begin with.
-pub fn put_word(numbers: &[i32], line: &mut [u8], k: usize, pairs: &[i32], ops: &[i32]) -> usize
+pub(crate) fn put_word(
+    numbers: &[i32],
+    line: &mut [u8],
+    k: usize,
+    pairs: &[i32],
+    ops: &[i32],
+) -> usize
     requires { ⌜ k ≤ length (now line) ⌝ }
     ensures { λ r. ⌜ r ≤ length (now (line .exit)) ⌝ }
 {

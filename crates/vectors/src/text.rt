@@ -9,7 +9,7 @@ pub struct Number {
 }
 
 // The place of the line feed from `at` on, or `to` where there is none.
-pub fn line_end(text: &[u8], at: usize, to: usize) -> usize
+pub(crate) fn line_end(text: &[u8], at: usize, to: usize) -> usize
     requires { ⌜ (at < to) × (to ≤ length (now text)) ⌝ }
     ensures { λ r. ⌜ (at ≤ r) × (r ≤ to) ⌝ }
 {
@@ -59,7 +59,7 @@ fn with_digit(value: u32, c: u8) -> u32 {
 }
 
 // The number after the blank at `at`: a sign, where there is one, and digits.
-pub fn read_number(text: &[u8], at: usize, to: usize) -> Number
+pub(crate) fn read_number(text: &[u8], at: usize, to: usize) -> Number
     requires { ⌜ (at < to) × (to ≤ length (now text)) ⌝ }
     ensures { λ r. ⌜ (at < r .next) × (r .next ≤ to) ⌝ }
 {
@@ -77,7 +77,7 @@ pub fn read_number(text: &[u8], at: usize, to: usize) -> Number
 }
 
 // Byte b at place k of the line; where there is no room nothing is done. The place after it.
-pub fn put_byte(line: &mut [u8], k: usize, b: u8) -> usize
+pub(crate) fn put_byte(line: &mut [u8], k: usize, b: u8) -> usize
     requires { ⌜ k ≤ length (now line) ⌝ }
     ensures { λ r. ⌜ r ≤ length (now (line .exit)) ⌝ }
 {
@@ -118,7 +118,7 @@ fn put_digits(line: &mut [u8], k: usize, size: u32, top: u32) -> usize
 }
 
 // A blank and the number with these 32 bits, in decimal.
-pub fn put_number(line: &mut [u8], k: usize, word: u32) -> usize
+pub(crate) fn put_number(line: &mut [u8], k: usize, word: u32) -> usize
     requires { ⌜ k ≤ length (now line) ⌝ }
     ensures { λ r. ⌜ r ≤ length (now (line .exit)) ⌝ }
 {
@@ -132,7 +132,7 @@ pub fn put_number(line: &mut [u8], k: usize, word: u32) -> usize
 }
 
 // A blank and a count, which is below 2^32.
-pub fn put_count(line: &mut [u8], k: usize, n: usize) -> usize
+pub(crate) fn put_count(line: &mut [u8], k: usize, n: usize) -> usize
     requires { ⌜ k ≤ length (now line) ⌝ }
     ensures { λ r. ⌜ r ≤ length (now (line .exit)) ⌝ }
 {
@@ -140,7 +140,7 @@ pub fn put_count(line: &mut [u8], k: usize, n: usize) -> usize
 }
 
 // The first n numbers of a list.
-pub fn put_words(line: &mut [u8], k: usize, numbers: &[i32], n: usize) -> usize
+pub(crate) fn put_words(line: &mut [u8], k: usize, numbers: &[i32], n: usize) -> usize
     requires { ⌜ k ≤ length (now line) ⌝ }
     ensures { λ r. ⌜ r ≤ length (now (line .exit)) ⌝ }
 {
@@ -154,7 +154,7 @@ pub fn put_words(line: &mut [u8], k: usize, numbers: &[i32], n: usize) -> usize
 }
 
 // The same, of a list of u32.
-pub fn put_indices(line: &mut [u8], k: usize, indices: &[u32], n: usize) -> usize
+pub(crate) fn put_indices(line: &mut [u8], k: usize, indices: &[u32], n: usize) -> usize
     requires { ⌜ k ≤ length (now line) ⌝ }
     ensures { λ r. ⌜ r ≤ length (now (line .exit)) ⌝ }
 {
@@ -167,7 +167,7 @@ pub fn put_indices(line: &mut [u8], k: usize, indices: &[u32], n: usize) -> usiz
     at
 }
 
-pub fn put_panic(line: &mut [u8], k: usize) -> usize
+pub(crate) fn put_panic(line: &mut [u8], k: usize) -> usize
     requires { ⌜ k ≤ length (now line) ⌝ }
     ensures { λ r. ⌜ r ≤ length (now (line .exit)) ⌝ }
 {
@@ -180,7 +180,7 @@ pub fn put_panic(line: &mut [u8], k: usize) -> usize
 }
 
 // A refusal that the Rust does not have: `?` and its number.
-pub fn put_unknown(line: &mut [u8], k: usize, refusal: u32) -> usize
+pub(crate) fn put_unknown(line: &mut [u8], k: usize, refusal: u32) -> usize
     requires { ⌜ k ≤ length (now line) ⌝ }
     ensures { λ r. ⌜ r ≤ length (now (line .exit)) ⌝ }
 {
@@ -190,7 +190,7 @@ pub fn put_unknown(line: &mut [u8], k: usize, refusal: u32) -> usize
 }
 
 // The Rust panics where the port answers 10, 11 or 13.
-pub fn put_refusal(line: &mut [u8], k: usize, refusal: u32) -> usize
+pub(crate) fn put_refusal(line: &mut [u8], k: usize, refusal: u32) -> usize
     requires { ⌜ k ≤ length (now line) ⌝ }
     ensures { λ r. ⌜ r ≤ length (now (line .exit)) ⌝ }
 {

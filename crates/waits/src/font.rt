@@ -49,7 +49,7 @@ fn put_shared(list: &mut [i32], from: usize, right: u32, inserted: u32)
 }
 
 // The 766 instructions, closed to a cycle.
-pub fn put_instructions(list: &mut [i32]) {
+pub(crate) fn put_instructions(list: &mut [i32]) {
     put_own(list, 0, 255, 1);
     put_shared(list, 128, 0, 1);
     put_own(list, 383, 0, 2);
@@ -57,7 +57,7 @@ pub fn put_instructions(list: &mut [i32]) {
 }
 
 // The pair (255, 0), whose rule is instruction 510, waits for none: op 0.
-pub fn open(list: &mut [i32]) {
+pub(crate) fn open(list: &mut [i32]) {
     put_ligature(list, 510, 0, 0, 0);
 }
 
@@ -68,7 +68,7 @@ fn entry_of(c: u32) -> u32
 }
 
 // An entry for each character.
-pub fn put_entries(list: &mut [i32]) {
+pub(crate) fn put_entries(list: &mut [i32]) {
     let mut c: u32 = 0;
     while c < 256 {
         let at = 2 * (c as usize);
