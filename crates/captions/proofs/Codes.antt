@@ -12,7 +12,7 @@ use Rattle.reading.specs.Items.{Left, bnd, chr, Rule, free, kerned, lig, Rules,
 use Rattle.reading.specs.Depth.{Res, Finished, raise, before, raiseLeft, raised, compBy, comp}
 use Rattle.reading.proofs.Flags.{code-raise}
 use Rattle.reading.proofs.Right.{both-finished}
-use Rattle.pairs.specs.Rows.{numberOfLeft}
+use Rattle.fonts.specs.Fonts.{numberOfLeft}
 
 -- ---- what is claimed of an entry
 

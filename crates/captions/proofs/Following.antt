@@ -20,7 +20,7 @@ use Rattle.reading.specs.Items.{Left, bnd, chr, Item, item, flag, plain, insert
 use Rattle.reading.specs.Depth.{Res, Finished, raiseLeft}
 use Rattle.reading.specs.Form.{noPlain, formed}
 use Rattle.reading.specs.Run as plainly
-use Rattle.pairs.specs.Rows.{leftOf}
+use Rattle.fonts.specs.Fonts.{leftOf}
 use Rattle.captions.specs.declared.NextLeft.{NextLeft}
 use Rattle.captions.specs.declared.NextLeft.the-variants as next
 use Rattle.captions.specs.declared.Consumes.{Consumes}

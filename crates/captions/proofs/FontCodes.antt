@@ -18,9 +18,9 @@ use Rattle.lang.specs.Records.{field, operationOf}
 use Rattle.chain.specs.Chains.{redirected, kernOf, actsAs}
 use Rattle.reading.specs.Items.{Left}
 use Rattle.reading.specs.Depth.{Res, comp}
-use Rattle.pairs.specs.Rows.{numberOfLeft}
-use Rattle.pairs.specs.Fonts.{Font, indexOf, tableOf, scaledKern, ruleOfOperation, ruleOfIndex, rulesOf}
-use Rattle.compiler.specs.Compiled.{fontTable, fontOps}
+use Rattle.fonts.specs.Fonts.{numberOfLeft}
+use Rattle.fonts.specs.Fonts.{Font, indexOf, tableOf, scaledKern, ruleOfOperation, ruleOfIndex, rulesOf}
+use Rattle.fonts.specs.Compiled.{fontTable, fontOps}
 use Rattle.captions.specs.Tables.{opCount}
 use Rattle.captions.specs.Form.{tableForm}
 use Rattle.captions.proofs.Codes.{Coded, RuleSmall, SmallRules, small-codes}

@@ -16,13 +16,13 @@ use Rattle.reading.specs.Depth.{Res, Finished, Pair, comp}
 use Rattle.reading.specs.Form.{formed}
 use Rattle.reading.proofs.Holds.{Holds}
 use Rattle.reading.proofs.Theorems as Reading
-use Rattle.pairs.specs.Rows.{leftOf, numberOfLeft}
-use Rattle.pairs.specs.Fonts.{Font, pairsOf, rulesOf}
-use Rattle.compiler.specs.Compiled.{finishedOf, fontTable, fontOps}
+use Rattle.fonts.specs.Fonts.{leftOf, numberOfLeft}
+use Rattle.fonts.specs.Fonts.{Font, pairsOf, rulesOf}
+use Rattle.fonts.specs.Compiled.{finishedOf, fontTable, fontOps}
 use Rattle.pairs.proofs.RowLaws.{left-number}
-use Rattle.pairs.proofs.FontLaws.{covers-font, ruled-in-range}
+use Rattle.fonts.proofs.FontLaws.{covers-font, ruled-in-range}
 use Rattle.pairs.proofs.Sorted.{Pairwise}
-use Rattle.compiler.proofs.Theorems.{entry-formed}
+use Rattle.fonts.proofs.Theorems.{entry-formed}
 use Rattle.captions.specs.Tables.{opCount, keyOf, keyAt, find, entryAt, entries}
 use Rattle.captions.specs.Form.{tableForm}
 use Rattle.captions.proofs.Finding.{find-inside}

@@ -18,8 +18,8 @@ use Rattle.lang.proofs.Every.{every-all}
 use Rattle.reading.specs.Items.{Left, bnd, chr, Item, item, code, flag, Out, glyph, kern}
 use Rattle.reading.specs.Depth.{Res, Pair}
 use Rattle.reading.specs.Form.{opsForm, formed}
-use Rattle.pairs.specs.Rows.{leftOf, numberOfLeft}
-use Rattle.pairs.specs.Ops.{outNumbers, opNumbers, leftNumber, flagNumber}
+use Rattle.fonts.specs.Fonts.{leftOf, numberOfLeft}
+use Rattle.fonts.specs.Numbers.{outNumbers, opNumbers, leftNumber, flagNumber}
 use Rattle.pairs.proofs.RowLaws.{left-number}
 use Rattle.pairs.proofs.OpLaws.{length-numbers}
 use Rattle.pairs.proofs.Sorted.{Pairwise, alone, first}

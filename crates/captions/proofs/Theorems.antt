@@ -22,11 +22,11 @@ use Rattle.reading.specs.Run as plainly
 use Rattle.reading.specs.Depth.{Finished, Pair}
 use Rattle.reading.specs.Loops.{Ruled}
 use Rattle.reading.proofs.Theorems as Reading
-use Rattle.compiler.specs.declared.Compiled.the-variants.{Tables}
-use Rattle.pairs.specs.Ops.{opsOf, entryOf, opNumbers, opsBefore, opsTable, loopNumbers}
-use Rattle.pairs.specs.Fonts.{Font, pairsOf, rulesOf}
-use Rattle.compiler.specs.Compiled.{Room, roomOf, finishedOf, loopsOfFont, totalOps, fontTable, fontOps, fontLoops, fontRefusal, pairsRefusal, kernRefusal, opsRefusal, loopsRefusal, tablesRefusal, compileRefusal, compiledBy, Written, Compiles}
-use Rattle.compiler.proofs.Theorems as Compiling
+use Rattle.fonts.specs.declared.Compiled.the-variants.{Tables}
+use Rattle.fonts.specs.Numbers.{opsOf, entryOf, opNumbers, opsBefore, opsTable, loopNumbers}
+use Rattle.fonts.specs.Fonts.{Font, pairsOf, rulesOf}
+use Rattle.fonts.specs.Compiled.{Room, roomIn, finishedOf, loopsOfFont, totalOps, fontTable, fontOps, fontLoops, fontRefusal, pairsRefusal, kernRefusal, opsRefusal, loopsRefusal, tablesRefusal, compileRefusal, compiledBy, ListsWritten, Compiles}
+use Rattle.fonts.proofs.Theorems as Compiling
 use Rattle.captions.specs.declared.RunOptions.{RunOptions}
 use Rattle.captions.specs.Tables.{opCount, entries}
 use Rattle.captions.specs.Form.{sizesForm}
@@ -95,7 +95,7 @@ in-sixes f few =
     eqb-true (length (fontTable f) % 6) 0
     (both-left (eqb (length (fontTable f) % 6) 0) (both (eqb (length (fontOps f) % 2) 0) (leb (opCount (fontOps f)) 2147483647)) (both-left (sizesForm (fontTable f) (fontOps f)) _ (font-form f few)))
 
-lists-by : (f : Font) (p o l n : ℕ) (pairs ops loops pairs′ ops′ loops′ : List ℤ) → (n ≡ 0) × (p ≡ length (fontTable f) / 6) × (o ≡ totalOps f) × (l ≡ length (loopsOfFont f)) → opCount (fontOps f) ≤ 2147483647 → Written f n pairs ops loops pairs′ ops′ loops′ → Lists f p o l pairs′ ops′ loops′
+lists-by : (f : Font) (p o l n : ℕ) (pairs ops loops pairs′ ops′ loops′ : List ℤ) → (n ≡ 0) × (p ≡ length (fontTable f) / 6) × (o ≡ totalOps f) × (l ≡ length (loopsOfFont f)) → opCount (fontOps f) ≤ 2147483647 → ListsWritten f n pairs ops loops pairs′ ops′ loops′ → Lists f p o l pairs′ ops′ loops′
 lists-by f p o l zero pairs ops loops pairs′ ops′ loops′ a few w =
     record {
       table = written (6 * p) (length pairs) (fontTable f) pairs′ (omega (arith, in-sixes f few, a .1)) (w .table);
@@ -164,7 +164,7 @@ demand-by f l few fits e =
 pub demand-3 : (f : Font) (pairs ops loops : List ℤ) (work : List ℕ) (p o l : ℕ) (pairs′ ops′ loops′ : List ℤ) (work′ : List ℕ) →
     Compiles f pairs ops loops work (Tables p o l) pairs′ ops′ loops′ work′ → Demand3 f l (take (6 * p) pairs′) (take (2 * o) ops′) (take (2 * l) loops′)
 demand-3 f pairs ops loops work p o l pairs′ ops′ loops′ work′ c =
-    let room = roomOf pairs ops loops work in
+    let room = roomIn pairs ops loops work in
     let a = accepted (compileRefusal f room) f p o l (c .answer) in
     let few : opCount (fontOps f) ≤ 2147483647 = omega (arith, few-ops f room (a .0), ops-length (finishedOf f) (pairsOf f) (length (pairsOf f))) in
     let w = lists-by f p o l (compileRefusal f room) pairs ops loops pairs′ ops′ loops′ a few (c .lists) in

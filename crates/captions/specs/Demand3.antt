@@ -14,9 +14,9 @@ use Rattle.lang.specs.Records.{absentOr}
 use Rattle.reading.specs.Items.{Left, Out}
 use Rattle.reading.specs.Reading.{reading, ended, NeverEnds, Ends}
 use Rattle.reading.specs.Depth.{Pair}
-use Rattle.pairs.specs.Rows.{numberOfLeft}
-use Rattle.pairs.specs.Ops.{loopNumbers}
-use Rattle.pairs.specs.Fonts.{Font, rulesOf}
+use Rattle.fonts.specs.Fonts.{numberOfLeft}
+use Rattle.fonts.specs.Numbers.{loopNumbers}
+use Rattle.fonts.specs.Fonts.{Font, rulesOf}
 use Rattle.captions.specs.declared.RunOptions.{RunOptions}
 use Rattle.captions.specs.declared.State.{State}
 use Rattle.captions.specs.declared.Begun.the-variants.{Run}

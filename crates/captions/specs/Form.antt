@@ -10,7 +10,7 @@ use Rattle.lang.specs.Every.{both, every}
 use Rattle.lang.specs.Records.{within, absentOr}
 use Rattle.lang.specs.Checks.{unless}
 use Rattle.reading.specs.Form.{formed}
-use Rattle.pairs.specs.Rows.{leftOf}
+use Rattle.fonts.specs.Fonts.{leftOf}
 use Rattle.captions.specs.Tables.{pairCount, opCount, number, leftPlace, keyAt, firstOp, countOf, entryAt, opFits, recordFits}
 
 -- where the ops of the first k pairs end, which is where those of the next begin

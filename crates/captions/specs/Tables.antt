@@ -14,7 +14,7 @@ use Rattle.lang.specs.Every.{both}
 use Rattle.lang.specs.Records.{within}
 use Rattle.reading.specs.Items.{Left, Item, item, plain, inserted, Out, glyph, kern}
 use Rattle.reading.specs.Depth.{Res, Finished}
-use Rattle.pairs.specs.Rows.{numberOfLeft}
+use Rattle.fonts.specs.Fonts.{numberOfLeft}
 use Rattle.captions.specs.declared.Found.{Found}
 use Rattle.captions.specs.declared.Found.the-variants.{At, Nothing}
 

@@ -1,7 +1,3 @@
--- What is proved of the contract, and the laws of the stages. The laws of the passes stand in crate `pairs`.
---   Measuring  settling, counting and finding loops, one after the other
---   Building   the stages put together
---   Theorems   what is proved of the definitions: the table is the reading, a loop is reported exactly when a pair never ends
-pub mod Measuring
-pub mod Building
-pub mod Theorems
+-- The law of `compile`.
+--   Whole  a font that is refused by 1 to 5, and one that is not
+pub mod Whole

@@ -15,7 +15,7 @@ use Rattle.lang.specs.Records.{within}
 use Rattle.lang.proofs.Every.{both-left, both-right}
 use Rattle.reading.specs.Items.{item}
 use Rattle.reading.specs.Form.{noPlain, lastForm, opsForm, formed}
-use Rattle.pairs.specs.Rows.{leftOf}
+use Rattle.fonts.specs.Fonts.{leftOf}
 use Rattle.captions.specs.Tables.{opCount, number, opKind, opValue, leftPlace, firstOp, countOf, lastCode, lastFlag, entryAt, recordFits}
 use Rattle.captions.specs.Form.{opsEnd, keyForm, pairForm}
 use Rattle.tables.specs.Parts.{lastFits}

@@ -10,7 +10,7 @@ use Rattle.lang.specs.Every.{both}
 use Rattle.lang.specs.Records.{within}
 use Rattle.reading.specs.Items.{Left, Item, Out}
 use Rattle.reading.specs.Form.{isLeft, opsForm}
-use Rattle.pairs.specs.Rows.{leftOf}
+use Rattle.fonts.specs.Fonts.{leftOf}
 use Rattle.captions.specs.Tables.{number, opKind, opsFrom, leftPlace, lastFlag, lastCode, entryAt}
 
 -- ---- of `formed`: a pair's ops from the front

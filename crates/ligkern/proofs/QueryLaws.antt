@@ -16,7 +16,7 @@ use Rattle.lang.specs.Every.{both, every}
 use Rattle.lang.proofs.Every.{both-left, both-right, every-at}
 use Rattle.lang.proofs.Refusals.{unless-none}
 use Rattle.reading.specs.Form.{formed}
-use Rattle.pairs.specs.Rows.{leftOf}
+use Rattle.fonts.specs.Fonts.{leftOf}
 use Rattle.captions.specs.declared.State.{State}
 use Rattle.captions.specs.declared.Found.the-variants.{At, Nothing}
 use Rattle.captions.specs.declared.Told.the-variants.{Is, Refused}

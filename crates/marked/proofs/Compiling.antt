@@ -19,10 +19,10 @@ use Rattle.chain.specs.Chains.{chainFrom, firstFor}
 use Rattle.reading.specs.Items.{Left, bnd, chr}
 use Rattle.reading.specs.Depth.{Pair, comp, raiseLeft}
 use Rattle.reading.specs.Loops.{Ruled, loopList, insert, ordered, unfinished, walk, walks, member}
-use Rattle.pairs.specs.Rows.{leftOf}
-use Rattle.pairs.specs.Fonts.{leftEntry, ruleFrom, ruledBy, rowPairs, leftPairs, pairsOf, tableOf, rulesOf}
-use Rattle.pairs.specs.Ops.{loopNumbers}
-use Rattle.compiler.specs.Compiled.{fontLoops}
+use Rattle.fonts.specs.Fonts.{leftOf}
+use Rattle.fonts.specs.Fonts.{leftEntry, ruleFrom, ruledBy, rowPairs, leftPairs, pairsOf, tableOf, rulesOf}
+use Rattle.fonts.specs.Numbers.{loopNumbers}
+use Rattle.fonts.specs.Compiled.{fontLoops}
 use Rattle.marked.specs.Rows.{oneRule}
 
 abbrev program : List ℤ

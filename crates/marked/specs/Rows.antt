@@ -17,8 +17,8 @@ use Rattle.pack.specs.Packing.{Font, packedEntryNumber, fontOffset, fontRedirec
 use Rattle.reading.specs.Items.{Left, bnd, chr, Rule, free, lig, Rules}
 use Rattle.reading.specs.Depth.{Pair}
 use Rattle.reading.specs.Loops.{Ruled, loopList}
-use Rattle.pairs.specs.Fonts.{Font as LentFont}
-use Rattle.compiler.specs.Compiled.{fontLoops}
+use Rattle.fonts.specs.Fonts.{Font as LentFont}
+use Rattle.fonts.specs.Compiled.{fontLoops}
 
 -- what the definitions give, and what document 01 says
 pub record Row : Type 0 where

@@ -7,7 +7,7 @@ use mathlib.Core.Logic.{_⊎_, inl, inr}
 use Prim.Native.Nat.{ℕ, _+_, _*_, _/_, _%_, _<_, _≤_}
 use native.Mathlib.Nat.{eq-or-lt-of-le}
 use native.Mathlib.Omega.{arith}
-use lib.IntN.{ℤ}
+use lib.IntN.{ℤ, pos}
 use lib.Dec.{ltb}
 use lib.ListN.{length, set, length-set}
 use mir.Syntax.{w32}
@@ -27,43 +27,45 @@ use Rattle.lang.specs.declared.operation.Operation.{Operation}
 use Rattle.lang.specs.declared.operation.Operation.the-variants.{Kern, KernAtIndex, Ligature, EntrypointRedirect}
 use Rattle.lang.specs.declared.operation.PostLigOperation.{PostLigOperation}
 use Rattle.lang.specs.declared.operation.PostLigOperation.the-variants.{RetainBothMoveNowhere, RetainBothMoveToInserted, RetainBothMoveToRight, RetainRightMoveToInserted, RetainRightMoveToRight, RetainLeftMoveNowhere, RetainLeftMoveToInserted, RetainNeitherMoveToInserted}
-use Rattle.lang.specs.Every.{every}
+use Rattle.lang.specs.Every.{both, every}
 use Rattle.lang.specs.Records.{instructionAt}
 use Rattle.lang.specs.Operations.{isStandard, fromBytes, ligature}
 use Rattle.lang.proofs.operation.Operation.{the-type as operation-type}
-use Rattle.lang.proofs.Every.{every-none, every-more, every-fails, every-to}
+use Rattle.lang.proofs.Every.{every-none, every-step}
 use Rattle.chain.specs.Chains.{kernOf, actsAs}
 use Rattle.reading.specs.Items.{kerned, lig}
-use Rattle.pairs.specs.Rows.{at, ruleOf, ruleAt, opFits}
-use Rattle.pairs.specs.Fonts.{scaledKern, ruleOfOperation}
-use Rattle.pairs.specs.Collect.{operationAt, isScaled, scales, Encodes}
-use Rattle.pairs.specs.Collecting.{opByte, isRule, kernOperation, Says, SaysBy}
+use Rattle.pairs.specs.Rows.{at, ruleOf, ruleAt, ruleFits}
+use Rattle.fonts.specs.Fonts.{scaledKern, ruleOfOperation}
+use Rattle.pairs.specs.PairRows.{operationAt, Encodes}
+use Rattle.fonts.specs.Compiled.{isScaled, scales}
+use Rattle.pairs.specs.PairSteps.{byteOfOperation, isRule, kernOperation, Says}
 use Rattle.pairs.specs.declared.Effect.{Effect}
-use Rattle.pairs.specs.declared.Effect.the-variants.{Op, Unscaled}
 use Rattle.pairs.proofs.RowLaws.{at-stored, at-kept, at-other}
 
 -- ---- the numbers of a kern
 
-pub kern-says : (design : ℤ) (k : FixWord) (x : ToScaled) (v : ℤ) (w : ℕ) → x ≡ toScaled (k .0) design → x ≡ Scaled v → SFits w32 v → w ≡ wordOf v → Says design (kernOperation k) 128 w
+pub kern-says : (design : ℤ) (k : FixWord) (x : ToScaled) (v : ℤ) (w : ℕ) → x ≡ toScaled (k .0) design → x ≡ Scaled v → SFits w32 v → w ≡ wordOf v → Says design (kernOperation k) (record { op = 128; value = w; scaled = true })
 kern-says design k x v w e i f h =
     let t : toScaled (k .0) design ≡ Scaled v = sym e ∙ i in
     record {
-      scaled = ap isScaled t;
+      scaling = sym (ap isScaled t);
       rule = ap (λ (u : ℕ). kerned (numberOf u)) h ∙ ap kerned (number-word v f) ∙ sym (ap scaledKern t);
       fits = refl;
     }
 
-unscaled : (x : ToScaled) → OneOf (1 ∷ 2 ∷ []) (tagOf scaled-type x) → isScaled x ≡ false
+unscaled : (x : ToScaled) → OneOf (1 ∷ 2 ∷ []) (tagOf scaled-type x) → (isScaled x ≡ false) × (scaledKern x ≡ kerned (pos 0))
 unscaled (Scaled v) h = absurd (miss (1 ∷ 2 ∷ []) 0 tt h)
-unscaled NegativeDesignSize h = refl
-unscaled TooLarge h = refl
+unscaled NegativeDesignSize h = (refl, refl)
+unscaled TooLarge h = (refl, refl)
 
-pub kern-unscaled : (design : ℤ) (k : FixWord) (x : ToScaled) → x ≡ toScaled (k .0) design → OneOf (1 ∷ 2 ∷ []) (tagOf scaled-type x) → scales design (kernOperation k) ≡ false
-kern-unscaled design k x e h = sym (ap isScaled e) ∙ unscaled x h
+pub kern-unscaled : (design : ℤ) (k : FixWord) (x : ToScaled) → x ≡ toScaled (k .0) design → OneOf (1 ∷ 2 ∷ []) (tagOf scaled-type x) → Says design (kernOperation k) (record { op = 128; value = 0; scaled = false })
+kern-unscaled design k x e h =
+    let u = unscaled x h in
+    record { scaling = sym (sym (ap isScaled e) ∙ u .0); rule = sym (sym (ap scaledKern e) ∙ u .1); fits = refl }
 
 -- ---- the numbers of a ligature: its op byte says its name
 
-byte-says : (p : PostLigOperation) (v : ℕ) → ruleOf (opByte p) v ≡ lig p v
+byte-says : (p : PostLigOperation) (v : ℕ) → ruleOf (byteOfOperation p) v ≡ lig p v
 byte-says RetainBothMoveNowhere v = refl
 byte-says RetainBothMoveToInserted v = refl
 byte-says RetainBothMoveToRight v = refl
@@ -73,7 +75,7 @@ byte-says RetainLeftMoveNowhere v = refl
 byte-says RetainLeftMoveToInserted v = refl
 byte-says RetainNeitherMoveToInserted v = refl
 
-byte-fits : (p : PostLigOperation) (v : ℕ) → opFits (opByte p) v ≡ ltb v 256
+byte-fits : (p : PostLigOperation) (v : ℕ) → ruleFits (byteOfOperation p) v ≡ ltb v 256
 byte-fits RetainBothMoveNowhere v = refl
 byte-fits RetainBothMoveToInserted v = refl
 byte-fits RetainBothMoveToRight v = refl
@@ -83,17 +85,17 @@ byte-fits RetainLeftMoveNowhere v = refl
 byte-fits RetainLeftMoveToInserted v = refl
 byte-fits RetainNeitherMoveToInserted v = refl
 
-pub ligature-says : (design : ℤ) (o : Operation) (c : Char) (p : PostLigOperation) (t : Bool) (op : ℕ) → o ≡ Ligature c p t → op ≡ opByte p → c .0 < 256 → Says design o op (c .0)
+pub ligature-says : (design : ℤ) (o : Operation) (c : Char) (p : PostLigOperation) (t : Bool) (op : ℕ) → o ≡ Ligature c p t → op ≡ byteOfOperation p → c .0 < 256 → Says design o (record { op = op; value = c .0; scaled = true })
 ligature-says design o c p t op e i h =
-    rw (e, i) (record { scaled = refl; rule = byte-says p (c .0); fits = byte-fits p (c .0) ∙ lt-ltb (c .0) 256 h })
+    rw (e, i) (record { scaling = refl; rule = byte-says p (c .0); fits = byte-fits p (c .0) ∙ lt-ltb (c .0) 256 h })
 
 -- ---- no rule is a kern index or a redirect
 
-pub other-scales : (design : ℤ) (o : Operation) → isRule o ≡ true → OneOf (1 ∷ 3 ∷ []) (tagOf operation-type o) → scales design o ≡ false
-other-scales design (Kern k) r h = absurd (miss (1 ∷ 3 ∷ []) 0 tt h)
-other-scales design (KernAtIndex i) r h = absurd (false≢true r)
-other-scales design (Ligature c p t) r h = absurd (miss (1 ∷ 3 ∷ []) 2 tt h)
-other-scales design (EntrypointRedirect t f) r h = absurd (false≢true r)
+pub no-other : {A : Type 0} (o : Operation) → isRule o ≡ true → OneOf (1 ∷ 3 ∷ []) (tagOf operation-type o) → A
+no-other (Kern k) r h = absurd (miss (1 ∷ 3 ∷ []) 0 tt h)
+no-other (KernAtIndex i) r h = absurd (false≢true r)
+no-other (Ligature c p t) r h = absurd (miss (1 ∷ 3 ∷ []) 2 tt h)
+no-other (EntrypointRedirect t f) r h = absurd (false≢true r)
 
 bytes-rule : (kerns : List ℤ) (op c : ℕ) → isRule (kernOf kerns (fromBytes op c)) ≡ true
 unfolding fromBytes ligature
@@ -111,21 +113,21 @@ acts-rule kerns (Ligature c p t) = refl
 acts-rule kerns (EntrypointRedirect t f) = bytes-rule kerns (t / 256) (t % 256)
 
 -- the same of an equal operation and design size
-pub says-of : (design d : ℤ) (o p : Operation) (x : Effect) → d ≡ design → o ≡ p → SaysBy d p x → SaysBy design o x
-says-of design d o p x e i h = subst (λ (q : Operation). SaysBy design q x) (sym i) (subst (λ (z : ℤ). SaysBy z p x) e h)
+pub says-of : (design d : ℤ) (o p : Operation) (x : Effect) → d ≡ design → o ≡ p → Says d p x → Says design o x
+says-of design d o p x e i h = subst (λ (q : Operation). Says design q x) (sym i) (subst (λ (z : ℤ). Says z p x) e h)
 
--- ---- the loop: the first k rows are written, and each of their kerns has a scaled value
+-- ---- the loop: the first k rows are written, and b says whether each of their kerns has a scaled value
 
-pub record Encoding (s kerns : List ℤ) (design : ℤ) (n : ℕ) (w₀ w : List ℕ) (k : ℕ) : Type 0 where
+pub record Encoding (s kerns : List ℤ) (design : ℤ) (n : ℕ) (w₀ w : List ℕ) (k : ℕ) (b : Bool) : Type 0 where
   pub within : k ≤ n
   pub same-length : length w ≡ length w₀
   pub same : (j f : ℕ) → f < 16 → (f ≡ 3 → ⊥) → (f ≡ 4 → ⊥) → at w j f ≡ at w₀ j f
   pub rules : (j : ℕ) → j < k → ruleAt w j ≡ ruleOfOperation design (operationAt s kerns w₀ j)
-  pub ops : (j : ℕ) → j < k → opFits (at w j 3) (at w j 4) ≡ true
-  pub passes : every k (λ j. scales design (operationAt s kerns w₀ j)) ≡ true
+  pub ops : (j : ℕ) → j < k → ruleFits (at w j 3) (at w j 4) ≡ true
+  pub scaling : b ≡ every k (λ j. scales design (operationAt s kerns w₀ j))
 
 module _ (s kerns : List ℤ) (design : ℤ) (n : ℕ) (w₀ : List ℕ) where
-  pub encoding-none : Encoding s kerns design n w₀ w₀ 0
+  pub encoding-none : Encoding s kerns design n w₀ w₀ 0 true
   encoding-none =
       record {
         within = omega arith;
@@ -133,17 +135,14 @@ module _ (s kerns : List ℤ) (design : ℤ) (n : ℕ) (w₀ : List ℕ) where
         same = λ j f h i l. refl;
         rules = λ j h. absurd (omega arith);
         ops = λ j h. absurd (omega arith);
-        passes = every-none (λ j. scales design (operationAt s kerns w₀ j));
+        scaling = sym (every-none (λ j. scales design (operationAt s kerns w₀ j)));
       }
 
-  fails : (w : List ℕ) (k : ℕ) → Encoding s kerns design n w₀ w k → k < n → scales design (operationAt s kerns w₀ k) ≡ false → Encodes s kerns design n w₀ w false
-  fails w k h l e =
-      record { answer = sym (every-fails n k (λ j. scales design (operationAt s kerns w₀ j)) l e); written = h .same-length }
-
-  passes-all : (w : List ℕ) (k : ℕ) → Encoding s kerns design n w₀ w k → n ≤ k → Encodes s kerns design n w₀ w true
-  passes-all w k h l =
+  encoded-all : (w : List ℕ) (k : ℕ) (b : Bool) → Encoding s kerns design n w₀ w k b → n ≤ k → Encodes s kerns design n w₀ w b
+  encoded-all w k b h l =
+      let e : k ≡ n = omega (arith, h .within) in
       record {
-        answer = sym (every-to n k (λ j. scales design (operationAt s kerns w₀ j)) (h .passes) (h .within) l);
+        answer = h .scaling ∙ ap (λ (m : ℕ). every m (λ j. scales design (operationAt s kerns w₀ j))) e;
         written =
             record {
               same-length = h .same-length;
@@ -153,8 +152,8 @@ module _ (s kerns : List ℤ) (design : ℤ) (n : ℕ) (w₀ : List ℕ) where
             };
       }
 
-  pub encoding-end : (w : List ℕ) (k : ℕ) → Encoding s kerns design n w₀ w k → n ≤ k → (d : ℤ) → design ≡ d → Encodes s kerns d n w₀ w true
-  encoding-end w k h l d e = subst (λ (z : ℤ). Encodes s kerns z n w₀ w true) e (passes-all w k h l)
+  pub encoding-end : (w : List ℕ) (k : ℕ) (b : Bool) → Encoding s kerns design n w₀ w k b → n ≤ k → (d : ℤ) → design ≡ d → Encodes s kerns d n w₀ w b
+  encoding-end w k b h l d e = subst (λ (z : ℤ). Encodes s kerns z n w₀ w b) e (encoded-all w k b h l)
 
   -- two stores in row k
   module _ (w u v : List ℕ) (k op value : ℕ) (eu : u ≡ set w (16 * k + 3) op) (ev : v ≡ set u (16 * k + 4) value) where
@@ -167,40 +166,42 @@ module _ (s kerns : List ℤ) (design : ℤ) (n : ℕ) (w₀ : List ℕ) where
     second-is : 16 * k + 4 < length w → at v k 4 ≡ value
     second-is l = rw (ev, eu) (at-stored (set w (16 * k + 3) op) k 4 value (omega (arith, length-set w (16 * k + 3) op)))
 
-    module _ (h : Encoding s kerns design n w₀ w k) (l : k < n) (room : 16 * n ≤ length w₀) (y : Says design (operationAt s kerns w₀ k) op value) where
-      fit : 16 * k + 4 < length w
-      fit = omega (arith, h .same-length)
-
-      rule-by : (j : ℕ) → (j ≡ k) ⊎ (j < k) → ruleAt v j ≡ ruleOfOperation design (operationAt s kerns w₀ j)
-      rule-by j (inl e) = rw (e, first-is fit, second-is fit) (y .rule)
-      rule-by j (inr i) = rw (kept j 3 (omega arith) (omega arith) (omega arith), kept j 4 (omega arith) (omega arith) (omega arith)) (h .rules j i)
-
-      op-by : (j : ℕ) → (j ≡ k) ⊎ (j < k) → opFits (at v j 3) (at v j 4) ≡ true
-      op-by j (inl e) = rw (e, first-is fit, second-is fit) (y .fits)
-      op-by j (inr i) = rw (kept j 3 (omega arith) (omega arith) (omega arith), kept j 4 (omega arith) (omega arith) (omega arith)) (h .ops j i)
-
-      more : Encoding s kerns design n w₀ v (k + 1)
-      more =
-          record {
-            within = omega arith;
-            same-length = ap length ev ∙ length-set u (16 * k + 4) value ∙ ap length eu ∙ length-set w (16 * k + 3) op ∙ h .same-length;
-            same = λ j f i a b. kept j f i (λ _. a) (λ _. b) ∙ h .same j f i a b;
-            rules = λ j i. rule-by j (eq-or-lt-of-le (omega arith));
-            ops = λ j i. op-by j (eq-or-lt-of-le (omega arith));
-            passes = every-more k (λ j. scales design (operationAt s kerns w₀ j)) (h .passes) (y .scaled);
-          }
-
   -- a turn: the operation of row k, and what is said of it
-  module _ (w : List ℕ) (k : ℕ) (h : Encoding s kerns design n w₀ w k) (l : k < n) (index : ℕ) (o : Operation) (x : Effect) (ei : index ≡ at w k 2) (eo : o ≡ actsAs kerns (instructionAt s index .operation)) (y : SaysBy design o x) where
+  module _ (w u v : List ℕ) (k : ℕ) (b : Bool) (h : Encoding s kerns design n w₀ w k b) (l : k < n) (room : 16 * n ≤ length w₀) (index : ℕ) (o : Operation) (x : Effect) (ei : index ≡ at w k 2) (eo : o ≡ actsAs kerns (instructionAt s index .operation)) (y : Says design o x) (eu : u ≡ set w (16 * k + 3) (x .op)) (ev : v ≡ set u (16 * k + 4) (x .value)) where
     operation-is : o ≡ operationAt s kerns w₀ k
     operation-is = eo ∙ ap (λ (i : ℕ). actsAs kerns (instructionAt s i .operation)) (ei ∙ h .same k 2 (omega arith) (omega arith) (omega arith))
 
-    pub encoding-stop : (d : ℤ) → design ≡ d → x ≡ Unscaled → Encodes s kerns d n w₀ w false
-    encoding-stop d e i =
-        let z : scales design o ≡ false = subst (SaysBy design o) i y in
-        subst (λ (v : ℤ). Encodes s kerns v n w₀ w false) e (fails w k h l (sym (ap (scales design) operation-is) ∙ z))
+    said : Says design (operationAt s kerns w₀ k) x
+    said = subst (λ (p : Operation). Says design p x) operation-is y
 
-    pub encoding-step : (u v : List ℕ) (op value : ℕ) → u ≡ set w (16 * k + 3) op → v ≡ set u (16 * k + 4) value → 16 * n ≤ length w₀ → x ≡ Op op value → Encoding s kerns design n w₀ v (k + 1)
-    encoding-step u v op value eu ev room i =
-        let z : Says design o op value = subst (SaysBy design o) i y in
-        more w u v k op value eu ev h l room (subst (λ (p : Operation). Says design p op value) operation-is z)
+    fit : 16 * k + 4 < length w
+    fit = omega (arith, h .same-length)
+
+    keeps : (j f : ℕ) → f < 16 → (j ≡ k → f ≡ 3 → ⊥) → (j ≡ k → f ≡ 4 → ⊥) → at v j f ≡ at w j f
+    keeps = kept w u v k (x .op) (x .value) eu ev
+
+    first : at v k 3 ≡ x .op
+    first = first-is w u v k (x .op) (x .value) eu ev fit
+
+    second : at v k 4 ≡ x .value
+    second = second-is w u v k (x .op) (x .value) eu ev fit
+
+    rule-by : (j : ℕ) → (j ≡ k) ⊎ (j < k) → ruleAt v j ≡ ruleOfOperation design (operationAt s kerns w₀ j)
+    rule-by j (inl e) = rw (e, first, second) (said .rule)
+    rule-by j (inr i) = rw (keeps j 3 (omega arith) (omega arith) (omega arith), keeps j 4 (omega arith) (omega arith) (omega arith)) (h .rules j i)
+
+    op-by : (j : ℕ) → (j ≡ k) ⊎ (j < k) → ruleFits (at v j 3) (at v j 4) ≡ true
+    op-by j (inl e) = rw (e, first, second) (said .fits)
+    op-by j (inr i) = rw (keeps j 3 (omega arith) (omega arith) (omega arith), keeps j 4 (omega arith) (omega arith) (omega arith)) (h .ops j i)
+
+    pub encoding-step : (c : Bool) → c ≡ both b (x .scaled) → Encoding s kerns design n w₀ v (k + 1) c
+    encoding-step c ec =
+        let t = every-step k (λ j. scales design (operationAt s kerns w₀ j)) in
+        record {
+          within = omega arith;
+          same-length = ap length ev ∙ length-set u (16 * k + 4) (x .value) ∙ ap length eu ∙ length-set w (16 * k + 3) (x .op) ∙ h .same-length;
+          same = λ j f i p q. keeps j f i (λ _. p) (λ _. q) ∙ h .same j f i p q;
+          rules = λ j i. rule-by j (eq-or-lt-of-le (omega arith));
+          ops = λ j i. op-by j (eq-or-lt-of-le (omega arith));
+          scaling = ec ∙ (λ i. both (h .scaling i) (said .scaling i)) ∙ sym t;
+        }

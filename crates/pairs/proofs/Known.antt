@@ -24,9 +24,10 @@ use Rattle.reading.proofs.Enough.{once-more}
 use Rattle.words.specs.Words.{numberOf}
 use Rattle.pairs.specs.declared.Last.{Last}
 use Rattle.pairs.specs.declared.Last.the-variants.{Known, Waits}
-use Rattle.pairs.specs.Rows.{at, leftOf, numberOfLeft, pairAt, ruleOf, ruleAt, rowOf, pairs, rules, opFits, Ascending}
-use Rattle.pairs.specs.Lasts.{bit, finishedRows, outcome, second, consults}
-use Rattle.pairs.specs.Search.{status, knownBy, known, LastIs, Stored, Waiting, PairSays, RuleSays, SecondSays, flagged, codeOf}
+use Rattle.pairs.specs.Rows.{at, pairAt, ruleOf, ruleAt, rowOf, pairs, rules, ruleFits, Ascending}
+use Rattle.fonts.specs.Fonts.{leftOf, numberOfLeft}
+use Rattle.pairs.specs.SettledRows.{bit, finishedRows, outcome, second, consults}
+use Rattle.pairs.specs.SettleSteps.{status, knownBy, known, LastIs, LastsStored, Waiting, PairSays, RuleSays, SecondSays, flagged, codeOf}
 use Rattle.pairs.proofs.RowLaws.{same-or-not, fits-eight, number-left, SameRules, row-same, row-found, row-at, rule-at, covers-rows, finished-same}
 
 -- ---- one rule over pairs that finish
@@ -196,7 +197,7 @@ module _ (n : ℕ) (w : List ℕ) (a : Ascending n w) where
         let o = i .1 in
         λ x. record { left = leftOf (z x); right = o x }
 
-    pub says-done : Stored n w → status w j ≡ 2 → PairSays n w (leftOf t) r (Known (at w j 6) (at w j 7))
+    pub says-done : LastsStored n w → status w j ≡ 2 → PairSays n w (leftOf t) r (Known (at w j 6) (at w j 7))
     says-done s d =
         let q = s .lasts j found-less d in
         let i = found-pair in
@@ -225,7 +226,7 @@ second-waits n w r x j e = rw e refl
 abbrev OtherOp : ℕ → Type 0
 OtherOp op = (op ≡ 5) ⊎ ((op ≡ 11) ⊎ (op ≡ 128))
 
-pub other-op : (op v : ℕ) → opFits op v ≡ true → ((op ≡ 0) ⊎ (op ≡ 6) → ⊥) → ((op ≡ 1) ⊎ (op ≡ 7) → ⊥) → (op ≡ 2 → ⊥) → (op ≡ 3 → ⊥) → (op ≡ 5) ⊎ ((op ≡ 11) ⊎ (op ≡ 128))
+pub other-op : (op v : ℕ) → ruleFits op v ≡ true → ((op ≡ 0) ⊎ (op ≡ 6) → ⊥) → ((op ≡ 1) ⊎ (op ≡ 7) → ⊥) → (op ≡ 2 → ⊥) → (op ≡ 3 → ⊥) → (op ≡ 5) ⊎ ((op ≡ 11) ⊎ (op ≡ 128))
 other-op op v e a b c d = go (fits-eight op v e)
   where
     left-over : (s t : Bool) → eqb op 5 ≡ s → eqb op 11 ≡ t → (s || (t || false)) ≡ true → OtherOp op

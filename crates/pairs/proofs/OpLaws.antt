@@ -29,10 +29,12 @@ use Rattle.pairs.specs.declared.Row.{Row as FoundRow}
 use Rattle.pairs.specs.declared.Row.the-variants.{Found, Missing}
 use Rattle.pairs.specs.declared.Part.{Part}
 use Rattle.pairs.specs.declared.Part.the-variants.{Nothing, Character, Ligature, Kern, OfRow}
-use Rattle.pairs.specs.Rows.{at, leftOf, numberOfLeft, pairAt, ruledAt, ruleOf, ruleAt, pairs, rowOf, foundRow, ruleBy, rules, opFits, Encoded}
-use Rattle.pairs.specs.Lasts.{finishedRows, outcome, consults, second, FinishedRow, RowSays, Settled}
-use Rattle.pairs.specs.Ops.{nth, entryOf, opsOf, opsBefore, outNumbers, opNumbers, opsTable, pairNumbers, pairTable, opCount, opTotal}
-use Rattle.pairs.specs.Writing.{leftPart, partBy, pairPart, lastBy, lastCode, anyOf, firstOf, secondOf, firstPart, secondPart, LastFits, PartIn, partOuts, raisedOuts}
+use Rattle.pairs.specs.Rows.{at, pairAt, ruledAt, ruleOf, ruleAt, pairs, rowOf, foundRow, ruleBy, rules, ruleFits, Encoded}
+use Rattle.fonts.specs.Fonts.{leftOf, numberOfLeft}
+use Rattle.pairs.specs.SettledRows.{finishedRows, outcome, consults, second, FinishedRow, RowSays, Settled}
+use Rattle.fonts.specs.Numbers.{nth, entryOf, opsOf, opsBefore, outNumbers, opNumbers, opsTable, pairNumbers, pairTable}
+use Rattle.pairs.specs.OpRows.{rowOps, opTotal}
+use Rattle.pairs.specs.OpSteps.{leftPart, partBy, pairPart, lastBy, rowLastCode, anyOf, firstOf, secondOf, firstPart, secondPart, LastFits, PartIn, partOuts, raisedOuts}
 use Rattle.pairs.proofs.RowLaws.{row-found, number-left, rule-at, fits-parts, fits-eight, value-small, covers-rows}
 
 -- ---- ops as numbers, and ops whose first character is a ligature
@@ -77,7 +79,7 @@ module _ (n : ℕ) (w : List ℕ) (k : ℕ) (h : k < n) where
   entry-row : entryOf (finishedRows n w) (pairs n w) k ≡ outcome n w k
   entry-row = ap (λ (p : Ruled). finishedRows n w (p .pair .left) (p .pair .right)) nth-row
 
-  pub before-more : opsUpTo n w (suc k) ≡ opsUpTo n w k + opCount n w k
+  pub before-more : opsUpTo n w (suc k) ≡ opsUpTo n w k + rowOps n w k
   unfolding opsBefore
   before-more = ap (λ (o : Option Res). opsUpTo n w k + length (opsOf o)) entry-row
 
@@ -100,10 +102,10 @@ module _ (n : ℕ) (w : List ℕ) where
   before-grows j (suc k) h = grows-by j k (before-grows j k) (eq-or-lt-of-le h)
 
   -- the ops of a row come before those of a later one, and within the total
-  pub ends-before : (j k : ℕ) → j < k → j < n → opsUpTo n w j + opCount n w j ≤ opsUpTo n w k
+  pub ends-before : (j k : ℕ) → j < k → j < n → opsUpTo n w j + rowOps n w j ≤ opsUpTo n w k
   ends-before j k h l = omega (arith, before-more n w j l, before-grows (suc j) k h)
 
-  pub ends-within : (k : ℕ) → k < n → opsUpTo n w k + opCount n w k ≤ opTotal n w
+  pub ends-within : (k : ℕ) → k < n → opsUpTo n w k + rowOps n w k ≤ opTotal n w
   ends-within k h = ends-before k n h h
 
 -- ---- a rule's character is below 256, and so is the code of a last
@@ -141,7 +143,7 @@ unfolding comp
 last-deep rule s zero l r q h e = absurd (Option·none-ne-some q e)
 last-deep rule s (suc d) l r q h e = last-by (comp rule d) (last-deep rule s d) (rule l r) (s l r) l r h e
 
-rule-fits : (op v : ℕ) → opFits op v ≡ true → RuleFits (ruleOf op v)
+rule-fits : (op v : ℕ) → ruleFits op v ≡ true → RuleFits (ruleOf op v)
 rule-fits op v e = go (eqb op 128) refl (fits-parts op v e)
   where
     go : (b : Bool) → eqb op 128 ≡ b → (op ≡ 128) ⊎ ((op < 128) × (isStandard op ≡ true) × (v < 256)) → RuleFits (cond b (kerned (numberOf v)) (lig (retains (keepsLeft op) (keepsRight op) (advance op)) v))
@@ -342,7 +344,7 @@ module _ (n m : ℕ) (w : List ℕ) (e : Encoded n w) (s : Settled n w w m) wher
     row-3 h g j =
         let z = both-finished (finishedRows n w) r (raised false true) (finishedRows n w (leftOf t) v) j in
         let d = pair-parts t v (z .0) (z .1) in
-        let c = lastCode n w t v in
+        let c = rowLastCode n w t v in
         let f : finishedRows n w (chr c) r ≡ some (z .2) = ap (λ (x : ℕ). finishedRows n w (chr x) r) (d .last ∙ sym (code-raised false true (z .0))) ∙ z .3 in
         let b = pair-parts (suc c) r (z .2) f in
         let small : c < 256 = rw (d .last) (last-small n w e (leftOf t) v (z .0) (h (omega arith)) (z .1)) in
@@ -359,7 +361,7 @@ module _ (n m : ℕ) (w : List ℕ) (e : Encoded n w) (s : Settled n w w m) wher
         later : (k : ℕ) (p : Res) → finishedRows n w (leftOf t) v ≡ some p → pairAt w k ≡ record { left = chr (code (p .last)); right = r } → List·Memᴰ (pairAt w k) (record { left = leftOf t; right = v } ∷ second r (finishedRows n w (leftOf t) v))
         later k p f y = subst (λ (o : Option Res). List·Memᴰ (pairAt w k) (record { left = leftOf t; right = v } ∷ second r o)) (sym f) (List·Memᴰ·tail (List·Memᴰ·head y))
 
-    row-by : (op : ℕ) → opFits op v ≡ true → Row op
+    row-by : (op : ℕ) → ruleFits op v ≡ true → Row op
     row-by op fits = go (fits-eight op v fits)
       where
         go : (op ≡ 128) ⊎ (oneOf op eight ≡ true) → Row op
@@ -397,7 +399,7 @@ module _ (n m : ℕ) (w : List ℕ) (e : Encoded n w) (s : Settled n w w m) wher
   pub last-of : (k : ℕ) → k < n → at w k 5 ≡ 2 → LastFits n w k
   last-of k h t = let q = finished-row k h t in last-fits k (q .0) h (q .1)
 
-  pub count-parts : (k : ℕ) → k < n → at w k 5 ≡ 2 → opCount n w k ≡ length (partOuts n w (firstPart n w k)) + length (partOuts n w (secondPart n w k))
+  pub count-parts : (k : ℕ) → k < n → at w k 5 ≡ 2 → rowOps n w k ≡ length (partOuts n w (firstPart n w k)) + length (partOuts n w (secondPart n w k))
   count-parts k h t =
       let a = partOuts n w (firstPart n w k) in
       let b = partOuts n w (secondPart n w k) in
@@ -445,7 +447,7 @@ module _ (n : ℕ) (w : List ℕ) (op t v r : ℕ) where
   second-inserted (inl j) = rw (j, add-one v)
   second-inserted (inr j) = rw (j, add-one v)
 
-  pub second-last : op ≡ 3 → (c : ℕ) → c ≡ lastCode n w t v → pairPart n w (c + 1) r ≡ secondOf n w op t v r
+  pub second-last : op ≡ 3 → (c : ℕ) → c ≡ rowLastCode n w t v → pairPart n w (c + 1) r ≡ secondOf n w op t v r
   unfolding secondOf
   second-last j c l = rw (j, add-one c, l)
 
@@ -465,9 +467,9 @@ module _ (n : ℕ) (w : List ℕ) (k : ℕ) {op t v : ℕ} (i : op ≡ at w k 3)
 pub small-value : (n : ℕ) (w : List ℕ) (k : ℕ) → Encoded n w → k < n → {op v : ℕ} → op ≡ at w k 3 → v ≡ at w k 4 → op < 128 → v < 256
 small-value n w k e h i j l = omega (arith, value-small (at w k 3) (at w k 4) (e .ops k h) (omega arith))
 
-pub small-last : (n : ℕ) (w : List ℕ) (k : ℕ) → LastFits n w k → {op t v x : ℕ} → op ≡ at w k 3 → t ≡ at w k 0 → v ≡ at w k 4 → op ≡ 3 → x ≡ lastCode n w t v → x < 256
+pub small-last : (n : ℕ) (w : List ℕ) (k : ℕ) → LastFits n w k → {op t v x : ℕ} → op ≡ at w k 3 → t ≡ at w k 0 → v ≡ at w k 4 → op ≡ 3 → x ≡ rowLastCode n w t v → x < 256
 small-last n w k f i j l three e =
-    let same : lastCode n w _ _ ≡ lastCode n w (at w k 0) (at w k 4) = λ a. lastCode n w (j a) (l a) in
+    let same : rowLastCode n w _ _ ≡ rowLastCode n w (at w k 0) (at w k 4) = λ a. rowLastCode n w (j a) (l a) in
     omega (arith, f (sym i ∙ three), e, same)
 
 -- a row that a part names is one of the rows
@@ -497,9 +499,9 @@ module _ (n : ℕ) (w : List ℕ) (few : n ≤ 65792) where
   pub second-in : (op t v r : ℕ) → PartIn (secondOf n w op t v r)
   unfolding secondOf
   second-in op t v r =
-      let d = cond (eqb op 3) (pairPart n w (suc (lastCode n w t v)) r) Nothing in
+      let d = cond (eqb op 3) (pairPart n w (suc (rowLastCode n w t v)) r) Nothing in
       let c = cond (anyOf op (1 ∷ 7 ∷ [])) (pairPart n w (suc v) r) d in
       in-either (eqb op 128) (Kern v) (cond (anyOf op (5 ∷ 11 ∷ [])) (Ligature v) c) tt
       (in-either (anyOf op (5 ∷ 11 ∷ [])) (Ligature v) c tt
       (in-either (anyOf op (1 ∷ 7 ∷ [])) (pairPart n w (suc v) r) d (pair-in (suc v) r)
-      (in-either (eqb op 3) (pairPart n w (suc (lastCode n w t v)) r) Nothing (pair-in (suc (lastCode n w t v)) r) tt)))
+      (in-either (eqb op 3) (pairPart n w (suc (rowLastCode n w t v)) r) Nothing (pair-in (suc (rowLastCode n w t v)) r) tt)))

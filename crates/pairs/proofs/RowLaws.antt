@@ -21,9 +21,10 @@ use Rattle.reading.specs.Items.{Left, bnd, chr, free}
 use Rattle.reading.specs.Depth.{Res}
 use Rattle.reading.specs.Loops.{finished, waits}
 use Rattle.reading.proofs.Covers.{Covers}
-use Rattle.pairs.specs.Rows.{at, leftOf, numberOfLeft, pairAt, ruledAt, ruleOf, ruleAt, pairs, isPair, orRow, rowOf, ruleBy, rules, opFits, Ascending, Encoded, SameRows}
-use Rattle.pairs.specs.Lasts.{finishedRows, outcome, consults, FinishedRow, NeverRow, RowSays, Settled}
-use Rattle.pairs.specs.Ops.{OnlyField}
+use Rattle.pairs.specs.Rows.{at, pairAt, ruledAt, ruleOf, ruleAt, pairs, isPair, orRow, rowOf, ruleBy, rules, ruleFits, Ascending, Encoded, SameRows}
+use Rattle.fonts.specs.Fonts.{leftOf, numberOfLeft}
+use Rattle.pairs.specs.SettledRows.{finishedRows, outcome, consults, FinishedRow, NeverRow, RowSays, Settled}
+use Rattle.pairs.specs.OpRows.{OnlyField}
 
 -- two numbers are the same or not
 pub same-or-not : (a b : ℕ) → (a ≡ b) ⊎ (a ≡ b → ⊥)
@@ -156,7 +157,7 @@ module _ (n : ℕ) (w : List ℕ) (a : Ascending n w) (k : ℕ) (h : k < n) wher
 
 -- ---- the rule of a row: a kern, or one of the eight standard op bytes with a character
 
-pub fits-parts : (op v : ℕ) → opFits op v ≡ true → (op ≡ 128) ⊎ ((op < 128) × (isStandard op ≡ true) × (v < 256))
+pub fits-parts : (op v : ℕ) → ruleFits op v ≡ true → (op ≡ 128) ⊎ ((op < 128) × (isStandard op ≡ true) × (v < 256))
 fits-parts op v e = go (eqb op 128) (ltb op 128) (isStandard op) (ltb v 256) refl refl refl refl e
   where
     go : (a b c d : Bool) → eqb op 128 ≡ a → ltb op 128 ≡ b → isStandard op ≡ c → ltb v 256 ≡ d → cond a true (cond b (cond c d false) false) ≡ true → (op ≡ 128) ⊎ ((op < 128) × (isStandard op ≡ true) × (v < 256))
@@ -166,14 +167,14 @@ fits-parts op v e = go (eqb op 128) (ltb op 128) (isStandard op) (ltb v 256) ref
     go false true false d i j k l h = absurd (false≢true h)
     go false false c d i j k l h = absurd (false≢true h)
 
-pub value-small : (op v : ℕ) → opFits op v ≡ true → op < 128 → v < 256
+pub value-small : (op v : ℕ) → ruleFits op v ≡ true → op < 128 → v < 256
 value-small op v e h = go (fits-parts op v e)
   where
     go : (op ≡ 128) ⊎ ((op < 128) × (isStandard op ≡ true) × (v < 256)) → v < 256
     go (inl i) = absurd (omega arith)
     go (inr (l, i, s)) = s
 
-pub fits-eight : (op v : ℕ) → opFits op v ≡ true → (op ≡ 128) ⊎ (oneOf op eight ≡ true)
+pub fits-eight : (op v : ℕ) → ruleFits op v ≡ true → (op ≡ 128) ⊎ (oneOf op eight ≡ true)
 fits-eight op v e = go (fits-parts op v e)
   where
     go : (op ≡ 128) ⊎ ((op < 128) × (isStandard op ≡ true) × (v < 256)) → (op ≡ 128) ⊎ (oneOf op eight ≡ true)

@@ -15,15 +15,15 @@ use Rattle.reading.proofs.Theorems.{never, right}
 use Rattle.reading.proofs.Never.{not-both}
 use Rattle.pairs.specs.declared.Last.the-variants.{Known}
 use Rattle.pairs.specs.Rows.{at, pairAt, ruleAt, rules, Ascending, Encoded, SameRows}
-use Rattle.pairs.specs.Lasts.{finishedRows, outcome, consults, NeverRow, RowSays, Settled}
-use Rattle.pairs.specs.Search.{status, known, Stored, Waiting, RuleSays, DoneRow, Done, Never, Searching, Stuck, GivenUp, remaining, StillSeen}
+use Rattle.pairs.specs.SettledRows.{finishedRows, outcome, consults, NeverRow, RowSays, Settled}
+use Rattle.pairs.specs.SettleSteps.{status, known, LastsStored, Waiting, RuleSays, DoneRow, Done, Never, Searching, Stuck, GivenUp, remaining, StillSeen}
 use Rattle.pairs.proofs.RowLaws.{same-or-not, SameRules, outcome-same, consults-same, ascending-same, encoded-same, same-rows-none, rule-at}
 use Rattle.pairs.proofs.Tally.{tally-few, tally-less, tally-same, tally-none, tally-up, tally-down, tally-still}
 use Rattle.pairs.proofs.Known.{waits-later, consults-finished, known-sound, known-status, ready-finishes, waiting-later}
 use Rattle.pairs.proofs.Stores.{rows-kept, Opens, Finishes, finishes, next-within, next-last}
 
 -- the rows of finished pairs have their lasts stored
-pub stored : {n h m : ℕ} (w : List ℕ) → Searching n w h m → Stored n w
+pub stored : {n h m : ℕ} (w : List ℕ) → Searching n w h m → LastsStored n w
 stored w s = record { encoded = s .encoded; lasts = λ k l e. let d = s .done .rows k l e in (d .result, d .finishes, d .last) }
 
 -- a place of a path, or the one after it

@@ -9,7 +9,7 @@ use native.Mathlib.Omega.{arith}
 use lib.ListN.{length, set, length-set}
 use borrow.Author.Tests.{lt-ltb, le-ltb}
 use Rattle.pairs.specs.Rows.{at, Ascending, SameRows}
-use Rattle.pairs.specs.Search.{status, opening, finishing, nextOf, Opened, GivenUp}
+use Rattle.pairs.specs.SettleSteps.{status, opening, finishing, nextOnPath, Opened, GivenUp}
 use Rattle.pairs.proofs.Tally.{tally-few}
 use Rattle.pairs.proofs.RowLaws.{same-or-not, at-stored, at-other, at-row}
 
@@ -97,10 +97,10 @@ module _ (w : List ℕ) (h j : ℕ) where
   given-none = record { same-length = refl; same = λ k f l p q. refl; given = λ x p q. absurd (omega arith); kept = λ k ne. (refl, refl) }
 
   -- the row after a place within the path
-  pub next-within : (x : ℕ) → suc x < h → nextOf w h j x ≡ at w (suc x) 8
+  pub next-within : (x : ℕ) → suc x < h → nextOnPath w h j x ≡ at w (suc x) 8
   next-within x l = rw (lt-ltb (suc x) h l)
 
-  pub next-last : (x : ℕ) → suc x ≡ h → nextOf w h j x ≡ j
+  pub next-last : (x : ℕ) → suc x ≡ h → nextOnPath w h j x ≡ j
   next-last x e = rw (le-ltb (suc x) h (omega arith))
 
   -- one more row, at place i
@@ -109,7 +109,7 @@ module _ (w : List ℕ) (h j : ℕ) where
     row = at w i 8
 
     abbrev after : ℕ
-    after = nextOf w h j i
+    after = nextOnPath w h j i
 
     abbrev mid : List ℕ
     mid = set w′ (16 * row + 5) 3
@@ -132,7 +132,7 @@ module _ (w : List ℕ) (h j : ℕ) where
     waits-past : (x : ℕ) → (x ≡ row → ⊥) → at w″ x 9 ≡ at w′ x 9
     waits-past x ne = another mid row 9 after x 9 (omega arith) (omega arith) ne ∙ another w′ row 5 3 x 9 (omega arith) (omega arith) ne
 
-    given-by : (x : ℕ) → x < h → (i ≡ x) ⊎ (i < x) → (status w″ (at w x 8) ≡ 3) × (at w″ (at w x 8) 9 ≡ nextOf w h j x)
+    given-by : (x : ℕ) → x < h → (i ≡ x) ⊎ (i < x) → (status w″ (at w x 8) ≡ 3) × (at w″ (at w x 8) 9 ≡ nextOnPath w h j x)
     given-by x q (inl e) = rw (← e) (status-at, waits-at)
     given-by x q (inr p) =
         let d : at w x 8 ≡ row → ⊥ = λ e. omega (arith, once x i q l e) in
@@ -154,7 +154,7 @@ module _ (w : List ℕ) (h j : ℕ) where
 pub record Climbs (w w′ : List ℕ) (h j next i : ℕ) : Type 0 where
   pub within : i ≤ h
   pub given-up : GivenUp w w′ h j i
-  pub next-is : (x : ℕ) → suc x ≡ i → next ≡ nextOf w h j x
+  pub next-is : (x : ℕ) → suc x ≡ i → next ≡ nextOnPath w h j x
 
 module _ (w : List ℕ) (h j : ℕ) where
   pub climbs-none : Climbs w w h j j h

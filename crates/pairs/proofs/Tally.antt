@@ -8,8 +8,8 @@ use native.Mathlib.Nat.{eq-or-lt-of-le, le-of-suc-le-suc}
 use native.Mathlib.Omega.{arith}
 use lib.Dec.{eqb}
 use borrow.Author.Tests.{eq-eqb, ne-eqb}
-use Rattle.pairs.specs.Lasts.{bit}
-use Rattle.pairs.specs.Search.{tally}
+use Rattle.pairs.specs.SettledRows.{bit}
+use Rattle.pairs.specs.SettleSteps.{tally}
 
 bit-few : (b : Bool) → bit b ≤ 1
 bit-few true = omega arith

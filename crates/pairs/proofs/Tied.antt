@@ -16,12 +16,13 @@ use Rattle.words.proofs.Lists.{length-tabulate, getD-tabulate}
 use Rattle.reading.specs.Items.{Left, bnd, chr, Rule, free, Rules}
 use Rattle.reading.specs.Depth.{Pair}
 use Rattle.reading.specs.Loops.{Ruled}
-use Rattle.pairs.specs.Rows.{at, leftOf, numberOfLeft, pairAt, ruledAt, ruleAt, ruleBy, rowOf, rules, pairs, Ascending}
-use Rattle.pairs.specs.Ops.{nth}
-use Rattle.pairs.specs.Fonts.{Font, indexOf, ruledBy, rowPairs, leftPairs, pairsBy, pairsOf, tableOf, rulesOf, ruleOfIndex}
-use Rattle.pairs.specs.Collect.{Collects, Writes}
+use Rattle.pairs.specs.Rows.{at, pairAt, ruledAt, ruleAt, ruleBy, rowOf, rules, pairs, Ascending}
+use Rattle.fonts.specs.Fonts.{leftOf, numberOfLeft}
+use Rattle.fonts.specs.Numbers.{nth}
+use Rattle.fonts.specs.Fonts.{Font, indexOf, ruledBy, rowPairs, leftPairs, pairsBy, pairsOf, tableOf, rulesOf, ruleOfIndex}
+use Rattle.pairs.specs.PairRows.{Collects, Writes}
 use Rattle.pairs.proofs.RowLaws.{row-found, row-is, no-row, number-left, left-number}
-use Rattle.pairs.proofs.FontLaws.{has-pair}
+use Rattle.fonts.proofs.FontLaws.{has-pair}
 
 -- ---- members by their place
 

@@ -20,21 +20,14 @@ use Rattle.words.specs.Lists.{tabulate}
 use Rattle.lang.specs.Operations.{retains, keepsLeft, keepsRight, advance, isStandard}
 use Rattle.pairs.specs.declared.Row.{Row}
 use Rattle.pairs.specs.declared.Row.the-variants.{Found, Missing}
-use Rattle.reading.specs.Items.{Left, bnd, chr, Rule, free, kerned, lig, Rules}
+use Rattle.reading.specs.Items.{Rule, free, kerned, lig, Rules}
 use Rattle.reading.specs.Depth.{Pair}
 use Rattle.reading.specs.Loops.{Ruled}
+use Rattle.fonts.specs.Fonts.{leftOf, numberOfLeft}
 
 -- number f of row k
 abbrev pub at : List ℕ → ℕ → ℕ → ℕ
 at w k f = getD w (16 * k + f) 0
-
-abbrev pub leftOf : ℕ → Left
-leftOf zero = bnd
-leftOf (suc c) = chr c
-
-abbrev pub numberOfLeft : Left → ℕ
-numberOfLeft bnd = 0
-numberOfLeft (chr c) = suc c
 
 abbrev pub pairAt : List ℕ → ℕ → Pair
 pairAt w k = record { left = leftOf (at w k 0); right = at w k 1 }
@@ -79,8 +72,8 @@ abbrev pub rules : ℕ → List ℕ → Rules
 rules n w l r = ruleBy w (rowOf w n (numberOfLeft l) r)
 
 -- an op that a row can hold: a kern, or a standard op byte with a character
-abbrev pub opFits : ℕ → ℕ → Bool
-opFits op value = cond (eqb op 128) true (cond (ltb op 128) (cond (isStandard op) (ltb value 256) false) false)
+abbrev pub ruleFits : ℕ → ℕ → Bool
+ruleFits op value = cond (eqb op 128) true (cond (ltb op 128) (cond (isStandard op) (ltb value 256) false) false)
 
 -- Rows in ascending order, the boundary first; sixteen numbers each.
 pub record Ascending (n : ℕ) (w : List ℕ) : Type 0 where
@@ -93,7 +86,7 @@ pub record Ascending (n : ℕ) (w : List ℕ) : Type 0 where
 -- Rows in ascending order whose rules are written.
 pub record Encoded (n : ℕ) (w : List ℕ) : Type 0 where
   pub ascending : Ascending n w
-  pub ops : (k : ℕ) → k < n → opFits (at w k 3) (at w k 4) ≡ true
+  pub ops : (k : ℕ) → k < n → ruleFits (at w k 3) (at w k 4) ≡ true
 
 -- the numbers that no pass after the first two changes
 pub record SameRows (n : ℕ) (w w′ : List ℕ) : Type 0 where

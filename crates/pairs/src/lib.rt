@@ -1,5 +1,5 @@
-// The definitions (specs/) and laws (proofs/) of compiling's passes over the rows of the work buffer, and the types that the passes answer with. Crates `rows`
-// and `compiler` hold the passes.
+// The definitions (specs/) and laws (proofs/) of compiling's passes over the rows of the work buffer, and the types that the passes answer with. Crates `collect` to `lists` hold the
+// passes.
 
 // The row of a pair, or nothing.
 pub enum Row {
@@ -7,10 +7,10 @@ pub enum Row {
     Missing,
 }
 
-// How many rows there are and how many of them are the boundary's, or that they are more than the cap.
+// How many rows there are and how many of them are the boundary's, or the number of a refusal.
 pub enum Collected {
     Rows(usize, usize),
-    Full,
+    Refused(u32),
 }
 
 // How many rows there are with those of one more left, or that they are more than the cap.
@@ -19,10 +19,11 @@ pub enum Added {
     Over,
 }
 
-// What a row says of its rule: op byte or 128, and inserted character or scaled kern; or that a kern has no scaled value.
-pub enum Effect {
-    Op(u32, u32),
-    Unscaled,
+// What a row says of its rule: op byte or 128, and inserted character or scaled kern, 0 for a kern that does not scale; and whether it scales.
+pub struct Effect {
+    pub op: u32,
+    pub value: u32,
+    pub scaled: bool,
 }
 
 // The last of a pair, its code and its flag; or the row that has to finish first.
@@ -50,14 +51,26 @@ pub enum Part {
     OfRow(usize),
 }
 
-// The rows of a font and how many of them are the boundary's, or the number of a refusal.
+// The rows of a font, how many of them are the boundary's, and whether every kern that is a rule scales; or the number of a refusal.
 pub enum Prepared {
-    Rows(usize, usize),
-    Unfit(u32),
+    Rows(usize, usize, bool),
+    Refused(u32),
 }
 
-// How many rows finish, how many ops and loops there are, or the number of a refusal.
-pub enum Measured {
-    Sizes(usize, u32, usize),
-    Long(u32),
+// The same rows, once it is known how many of them finish: rows, the boundary's, those that finish, and whether every kern scales; or a refusal.
+pub enum SettledFont {
+    Rows(usize, usize, usize, bool),
+    Refused(u32),
+}
+
+// The same rows, once their loops are listed: rows, those that finish, loops, and whether every kern scales; or a refusal.
+pub enum WalkedFont {
+    Rows(usize, usize, usize, bool),
+    Refused(u32),
+}
+
+// The same rows, once their ops are counted: rows, those that finish, ops, loops; or a refusal.
+pub enum CountedFont {
+    Sizes(usize, usize, u32, usize),
+    Refused(u32),
 }

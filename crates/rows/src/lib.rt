@@ -1,84 +1,57 @@
-// The first stage of compiling, after ligkern/compiler.rs (reference `CompiledProgram::compile`, lines 111 to 212): the rows of a font in the work buffer;
-// specs/Rows.antt of crate `pairs` says what a row holds.
-//   collect  the pairs that have a rule            encode  what their rules do
+// Rows of the work buffer of compiling: one number read or stored, and the row of a pair by bisection. specs/Rows.antt of crate `pairs` says what a row holds.
 ghost use mathlib.Core.Path.{_≡_};
-ghost use Prim.Native.Nat.{_*_, _≤_, min};
-ghost use lib.ListN.{length, replicate};
-ghost use lib.IntN.{ℤ};
-ghost use Rattle.lang.specs.Records.{count};
-ghost use Rattle.pairs.specs.Fonts.{Font};
-ghost use Rattle.rows.specs.Prepares.{PreparesBy, Prepares};
+ghost use Prim.Native.Nat.{_+_, _*_, _<_};
+ghost use lib.ListN.{set};
+ghost use Rattle.pairs.specs.Rows.{at, Ascending, rowOf, foundRow};
+use pairs::Row;
 
-mod collect;
-mod encode;
-
-use crate::collect::collect;
-use crate::encode::encode;
-use lang::entries::entries_table;
-use pairs::Collected;
-use pairs::Prepared;
-use words::zero::zero_u32;
-
-// At most `cap` rows, in a work buffer of zeros. 12, then 13.
-fn prepare_within(
-    instructions: &[i32],
-    kerns: &[i32],
-    entries: &[i32],
-    left_entry: i32,
-    design_size: i32,
-    work: &mut [u32],
-    cap: usize,
-) -> Prepared
-    requires { ⌜ (count (now instructions) ≤ 32767) × (16 * cap ≤ length (now work)) × (now work ≡ replicate (length (now work)) 0) ⌝ }
-    ensures { λ r. ⌜ ((b : ℤ) → PreparesBy (record { instructions = now (instructions .entry); kerns = now (kerns .entry); entries = now (entries .entry); boundary = b; left = «left_entry»; design = «design_size» }) cap (now (work .entry)) (now (work .exit)) r) ⌝ }
+// Number f of row k; 0 past the numbers.
+pub fn get(work: &[u32], k: usize, f: u8) -> u32
+    ensures { λ r. ⌜ r ≡ at (now (work .entry)) k f ⌝ }
 {
-    let table = entries_table(entries, left_entry);
-    let Collected::Rows(n, e) = collect(instructions, &table, work, cap) else {
-        return Prepared::Unfit(12);
-    };
-    if encode(instructions, kerns, design_size, work, n) {
-        return Prepared::Rows(n, e);
+    if work.len() / 16 < k {
+        return 0;
     }
-    Prepared::Unfit(13)
+    words::u32_at(work, 16 * k + (f as usize))
 }
 
-fn smaller(a: usize, b: usize) -> usize
-    ensures { λ r. ⌜ r ≡ min a b ⌝ }
+// Number f of row k becomes v; past the numbers nothing is done.
+pub fn put(work: &mut [u32], k: usize, f: u8, v: u32)
+    ensures { λ _. ⌜ now (work .exit) ≡ set (now (work .entry)) (16 * k + f) v ⌝ }
 {
-    if a <= b { a } else { b }
+    if k <= work.len() / 16 {
+        words::put_u32(work, 16 * k + (f as usize), v);
+    }
 }
 
-// The rows of a font, with their rules, in a work buffer of sixteen u32 a pair: at most `room` of them. 1 where there are over 32,767 instructions, then 12,
-// then 13, with the work all zeros.
-pub fn prepare(
-    instructions: &[i32],
-    kerns: &[i32],
-    entries: &[i32],
-    left_entry: i32,
-    design_size: i32,
-    work: &mut [u32],
-    room: usize,
-) -> Prepared
-    ensures { λ r. ⌜ ((b : ℤ) → Prepares (record { instructions = now (instructions .entry); kerns = now (kerns .entry); entries = now (entries .entry); boundary = b; left = «left_entry»; design = «design_size» }) room (now (work .entry)) (now (work .exit)) r) ⌝ }
+// The place of row k's pair in the order of rows.
+fn key(work: &[u32], k: usize) -> u64
+    ensures { λ r. ⌜ r ≡ 256 * at (now (work .entry)) k 0 + at (now (work .entry)) k 1 ⌝ }
 {
-    zero_u32(work);
-    if 32767 < instructions.len() / 4 {
-        return Prepared::Unfit(1);
-    }
-    let cap = smaller(room, work.len() / 16);
-    match prepare_within(
-        instructions,
-        kerns,
-        entries,
-        left_entry,
-        design_size,
-        work,
-        cap,
-    ) {
-        Prepared::Rows(n, e) => Prepared::Rows(n, e),
-        Prepared::Unfit(number) => {
-            zero_u32(work);
-            Prepared::Unfit(number)
+    let left = get(work, k, 0) as u64;
+    let right = get(work, k, 1) as u64;
+    256 * left + right
+}
+
+// The row of the pair of a left (0 the boundary, else 1 + character) and a right character among the first n rows, where these ascend.
+pub fn find(work: &[u32], n: usize, left: u32, right: u32) -> Row
+    ensures { λ r. ⌜ (Ascending n (now (work .entry)) → right < 256 → r ≡ foundRow (rowOf (now (work .entry)) n left right)) ⌝ }
+{
+    let wanted = 256 * (left as u64) + (right as u64);
+    let mut lo = 0;
+    let mut hi = n;
+    while lo < hi {
+        let mid = lo + (hi - lo) / 2;
+        if key(work, mid) < wanted {
+            lo = mid + 1;
+        } else {
+            hi = mid;
         }
     }
+    if lo < n {
+        if key(work, lo) == wanted {
+            return Row::Found(lo);
+        }
+    }
+    Row::Missing
 }

@@ -13,7 +13,7 @@ use crate::runs;
 use crate::text::put_count;
 use crate::text::put_refusal;
 use crate::text::put_words;
-use compiler::Compiled;
+use fonts::Compiled;
 
 // Six numbers a pair.
 fn table() -> [i32; 6144]

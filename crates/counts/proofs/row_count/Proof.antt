@@ -1,0 +1,44 @@
+-- `counts::row_count` meets its contract: the sum of the counts of the row's two parts.
+-- Assumes nothing.
+use mathlib.Core.Path.{ap, _∙_}
+use Prim.Native.Nat.{_+_}
+use Rattle.pairs.specs.OpRows.{capped}
+use Rattle.pairs.specs.OpSteps.{partCount}
+use borrow.Author.Needs.{needs}
+use Rattle.counts.proofs.row_count.Statement.{statement}
+use Rattle.counts.proofs.row_count.Tie as tie
+
+first-part-requires : tie.Need-first-part-requires
+first-part-requires c κs = search needs
+
+part-count-requires : tie.Need-part-count-requires
+part-count-requires c κs = search needs
+
+second-part-requires : tie.Need-second-part-requires
+second-part-requires c κs = search needs
+
+part-count-requires-2 : tie.Need-part-count-requires-2
+part-count-requires-2 c κs = search needs
+
+capped-sum-requires : tie.Need-capped-sum-requires
+capped-sum-requires c κs = search needs
+
+returns : tie.Need-returns
+returns c =
+    let s = c .before .before .before .before .before .before in
+    let p = s .pre in
+    let w = s .args .work .now in
+    let x = c .before .before .before .part-count .ensures ∙ ap (partCount w) (c .before .before .before .before .first-part .ensures (p .0) (p .1)) in
+    let y = c .before .part-count2 .ensures ∙ ap (partCount w) (c .before .before .second-part .ensures (p .0) (p .1) (p .2)) in
+    c .capped-sum .ensures ∙ (λ i. capped (x i + y i))
+
+pub row-count-spec : {M : Type 1} → statement M
+row-count-spec =
+    tie.close
+    (tie.spec
+    first-part-requires
+    part-count-requires
+    second-part-requires
+    part-count-requires-2
+    capped-sum-requires
+    returns)

@@ -1,0 +1,107 @@
+-- A font as it is lent, its rules, and the pairs that have one. Document 01, 'What goes in' and 'The pair table'.
+use mathlib.Core.Path.{_≡_}
+use mathlib.Core.Bool.{Bool, true, false, cond}
+use mathlib.Core.List.{List, [], _∷_, _++_}
+use mathlib.Core.Option.{Option, none, some}
+use Prim.Native.Nat.{ℕ, zero, suc, _+_, _*_, _/_}
+use lib.IntN.{ℤ, pos, negsuc}
+use lib.Dec.{ltb, leb, eqb}
+use lib.ListN.{length, getD}
+use Rattle.tfm.specs.declared.FixWord.{FixWord}
+use Rattle.tfm.specs.declared.ToScaled.{ToScaled}
+use Rattle.tfm.specs.declared.ToScaled.the-variants.{Scaled, NegativeDesignSize, TooLarge}
+use Rattle.tfm.specs.Scaled.{toScaled}
+use Rattle.lang.specs.declared.operation.Operation.{Operation}
+use Rattle.lang.specs.declared.operation.Operation.the-variants.{Kern, KernAtIndex, Ligature, EntrypointRedirect}
+use Rattle.lang.specs.Records.{count, instructionAt}
+use Rattle.lang.specs.Entries.{entriesTable}
+use Rattle.chain.specs.Chains.{ruleIndexOf, actsAs}
+use Rattle.reading.specs.Items.{Left, bnd, chr, Rule, free, kerned, lig, Rules}
+use Rattle.reading.specs.Depth.{Pair}
+use Rattle.reading.specs.Loops.{Ruled}
+
+-- A font as it is lent. A boundary, a left entry and an override of -1 are absent.
+pub record Font : Type 0 where
+  pub instructions : List ℤ
+  pub kerns : List ℤ
+  pub entries : List ℤ
+  pub boundary : ℤ
+  pub left : ℤ
+  pub design : ℤ
+
+-- the font of the lists that are lent
+abbrev pub fontOf : List ℤ → List ℤ → List ℤ → ℤ → ℤ → ℤ → Font
+fontOf instructions kerns entries boundary left design =
+    record { instructions = instructions; kerns = kerns; entries = entries; boundary = boundary; left = left; design = design }
+
+-- ---- lefts, by their place: 0 is the boundary, and 1 + c the character c
+
+abbrev pub leftOf : ℕ → Left
+leftOf zero = bnd
+leftOf (suc c) = chr c
+
+abbrev pub numberOfLeft : Left → ℕ
+numberOfLeft bnd = 0
+numberOfLeft (chr c) = suc c
+
+-- ---- which instruction is a pair's rule
+
+-- the entry of a left: the table's place of a character below 256, or place 256 for the boundary
+abbrev pub leftEntry : List ℤ → Left → ℤ
+leftEntry table bnd = getD table 256 (negsuc 0)
+leftEntry table (chr c) = cond (ltb c 256) (getD table c (negsuc 0)) (negsuc 0)
+
+abbrev pub ruleFrom : List ℤ → ℤ → ℕ → Option ℕ
+ruleFrom s (negsuc n) r = none
+ruleFrom s (pos e) r = ruleIndexOf s e r
+
+-- over the instructions and the table of entries
+abbrev pub indexOf : List ℤ → List ℤ → Left → ℕ → Option ℕ
+indexOf s table l r = ruleFrom s (leftEntry table l) r
+
+-- ---- the pairs that have a rule, ascending, the boundary first
+
+abbrev pub ruledBy : Left → ℕ → Option ℕ → List Ruled
+ruledBy l r none = []
+ruledBy l r (some i) = record { pair = record { left = l; right = r }; index = i } ∷ []
+
+-- of one left, with right characters below n
+unfoldable pub rowPairs : List ℤ → List ℤ → Left → ℕ → List Ruled
+rowPairs s table l zero = []
+rowPairs s table l (suc r) = rowPairs s table l r ++ ruledBy l r (indexOf s table l r)
+
+-- of the first t lefts
+unfoldable pub leftPairs : List ℤ → List ℤ → ℕ → List Ruled
+leftPairs s table zero = []
+leftPairs s table (suc t) = leftPairs s table t ++ rowPairs s table (leftOf t) 256
+
+abbrev pub pairsBy : List ℤ → List ℤ → List Ruled
+pairsBy s table = leftPairs s table 257
+
+abbrev pub tableOf : Font → List ℤ
+tableOf f = entriesTable (f .entries) (f .left)
+
+abbrev pub pairsOf : Font → List Ruled
+pairsOf f = pairsBy (f .instructions) (tableOf f)
+
+-- ---- what it does
+
+-- a kern that cannot be scaled is 13 in compiling; where only the loops are asked for it is a kern like any other, of zero
+abbrev pub scaledKern : ToScaled → Rule
+scaledKern (Scaled v) = kerned v
+scaledKern NegativeDesignSize = kerned (pos 0)
+scaledKern TooLarge = kerned (pos 0)
+
+abbrev pub ruleOfOperation : ℤ → Operation → Rule
+ruleOfOperation design (Kern k) = scaledKern (toScaled (k .0) design)
+ruleOfOperation design (KernAtIndex i) = free
+ruleOfOperation design (Ligature c p t) = lig p (c .0)
+ruleOfOperation design (EntrypointRedirect t g) = free
+
+abbrev pub ruleOfIndex : Font → Option ℕ → Rule
+ruleOfIndex f none = free
+ruleOfIndex f (some i) = ruleOfOperation (f .design) (actsAs (f .kerns) (instructionAt (f .instructions) i .operation))
+
+-- THE rules of a font: the reading is over them
+abbrev pub rulesOf : Font → Rules
+rulesOf f l r = ruleOfIndex f (indexOf (f .instructions) (tableOf f) l r)

@@ -1,0 +1,7 @@
+-- What compiling is held to. In the order in which to read:
+--   Fonts     a font, the pairs that have a rule, and THE rules that the one-by-one reading of crate `reading` goes by
+--   Numbers   the pair table, the ops and the loop list as numbers
+--   Compiled  THE contract of `compile`: refusals, answer, and the content of every list
+pub mod Fonts
+pub mod Numbers
+pub mod Compiled

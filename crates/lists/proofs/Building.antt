@@ -1,0 +1,97 @@
+-- The stages put together: what is refused, and what the lists hold, of a font whose rows were counted and whose ops were written.
+-- Assumes nothing.
+use mathlib.Core.Path.{_≡_, refl, sym, ap, _∙_, subst}
+use mathlib.Core.List.{List}
+use Prim.Native.Nat.{ℕ, zero, suc, _*_, _/_, _<_, _≤_}
+use native.Mathlib.Omega.{arith}
+use lib.IntN.{ℤ, pos}
+use lib.Dec.{leb}
+use lib.ListN.{length, replicate, length-replicate}
+use Rattle.words.specs.Lists.{tabulate}
+use Rattle.words.proofs.Lists.{length-tabulate}
+use Rattle.lang.specs.Checks.{orElse}
+use Rattle.lang.specs.Answers.{padded, listOf}
+use Rattle.lang.proofs.Refusals.{orElse-none, room-fits}
+use Rattle.reading.specs.Loops.{finished}
+use Rattle.fonts.specs.declared.Compiled.{Compiled}
+use Rattle.fonts.specs.declared.Compiled.the-variants.{Tables, Refused}
+use Rattle.fonts.specs.Fonts.{Font}
+use Rattle.fonts.specs.Numbers.{pairTable, loopNumbers}
+use Rattle.fonts.specs.Compiled.{Room, roomOf, roomIn, totalOps, loopsOfFont, fontTable, fontOps, fontLoops, longRefusal, pairsRefusal, kernRefusal, opsRefusal, loopsRefusal, tablesRefusal, buildRefusal, compiledBy, ListsWritten}
+use Rattle.pairs.specs.declared.CountedFont.{CountedFont}
+use Rattle.pairs.specs.declared.CountedFont.the-variants as counted
+use Rattle.pairs.specs.Rows.{at, pairAt}
+use Rattle.pairs.specs.OpRows.{pairsWritten}
+use Rattle.counts.specs.Counting.{FontCounted, CountsBy}
+use Rattle.ops.specs.WritesOps.{WritesOpsBy}
+use Rattle.lists.specs.Builds.{Builds}
+
+-- a font that is not refused has room for its loops
+loop-room-for : (f : Font) (room : Room) → buildRefusal f room ≡ 0 → 2 * length (loopsOfFont f) ≤ room .loops
+loop-room-for f room e =
+    let a = orElse-none (longRefusal (f .instructions)) (tablesRefusal f room) e .1 in
+    let b = orElse-none (pairsRefusal f room) (orElse (kernRefusal f) (orElse (opsRefusal f room) (loopsRefusal f room))) a .1 in
+    let c = orElse-none (kernRefusal f) (orElse (opsRefusal f room) (loopsRefusal f room)) b .1 in
+    room-fits (2 * length (loopsOfFont f)) (room .loops) (orElse-none (opsRefusal f room) (loopsRefusal f room) c .1)
+
+module _ (f : Font) (w : List ℕ) (n m r : ℕ) (g : FontCounted f w n m r) where
+  loops-count : r ≡ length (loopsOfFont f)
+  loops-count = sym (length-tabulate r (λ i. pairAt w (at w i 8))) ∙ ap length (g .loops-are)
+
+  table-is : pairsWritten n w ≡ fontTable f
+  table-is =
+      let p = g .pairs-are in
+      let q = g .rules-are in
+      let k = g .count-is in
+      λ i. pairTable (finished (q i) (p i)) (p i) (k i)
+
+-- the pair table and the loop list were zeroed
+module _ (f : Font) (ps os ls zp zl : List ℤ) (w w₁ : List ℕ) (bp : zp ≡ replicate (length ps) (pos 0)) (bl : zl ≡ replicate (length ls) (pos 0)) (os′ : List ℤ) where
+  pair-long : length zp ≡ length ps
+  pair-long = ap length bp ∙ length-replicate (length ps) (pos 0)
+
+  loop-long : length zl ≡ length ls
+  loop-long = ap length bl ∙ length-replicate (length ls) (pos 0)
+
+  pub pairs-blank : zp ≡ replicate (length zp) (pos 0)
+  pairs-blank = bp ∙ ap (λ (k : ℕ). replicate k (pos 0)) (sym pair-long)
+
+  pub loops-blank : zl ≡ replicate (length zl) (pos 0)
+  loops-blank = bl ∙ ap (λ (k : ℕ). replicate k (pos 0)) (sym loop-long)
+
+  room-is : roomOf (length zp) (length os) (length zl) (length w) ≡ roomIn ps os ls w
+  room-is = let a = pair-long in let b = loop-long in λ i. roomOf (a i) (length os) (b i) (length w)
+
+  unfit-by : (k j : ℕ) → j ≡ k → 0 < k → os′ ≡ replicate (length os) (pos 0) → (Refused k ≡ compiledBy j f) × ListsWritten f j ps os ls zp os′ zl
+  unfit-by zero j e h o = absurd (omega arith)
+  unfit-by (suc k) j e h o = rw e (refl, record { table = bp; ops-table = o; loop-list = bl })
+
+  pub unfit : (k : ℕ) → WritesOpsBy f (length zp) (length zl) os w os′ w₁ (counted.Refused k) → Builds f ps os ls w (Refused k) zp os′ zl w₁
+  unfit k p =
+      let c = p .counted in
+      let q = unfit-by k (buildRefusal f (roomIn ps os ls w)) (sym (ap (buildRefusal f) room-is) ∙ c .0) (c .1) (p .written) in
+      record { answer = q .0; lists = q .1; cleared = c .2 }
+
+  module _ (n m total r : ℕ) (p : WritesOpsBy f (length zp) (length zl) os w os′ w₁ (counted.Sizes n m total r)) where
+    pub loop-room : 2 * r ≤ length zl
+    loop-room = omega (arith, loop-room-for f (roomOf (length zp) (length os) (length zl) (length w)) (p .counted .0), loops-count f w₁ n m r (p .counted .4))
+
+    pub few : r ≤ 65792
+    few = omega (arith, p .counted .4 .few, p .counted .4 .ready .encoded .ascending .few)
+
+    pub built : (numbers : ℕ) (ps′ ls′ : List ℤ) (w₂ : List ℕ) → numbers ≡ length (pairsWritten n w₁) → ps′ ≡ padded (pos 0) (length zp) (pairsWritten n w₁) → ls′ ≡ padded (pos 0) (length zl) (loopNumbers (tabulate r (λ i. pairAt w₁ (at w₁ i 8)))) → w₂ ≡ replicate (length w₁) 0 → Builds f ps os ls w (Tables (numbers / 6) total r) ps′ os′ ls′ w₂
+    built numbers ps′ ls′ w₂ c a b z =
+        let g = p .counted .4 in
+        let e : buildRefusal f (roomIn ps os ls w) ≡ 0 = sym (ap (buildRefusal f) room-is) ∙ p .counted .0 in
+        let t = table-is f w₁ n m r g in
+        record {
+          answer = rw e (let x = c ∙ ap length t in let y = p .counted .2 in let v = loops-count f w₁ n m r g in λ i. Tables (x i / 6) (y i) (v i));
+          lists =
+              rw e
+              (record {
+                table = a ∙ (let x = pair-long in λ i. padded (pos 0) (x i) (t i));
+                ops-table = p .written;
+                loop-list = b ∙ (let x = loop-long in let y = g .loops-are in λ i. padded (pos 0) (x i) (loopNumbers (y i)));
+              });
+          cleared = z ∙ ap (λ (k : ℕ). replicate k 0) (p .counted .1);
+        }

@@ -1,0 +1,14 @@
+-- The three lists of a font that is not checked yet: the contract of `write_lists`.
+use mathlib.Core.Path.{_≡_}
+use mathlib.Core.List.{List}
+use Prim.Native.Nat.{ℕ}
+use lib.IntN.{ℤ}
+use lib.ListN.{length, replicate}
+use Rattle.fonts.specs.declared.Compiled.{Compiled}
+use Rattle.fonts.specs.Fonts.{Font}
+use Rattle.fonts.specs.Compiled.{roomIn, buildRefusal, compiledBy, ListsWritten}
+
+pub record Builds (f : Font) (pairs ops loops : List ℤ) (work : List ℕ) (r : Compiled) (pairs′ ops′ loops′ : List ℤ) (work′ : List ℕ) : Type 0 where
+  pub answer : r ≡ compiledBy (buildRefusal f (roomIn pairs ops loops work)) f
+  pub lists : ListsWritten f (buildRefusal f (roomIn pairs ops loops work)) pairs ops loops pairs′ ops′ loops′
+  pub cleared : work′ ≡ replicate (length work) 0

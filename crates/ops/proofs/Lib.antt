@@ -1,0 +1,3 @@
+-- The law of `write_ops`.
+--   WrittenOps  the ops of a font whose rows were counted
+pub mod WrittenOps

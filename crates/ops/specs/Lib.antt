@@ -1,0 +1,3 @@
+-- What the fifth stage of compiling is held to, over the definitions of crate `pairs`.
+--   WritesOps  THE contract of `write_ops`
+pub mod WritesOps

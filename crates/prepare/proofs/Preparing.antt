@@ -1,0 +1,64 @@
+-- The first stage: the rows of a font, with their rules.
+-- Assumes nothing.
+use mathlib.Core.Path.{_≡_, sym, ap, _∙_, subst}
+use mathlib.Core.Bool.{Bool}
+use mathlib.Core.List.{List}
+use Prim.Native.Nat.{ℕ, _<_, _≤_}
+use native.Mathlib.Omega.{arith}
+use lib.IntN.{ℤ}
+use lib.ListN.{length, replicate}
+use Rattle.lang.specs.Every.{every}
+use Rattle.lang.specs.Records.{instructionAt}
+use Rattle.lang.proofs.Every.{every-ext}
+use Rattle.chain.specs.Chains.{actsAs}
+use Rattle.reading.specs.Loops.{Ruled}
+use Rattle.fonts.specs.Fonts.{Font, tableOf}
+use Rattle.fonts.specs.Compiled.{scales, pairScales, allScale}
+use Rattle.pairs.specs.declared.Collected.{Collected}
+use Rattle.pairs.specs.declared.Collected.the-variants as collected
+use Rattle.pairs.specs.declared.Prepared.the-variants.{Rows, Refused}
+use Rattle.pairs.specs.PairRows.{Collects, operationAt, rowsScale, Encodes}
+use Rattle.pairs.proofs.Tied.{pairs-tied, rules-tied, ascending}
+use Rattle.pairs.proofs.LoopLaws.{turns-same}
+use Rattle.collect.specs.Collecting.{collectRefusal, CollectsFont}
+use Rattle.prepare.specs.Prepares.{prepareRefusal, PreparesBy}
+
+-- what encoding answers, at the design size as it was lent
+pub encodes-as : (s kerns : List ℤ) (d d′ : ℤ) (n : ℕ) (w w′ : List ℕ) (r : Bool) → Encodes s kerns d n w w′ r → d ≡ d′ → Encodes s kerns d′ n w w′ r
+encodes-as s kerns d d′ n w w′ r e q = subst (λ (x : ℤ). Encodes s kerns x n w w′ r) q e
+
+-- what collecting answers, at the left entry as it was lent
+pub collects-as : (s : List ℤ) (table : ℤ → List ℤ) (l l′ : ℤ) (cap : ℕ) (w w′ : List ℕ) (u t : Collected) → CollectsFont s (table l) cap w w′ u → u ≡ t → l ≡ l′ → CollectsFont s (table l′) cap w w′ t
+collects-as s table l l′ cap w w′ u t h e q = subst (λ (x : ℤ). CollectsFont s (table x) cap w w′ t) q (subst (CollectsFont s (table l) cap w w′) e h)
+
+module _ (f : Font) (cap : ℕ) (w : List ℕ) where
+  pub unfit : (k : ℕ) (w₁ : List ℕ) → CollectsFont (f .instructions) (tableOf f) cap w w₁ (collected.Refused k) → PreparesBy f cap w w₁ (Refused k)
+  unfit k w₁ c = c
+
+  module _ (n e : ℕ) (w₁ w₂ : List ℕ) (q : CollectsFont (f .instructions) (tableOf f) cap w w₁ (collected.Rows n e)) (b : Bool) (d : Encodes (f .instructions) (f .kerns) (f .design) n w₁ w₂ b) where
+    abbrev c : Collects (f .instructions) (tableOf f) w w₁ n e
+    c = q .2
+
+    scales-same : (k : ℕ) → k < n → scales (f .design) (operationAt (f .instructions) (f .kerns) w₁ k) ≡ pairScales f k
+    scales-same k h = ap (λ (x : Ruled). scales (f .design) (actsAs (f .kerns) (instructionAt (f .instructions) (x .index) .operation))) (c .pair k h)
+
+    all-same : rowsScale (f .instructions) (f .kerns) (f .design) w₁ n ≡ allScale f
+    all-same = every-ext n _ _ scales-same ∙ ap (λ (j : ℕ). every j (pairScales f)) (c .all)
+
+    pub prepared : PreparesBy f cap w w₂ (Rows n e b)
+    prepared =
+        let r = d .written in (
+          q .0,
+          r .same-length ∙ c .same-length,
+          d .answer ∙ all-same,
+          q .1,
+          record {
+            encoded = record { ascending = ascending f w w₁ w₂ n e c r; ops = r .ops };
+            pairs-are = pairs-tied f w w₁ w₂ n e c r;
+            rules-are = rules-tied f w w₁ w₂ n e c r;
+            turns = turns-same n e w₁ w₂ (λ k g h l. r .same k g h (omega arith) (λ i. omega arith) (λ i. omega arith)) (λ k h. r .same k 15 h (omega arith) (λ i. omega arith) (λ i. omega arith)) (c .turns);
+            new = λ k h. r .same k 5 h (omega arith) (λ i. omega arith) (λ i. omega arith) ∙ c .rest k 5 h (omega arith) (omega arith);
+            unmet = λ k h. r .same k 14 h (omega arith) (λ i. omega arith) (λ i. omega arith) ∙ c .rest k 14 h (omega arith) (omega arith);
+            count-is = c .all;
+          },
+        )

@@ -1,0 +1,70 @@
+-- `settle::search` meets its contract. The loop's invariant: the state of the search, with rows, rules and marks as they were; row k and every row that was
+-- not new are not new. The measure is twice the rows that are new and the rows that are open.
+-- Assumes nothing.
+use mathlib.Core.Path.{_∙_, ap}
+use native.Mathlib.Omega.{arith}
+use lib.ListN.{length, length-set}
+use denote.Ref.{now}
+use Rattle.pairs.specs.SettleSteps.{remaining}
+use Rattle.pairs.proofs.SettleLaws.{Going, going-begin, going-more, going-end}
+use Rattle.settle.proofs.search.Statement.{statement}
+use Rattle.settle.proofs.search.Tie as tie
+
+abbrev Inv-loop : tie.InvT-loop
+Inv-loop work₀ n k m p₀ work p = Going n work₀ work k p
+
+abbrev μ-loop : tie.MeasureT-loop
+μ-loop work₀ n k m p₀ work p = remaining n work (p .path)
+
+open-row-requires : tie.Need-open-row-requires Inv-loop μ-loop
+open-row-requires c κs =
+    let a = c .before .before in
+    (omega (arith, a .pre .1, a .pre .0 .encoded .ascending .few), omega arith)
+
+loop-holds : tie.Need-loop-holds Inv-loop μ-loop
+loop-holds c =
+    let o = c .before .before in
+    let a = o .before .before .before in
+    going-begin (a .args .n) (a .args .m) (a .args .k) (now (a .args .work)) (o .open-row .last .0) (a .pre .0) (a .pre .1) (a .pre .2) (o .open-row .ensures)
+
+turn-requires : tie.Need-turn-requires Inv-loop μ-loop
+turn-requires c κs = (c .before .before .before .loop .inv .searching, c .before .if1 .taken)
+
+loop-less : tie.Need-loop-less Inv-loop μ-loop
+loop-less c = c .before .before .turn .ensures .less
+
+loop-again : tie.Need-loop-again Inv-loop μ-loop
+loop-again c =
+    let t = c .before .before in
+    let l = t .before .before .before .before in
+    let o = l .before .before .before in
+    let a = o .before .before .before in
+    going-more (a .args .n) (a .args .k) (o .open-row .last .0) (l .loop .work) (t .turn .last .0) (l .loop .p) (t .turn .result) (a .pre .1) (l .loop .inv) (t .turn .ensures)
+
+same-length : tie.Need-same-length Inv-loop μ-loop
+same-length c =
+    let l = c .before .before in
+    let o = l .before .before .before in
+    l .loop .inv .rows .same-length ∙ ap length (o .open-row .ensures) ∙ simp length-set
+
+returns : tie.Need-returns Inv-loop μ-loop
+returns c =
+    let l = c .before .before in
+    let o = l .before .before .before in
+    let a = o .before .before .before in
+    going-end (a .args .n) (a .args .m) (a .args .k) (now (a .args .work)) (o .open-row .last .0) (a .pre .0) (a .pre .1) (a .pre .2) (o .open-row .ensures)
+    (l .loop .work) (l .loop .p) (l .loop .inv) (c .if1 .left)
+
+pub search-spec : {M : Type 1} → statement M
+search-spec =
+    tie.close
+    (tie.spec
+    Inv-loop
+    μ-loop
+    open-row-requires
+    loop-holds
+    turn-requires
+    loop-less
+    loop-again
+    same-length
+    returns)

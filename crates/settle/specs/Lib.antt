@@ -1,0 +1,3 @@
+-- What the second stage of compiling is held to, over the definitions of crate `pairs`.
+--   Settles  THE contract of `settle`
+pub mod Settles

@@ -1,0 +1,28 @@
+-- The rows of a font, settled: the contract of `settle`. `Settled` of crate `pairs` says what is known of each row.
+use mathlib.Core.Path.{_≡_}
+use mathlib.Core.List.{List}
+use Prim.Native.Nat.{ℕ, _<_, _≤_}
+use lib.ListN.{length, replicate}
+use Rattle.fonts.specs.Fonts.{Font, pairsOf, rulesOf}
+use Rattle.fonts.specs.Compiled.{allScale}
+use Rattle.pairs.specs.declared.SettledFont.{SettledFont}
+use Rattle.pairs.specs.declared.SettledFont.the-variants.{Rows, Refused}
+use Rattle.pairs.specs.Rows.{at, pairs, rules, Encoded}
+use Rattle.pairs.specs.SettledRows.{Settled}
+use Rattle.pairs.specs.LoopRows.{WalkOrder}
+use Rattle.prepare.specs.Prepares.{prepareRefusal}
+
+-- n rows are the font's, of which e are the boundary's and m finish; numbers 8, and 9 of the rows that finish, are left free
+pub record FontSettled (f : Font) (w : List ℕ) (n e m : ℕ) : Type 0 where
+  pub encoded : Encoded n w
+  pub pairs-are : pairs n w ≡ pairsOf f
+  pub rules-are : rules n w ≡ rulesOf f
+  pub turns : WalkOrder n e w
+  pub unmet : (k : ℕ) → k < n → at w k 14 ≡ 0
+  pub settled : Settled n w w m
+  pub count-is : n ≡ length (pairsOf f)
+
+-- by the answer: the rows, and whether every kern that is a rule scales; or the number, with the work all zeros
+abbrev pub SettlesBy : Font → ℕ → List ℕ → List ℕ → SettledFont → Type 0
+SettlesBy f cap w w′ (Rows n e m b) = (prepareRefusal f cap ≡ 0) × (length w′ ≡ length w) × (b ≡ allScale f) × (n ≤ cap) × FontSettled f w′ n e m
+SettlesBy f cap w w′ (Refused k) = (prepareRefusal f cap ≡ k) × (0 < k) × (w′ ≡ replicate (length w) 0)

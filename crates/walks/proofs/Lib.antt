@@ -1,0 +1,3 @@
+-- The law of `find_loops`.
+--   WalkedFonts  the rows of a font, once its loops are listed
+pub mod WalkedFonts
