@@ -1,7 +1,7 @@
 -- A turn of a step, and all of them: from a sound state a step answers as the plain run over the decoded table does, and is not refused.
 -- Assumes nothing.
 use mathlib.Core.Path.{_≡_, refl, sym, ap, _∙_, subst}
-use mathlib.Core.Bool.{Bool, true, false, cond}
+use mathlib.Core.Bool.{Bool, true, false, cond, not}
 use mathlib.Core.List.{List, [], _∷_}
 use mathlib.Core.Logic.{_⊎_, inl, inr}
 use mathlib.Core.Option.{Option, none, some, Option·map}
@@ -11,7 +11,7 @@ use lib.IntN.{ℤ}
 use lib.Dec.{ltb, leb, eqb}
 use lib.ListN.{length, drop, getD, drop-of-length-le}
 use lib.Seq.{drop-cons}
-use borrow.Author.Tests.{le-leb, ltb-true, ltb-false, lt-ltb}
+use borrow.Author.Tests.{le-leb, ltb-true, ltb-false, lt-ltb, ne-eqb}
 use Rattle.words.specs.Words.{wordOf}
 use Rattle.lang.specs.Every.{both}
 use Rattle.reading.specs.Items.{Left, bnd, chr, Item, item, flag, plain, inserted, Head, edge, at, key, Out, glyph, kern}
@@ -28,9 +28,9 @@ use Rattle.captions.specs.declared.Answer.the-variants.{End}
 use Rattle.captions.specs.declared.Step.{Step}
 use Rattle.captions.specs.declared.Turned.{Turned}
 use Rattle.captions.specs.declared.Turned.the-variants.{Gives, Goes}
-use Rattle.captions.specs.Tables.{opCount, number, keyBy, find, firstOp, countOf, lastCode, lastFlag, entryAt, entries, opAt, opsFrom}
+use Rattle.captions.specs.Tables.{opCount, number, keyBy, find, firstOp, countOf, lastCode, lastFlag, entryAt, entries, opAt, opsFrom, recordFits}
 use Rattle.captions.specs.Form.{tableForm}
-use Rattle.captions.specs.Steps.{refused, leftLetters, taken, takesBoundary, gathered, leftPlaceOf, leftConsumed, afterRight, readOn, entered, turnBy, turnWith, turnAtEnd, turnAtLetter, turn, onward, stepBy, runOn, nextFits}
+use Rattle.captions.specs.Steps.{refused, leftLetters, taken, takesBoundary, gathered, leftPlaceOf, leftConsumed, afterRight, readOn, entered, turnBy, turnWith, turnAtEnd, turnAtLetter, givesNothing, entryFits, turn, onward, stepBy, runOn, nextFits}
 use Rattle.captions.proofs.FontTable.{below}
 use Rattle.captions.proofs.Raising.{raiseFirst, raise-none, raise-outs, raise-last, raise-last-none, hasGlyph, plainFirst, form-ops, left-plain-first, left-carried, boundary-no-plain}
 use Rattle.captions.proofs.Sound.{state, isPending, waiting, isLigature, mode, carries, nextOf, Sound, opsOf, runOf, Follows}
@@ -121,6 +121,24 @@ module _ (pairs ops : List ℤ) (table : tableForm pairs ops ≡ true) (word : L
   abbrev held : Finished
   held = below 256 (entries pairs ops)
 
+  -- the left is not swallowed
+  keeps : (o m : ℕ) (f : Bool) → cond (hasGlyph (opsFrom ops o m)) true f ≡ true → both (eqb m 0) (not f) ≡ false
+  unfolding opsFrom hasGlyph
+  keeps o zero true h = refl
+  keeps o zero false h = no h
+  keeps o (suc m) f h = rw (ne-eqb (suc m) 0 (λ e. omega (arith, e))) refl
+
+  keeps-left : (a k : ℕ) → Formed pairs ops (suc a) k → both (recordFits pairs ops k) (not (givesNothing pairs k)) ≡ true
+  keeps-left a k f =
+      let os = opsFrom ops (firstOp pairs k) (countOf pairs k) in
+      let carried = left-carried a os (entryAt pairs ops k .last) (form-ops (chr a) (wordOf (number pairs k 1)) (entryAt pairs ops k) (f .form)) in
+      rw (f .fits, keeps (firstOp pairs k) (countOf pairs k) (lastFlag pairs k) carried) refl
+
+  follows-entry : {x : NextLeft} {p k : ℕ} → Lefts x p → Formed pairs ops (leftPlaceOf x) k → entryFits pairs ops x k ≡ true
+  follows-entry boundary f = rw (f .fits) refl
+  follows-entry {k = k} (character a) f = keeps-left a k f
+  follows-entry {k = k} (ligature a p) f = keeps-left a k f
+
   entered-sound : {x : NextLeft} {p : ℕ} → Lefts x p → (letter : Bool) (o m r g k : ℕ) (b : Bool) (c : Consumes) → Formed pairs ops (leftPlaceOf x) k → readOn letter r ≤ length word → g + (p + leftLetters (leftConsumed x)) ≤ r →
       Sound ops word (entered pairs x letter (state x o m r g p b c) k) (opsFrom ops (firstOp pairs k) (countOf pairs k))
   entered-sound {x} {p} s letter o m r g k b c f i h =
@@ -157,7 +175,7 @@ module _ (pairs ops : List ℤ) (table : tableForm pairs ops ≡ true) (word : L
       let f = found-formed pairs ops table (leftPlaceOf x) y j small e in
       let os = opsFrom ops (firstOp pairs j) (countOf pairs j) in
       let q = entry-looked s y (lastFlag pairs j) (lastCode pairs j) os (form-ops (leftOf (leftPlaceOf x)) (wordOf (number pairs j 1)) (entryAt pairs ops j) (f .form)) in
-      rw (f .fits, q, ← next-flagged (lastFlag pairs j) (lastCode pairs j))
+      rw (follows-entry s f, q, ← next-flagged (lastFlag pairs j) (lastCode pairs j))
       (ih (afterRight true (item (lastFlag pairs j) (lastCode pairs j))) (firstOp pairs j) (countOf pairs j) (suc r) g p b (leftConsumed x) (λ _. omega arith) (entered-sound s true o 0 r g j b k f i h))
 
   -- whatever fuel is left
@@ -184,7 +202,7 @@ module _ (pairs ops : List ℤ) (table : tableForm pairs ops ≡ true) (word : L
       let q = entry-looked s y (lastFlag pairs j) (lastCode pairs j) os (form-ops (leftOf (leftPlaceOf x)) (wordOf (number pairs j 1)) (entryAt pairs ops j) (f .form)) in
       let sound = entered-sound s false o 0 r g j b k f i h in
       let t = afterRight false (item (lastFlag pairs j) (lastCode pairs j)) in
-      rw (f .fits, q, ← next-final (lastFlag pairs j) (lastCode pairs j), ← d)
+      rw (follows-entry s f, q, ← next-final (lastFlag pairs j) (lastCode pairs j), ← d)
       (run-now F t (firstOp pairs j) (countOf pairs j) r g p b (leftConsumed x) (now-final (countOf pairs j) (lastFlag pairs j) (lastCode pairs j)) sound)
 
   -- .. or without

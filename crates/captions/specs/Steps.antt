@@ -1,7 +1,7 @@
 -- One step of a run, over any table and any state: document 01, 'Caption items'; after `RunIter::next` of ligkern/mod.rs, whose call of itself is
 -- here a turn that reads one letter. A step checks what it reads, and a refused step hands its state back.
-use mathlib.Core.Bool.{Bool, true, false, cond}
-use mathlib.Core.List.{List, [], _∷_}
+use mathlib.Core.Bool.{Bool, true, false, cond, not}
+use mathlib.Core.List.{List}
 use mathlib.Core.Option.{Option, none, some}
 use Prim.Native.Nat.{ℕ, zero, suc, _+_, _-_}
 use lib.IntN.{ℤ, pos, negsuc}
@@ -22,7 +22,7 @@ use Rattle.captions.specs.declared.Answer.the-variants.{Char, Ligature, 
 use Rattle.captions.specs.declared.Step.{Step}
 use Rattle.captions.specs.declared.Turned.{Turned}
 use Rattle.captions.specs.declared.Turned.the-variants.{Gives, Goes}
-use Rattle.captions.specs.Tables.{opCount, number, opKind, opValue, keyBy, find, firstOp, countOf, lastCode, lastFlag, opFits, recordFits}
+use Rattle.captions.specs.Tables.{opCount, opKind, opValue, keyBy, find, firstOp, countOf, lastCode, lastFlag, opFits, recordFits}
 use Rattle.captions.specs.Begin.{edgesRefusal, wordRefusal}
 
 abbrev pub refused : ℕ → State → Step
@@ -165,9 +165,25 @@ abbrev pub entered : List ℤ → NextLeft → Bool → State → ℕ → State
 entered pairs x letter s k =
     record { «next_left» = afterRight letter (item (lastFlag pairs k) (lastCode pairs k)); op = firstOp pairs k; ops = countOf pairs k; read = readOn letter (s .read); given = s .given; pending = s .pending; «pending_boundary» = s .«pending_boundary»; «consumes_left» = leftConsumed x }
 
+-- an entry that gives nothing: no ops, and a last that is the right as it came
+abbrev pub givesNothing : List ℤ → ℕ → Bool
+givesNothing pairs k = both (eqb (countOf pairs k) 0) (not (lastFlag pairs k))
+
+-- a left character would be lost: its entry gives nothing. A table of the form has no such entry.
+abbrev pub swallows : List ℤ → NextLeft → ℕ → Bool
+swallows pairs next.Boundary k = false
+swallows pairs (next.Char c) k = givesNothing pairs k
+swallows pairs (next.Lig c) k = givesNothing pairs k
+swallows pairs (next.FinalLig c) k = false
+swallows pairs next.None k = false
+
+-- what an entry must be for a step to follow it from a left
+abbrev pub entryFits : List ℤ → List ℤ → NextLeft → ℕ → Bool
+entryFits pairs ops x k = both (recordFits pairs ops k) (not (swallows pairs x k))
+
 abbrev pub turnBy : List ℤ → List ℤ → NextLeft → Bool → ℕ → State → Option ℕ → Turned
 turnBy pairs ops x letter y s none = giveLeft x (withNext (afterRight letter (plain y)) (readOn letter (s .read)) s)
-turnBy pairs ops x letter y s (some k) = cond (recordFits pairs ops k) (Goes (entered pairs x letter s k)) (Gives (refused 7 s))
+turnBy pairs ops x letter y s (some k) = cond (entryFits pairs ops x k) (Goes (entered pairs x letter s k)) (Gives (refused 7 s))
 
 abbrev pub turnWith : List ℤ → List ℤ → NextLeft → Bool → ℕ → State → Turned
 turnWith pairs ops x letter y s = turnBy pairs ops x letter y s (find pairs (keyBy (leftPlaceOf x) y))

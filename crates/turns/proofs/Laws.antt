@@ -1,15 +1,15 @@
 -- What a turn gives, by the tests of the code. Assumes nothing.
 use mathlib.Core.Path.{_≡_, refl, sym, ap}
-use mathlib.Core.Bool.{Bool, true, false, cond}
+use mathlib.Core.Bool.{Bool, true, false, cond, not}
 use mathlib.Core.List.{List}
 use mathlib.Core.Option.{Option, none, some}
 use Prim.Native.Nat.{ℕ, suc, _+_, _-_, _^_, _<_, _≤_}
 use native.Mathlib.Omega.{arith}
 use lib.IntN.{ℤ}
-use lib.Dec.{leb}
+use lib.Dec.{leb, eqb}
 use lib.ListN.{length, getD}
-use borrow.Author.Tests.{le-leb, lt-leb, lt-ltb, le-ltb, leb-true, leb-false}
-use Rattle.words.specs.Words.{numberOf}
+use borrow.Author.Tests.{le-leb, lt-leb, lt-ltb, le-ltb, leb-true, leb-false, eq-eqb, ne-eqb}
+use Rattle.words.specs.Words.{numberOf, Word}
 use Rattle.words.proofs.Bits.{number-pos, number-neg}
 use Rattle.reading.specs.Items.{plain}
 use Rattle.captions.specs.declared.NextLeft.{NextLeft}
@@ -20,8 +20,8 @@ use Rattle.captions.specs.declared.State.{State}
 use Rattle.captions.specs.declared.Turned.{Turned}
 use Rattle.captions.specs.declared.Turned.the-variants.{Gives, Goes}
 use Rattle.captions.specs.declared.Found.the-variants.{At, Nothing}
-use Rattle.captions.specs.Tables.{keyBy, find, foundAt, recordFits}
-use Rattle.captions.specs.Steps.{refused, leftLetters, withPending, longer, opsPlaced, gathered, leftPlaceOf, afterRight, readOn, withNext, giveLeft, entered, turnBy, turnWith, orBoundary, turnAtEnd, turnAtLetter, turn, nextFits, placed}
+use Rattle.captions.specs.Tables.{number, keyBy, find, foundAt}
+use Rattle.captions.specs.Steps.{refused, leftLetters, withPending, longer, opsPlaced, gathered, leftPlaceOf, afterRight, readOn, withNext, giveLeft, entered, givesNothing, entryFits, turnBy, turnWith, orBoundary, turnAtEnd, turnAtLetter, turn, nextFits, placed}
 use Rattle.turns.specs.Turns.{turnLast, turnNext, lefts}
 
 -- ---- the left
@@ -81,7 +81,7 @@ module _ (pairs ops : List ℤ) (s : State) where
   turn-none x letter y h = ap (turnBy pairs ops x letter y s) h
 
   pub turn-some : (x : NextLeft) (letter : Bool) (y k : ℕ) → find pairs (keyBy (leftPlaceOf x) y) ≡ some k →
-      turnWith pairs ops x letter y s ≡ cond (recordFits pairs ops k) (Goes (entered pairs x letter s k)) (Gives (refused 7 s))
+      turnWith pairs ops x letter y s ≡ cond (entryFits pairs ops x k) (Goes (entered pairs x letter s k)) (Gives (refused 7 s))
   turn-some x letter y k h = ap (turnBy pairs ops x letter y s) h
 
   pub last-item : (w : ℕ) (x : NextLeft) → w < 2 ^ 31 → turnLast pairs ops (orBoundary (numberOf w)) x s ≡ turnWith pairs ops x false w s
@@ -110,6 +110,15 @@ module _ (pairs ops : List ℤ) (s : State) where
 
   pub turn-end : (o : Option ℕ) (word : List ℕ) (x : NextLeft) → length word ≤ s .read → turn pairs ops o word x s ≡ turnAtEnd pairs ops o x (gathered x s)
   turn-end o word x h = rw (le-ltb (s .read) (length word) h)
+
+-- ---- an entry, by the words that were read
+
+module _ (pairs : List ℤ) (k : ℕ) {count : ℕ} (p : Word (number pairs k 5) count) where
+  pub gives-ops : (count ≡ 0 → ⊥) → false ≡ givesNothing pairs k
+  gives-ops h = rw (← p .is, ne-eqb count 0 h)
+
+  pub gives-last : {flag : ℕ} → count ≡ 0 → Word (number pairs k 3) flag → not (eqb flag 1) ≡ givesNothing pairs k
+  gives-last e q = rw (← p .is, ← q .is, eq-eqb count 0 e)
 
 -- ---- what is checked first
 

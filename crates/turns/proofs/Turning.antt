@@ -22,7 +22,7 @@ use Rattle.captions.specs.declared.Step.{Step}
 use Rattle.captions.specs.declared.Turned.{Turned}
 use Rattle.captions.specs.declared.Turned.the-variants.{Gives, Goes}
 use Rattle.captions.specs.Tables.{opCount, number, keyBy, find, firstOp, countOf, lastCode, lastFlag, recordFits}
-use Rattle.captions.specs.Steps.{refused, readOp, gathered, leftPlaceOf, afterRight, readOn, giveLeft, entered, turnBy, turnWith, turnAtEnd, turnAtLetter, turn, onward, byNext, stepBy, runOn, nextFits, opsPlaced, placed}
+use Rattle.captions.specs.Steps.{refused, readOp, gathered, leftPlaceOf, afterRight, readOn, giveLeft, entered, entryFits, turnBy, turnWith, turnAtEnd, turnAtLetter, turn, onward, byNext, stepBy, runOn, nextFits, opsPlaced, placed}
 use Rattle.turns.specs.Turns.{lefts, turnsLeft, turnNext, turnOnce, Within}
 use Rattle.turns.proofs.Laws.{letters-few}
 
@@ -74,11 +74,12 @@ module _ (pairs ops : List ℤ) (g t : State) where
       (both-right (cond (lastFlag pairs k) true (eqb (lastCode pairs k) (wordOf (number pairs k 1)))) _
       (both-right (within 1 (number pairs k 3)) _ (both-right (within 255 (number pairs k 2)) _ h)))
 
-  entered-goes : (x : NextLeft) (letter : Bool) (k : ℕ) (b : Bool) → recordFits pairs ops k ≡ b →
+  entered-goes : (x : NextLeft) (letter : Bool) (k : ℕ) (b : Bool) → entryFits pairs ops x k ≡ b →
       cond b (Goes (entered pairs x letter g k)) (Gives (refused 7 g)) ≡ Goes t → Reached (opCount ops) letter g t
   entered-goes x letter k true e h =
+      let r = both-left (recordFits pairs ops k) _ e in
       subst (λ (u : State). Reached (opCount ops) letter g u) (goes-is h)
-      (record { read = refl; pending = refl; ops = fits-ops k e; next = after-fits letter (item (lastFlag pairs k) (lastCode pairs k)) (fits-code k e); left = after-left letter (item (lastFlag pairs k) (lastCode pairs k)) })
+      (record { read = refl; pending = refl; ops = fits-ops k r; next = after-fits letter (item (lastFlag pairs k) (lastCode pairs k)) (fits-code k r); left = after-left letter (item (lastFlag pairs k) (lastCode pairs k)) })
   entered-goes x letter k false e h = absurd (never h)
 
   with-goes : (x : NextLeft) (letter : Bool) (y : ℕ) → (letter ≡ true → y ≤ 255) → g .op + g .ops ≤ opCount ops → (o : Option ℕ) →
@@ -86,7 +87,7 @@ module _ (pairs ops : List ℤ) (g t : State) where
   with-goes x letter y l p none h =
       subst (λ (u : State). Reached (opCount ops) letter g u) (free-goes x h)
       (record { read = refl; pending = refl; ops = p; next = after-plain letter y l; left = after-left letter (plain y) })
-  with-goes x letter y l p (some k) h = entered-goes x letter k (recordFits pairs ops k) refl h
+  with-goes x letter y l p (some k) h = entered-goes x letter k (entryFits pairs ops x k) refl h
 
   end-goes : (x : NextLeft) (o : Option ℕ) → g .op + g .ops ≤ opCount ops → turnAtEnd pairs ops o x g ≡ Goes t → Reached (opCount ops) false g t
   end-goes next.Boundary o p h = absurd (never h)

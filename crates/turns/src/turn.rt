@@ -4,8 +4,8 @@ ghost use mathlib.Core.Bool.{true, cond};
 ghost use Prim.Native.Nat.{_<_};
 ghost use Rattle.words.specs.Words.{numberOf};
 ghost use Rattle.reading.specs.Items.{plain};
-ghost use Rattle.captions.specs.Tables.{pairCount, recordFits};
-ghost use Rattle.captions.specs.Steps.{refused, ended, afterRight, readOn, withNext, giveLeft, entered, turnWith, orBoundary, turnAtEnd, turnAtLetter, turn, nextFits};
+ghost use Rattle.captions.specs.Tables.{pairCount};
+ghost use Rattle.captions.specs.Steps.{refused, ended, afterRight, readOn, withNext, giveLeft, entered, givesNothing, swallows, entryFits, turnWith, orBoundary, turnAtEnd, turnAtLetter, turn, nextFits};
 ghost use Rattle.turns.specs.Turns.{turnLast};
 use super::left::after_right;
 use super::left::gathered;
@@ -79,17 +79,42 @@ fn turn_free(x: NextLeft, letter: bool, y: u32, s: State) -> Turned
     give_left(x, after)
 }
 
+// Entry k gives nothing: it has no ops, and its last is the right as it came.
+fn gives_nothing(pairs: &[i32], k: usize) -> bool
+    ensures { λ r. ⌜ r ≡ givesNothing (now (pairs .entry)) k ⌝ }
+{
+    if number_at(pairs, k, 5) != 0 {
+        return false;
+    }
+    number_at(pairs, k, 3) != 1
+}
+
+// A left character would be lost: its entry gives nothing.
+fn swallows(pairs: &[i32], x: NextLeft, k: usize) -> bool
+    ensures { λ r. ⌜ r ≡ swallows (now (pairs .entry)) x k ⌝ }
+{
+    match x {
+        NextLeft::Boundary => false,
+        NextLeft::Char(_) => gives_nothing(pairs, k),
+        NextLeft::Lig(_) => gives_nothing(pairs, k),
+        NextLeft::FinalLig(_) => false,
+        NextLeft::None => false,
+    }
+}
+
 // A pair with entry k.
 fn turn_entered(pairs: &[i32], ops: &[i32], x: NextLeft, letter: bool, s: State, k: usize) -> Turned
     requires { ⌜ (k < pairCount (now pairs)) × (s .read < 9223372036854775808) ⌝ }
-    ensures { λ r. ⌜ r ≡ cond (recordFits (now (pairs .entry)) (now (ops .entry)) k) (Turned.Goes (entered (now (pairs .entry)) x letter s k)) (Turned.Gives (refused 7 s)) ⌝ }
+    ensures { λ r. ⌜ r ≡ cond (entryFits (now (pairs .entry)) (now (ops .entry)) x k) (Turned.Goes (entered (now (pairs .entry)) x letter s k)) (Turned.Gives (refused 7 s)) ⌝ }
 {
-    if record_fits(pairs, ops, k) {
-        let after = entered(pairs, x, letter, s, k);
-        Turned::Goes(after)
-    } else {
-        refuses(7, s)
+    if !record_fits(pairs, ops, k) {
+        return refuses(7, s);
     }
+    if swallows(pairs, x, k) {
+        return refuses(7, s);
+    }
+    let after = entered(pairs, x, letter, s, k);
+    Turned::Goes(after)
 }
 
 // The next left with a right: a letter of the word, or the right item.
