@@ -32,7 +32,7 @@ use Rattle.captions.specs.declared.Turned.{Turned}
 use Rattle.captions.specs.declared.Turned.the-variants.{Gives, Goes}
 use Rattle.captions.specs.Tables.{pairCount, opCount, number, leftPlace, keyBy, keyAt, find, firstOp, countOf, lastCode, lastFlag, entryAt, entries, opsFrom, opFits, recordFits}
 use Rattle.captions.specs.Form.{pairForm, tableForm, keyForm, opsEnd, comesAfter, sizesForm}
-use Rattle.captions.specs.Steps.{refused, leftLetters, gathered, leftNumber, leftConsumed, afterRight, readOn, withNext, giveLeft, entered, turnBy, turnWith, turnAtEnd, turnAtLetter, turn, onward, byNext, stepBy, runOn, nextFits, giveCharacter}
+use Rattle.captions.specs.Steps.{refused, leftLetters, gathered, leftPlaceOf, leftConsumed, afterRight, readOn, withNext, giveLeft, entered, turnBy, turnWith, turnAtEnd, turnAtLetter, turn, onward, byNext, stepBy, runOn, nextFits, giveCharacter}
 use Rattle.captions.proofs.Finding.{find-inside}
 use Rattle.captions.proofs.Raising.{raiseFirst, raise-none, raise-outs, raise-last, raise-last-none, hasGlyph, plainFirst, form-ops, left-plain-first, left-carried, boundary-no-plain}
 use Rattle.captions.proofs.Sound.{state, isPending, waiting, isLigature, mode, carries, nextOf, shownOf, Sound, opsOf, runOf, Follows}

@@ -23,7 +23,7 @@ use Rattle.fonts.specs.Numbers.{outNumbers, opNumbers, leftNumber, flagNumber}
 use Rattle.pairs.proofs.RowLaws.{left-number}
 use Rattle.pairs.proofs.OpLaws.{length-numbers}
 use Rattle.pairs.proofs.Sorted.{Pairwise, alone, first}
-use Rattle.captions.specs.Tables.{pairCount, opCount, number, keyBy, keyOf, leftPlace, keyAt, firstOp, entryAt, opFits, recordFits}
+use Rattle.captions.specs.Tables.{pairCount, opCount, number, keyBy, keyOf, leftPlace, keyAt, firstOp, entryAt, opHolds, opFits, recordFits}
 use Rattle.captions.specs.Form.{opsEnd, comesAfter, keyForm, pairForm, tableForm}
 use Rattle.captions.proofs.Codes.{Small, nothing, character, skip, small-both, Coded}
 use Rattle.captions.proofs.Decoding.{Entry, opsAll, ops-append, tableFrom, nowhere, entry, opsUpTo, length-table, kind-on, value-on, left-is, right-is, last-is, flag-number-is, first-is, count-is, split, entry-is}
@@ -71,17 +71,17 @@ both-of e h = rw (e, h)
 
 -- ---- ops
 
-fits-on : (o : Out) (rest : List ℤ) (i : ℕ) → opFits (outNumbers o ++ rest) (suc i) ≡ opFits rest i
-fits-on o rest i = ap₂ (λ (k v : ℤ). cond (within 1 k) (within 255 v) (eqb (wordOf k) 2)) (kind-on o rest i) (value-on o rest i)
+holds-on : (o : Out) (rest : List ℤ) (i : ℕ) → opHolds (outNumbers o ++ rest) (suc i) ≡ opHolds rest i
+holds-on o rest i = ap₂ (λ (k v : ℤ). cond (within 1 k) (within 255 v) (eqb (wordOf k) 2)) (kind-on o rest i) (value-on o rest i)
 
-ops-fit : (os : List Out) → Small os → (i : ℕ) → i < length os → opFits (opNumbers os) i ≡ true
+ops-hold : (os : List Out) → Small os → (i : ℕ) → i < length os → opHolds (opNumbers os) i ≡ true
 unfolding opNumbers
-ops-fit [] nothing i h = absurd (omega arith)
-ops-fit (glyph x ∷ os) (character {f = false} {c = c} l s) zero h = le-leb c 255 (omega arith)
-ops-fit (glyph x ∷ os) (character {f = true} {c = c} l s) zero h = le-leb c 255 (omega arith)
-ops-fit (glyph x ∷ os) (character l s) (suc i) h = fits-on (glyph x) (opNumbers os) i ∙ ops-fit os s i (le-of-suc-le-suc h)
-ops-fit (kern k ∷ os) (skip s) zero h = refl
-ops-fit (kern k ∷ os) (skip s) (suc i) h = fits-on (kern k) (opNumbers os) i ∙ ops-fit os s i (le-of-suc-le-suc h)
+ops-hold [] nothing i h = absurd (omega arith)
+ops-hold (glyph x ∷ os) (character {f = false} {c = c} l s) zero h = le-leb c 255 (omega arith)
+ops-hold (glyph x ∷ os) (character {f = true} {c = c} l s) zero h = le-leb c 255 (omega arith)
+ops-hold (glyph x ∷ os) (character l s) (suc i) h = holds-on (glyph x) (opNumbers os) i ∙ ops-hold os s i (le-of-suc-le-suc h)
+ops-hold (kern k ∷ os) (skip s) zero h = refl
+ops-hold (kern k ∷ os) (skip s) (suc i) h = holds-on (kern k) (opNumbers os) i ∙ ops-hold os s i (le-of-suc-le-suc h)
 
 small-all : (xs : List Entry) → ((x : Entry) → List·Memᴰ x xs → Good x) → Small (opsAll xs)
 unfolding opsAll
@@ -218,5 +218,5 @@ module _ (xs : List Entry) (good : (x : Entry) → List·Memᴰ x xs → Good x)
       let p = pairs xs in
       let o = ops xs in
       both-of (both-of (eq-eqb (length p % 6) 0 (omega (arith, length-table 0 xs))) (both-of (eq-eqb (length o % 2) 0 (omega (arith, length-numbers (opsAll xs)))) (le-leb (opCount o) 2147483647 few)))
-      (both-of (every-all (opCount o) (opFits o) (λ i h. ops-fit (opsAll xs) (small-all xs good) i (omega (arith, op-count xs))))
+      (both-of (every-all (opCount o) (opFits o) (λ i h. both-of (lt-ltb i (opCount o) h) (ops-hold (opsAll xs) (small-all xs good) i (omega (arith, op-count xs)))))
       (both-of (every-all (pairCount p) (pairForm p o) (λ m h. pair-form m (omega (arith, pair-count xs)))) (eq-eqb (opsEnd p (pairCount p)) (opCount o) ends-all)))

@@ -29,7 +29,7 @@ use Rattle.captions.specs.declared.Begun.the-variants.{Run}
 use Rattle.captions.specs.Tables.{opCount, entries, opsFrom}
 use Rattle.captions.specs.Form.{tableForm, tableRefusal}
 use Rattle.captions.specs.Begin.{edgesRefusal, lettersRefusal, wordRefusal, beginRefusal, fresh, withoutBoundary, freshState, begunBy, beginOf}
-use Rattle.captions.specs.Steps.{placed, stepRefusal, handBack, stepped, stepOf, rightItem, nextFits}
+use Rattle.captions.specs.Steps.{placed, turn, runOn, stepRefusal, handBack, stepOf, rightItem, nextFits}
 use Rattle.captions.specs.Runs.{answers, Shown, shows, ends, refuses, shown, thenEnds}
 use Rattle.captions.proofs.Raising.{raiseFirst}
 use Rattle.captions.proofs.Sound.{state, shownOf, Sound, opsOf, runOf, Follows}
@@ -86,17 +86,17 @@ module _ (pairs ops : List ℤ) (table : tableForm pairs ops ≡ true) (boundary
   is-placed s h =
       rw (le-leb (s .read) (length word) (h .inside), le-leb (s .given) (s .read) (omega (arith, h .counted)), le-leb (s .pending) (s .read) (omega (arith, h .counted)), le-leb (opCount ops) 2147483647 (few-ops pairs ops table), le-leb (s .op + s .ops) (opCount ops) (h .among), h .fits) refl
 
-  not-refused : (s : State) → Sound ops word s (opsOf ops word s) → stepRefusal ops boundary word options s ≡ 0
-  not-refused s h = rw (edges, word-taken, is-placed s h) refl
+  not-refused : stepRefusal boundary word options ≡ 0
+  not-refused = rw (edges, word-taken) refl
 
   -- a step
   pub step-follows : (s : State) → Sound ops word s (opsOf ops word s) → Follows ops word (stepOf pairs ops boundary word options s) (plainly.step held right (runOf ops word s))
   step-follows s h =
-      let t = stepped pairs ops boundary word options s in
+      let t = runOn ops (turn pairs ops right word) (suc (length word - s .read)) s in
       let f : Follows ops word t (plainly.step held right (runOf ops word s)) =
       follows pairs ops table word right letters (λ y e. right-item boundary (options .«right_boundary_override») y (fit .boundary-fits) (fit .override-fits) e) (suc (length word - s .read))
       (s .«next_left») (s .op) (s .ops) (s .read) (s .given) (s .pending) (s .«pending_boundary») (s .«consumes_left») (λ _. omega arith) h in
-      rw (not-refused s h, handed s (t .state) (t .answer) (plainly.step held right (runOf ops word s) .gives) (f .answers)) f
+      rw (not-refused, is-placed s h, handed s (t .state) (t .answer) (plainly.step held right (runOf ops word s) .gives) (f .answers)) f
 
   -- any number of steps
   steps-follow : (n : ℕ) (s : State) → Sound ops word s (opsOf ops word s) → map shown (answers pairs ops boundary word options n s) ≡ map shownOf (plainly.answers held right n (runOf ops word s))

@@ -1,7 +1,7 @@
 -- A turn of a step, and all of them: from a sound state a step answers as the plain run over the decoded table does, and is not refused.
 -- Assumes nothing.
 use mathlib.Core.Path.{_≡_, refl, sym, ap, _∙_, subst}
-use mathlib.Core.Bool.{Bool, true, false, cond}
+use mathlib.Core.Bool.{Bool, true, false, cond, not}
 use mathlib.Core.List.{List, [], _∷_}
 use mathlib.Core.Logic.{_⊎_, inl, inr}
 use mathlib.Core.Option.{Option, none, some, Option·map}
@@ -11,7 +11,7 @@ use lib.IntN.{ℤ}
 use lib.Dec.{ltb, leb, eqb}
 use lib.ListN.{length, drop, getD, drop-of-length-le}
 use lib.Seq.{drop-cons}
-use borrow.Author.Tests.{le-leb, ltb-true, ltb-false, lt-ltb}
+use borrow.Author.Tests.{le-leb, ltb-true, ltb-false, lt-ltb, ne-eqb}
 use Rattle.words.specs.Words.{wordOf}
 use Rattle.lang.specs.Every.{both}
 use Rattle.reading.specs.Items.{Left, bnd, chr, Item, item, flag, plain, inserted, Head, edge, at, key, Out, glyph, kern}
@@ -28,9 +28,9 @@ use Rattle.captions.specs.declared.Answer.the-variants.{End}
 use Rattle.captions.specs.declared.Step.{Step}
 use Rattle.captions.specs.declared.Turned.{Turned}
 use Rattle.captions.specs.declared.Turned.the-variants.{Gives, Goes}
-use Rattle.captions.specs.Tables.{opCount, number, keyBy, find, firstOp, countOf, lastCode, lastFlag, entryAt, entries, opAt, opsFrom}
+use Rattle.captions.specs.Tables.{opCount, number, keyBy, find, firstOp, countOf, lastCode, lastFlag, entryAt, entries, opAt, opsFrom, recordFits}
 use Rattle.captions.specs.Form.{tableForm}
-use Rattle.captions.specs.Steps.{refused, leftLetters, taken, takesBoundary, gathered, leftNumber, leftConsumed, afterRight, readOn, entered, turnBy, turnWith, turnAtEnd, turnAtLetter, turn, onward, stepBy, runOn, nextFits}
+use Rattle.captions.specs.Steps.{refused, leftLetters, taken, takesBoundary, gathered, leftPlaceOf, leftConsumed, afterRight, readOn, entered, turnBy, turnWith, turnAtEnd, turnAtLetter, givesNothing, entryFits, turn, onward, stepBy, runOn, nextFits}
 use Rattle.captions.proofs.FontTable.{below}
 use Rattle.captions.proofs.Raising.{raiseFirst, raise-none, raise-outs, raise-last, raise-last-none, hasGlyph, plainFirst, form-ops, left-plain-first, left-carried, boundary-no-plain}
 use Rattle.captions.proofs.Sound.{state, isPending, waiting, isLigature, mode, carries, nextOf, Sound, opsOf, runOf, Follows}
@@ -73,7 +73,7 @@ one-waits true false c g w r h = omega arith
 one-waits false true c g w r h = omega arith
 one-waits false false c g w r h = omega arith
 
-entry-mode : {x : NextLeft} {p : ℕ} → Lefts x p → (letter f : Bool) (c : ℕ) (os : List Out) → opsForm (leftOf (leftNumber x)) os (item f c) ≡ true → mode p (leftConsumed x) os (afterRight letter (item f c)) ≡ true
+entry-mode : {x : NextLeft} {p : ℕ} → Lefts x p → (letter f : Bool) (c : ℕ) (os : List Out) → opsForm (leftOf (leftPlaceOf x)) os (item f c) ≡ true → mode p (leftConsumed x) os (afterRight letter (item f c)) ≡ true
 entry-mode boundary letter f c os h = boundary-no-plain os (item f c) h
 entry-mode (character a) letter f c os h = rw (flagged-ligature letter f c, left-plain-first a os (item f c) h) (left-carried a os (item f c) h)
 entry-mode (ligature a p) letter f c os h = rw (flagged-ligature letter f c, left-plain-first a os (item f c) h) (left-carried a os (item f c) h)
@@ -82,7 +82,7 @@ res-is : (q : Res) (os : List Out) (x : Item) → q .outs ≡ os → q .last ≡
 res-is q os x e f = ap (λ (a : List Out). record { outs = a; last = q .last }) e ∙ ap (λ (b : Item). record { outs = os; last = b }) f
 
 -- what the plain run looks up is the entry, with the left's flag put in
-entry-looked : {x : NextLeft} {p : ℕ} → Lefts x p → (y : ℕ) (f : Bool) (c : ℕ) (os : List Out) → opsForm (leftOf (leftNumber x)) os (item f c) ≡ true →
+entry-looked : {x : NextLeft} {p : ℕ} → Lefts x p → (y : ℕ) (f : Bool) (c : ℕ) (os : List Out) → opsForm (leftOf (leftPlaceOf x)) os (item f c) ≡ true →
     plainly.entryOr (some (record { outs = os; last = item f c })) (headOf x) y ≡ record { outs = raiseFirst (isPending p) os; last = item f c }
 entry-looked boundary y f c os h = res-is (raiseLeft false os (item f c)) (raiseFirst false os) (item f c) (raise-outs false os (item f c)) (raise-last-none os (item f c))
 entry-looked (character a) y f c os h = res-is (raiseLeft false os (item f c)) (raiseFirst false os) (item f c) (raise-outs false os (item f c)) (raise-last-none os (item f c))
@@ -121,7 +121,25 @@ module _ (pairs ops : List ℤ) (table : tableForm pairs ops ≡ true) (word : L
   abbrev held : Finished
   held = below 256 (entries pairs ops)
 
-  entered-sound : {x : NextLeft} {p : ℕ} → Lefts x p → (letter : Bool) (o m r g k : ℕ) (b : Bool) (c : Consumes) → Formed pairs ops (leftNumber x) k → readOn letter r ≤ length word → g + (p + leftLetters (leftConsumed x)) ≤ r →
+  -- the left is not swallowed
+  keeps : (o m : ℕ) (f : Bool) → cond (hasGlyph (opsFrom ops o m)) true f ≡ true → both (eqb m 0) (not f) ≡ false
+  unfolding opsFrom hasGlyph
+  keeps o zero true h = refl
+  keeps o zero false h = no h
+  keeps o (suc m) f h = rw (ne-eqb (suc m) 0 (λ e. omega (arith, e))) refl
+
+  keeps-left : (a k : ℕ) → Formed pairs ops (suc a) k → both (recordFits pairs ops k) (not (givesNothing pairs k)) ≡ true
+  keeps-left a k f =
+      let os = opsFrom ops (firstOp pairs k) (countOf pairs k) in
+      let carried = left-carried a os (entryAt pairs ops k .last) (form-ops (chr a) (wordOf (number pairs k 1)) (entryAt pairs ops k) (f .form)) in
+      rw (f .fits, keeps (firstOp pairs k) (countOf pairs k) (lastFlag pairs k) carried) refl
+
+  follows-entry : {x : NextLeft} {p k : ℕ} → Lefts x p → Formed pairs ops (leftPlaceOf x) k → entryFits pairs ops x k ≡ true
+  follows-entry boundary f = rw (f .fits) refl
+  follows-entry {k = k} (character a) f = keeps-left a k f
+  follows-entry {k = k} (ligature a p) f = keeps-left a k f
+
+  entered-sound : {x : NextLeft} {p : ℕ} → Lefts x p → (letter : Bool) (o m r g k : ℕ) (b : Bool) (c : Consumes) → Formed pairs ops (leftPlaceOf x) k → readOn letter r ≤ length word → g + (p + leftLetters (leftConsumed x)) ≤ r →
       Sound ops word (entered pairs x letter (state x o m r g p b c) k) (opsFrom ops (firstOp pairs k) (countOf pairs k))
   entered-sound {x} {p} s letter o m r g k b c f i h =
       record {
@@ -129,7 +147,7 @@ module _ (pairs ops : List ℤ) (table : tableForm pairs ops ≡ true) (word : L
         counted = one-waits letter (lastFlag pairs k) (lastCode pairs k) g (p + leftLetters (leftConsumed x)) r h;
         among = f .among;
         fits = code-fits letter (lastFlag pairs k) (lastCode pairs k) (f .code);
-        holds = entry-mode s letter (lastFlag pairs k) (lastCode pairs k) (opsFrom ops (firstOp pairs k) (countOf pairs k)) (form-ops (leftOf (leftNumber x)) (wordOf (number pairs k 1)) (entryAt pairs ops k) (f .form));
+        holds = entry-mode s letter (lastFlag pairs k) (lastCode pairs k) (opsFrom ops (firstOp pairs k) (countOf pairs k)) (form-ops (leftOf (leftPlaceOf x)) (wordOf (number pairs k 1)) (entryAt pairs ops k) (f .form));
       }
 
   -- from every sound state with fuel enough
@@ -140,7 +158,7 @@ module _ (pairs ops : List ℤ) (table : tableForm pairs ops ≡ true) (word : L
 
   -- a letter
   at-letter : (F : ℕ) → Goal F → {x : NextLeft} {p : ℕ} → Lefts x p → (o r g y : ℕ) (b : Bool) (k : Consumes) → suc r ≤ length word → y ≤ 255 → length word - r < suc F → o ≤ opCount ops → g + (p + leftLetters (leftConsumed x)) ≤ r →
-      (e : Option ℕ) → find pairs (keyBy (leftNumber x) y) ≡ e →
+      (e : Option ℕ) → find pairs (keyBy (leftPlaceOf x) y) ≡ e →
       Follows ops word (onward (runOn ops look F) (turnBy pairs ops x true y (state x o 0 r g p b k) e))
       (plainly.stepFrom held right (drop (suc r) word) (plainly.entryOr (Option·map (entryAt pairs ops) e) (headOf x) y .outs) (plainly.left (at (plainly.entryOr (Option·map (entryAt pairs ops) e) (headOf x) y .last))))
   unfolding opsFrom raiseFirst noPlain
@@ -154,10 +172,10 @@ module _ (pairs ops : List ℤ) (table : tableForm pairs ops ≡ true) (word : L
       rw (given-one held right (drop (suc r) word) (glyph (inserted c)) (plainly.left (at (plain y))))
       (gives-pending ops word (next.Char y) o 0 (suc r) g p b consumes.Nothing c (i, omega arith, le-leb y 255 small, refl) (omega arith))
   at-letter F ih {x} {p} s o r g y b k i small enough u h (some j) e =
-      let f = found-formed pairs ops table (leftNumber x) y j small e in
+      let f = found-formed pairs ops table (leftPlaceOf x) y j small e in
       let os = opsFrom ops (firstOp pairs j) (countOf pairs j) in
-      let q = entry-looked s y (lastFlag pairs j) (lastCode pairs j) os (form-ops (leftOf (leftNumber x)) (wordOf (number pairs j 1)) (entryAt pairs ops j) (f .form)) in
-      rw (f .fits, q, ← next-flagged (lastFlag pairs j) (lastCode pairs j))
+      let q = entry-looked s y (lastFlag pairs j) (lastCode pairs j) os (form-ops (leftOf (leftPlaceOf x)) (wordOf (number pairs j 1)) (entryAt pairs ops j) (f .form)) in
+      rw (follows-entry s f, q, ← next-flagged (lastFlag pairs j) (lastCode pairs j))
       (ih (afterRight true (item (lastFlag pairs j) (lastCode pairs j))) (firstOp pairs j) (countOf pairs j) (suc r) g p b (leftConsumed x) (λ _. omega arith) (entered-sound s true o 0 r g j b k f i h))
 
   -- whatever fuel is left
@@ -169,7 +187,7 @@ module _ (pairs ops : List ℤ) (table : tableForm pairs ops ≡ true) (word : L
 
   -- the word's end, with a right item
   at-right : (F : ℕ) {x : NextLeft} {p : ℕ} → Lefts x p → (x ≡ next.Boundary → ⊥) → (o r g y : ℕ) (b : Bool) (k : Consumes) → r ≤ length word → drop r word ≡ [] → y ≤ 255 → o ≤ opCount ops → g + (p + leftLetters (leftConsumed x)) ≤ r →
-      (e : Option ℕ) → find pairs (keyBy (leftNumber x) y) ≡ e →
+      (e : Option ℕ) → find pairs (keyBy (leftPlaceOf x) y) ≡ e →
       Follows ops word (onward (runOn ops look F) (turnBy pairs ops x false y (state x o 0 r g p b k) e))
       (plainly.given (plainly.entryOr (Option·map (entryAt pairs ops) e) (headOf x) y .outs) (plainly.afterRight (plainly.entryOr (Option·map (entryAt pairs ops) e) (headOf x) y .last)) [])
   unfolding opsFrom noPlain
@@ -179,12 +197,12 @@ module _ (pairs ops : List ℤ) (table : tableForm pairs ops ≡ true) (word : L
   at-right F (ligature c p) z o r g y b k i d small u h none e =
       rw (← d) (gives-pending ops word next.None o 0 r g p b consumes.Nothing c (i, omega arith, refl, refl) (omega arith))
   at-right F {x} {p} s z o r g y b k i d small u h (some j) e =
-      let f = found-formed pairs ops table (leftNumber x) y j small e in
+      let f = found-formed pairs ops table (leftPlaceOf x) y j small e in
       let os = opsFrom ops (firstOp pairs j) (countOf pairs j) in
-      let q = entry-looked s y (lastFlag pairs j) (lastCode pairs j) os (form-ops (leftOf (leftNumber x)) (wordOf (number pairs j 1)) (entryAt pairs ops j) (f .form)) in
+      let q = entry-looked s y (lastFlag pairs j) (lastCode pairs j) os (form-ops (leftOf (leftPlaceOf x)) (wordOf (number pairs j 1)) (entryAt pairs ops j) (f .form)) in
       let sound = entered-sound s false o 0 r g j b k f i h in
       let t = afterRight false (item (lastFlag pairs j) (lastCode pairs j)) in
-      rw (f .fits, q, ← next-final (lastFlag pairs j) (lastCode pairs j), ← d)
+      rw (follows-entry s f, q, ← next-final (lastFlag pairs j) (lastCode pairs j), ← d)
       (run-now F t (firstOp pairs j) (countOf pairs j) r g p b (leftConsumed x) (now-final (countOf pairs j) (lastFlag pairs j) (lastCode pairs j)) sound)
 
   -- .. or without

@@ -4,6 +4,7 @@
 --   Begin    a fresh run
 --   Steps    one step, over any table and any state
 --   Runs     any number of steps, as demand 3 speaks of them
+--   Ending   after the end comes only the end
 --   Demand3  what is proved of an accepted font, in the terms of the calls
 --   Queries  separation points, originals, and questions about a table
 pub mod Tables
@@ -11,5 +12,6 @@ pub mod Form
 pub mod Begin
 pub mod Steps
 pub mod Runs
+pub mod Ending
 pub mod Queries
 pub mod Demand3

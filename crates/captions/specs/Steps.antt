@@ -1,7 +1,7 @@
 -- One step of a run, over any table and any state: document 01, 'Caption items'; after `RunIter::next` of ligkern/mod.rs, whose call of itself is
 -- here a turn that reads one letter. A step checks what it reads, and a refused step hands its state back.
-use mathlib.Core.Bool.{Bool, true, false, cond}
-use mathlib.Core.List.{List, [], _∷_}
+use mathlib.Core.Bool.{Bool, true, false, cond, not}
+use mathlib.Core.List.{List}
 use mathlib.Core.Option.{Option, none, some}
 use Prim.Native.Nat.{ℕ, zero, suc, _+_, _-_}
 use lib.IntN.{ℤ, pos, negsuc}
@@ -9,7 +9,7 @@ use lib.Dec.{ltb, leb, eqb}
 use lib.ListN.{length, getD}
 use Rattle.words.specs.Words.{wordOf}
 use Rattle.lang.specs.Every.{both}
-use Rattle.lang.specs.Checks.{unless, orElse}
+use Rattle.lang.specs.Checks.{orElse}
 use Rattle.reading.specs.Items.{Item, item, plain}
 use Rattle.captions.specs.declared.RunOptions.{RunOptions}
 use Rattle.captions.specs.declared.NextLeft.{NextLeft}
@@ -22,11 +22,15 @@ use Rattle.captions.specs.declared.Answer.the-variants.{Char, Ligature, 
 use Rattle.captions.specs.declared.Step.{Step}
 use Rattle.captions.specs.declared.Turned.{Turned}
 use Rattle.captions.specs.declared.Turned.the-variants.{Gives, Goes}
-use Rattle.captions.specs.Tables.{opCount, number, opKind, opValue, keyBy, find, firstOp, countOf, lastCode, lastFlag, opFits, recordFits}
+use Rattle.captions.specs.Tables.{opCount, opKind, opValue, keyBy, find, firstOp, countOf, lastCode, lastFlag, opFits, recordFits}
 use Rattle.captions.specs.Begin.{edgesRefusal, wordRefusal}
 
 abbrev pub refused : ℕ → State → Step
 refused n s = record { answer = Refused n; state = s }
+
+-- the word is over
+abbrev pub ended : State → Step
+ended s = record { answer = End; state = s }
 
 -- ---- giving an item
 
@@ -101,21 +105,29 @@ readOp ops s = cond (opsFit ops s) (giveOp ops s) (refused 7 s)
 
 -- ---- looking a left up
 
+-- a pending ligature of n letters, which took its left in
+abbrev pub withPending : ℕ → Bool → State → State
+withPending n boundary s =
+    record { «next_left» = s .«next_left»; op = s .op; ops = s .ops; read = s .read; given = s .given; pending = n; «pending_boundary» = boundary; «consumes_left» = consumes.Nothing }
+
+-- the pending ligature with one letter more
+abbrev pub longer : State → State
+longer s = withPending (suc (taken s)) (takesBoundary s) s
+
 -- a left that is a ligature takes in the letter that it was made of
 abbrev pub gathered : NextLeft → State → State
 gathered next.Boundary s = s
 gathered (next.Char c) s = s
-gathered (next.Lig c) s =
-    record { «next_left» = s .«next_left»; op = s .op; ops = s .ops; read = s .read; given = s .given; pending = suc (taken s); «pending_boundary» = takesBoundary s; «consumes_left» = consumes.Nothing }
+gathered (next.Lig c) s = longer s
 gathered (next.FinalLig c) s = s
 gathered next.None s = s
 
-abbrev pub leftNumber : NextLeft → ℕ
-leftNumber next.Boundary = 0
-leftNumber (next.Char c) = suc c
-leftNumber (next.Lig c) = suc c
-leftNumber (next.FinalLig c) = suc c
-leftNumber next.None = 0
+abbrev pub leftPlaceOf : NextLeft → ℕ
+leftPlaceOf next.Boundary = 0
+leftPlaceOf (next.Char c) = suc c
+leftPlaceOf (next.Lig c) = suc c
+leftPlaceOf (next.FinalLig c) = suc c
+leftPlaceOf next.None = 0
 
 abbrev pub leftConsumed : NextLeft → Consumes
 leftConsumed next.Boundary = consumes.Boundary
@@ -153,12 +165,28 @@ abbrev pub entered : List ℤ → NextLeft → Bool → State → ℕ → State
 entered pairs x letter s k =
     record { «next_left» = afterRight letter (item (lastFlag pairs k) (lastCode pairs k)); op = firstOp pairs k; ops = countOf pairs k; read = readOn letter (s .read); given = s .given; pending = s .pending; «pending_boundary» = s .«pending_boundary»; «consumes_left» = leftConsumed x }
 
+-- an entry that gives nothing: no ops, and a last that is the right as it came
+abbrev pub givesNothing : List ℤ → ℕ → Bool
+givesNothing pairs k = both (eqb (countOf pairs k) 0) (not (lastFlag pairs k))
+
+-- a left character would be lost: its entry gives nothing. A table of the form has no such entry.
+abbrev pub swallows : List ℤ → NextLeft → ℕ → Bool
+swallows pairs next.Boundary k = false
+swallows pairs (next.Char c) k = givesNothing pairs k
+swallows pairs (next.Lig c) k = givesNothing pairs k
+swallows pairs (next.FinalLig c) k = false
+swallows pairs next.None k = false
+
+-- what an entry must be for a step to follow it from a left
+abbrev pub entryFits : List ℤ → List ℤ → NextLeft → ℕ → Bool
+entryFits pairs ops x k = both (recordFits pairs ops k) (not (swallows pairs x k))
+
 abbrev pub turnBy : List ℤ → List ℤ → NextLeft → Bool → ℕ → State → Option ℕ → Turned
 turnBy pairs ops x letter y s none = giveLeft x (withNext (afterRight letter (plain y)) (readOn letter (s .read)) s)
-turnBy pairs ops x letter y s (some k) = cond (recordFits pairs ops k) (Goes (entered pairs x letter s k)) (Gives (refused 7 s))
+turnBy pairs ops x letter y s (some k) = cond (entryFits pairs ops x k) (Goes (entered pairs x letter s k)) (Gives (refused 7 s))
 
 abbrev pub turnWith : List ℤ → List ℤ → NextLeft → Bool → ℕ → State → Turned
-turnWith pairs ops x letter y s = turnBy pairs ops x letter y s (find pairs (keyBy (leftNumber x) y))
+turnWith pairs ops x letter y s = turnBy pairs ops x letter y s (find pairs (keyBy (leftPlaceOf x) y))
 
 -- the right item of a word: the override, else the boundary character
 abbrev pub orBoundary : ℤ → Option ℕ
@@ -171,13 +199,13 @@ rightItem boundary (negsuc n) = orBoundary boundary
 
 -- at the word's end; an empty word reads as nothing
 abbrev pub turnAtEnd : List ℤ → List ℤ → Option ℕ → NextLeft → State → Turned
-turnAtEnd pairs ops right next.Boundary s = Gives (record { answer = End; state = s })
+turnAtEnd pairs ops right next.Boundary s = Gives (ended s)
 turnAtEnd pairs ops none (next.Char c) s = giveLeft (next.Char c) (withNext next.None (s .read) s)
 turnAtEnd pairs ops (some r) (next.Char c) s = turnWith pairs ops (next.Char c) false r s
 turnAtEnd pairs ops none (next.Lig c) s = giveLeft (next.Lig c) (withNext next.None (s .read) s)
 turnAtEnd pairs ops (some r) (next.Lig c) s = turnWith pairs ops (next.Lig c) false r s
-turnAtEnd pairs ops right (next.FinalLig c) s = Gives (record { answer = End; state = s })
-turnAtEnd pairs ops right next.None s = Gives (record { answer = End; state = s })
+turnAtEnd pairs ops right (next.FinalLig c) s = Gives (ended s)
+turnAtEnd pairs ops right next.None s = Gives (ended s)
 
 -- 4: a letter out of range
 abbrev pub turnAtLetter : List ℤ → List ℤ → NextLeft → ℕ → State → Turned
@@ -196,15 +224,18 @@ abbrev pub onward : (State → Step) → Turned → Step
 onward go (Gives t) = t
 onward go (Goes s) = go s
 
+-- the state with nothing next
+abbrev pub withNothingNext : State → State
+withNothingNext s =
+    record { «next_left» = next.None; op = s .op; ops = s .ops; read = s .read; given = s .given; pending = s .pending; «pending_boundary» = s .«pending_boundary»; «consumes_left» = s .«consumes_left» }
+
 -- no ops are to be given: a last ligature is given as it stands, and a left is looked up
 abbrev pub byNext : (NextLeft → State → Turned) → (State → Step) → State → NextLeft → Step
 byNext look go s next.Boundary = onward go (look next.Boundary s)
 byNext look go s (next.Char c) = onward go (look (next.Char c) s)
 byNext look go s (next.Lig c) = onward go (look (next.Lig c) s)
-byNext look go s (next.FinalLig c) =
-    giveLigature c true
-    (record { «next_left» = next.None; op = s .op; ops = s .ops; read = s .read; given = s .given; pending = s .pending; «pending_boundary» = s .«pending_boundary»; «consumes_left» = s .«consumes_left» })
-byNext look go s next.None = record { answer = End; state = s }
+byNext look go s (next.FinalLig c) = giveLigature c true (withNothingNext s)
+byNext look go s next.None = ended s
 
 abbrev pub stepBy : List ℤ → (NextLeft → State → Turned) → (State → Step) → State → Step
 stepBy ops look go s = cond (eqb (s .ops) 0) (byNext look go s (s .«next_left»)) (readOp ops s)
@@ -233,23 +264,22 @@ placed ops word s =
     (both (leb (s .pending) (s .read))
     (both (opsPlaced ops s) (nextFits (s .«next_left»)))))
 
--- 4, 6 or 7: what is checked before anything is looked up
-abbrev pub stepRefusal : List ℤ → ℤ → List ℕ → RunOptions → State → ℕ
-stepRefusal ops boundary word options s =
-    orElse (edgesRefusal boundary options) (orElse (wordRefusal word) (unless 7 (placed ops word s)))
+-- THE contract of run: turns from a state until one answers, one letter a turn and a turn for the right item; 7 where the state points outside
+abbrev pub ranFrom : List ℤ → List ℤ → Option ℕ → List ℕ → State → Step
+ranFrom pairs ops right word s =
+    cond (placed ops word s) (runOn ops (turn pairs ops right word) (suc (length word - s .read)) s) (refused 7 s)
+
+-- 4 or 6: what is checked before the state is
+abbrev pub stepRefusal : ℤ → List ℕ → RunOptions → ℕ
+stepRefusal boundary word options = orElse (edgesRefusal boundary options) (wordRefusal word)
 
 -- a refused step hands back the state that it was handed
 abbrev pub handBack : State → State → Answer → Step
 handBack s t (Char c p) = record { answer = Char c p; state = t }
 handBack s t (Ligature c p n a b) = record { answer = Ligature c p n a b; state = t }
 handBack s t (Kern k) = record { answer = Kern k; state = t }
-handBack s t End = record { answer = End; state = t }
+handBack s t End = ended t
 handBack s t (Refused n) = refused n s
-
--- one letter a turn, and a turn for the right item
-abbrev pub stepped : List ℤ → List ℤ → ℤ → List ℕ → RunOptions → State → Step
-stepped pairs ops boundary word options s =
-    runOn ops (turn pairs ops (rightItem boundary (options .«right_boundary_override»)) word) (suc (length word - s .read)) s
 
 abbrev pub steppedBy : ℕ → State → Step → Step
 steppedBy zero s t = handBack s (t .state) (t .answer)
@@ -258,4 +288,4 @@ steppedBy (suc n) s t = refused (suc n) s
 -- THE contract of step: its answer and the state that it leaves
 abbrev pub stepOf : List ℤ → List ℤ → ℤ → List ℕ → RunOptions → State → Step
 stepOf pairs ops boundary word options s =
-    steppedBy (stepRefusal ops boundary word options s) s (stepped pairs ops boundary word options s)
+    steppedBy (stepRefusal boundary word options) s (ranFrom pairs ops (rightItem boundary (options .«right_boundary_override»)) word s)

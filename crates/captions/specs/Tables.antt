@@ -113,8 +113,12 @@ entries pairs ops l r = Option·map (entryAt pairs ops) (find pairs (keyOf l r))
 -- ---- what one pair and one op must be for a step to read them
 
 -- kinds 0 and 1 hold a code, kind 2 any number
+abbrev pub opHolds : List ℤ → ℕ → Bool
+opHolds ops i = cond (within 1 (opKind ops i)) (within 255 (opValue ops i)) (eqb (wordOf (opKind ops i)) 2)
+
+-- op i is there, and holds what its kind must
 abbrev pub opFits : List ℤ → ℕ → Bool
-opFits ops i = cond (within 1 (opKind ops i)) (within 255 (opValue ops i)) (eqb (wordOf (opKind ops i)) 2)
+opFits ops i = both (ltb i (opCount ops)) (opHolds ops i)
 
 -- last code and flag in range, an unflagged last equal to the right, and its ops among the ops
 abbrev pub recordFits : List ℤ → List ℤ → ℕ → Bool

@@ -1,5 +1,3 @@
--- The laws of ligkern.
---   Stepping  what a step gives, by the tests of the code
---   SteppingTurns  the loop of a step
-pub mod Stepping
-pub mod SteppingTurns
+-- The laws of steps.
+--   Laws  the right item by its bits, and the answer by its refusals
+pub mod Laws

@@ -80,10 +80,13 @@ pub fn find(pairs: &[i32], left: u32, right: u32) -> Found
     Found::Nothing
 }
 
-// Op i is a character or a ligature with its code, or a kern.
+// Op i is there: a character or a ligature with its code, or a kern.
 pub fn op_fits(ops: &[i32], i: usize) -> bool
     ensures { λ r. ⌜ r ≡ opFits (now (ops .entry)) i ⌝ }
 {
+    if ops.len() / 2 <= i {
+        return false;
+    }
     let kind = kind_at(ops, i);
     if kind <= 1 {
         return value_at(ops, i) <= 255;

@@ -11,9 +11,9 @@ use crate::text::put_unknown;
 use crate::text::put_words;
 use captions::Told;
 use lang::Written;
-use ligkern::queries::all_pairs_with_replacements;
-use ligkern::queries::has_replacement;
-use ligkern::queries::is_seven_bit_safe;
+use queries::all_pairs_with_replacements;
+use queries::has_replacement;
+use queries::is_seven_bit_safe;
 
 // Two numbers a pair.
 fn key_list() -> [i32; 2048]

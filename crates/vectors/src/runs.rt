@@ -9,13 +9,13 @@ use crate::request::part;
 use crate::text::put_count;
 use crate::text::put_unknown;
 use crate::text::put_words;
+use begin::begin;
 use captions::Answer;
 use captions::Begun;
 use captions::RunOptions;
 use captions::State;
-use ligkern::begin::begin;
-use ligkern::queries::is_separation_point;
-use ligkern::queries::original;
+use queries::is_separation_point;
+use queries::original;
 
 // The six numbers of an item. Kind 3 is the end, and kind 4 a refusal, whose number is the value.
 struct Item {

@@ -16,11 +16,8 @@ enum-told-3 c = search needs
 enum-told-4 : tie.Need-enum-told-4
 enum-told-4 c = search needs
 
-enum-known-answer : tie.Need-enum-known-answer
-enum-known-answer c = search needs
-
-refused-requires : tie.Need-refused-requires
-refused-requires c κs = search needs
+enum-told-5 : tie.Need-enum-told-5
+enum-told-5 c = search needs
 
 returns : tie.Need-returns
 returns c = rw (c .enum-told .given .1)
@@ -35,7 +32,7 @@ returns-4 : tie.Need-returns-4
 returns-4 c = rw (c .enum-told4 .given .1)
 
 returns-5 : tie.Need-returns-5
-returns-5 c = rw (c .refused .ensures, c .before .before .answer .given .1)
+returns-5 c = rw (c .enum-told5 .given .1)
 
 pub hand-back-spec : {M : Type 1} → statement M
 hand-back-spec =
@@ -45,8 +42,7 @@ hand-back-spec =
     enum-told-2
     enum-told-3
     enum-told-4
-    enum-known-answer
-    refused-requires
+    enum-told-5
     returns
     returns-2
     returns-3

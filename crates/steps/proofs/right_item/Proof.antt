@@ -1,7 +1,7 @@
 -- `steps::right_item` meets its contract, by the sign of the override.
 -- Assumes nothing.
 use Rattle.lang.proofs.Records.{word-passed}
-use Rattle.steps.proofs.Stepping.{right-over, right-boundary}
+use Rattle.steps.proofs.Laws.{right-over, right-boundary}
 use borrow.Author.Needs.{needs}
 use Rattle.steps.proofs.right_item.Statement.{statement}
 use Rattle.steps.proofs.right_item.Tie as tie

@@ -1,0 +1,40 @@
+-- `begin::begin` meets its contract: a fresh state, or the number of the refusal.
+-- Assumes nothing.
+use mathlib.Core.Path.{_≡_, ap, _∙_}
+use lib.IntN.{ℤ}
+use denote.Ref.{now}
+use Rattle.words.proofs.Bits.{number-word}
+use Rattle.captions.specs.declared.Begun.the-variants.{Run}
+use Rattle.captions.specs.Begin.{beginRefusal, freshState, begunBy}
+use Rattle.begin.proofs.Laws.{begun-refused, begun-run}
+use borrow.Author.Needs.{needs}
+use Rattle.begin.proofs.begin.Statement.{statement}
+use Rattle.begin.proofs.begin.Tie as tie
+
+refusal : (c : tie.After-begin-refusal) → c .begin-refusal .result ≡ beginRefusal (now (c .before .before .args .pairs)) (now (c .before .before .args .ops)) (c .before .before .args .boundary) (now (c .before .before .args .word)) (c .before .before .args .options)
+refusal c =
+    let a = c .before .before in
+    c .begin-refusal .ensures
+    ∙ ap (λ (z : ℤ). beginRefusal (now (a .args .pairs)) (now (a .args .ops)) z (now (a .args .word)) (a .args .options)) (number-word (a .args .boundary) (a .fits .boundary))
+
+begin-refusal-requires : tie.Need-begin-refusal-requires
+begin-refusal-requires c κs = search needs
+
+returns : tie.Need-returns
+returns c =
+    let a = c .before .before .before .args in
+    let s = freshState (now (a .word)) (a .options) in
+    begun-refused (c .before .begin-refusal .result) s (c .if1 .taken) ∙ ap (λ n. begunBy n s) (refusal (c .before))
+
+fresh-state-requires : tie.Need-fresh-state-requires
+fresh-state-requires c κs = search needs
+
+returns-2 : tie.Need-returns-2
+returns-2 c =
+    let d = c .before in
+    let a = d .before .before .before .args in
+    let s = freshState (now (a .word)) (a .options) in
+    ap Run (c .fresh-state .ensures) ∙ begun-run (d .before .begin-refusal .result) s (d .if1 .left) ∙ ap (λ n. begunBy n s) (refusal (d .before))
+
+pub begin-spec : {M : Type 1} → statement M
+begin-spec = tie.close (tie.spec begin-refusal-requires returns fresh-state-requires returns-2)

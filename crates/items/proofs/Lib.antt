@@ -1,0 +1,3 @@
+-- The laws of items.
+--   Laws  what an item and an op give, by the tests of the code
+pub mod Laws

@@ -1,0 +1,3 @@
+-- The laws of queries.
+--   Laws  what else a host asks: by the tests of the code, and by the refusals
+pub mod Laws

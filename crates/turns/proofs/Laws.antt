@@ -1,0 +1,157 @@
+-- What a turn gives, by the tests of the code. Assumes nothing.
+use mathlib.Core.Path.{_≡_, refl, sym, ap}
+use mathlib.Core.Bool.{Bool, true, false, cond, not}
+use mathlib.Core.List.{List}
+use mathlib.Core.Option.{Option, none, some}
+use Prim.Native.Nat.{ℕ, suc, _+_, _-_, _^_, _<_, _≤_}
+use native.Mathlib.Omega.{arith}
+use lib.IntN.{ℤ}
+use lib.Dec.{leb, eqb}
+use lib.ListN.{length, getD}
+use borrow.Author.Tests.{le-leb, lt-leb, lt-ltb, le-ltb, leb-true, leb-false, eq-eqb, ne-eqb}
+use Rattle.words.specs.Words.{numberOf, Word}
+use Rattle.words.proofs.Bits.{number-pos, number-neg}
+use Rattle.reading.specs.Items.{plain}
+use Rattle.captions.specs.declared.NextLeft.{NextLeft}
+use Rattle.captions.specs.declared.NextLeft.the-variants as next
+use Rattle.captions.specs.declared.Consumes.{Consumes}
+use Rattle.captions.specs.declared.Consumes.the-variants as consumes
+use Rattle.captions.specs.declared.State.{State}
+use Rattle.captions.specs.declared.Turned.{Turned}
+use Rattle.captions.specs.declared.Turned.the-variants.{Gives, Goes}
+use Rattle.captions.specs.declared.Found.the-variants.{At, Nothing}
+use Rattle.captions.specs.Tables.{number, keyBy, find, foundAt}
+use Rattle.captions.specs.Steps.{refused, leftLetters, withPending, longer, opsPlaced, gathered, leftPlaceOf, afterRight, readOn, withNext, giveLeft, entered, givesNothing, entryFits, turnBy, turnWith, orBoundary, turnAtEnd, turnAtLetter, turn, nextFits, placed}
+use Rattle.turns.specs.Turns.{turnLast, turnNext, lefts}
+
+-- ---- the left
+
+pub letters-few : (x : Consumes) → leftLetters x ≤ 1
+letters-few consumes.Nothing = omega arith
+letters-few consumes.Letter = omega arith
+letters-few consumes.Boundary = omega arith
+
+-- a pending ligature takes in what its left is
+or-not : (b : Bool) → b ≡ cond b true false
+or-not true = refl
+or-not false = refl
+
+or-true : (b : Bool) → true ≡ cond b true true
+or-true true = refl
+or-true false = refl
+
+pending-as : (s : State) {m n : ℕ} {a b : Bool} → m ≡ n → a ≡ b → withPending m a s ≡ withPending n b s
+pending-as s e f i = withPending (e i) (f i) s
+
+module _ (s : State) where
+  pub longer-nothing : s .«consumes_left» ≡ consumes.Nothing → withPending (s .pending + 1) (s .«pending_boundary») s ≡ longer s
+  longer-nothing e = let n : s .pending + 1 ≡ suc (s .pending + 0) = omega arith in rw e (pending-as s n (or-not (s .«pending_boundary»)))
+
+  pub longer-letter : s .«consumes_left» ≡ consumes.Letter → withPending (s .pending + 2) (s .«pending_boundary») s ≡ longer s
+  longer-letter e = let n : s .pending + 2 ≡ suc (s .pending + 1) = omega arith in rw e (pending-as s n (or-not (s .«pending_boundary»)))
+
+  pub longer-boundary : s .«consumes_left» ≡ consumes.Boundary → withPending (s .pending + 1) true s ≡ longer s
+  longer-boundary e = let n : s .pending + 1 ≡ suc (s .pending + 0) = omega arith in rw e (pending-as s n (or-true (s .«pending_boundary»)))
+
+pub left-small : (x : NextLeft) → nextFits x ≡ true → leftPlaceOf x ≤ 256
+left-small next.Boundary h = omega arith
+left-small (next.Char c) h = omega (arith, leb-true c 255 h)
+left-small (next.Lig c) h = omega (arith, leb-true c 255 h)
+left-small (next.FinalLig c) h = omega (arith, leb-true c 255 h)
+left-small next.None h = omega arith
+
+pub found-none : (o : Option ℕ) → foundAt o ≡ Nothing → o ≡ none
+found-none none h = refl
+found-none (some k) h = absurd (let z : _≡_ {A = ℕ} 0 1 = cc in omega arith)
+
+pub found-some : (o : Option ℕ) (k : ℕ) → foundAt o ≡ At k → o ≡ some k
+found-some none k h = absurd (let z : _≡_ {A = ℕ} 0 1 = cc in omega arith)
+found-some (some j) k h = cc
+
+pub gathered-read : (x : NextLeft) (s : State) → gathered x s .read ≡ s .read
+gathered-read next.Boundary s = refl
+gathered-read (next.Char c) s = refl
+gathered-read (next.Lig c) s = refl
+gathered-read (next.FinalLig c) s = refl
+gathered-read next.None s = refl
+
+module _ (pairs ops : List ℤ) (s : State) where
+  pub turn-none : (x : NextLeft) (letter : Bool) (y : ℕ) → find pairs (keyBy (leftPlaceOf x) y) ≡ none →
+      turnWith pairs ops x letter y s ≡ giveLeft x (withNext (afterRight letter (plain y)) (readOn letter (s .read)) s)
+  turn-none x letter y h = ap (turnBy pairs ops x letter y s) h
+
+  pub turn-some : (x : NextLeft) (letter : Bool) (y k : ℕ) → find pairs (keyBy (leftPlaceOf x) y) ≡ some k →
+      turnWith pairs ops x letter y s ≡ cond (entryFits pairs ops x k) (Goes (entered pairs x letter s k)) (Gives (refused 7 s))
+  turn-some x letter y k h = ap (turnBy pairs ops x letter y s) h
+
+  pub last-item : (w : ℕ) (x : NextLeft) → w < 2 ^ 31 → turnLast pairs ops (orBoundary (numberOf w)) x s ≡ turnWith pairs ops x false w s
+  last-item w x h = ap (λ (z : ℤ). turnLast pairs ops (orBoundary z) x s) (number-pos w h)
+
+  pub last-free : (w : ℕ) (x : NextLeft) → 2 ^ 31 ≤ w → turnLast pairs ops (orBoundary (numberOf w)) x s ≡ giveLeft x (withNext next.None (s .read) s)
+  last-free w x h = ap (λ (z : ℤ). turnLast pairs ops (orBoundary z) x s) (number-neg w h)
+
+  pub end-char : (o : Option ℕ) (c : ℕ) → turnAtEnd pairs ops o (next.Char c) s ≡ turnLast pairs ops o (next.Char c) s
+  end-char none c = refl
+  end-char (some r) c = refl
+
+  pub end-lig : (o : Option ℕ) (c : ℕ) → turnAtEnd pairs ops o (next.Lig c) s ≡ turnLast pairs ops o (next.Lig c) s
+  end-lig none c = refl
+  end-lig (some r) c = refl
+
+  pub letter-fits : (x : NextLeft) (y : ℕ) → y ≤ 255 → turnAtLetter pairs ops x y s ≡ turnWith pairs ops x true y s
+  letter-fits x y h = rw (le-leb y 255 h)
+
+  pub letter-unfit : (x : NextLeft) (y : ℕ) → 255 < y → turnAtLetter pairs ops x y s ≡ Gives (refused 4 s)
+  letter-unfit x y h = rw (lt-leb y 255 h)
+
+  pub turn-letter : (o : Option ℕ) (word : List ℕ) (x : NextLeft) → s .read < length word →
+      turn pairs ops o word x s ≡ turnAtLetter pairs ops x (getD word (s .read) 0) (gathered x s)
+  turn-letter o word x h = rw (lt-ltb (s .read) (length word) h)
+
+  pub turn-end : (o : Option ℕ) (word : List ℕ) (x : NextLeft) → length word ≤ s .read → turn pairs ops o word x s ≡ turnAtEnd pairs ops o x (gathered x s)
+  turn-end o word x h = rw (le-ltb (s .read) (length word) h)
+
+-- ---- an entry, by the words that were read
+
+module _ (pairs : List ℤ) (k : ℕ) {count : ℕ} (p : Word (number pairs k 5) count) where
+  pub gives-ops : (count ≡ 0 → ⊥) → false ≡ givesNothing pairs k
+  gives-ops h = rw (← p .is, ne-eqb count 0 h)
+
+  pub gives-last : {flag : ℕ} → count ≡ 0 → Word (number pairs k 3) flag → not (eqb flag 1) ≡ givesNothing pairs k
+  gives-last e q = rw (← p .is, ← q .is, eq-eqb count 0 e)
+
+-- ---- what is checked first
+
+-- a sum that is not made: where a is in range, b is tested against what is left
+pub leb-sum : (a b n : ℕ) → a ≤ n → leb b (n - a) ≡ leb (a + b) n
+leb-sum a b n h = go (leb b (n - a)) refl
+  where
+    go : (t : Bool) → leb b (n - a) ≡ t → t ≡ leb (a + b) n
+    go true e = sym (le-leb (a + b) n (omega (arith, leb-true b (n - a) e)))
+    go false e = sym (lt-leb (a + b) n (omega (arith, leb-false b (n - a) e)))
+
+module _ (ops : List ℤ) (word : List ℕ) (s : State) where
+  pub placed-read : length word < s .read → placed ops word s ≡ false
+  placed-read h = rw (lt-leb (s .read) (length word) h)
+
+  module _ (r : s .read ≤ length word) where
+    pub placed-given : s .read < s .given → placed ops word s ≡ false
+    placed-given h = rw (le-leb (s .read) (length word) r, lt-leb (s .given) (s .read) h)
+
+    module _ (g : s .given ≤ s .read) where
+      pub placed-pending : s .read < s .pending → placed ops word s ≡ false
+      placed-pending h = rw (le-leb (s .read) (length word) r, le-leb (s .given) (s .read) g, lt-leb (s .pending) (s .read) h)
+
+      pub placed-ops : s .pending ≤ s .read → opsPlaced ops s ≡ false → placed ops word s ≡ false
+      placed-ops p h = rw (le-leb (s .read) (length word) r, le-leb (s .given) (s .read) g, le-leb (s .pending) (s .read) p, h)
+
+      pub placed-next : s .pending ≤ s .read → opsPlaced ops s ≡ true → placed ops word s ≡ nextFits (s .«next_left»)
+      placed-next p h = rw (le-leb (s .read) (length word) r, le-leb (s .given) (s .read) g, le-leb (s .pending) (s .read) p, h)
+
+-- a left is looked up
+pub looked : (look : NextLeft → State → Turned) (s : State) (x : NextLeft) → lefts x ≡ 1 → turnNext look s x ≡ look x s
+looked look s next.Boundary h = refl
+looked look s (next.Char c) h = refl
+looked look s (next.Lig c) h = refl
+looked look s (next.FinalLig c) h = absurd (omega arith)
+looked look s next.None h = absurd (omega arith)

@@ -1,0 +1,58 @@
+-- `turns::turn::swallows` meets its contract, by the arm that is taken.
+-- Assumes nothing.
+use borrow.Author.Needs.{needs}
+use Rattle.turns.proofs.turn.swallows.Statement.{statement}
+use Rattle.turns.proofs.turn.swallows.Tie as tie
+
+enum-told : tie.Need-enum-told
+enum-told c = search needs
+
+enum-told-2 : tie.Need-enum-told-2
+enum-told-2 c = search needs
+
+gives-nothing-requires : tie.Need-gives-nothing-requires
+gives-nothing-requires c κs = search needs
+
+enum-told-3 : tie.Need-enum-told-3
+enum-told-3 c = search needs
+
+gives-nothing-requires-2 : tie.Need-gives-nothing-requires-2
+gives-nothing-requires-2 c κs = search needs
+
+enum-told-4 : tie.Need-enum-told-4
+enum-told-4 c = search needs
+
+enum-told-5 : tie.Need-enum-told-5
+enum-told-5 c = search needs
+
+returns : tie.Need-returns
+returns c = search needs
+
+returns-2 : tie.Need-returns-2
+returns-2 c = rw (c .gives-nothing .ensures, c .before .enum-told2 .given .1)
+
+returns-3 : tie.Need-returns-3
+returns-3 c = rw (c .gives-nothing2 .ensures, c .before .enum-told3 .given .1)
+
+returns-4 : tie.Need-returns-4
+returns-4 c = search needs
+
+returns-5 : tie.Need-returns-5
+returns-5 c = search needs
+
+pub swallows-spec : {M : Type 1} → statement M
+swallows-spec =
+    tie.close
+    (tie.spec
+    enum-told
+    enum-told-2
+    gives-nothing-requires
+    enum-told-3
+    gives-nothing-requires-2
+    enum-told-4
+    enum-told-5
+    returns
+    returns-2
+    returns-3
+    returns-4
+    returns-5)

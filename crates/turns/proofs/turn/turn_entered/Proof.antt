@@ -1,0 +1,52 @@
+-- `turns::turn::turn_entered` meets its contract, by the tests of the record and of what it gives.
+-- Assumes nothing.
+use mathlib.Core.Path.{_∙_, sym}
+use borrow.Author.Tests.{not-true, not-false}
+use borrow.Author.Needs.{needs}
+use Rattle.turns.proofs.turn.turn_entered.Statement.{statement}
+use Rattle.turns.proofs.turn.turn_entered.Tie as tie
+
+record-fits-requires : tie.Need-record-fits-requires
+record-fits-requires c κs = search needs
+
+refuses-requires : tie.Need-refuses-requires
+refuses-requires c κs = search needs
+
+returns : tie.Need-returns
+returns c =
+    let f = c .before .before in
+    rw (c .refuses .ensures, sym (f .record-fits .ensures) ∙ not-true (f .record-fits .result) (c .before .if1 .taken))
+
+swallows-requires : tie.Need-swallows-requires
+swallows-requires c κs = search needs
+
+refuses-requires-2 : tie.Need-refuses-requires-2
+refuses-requires-2 c κs = search needs
+
+returns-2 : tie.Need-returns-2
+returns-2 c =
+    let w = c .before .before in
+    let f = w .before .before in
+    rw (c .refuses2 .ensures, sym (f .record-fits .ensures) ∙ not-false (f .record-fits .result) (w .before .if1 .left), sym (w .swallows .ensures) ∙ c .before .if2 .taken)
+
+entered-requires : tie.Need-entered-requires
+entered-requires c κs = search needs
+
+returns-3 : tie.Need-returns-3
+returns-3 c =
+    let w = c .before .before in
+    let f = w .before .before in
+    rw (c .entered .ensures, sym (f .record-fits .ensures) ∙ not-false (f .record-fits .result) (w .before .if1 .left), sym (w .swallows .ensures) ∙ c .before .if2 .left)
+
+pub turn-entered-spec : {M : Type 1} → statement M
+turn-entered-spec =
+    tie.close
+    (tie.spec
+    record-fits-requires
+    refuses-requires
+    returns
+    swallows-requires
+    refuses-requires-2
+    returns-2
+    entered-requires
+    returns-3)

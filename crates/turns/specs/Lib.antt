@@ -1,0 +1,3 @@
+-- What the contracts of turns cite beside the definitions of captions:
+--   Turns  the loop of a step while it runs
+pub mod Turns
