@@ -9,7 +9,7 @@ use Rattle.words.specs.Lists.{Filling}
 use Rattle.words.proofs.Bits.{number-is}
 use Rattle.words.proofs.Lists.{filling-none, filling-length}
 use Rattle.pack.specs.Packing.{packedEntry}
-use Rattle.pack.proofs.Labelling.{entry-le, entries-even}
+use Rattle.pack.proofs.Entered.{entry-le, entries-even}
 use Rattle.pack.proofs.Packing.{entryNumber, filling-entry, filling-appends}
 use borrow.Author.Needs.{needs}
 use Rattle.pack.proofs.put_entries.Statement.{statement}
