@@ -32,7 +32,7 @@ use Rattle.lang.proofs.Refusals.{first-refusal, second-is, orElse-none, unless-
 use Rattle.lang.proofs.Filled.{filling-put, refused-list}
 use Rattle.labels.specs.Labels.{labelsOf, redirectsOf, offsetBy, largest}
 use Rattle.labels.proofs.Redirects.{Under, labels-under, largest-le, first-largest, redirects-le, offset-some, labels-has, unredirected}
-use Rattle.pack.specs.Packing.{Packable, packable, redirectsTo, redirect, presentOr, leftOr, front, back, fontRedirects, fontOffset, packableRefusal, redirectRefusal, fitsShifted, shiftRefusal, packingRefusal, packedInstructions, packedEntry, packedEntryNumber, packedEntries, packedBy, placeAmong, Packs}
+use Rattle.pack.specs.Packing.{Packable, packable, redirectsTo, redirect, presentOr, leftOr, front, back, fontRedirects, fontOffset, packableRefusal, redirectRefusal, fitsShifted, shiftRefusal, packingRefusal, packedInstructions, packedEntry, entryNumber, packedEntryNumber, packedEntries, packedBy, placeAmong, Packs}
 use Rattle.pack.proofs.Entered.{entry-le}
 use Rattle.pack.proofs.Places.{present-test, present-is, place-is, place-lt}
 
@@ -286,23 +286,13 @@ pub entry-shifted : (k o : ℕ) (ls : List ℕ) (e p : ℕ) → p ≡ placeAmong
 entry-shifted k o ls e p g h l =
     number-pos (e + o) l ∙ rw (le-ltb (placeAmong e ls) k (let q : k ≤ placeAmong e ls = omega arith in q))
 
--- number j of the packed entries, by the redirects, the offset and the labels
-abbrev pub entryNumber : List ℤ → ℕ → ℕ → List ℕ → ℕ → ℤ
-entryNumber es k o ls j =
-    cond (eqb (j % 2) 0) (getD es j (pos 0)) (pos (packedEntry k o ls (wordOf (getD es j (pos 0)))))
+-- number j of the packed entries, by what it is
+module _ (es : List ℤ) (k o : ℕ) (ls : List ℕ) where
+  pub entry-char : (j : ℕ) → j % 2 ≡ 0 → getD es j (pos 0) ≡ entryNumber es k o ls j
+  entry-char j h = rw (eq-eqb (j % 2) 0 h)
 
-module _ (es : List ℤ) (k o : ℕ) (ls : List ℕ) (i : ℕ) where
-  entry-char : getD es (2 * i) (pos 0) ≡ entryNumber es k o ls (2 * i)
-  entry-char = rw (eq-eqb (2 * i % 2) 0 (omega arith))
-
-  entry-entry : pos (packedEntry k o ls (wordOf (getD es (2 * i + 1) (pos 0)))) ≡ entryNumber es k o ls (2 * i + 1)
-  entry-entry = rw (ne-eqb ((2 * i + 1) % 2) 0 (λ g. omega arith))
-
-  -- a character and its entry
-  pub filling-entry : {d₀ d : List ℤ} (d′ d″ : List ℤ) {v w : ℤ} → Filling (entryNumber es k o ls) d₀ d (2 * i) → 2 * i + 1 < length d₀ → d′ ≡ set d (2 * i) v → v ≡ getD es (2 * i) (pos 0) → d″ ≡ set d′ (2 * i + 1) w → w ≡ pos (packedEntry k o ls (wordOf (getD es (2 * i + 1) (pos 0)))) → Filling (entryNumber es k o ls) d₀ d″ (2 * (i + 1))
-  filling-entry d′ d″ h l e g e′ g′ =
-      let n : 2 * i + 1 + 1 ≡ 2 * (i + 1) = omega arith in
-      rw n at (filling-put (filling-put h (omega arith) e (g ∙ entry-char)) l e′ (g′ ∙ entry-entry))
+  pub entry-entry : (j : ℕ) → (j % 2 ≡ 0 → ⊥) → pos (packedEntry k o ls (wordOf (getD es j (pos 0)))) ≡ entryNumber es k o ls j
+  entry-entry j h = rw (ne-eqb (j % 2) 0 h)
 
 -- ---- the redirects and the offset of a font, from its labels
 
@@ -512,9 +502,9 @@ module _ (f : Packable) where
     pub entries-unpack : (i : ℕ) → i < length (f .entries) / 2 → wordOf (entryAt (f .entries) i) < count (f .instructions) → isKind 3 (f .instructions) (wordOf (entryAt (f .entries) i)) ≡ false → Unpacks f i
     entries-unpack i h l k =
         let e : entryAt (packedEntries f) i ≡ pos (packedEntry (fontRedirects f) (fontOffset f) (labelsOf (f .entries)) (wordOf (entryAt (f .entries) i))) =
-        getD-tabulate (length (f .entries)) (packedEntryNumber f) (2 * i + 1) (pos 0) (omega arith) ∙ sym (entry-entry (f .entries) (fontRedirects f) (fontOffset f) (labelsOf (f .entries)) i) in
+        getD-tabulate (length (f .entries)) (packedEntryNumber f) (2 * i + 1) (pos 0) (omega arith) ∙ sym (entry-entry (f .entries) (fontRedirects f) (fontOffset f) (labelsOf (f .entries)) (2 * i + 1) (λ z. omega arith)) in
         record {
-          char = getD-tabulate (length (f .entries)) (packedEntryNumber f) (2 * i) (pos 0) (omega arith) ∙ sym (entry-char (f .entries) (fontRedirects f) (fontOffset f) (labelsOf (f .entries)) i);
+          char = getD-tabulate (length (f .entries)) (packedEntryNumber f) (2 * i) (pos 0) (omega arith) ∙ sym (entry-char (f .entries) (fontRedirects f) (fontOffset f) (labelsOf (f .entries)) (2 * i) (omega arith));
           byte = ap (within 255) e ∙ le-leb (packedEntry (fontRedirects f) (fontOffset f) (labelsOf (f .entries)) (wordOf (entryAt (f .entries) i))) 255 (packed-byte (labels-has (f .entries) (length (f .entries) / 2) i h));
           entry = ap (λ (z : ℤ). unpacks (packedInstructions f) (wordOf z)) e ∙ packed-unpacks (wordOf (entryAt (f .entries) i)) l k;
         }

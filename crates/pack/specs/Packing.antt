@@ -70,11 +70,13 @@ abbrev pub packedInstructions : Packable → List ℤ
 packedInstructions f =
     front (f .boundary) (fontRedirects f) (fontOffset f) (labelsOf (f .entries)) ++ f .instructions ++ back (f .left) (fontOffset f)
 
--- number j of the packed entries: characters as they were lent, and their packed entries
+-- number j of the packed entries: characters as they were lent, and their packed entries, by the redirects, the offset and the labels
+abbrev pub entryNumber : List ℤ → ℕ → ℕ → List ℕ → ℕ → ℤ
+entryNumber es redirects offset ls j =
+    cond (eqb (j % 2) 0) (getD es j (pos 0)) (pos (packedEntry redirects offset ls (wordOf (getD es j (pos 0)))))
+
 abbrev pub packedEntryNumber : Packable → ℕ → ℤ
-packedEntryNumber f j =
-    cond (eqb (j % 2) 0) (getD (f .entries) j (pos 0))
-    (pos (packedEntry (fontRedirects f) (fontOffset f) (labelsOf (f .entries)) (wordOf (getD (f .entries) j (pos 0)))))
+packedEntryNumber f = entryNumber (f .entries) (fontRedirects f) (fontOffset f) (labelsOf (f .entries))
 
 abbrev pub packedEntries : Packable → List ℤ
 packedEntries f = tabulate (length (f .entries)) (packedEntryNumber f)

@@ -3,7 +3,7 @@
 ghost use mathlib.Core.Path.{_≡_};
 ghost use mathlib.Core.List.{_++_};
 ghost use mathlib.Core.Bool.{cond};
-ghost use Prim.Native.Nat.{ℕ, _+_, _*_, _%_, _≤_, _<_};
+ghost use Prim.Native.Nat.{ℕ, _+_, _*_, _≤_, _<_};
 ghost use lib.Dec.{eqb};
 ghost use lib.IntN.{pos};
 ghost use lib.ListN.{length, getD, replicate};
@@ -13,7 +13,7 @@ ghost use Rattle.words.specs.Lists.{tabulate, Appending};
 ghost use Rattle.lang.specs.Checks.{entriesRefusal, orElse};
 ghost use Rattle.lang.specs.Answers.{roomRefusal};
 ghost use Rattle.labels.specs.Labels.{largest, offsetBy};
-ghost use Rattle.pack.specs.Packing.{Packs, packable, front, back, leftOr, packedEntry, redirectRefusal, shiftRefusal, packableRefusal};
+ghost use Rattle.pack.specs.Packing.{Packs, packable, front, back, leftOr, entryNumber, redirectRefusal, shiftRefusal, packableRefusal};
 
 mod numbers;
 
@@ -178,35 +178,33 @@ fn put_instructions(
     }
 }
 
-// The packed entry of the entry e.
-fn packed_entry(labels: &[u32], redirects: usize, offset: usize, e: u32) -> u32
-    requires { ⌜ (redirects ≤ 255) × (e + offset < 2147483648) ⌝ }
-    ensures { λ r. ⌜ numberOf r ≡ pos (packedEntry redirects offset (now (labels .entry)) e) ⌝ }
+// Number j of the packed entries: a character as it was lent, or a packed entry.
+fn entry_number(entries: &[i32], labels: &[u32], redirects: usize, offset: usize, j: usize) -> u32
+    requires { ⌜ (redirects ≤ 255) × (wordOf (getD (now entries) j (pos 0)) + offset < 2147483648) ⌝ }
+    ensures { λ r. ⌜ numberOf r ≡ entryNumber (now (entries .entry)) redirects offset (now (labels .entry)) j ⌝ }
 {
-    let place = place_among(labels, e);
+    let word = words::word_at(entries, j);
+    if j % 2 == 0 {
+        return word;
+    }
+    let place = place_among(labels, word);
     if place < redirects {
         place as u32
     } else {
-        e + (offset as u32)
+        word + (offset as u32)
     }
 }
 
 // The entries, packed, written to the front of the output in the lent order.
 fn put_entries(entries: &[i32], labels: &[u32], redirects: usize, offset: usize, out: &mut [i32])
     requires { ⌜ (redirects ≤ 255) × ((offset ≤ 256) × ((entriesRefusal 65535 (now entries) ≡ 0) × (length (now entries) ≤ length (now out)))) ⌝ }
-    ensures { λ _. ⌜ Appending (tabulate (length (now (entries .entry))) (λ j. cond (eqb (j % 2) 0) (getD (now (entries .entry)) j (pos 0)) (pos (packedEntry redirects offset (now (labels .entry)) (wordOf (getD (now (entries .entry)) j (pos 0))))))) (now (out .entry)) (now (out .exit)) ⌝ }
+    ensures { λ _. ⌜ Appending (tabulate (length (now (entries .entry))) (entryNumber (now (entries .entry)) redirects offset (now (labels .entry)))) (now (out .entry)) (now (out .exit)) ⌝ }
 {
-    let mut i = 0;
-    while i < entries.len() / 2 {
-        words::put_word(out, 2 * i, words::word_at(entries, 2 * i));
-        let packed = packed_entry(
-            labels,
-            redirects,
-            offset,
-            words::word_at(entries, 2 * i + 1),
-        );
-        words::put_word(out, 2 * i + 1, packed);
-        i += 1;
+    let mut j = 0;
+    while j < entries.len() {
+        let number = entry_number(entries, labels, redirects, offset, j);
+        words::put_word(out, j, number);
+        j += 1;
     }
 }
 
