@@ -5,7 +5,8 @@ use mathlib.Core.List.{List, map}
 use lib.IntN.{ℤ}
 use Rattle.tfm.specs.Scaled.{toScaled, halve}
 use Rattle.lang.specs.Operations.{fromBytes, ligature}
-use Rattle.pack.specs.Packing.{insertLabel, labels, redirectsFrom, placeAmong, redirectsTo}
+use Rattle.labels.specs.Labels.{insertLabel, labels, redirectsFrom}
+use Rattle.pack.specs.Packing.{placeAmong, redirectsTo}
 use Rattle.reading.specs.Depth.{comp, raiseLeft}
 use Rattle.reading.specs.Loops.{loopList, insert, ordered, unfinished, walk, walks, member}
 use Rattle.marked.specs.Rows.{Row, loopRow, otherRows, rows, rulesBy, pairsFrom, pairNumbers}

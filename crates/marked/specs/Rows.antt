@@ -13,7 +13,8 @@ use Rattle.lang.specs.declared.operation.PostLigOperation.the-variants.{RetainB
 use Rattle.lang.specs.declared.operation.Operation.{Operation}
 use Rattle.lang.specs.declared.operation.Operation.the-variants.{Kern, KernAtIndex, Ligature, EntrypointRedirect}
 use Rattle.lang.specs.Operations.{fromBytes}
-use Rattle.pack.specs.Packing.{Font, packedEntryNumber, fontOffset, fontRedirects, labelsOf, front}
+use Rattle.labels.specs.Labels.{labelsOf}
+use Rattle.pack.specs.Packing.{Packable, packable, packedEntryNumber, fontOffset, fontRedirects, front}
 use Rattle.reading.specs.Items.{Left, bnd, chr, Rule, free, lig, Rules}
 use Rattle.reading.specs.Depth.{Pair}
 use Rattle.reading.specs.Loops.{Ruled, loopList}
@@ -90,11 +91,11 @@ loopsOf es = pairNumbers (loopList (rules es) (pairsFrom 0 es))
 -- ---- packing
 
 -- a font of one entry, that of character 97
-abbrev pub oneEntry : ℕ → ℤ → Font
-oneEntry e boundary = record { instructions = []; entries = pos 97 ∷ pos e ∷ []; boundary = boundary; left = negsuc 0 }
+abbrev pub oneEntry : ℕ → ℤ → Packable
+oneEntry e boundary = packable [] (pos 97 ∷ pos e ∷ []) boundary (negsuc 0)
 
 -- where the entry packs to, the offset, and how many redirects there are
-abbrev pub packedNumbers : Font → List ℤ
+abbrev pub packedNumbers : Packable → List ℤ
 packedNumbers f = packedEntryNumber f 1 ∷ pos (fontOffset f) ∷ pos (fontRedirects f) ∷ []
 
 -- ---- compiling

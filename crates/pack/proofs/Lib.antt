@@ -1,2 +1,3 @@
-pub mod Labelling
+pub mod Entered
+pub mod Places
 pub mod Packing

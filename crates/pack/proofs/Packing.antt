@@ -28,47 +28,53 @@ use Rattle.lang.specs.Checks.{programRefusal, entriesRefusal, absentRefusal, or
 use Rattle.pack.specs.declared.Packed.{Packed}
 use Rattle.pack.specs.declared.Packed.the-variants.{Sizes, Refused}
 use Rattle.lang.specs.Answers.{roomRefusal}
-use Rattle.lang.proofs.Refusals.{first-refusal, orElse-none, unless-none, room-fits}
+use Rattle.lang.proofs.Refusals.{first-refusal, second-is, orElse-none, unless-none, room-fits}
 use Rattle.lang.proofs.Filled.{filling-put, refused-list}
-use Rattle.pack.specs.Packing.{Font, labelsOf, redirectsOf, offsetBy, redirectsTo, redirect, presentOr, leftOr, largest, front, back, fontRedirects, fontOffset, fontRefusal, redirectRefusal, fitsShifted, shiftRefusal, packingRefusal, packedInstructions, packedEntry, packedEntryNumber, packedEntries, packedBy, placeAmong, Packs}
-use Rattle.pack.proofs.Labelling.{Under, labels-under, largest-le, first-largest, entry-le, redirects-le, offset-some, present-test, present-is, place-is, place-lt, labels-has, unredirected}
+use Rattle.labels.specs.Labels.{labelsOf, redirectsOf, offsetBy, largest}
+use Rattle.labels.proofs.Redirects.{Under, labels-under, largest-le, first-largest, redirects-le, offset-some, labels-has, unredirected}
+use Rattle.pack.specs.Packing.{Packable, packable, redirectsTo, redirect, presentOr, leftOr, front, back, fontRedirects, fontOffset, packableRefusal, redirectRefusal, fitsShifted, shiftRefusal, packingRefusal, packedInstructions, packedEntry, entryNumber, packedEntryNumber, packedEntries, packedBy, placeAmong, Packs}
+use Rattle.pack.proofs.Entered.{entry-le}
+use Rattle.pack.proofs.Places.{present-test, present-is, place-is, place-lt}
 
 -- ---- refusals in their order
 
--- the refusals of packing, from the numbers that decide them
-abbrev pub refusalBy : ℕ → ℕ → ℕ → ℕ → ℕ → ℕ → ℕ → ℕ → ℕ → ℕ
-refusalBy font redirects offset big left size room n entryRoom =
-    orElse font
-    (orElse (redirectRefusal redirects)
-    (orElse (cond (fitsShifted big offset) (cond (fitsShifted left offset) 0 11) 11)
-    (orElse (roomRefusal size room) (roomRefusal n entryRoom))))
+-- the refusals of a font that is taken so far, from the numbers that decide them
+abbrev pub refusalBy : ℕ → ℕ → ℕ → ℕ → ℕ → ℕ → ℕ → ℕ → ℕ
+refusalBy redirects offset big left size room n entryRoom =
+    orElse (redirectRefusal redirects)
+    (orElse (shiftRefusal big left offset)
+    (orElse (roomRefusal size room) (roomRefusal n entryRoom)))
 
-module _ (k o big left size room n entryRoom : ℕ) where
-  pub refusal-10 : 255 < k → 10 ≡ refusalBy 0 k o big left size room n entryRoom
-  refusal-10 h = rw (lt-leb k 255 h)
+-- 11: by the two tests
+module _ (big left o : ℕ) where
+  pub shift-first : 65535 < big + o → 11 ≡ shiftRefusal big left o
+  shift-first h = rw (lt-leb (big + o) 65535 h)
 
-  module _ (few : k ≤ 255) where
-    pub refusal-11 : 65535 < big + o → 11 ≡ refusalBy 0 k o big left size room n entryRoom
-    refusal-11 h = rw (le-leb k 255 few, lt-leb (big + o) 65535 h)
+  pub shift-left : big + o ≤ 65535 → 65535 < left + o → 11 ≡ shiftRefusal big left o
+  shift-left g h = rw (le-leb (big + o) 65535 g, lt-leb (left + o) 65535 h)
 
-    module _ (shifts : big + o ≤ 65535) where
-      pub refusal-11-left : 65535 < left + o → 11 ≡ refusalBy 0 k o big left size room n entryRoom
-      refusal-11-left h = rw (le-leb k 255 few, le-leb (big + o) 65535 shifts, lt-leb (left + o) 65535 h)
+  pub shift-none : big + o ≤ 65535 → left + o ≤ 65535 → 0 ≡ shiftRefusal big left o
+  shift-none g h = rw (le-leb (big + o) 65535 g, le-leb (left + o) 65535 h)
 
-      module _ (shifts-left : left + o ≤ 65535) where
-        pub refusal-15 : room < size → 15 ≡ refusalBy 0 k o big left size room n entryRoom
-        refusal-15 h = rw (le-leb k 255 few, le-leb (big + o) 65535 shifts, le-leb (left + o) 65535 shifts-left, lt-leb size room h)
+-- 10 is asked first, and 15 last
+pub redirects-many : {k : ℕ} (n : ℕ) → 255 < k → 10 ≡ orElse (redirectRefusal k) n
+redirects-many {k} n h = rw (lt-leb k 255 h)
 
-        pub refusal-15-entries : size ≤ room → entryRoom < n → 15 ≡ refusalBy 0 k o big left size room n entryRoom
-        refusal-15-entries g h =
-            rw (le-leb k 255 few, le-leb (big + o) 65535 shifts, le-leb (left + o) 65535 shifts-left, le-leb size room g, lt-leb n entryRoom h)
+pub redirects-few : {k n r : ℕ} → k ≤ 255 → r ≡ n → r ≡ orElse (redirectRefusal k) n
+redirects-few {k} h e = rw (le-leb k 255 h) e
 
-        pub refusal-none : size ≤ room → n ≤ entryRoom → 0 ≡ refusalBy 0 k o big left size room n entryRoom
-        refusal-none g h =
-            rw (le-leb k 255 few, le-leb (big + o) 65535 shifts, le-leb (left + o) 65535 shifts-left, le-leb size room g, le-leb n entryRoom h)
+module _ (size room n entryRoom : ℕ) where
+  pub room-first : room < size → 15 ≡ orElse (roomRefusal size room) (roomRefusal n entryRoom)
+  room-first h = rw (lt-leb size room h)
+
+  pub room-entries : size ≤ room → entryRoom < n → 15 ≡ orElse (roomRefusal size room) (roomRefusal n entryRoom)
+  room-entries g h = rw (le-leb size room g, lt-leb n entryRoom h)
+
+  pub room-none : size ≤ room → n ≤ entryRoom → 0 ≡ orElse (roomRefusal size room) (roomRefusal n entryRoom)
+  room-none g h = rw (le-leb size room g, le-leb n entryRoom h)
 
 -- what a font is that can be packed
-pub record Packable (f : Font) (room entryRoom : ℕ) : Type 0 where
+pub record Taken (f : Packable) (room entryRoom : ℕ) : Type 0 where
   pub entered : entriesRefusal 65535 (f .entries) ≡ 0
   pub few : fontRedirects f ≤ 255
   pub shifts : largest (labelsOf (f .entries)) + fontOffset f ≤ 65535
@@ -80,19 +86,13 @@ shift-zero : (a b : Bool) → _≡_ {A = ℕ} (cond a (cond b 0 11) 11) 0 → (a
 shift-zero true b e = (refl, unless-none 10 b e)
 shift-zero false b e = absurd (omega arith)
 
-module _ (font k o big left size room n entryRoom : ℕ) (e : refusalBy font k o big left size room n entryRoom ≡ 0) where
-  shift : ℕ
-  shift = cond (fitsShifted big o) (cond (fitsShifted left o) 0 11) 11
-
-  parts : (font ≡ 0) × (k ≤ 255) × (big + o ≤ 65535) × (left + o ≤ 65535) × (size ≤ room) × (n ≤ entryRoom)
-  unfolding shift
+module _ (k o big left size room n entryRoom : ℕ) (e : refusalBy k o big left size room n entryRoom ≡ 0) where
+  parts : (k ≤ 255) × (big + o ≤ 65535) × (left + o ≤ 65535) × (size ≤ room) × (n ≤ entryRoom)
   parts =
-      let a = orElse-none font (orElse (redirectRefusal k) (orElse shift (orElse (roomRefusal size room) (roomRefusal n entryRoom)))) e in
-      let b = orElse-none (redirectRefusal k) (orElse shift (orElse (roomRefusal size room) (roomRefusal n entryRoom))) (a .1) in
-      let c = orElse-none shift (orElse (roomRefusal size room) (roomRefusal n entryRoom)) (b .1) in
+      let b = orElse-none (redirectRefusal k) (orElse (shiftRefusal big left o) (orElse (roomRefusal size room) (roomRefusal n entryRoom))) e in
+      let c = orElse-none (shiftRefusal big left o) (orElse (roomRefusal size room) (roomRefusal n entryRoom)) (b .1) in
       let d = orElse-none (roomRefusal size room) (roomRefusal n entryRoom) (c .1) in
       let g = shift-zero (fitsShifted big o) (fitsShifted left o) (c .0) in (
-        a .0,
         leb-true k 255 (unless-none 9 (leb k 255) (b .0)),
         leb-true (big + o) 65535 (g .0),
         leb-true (left + o) 65535 (g .1),
@@ -103,24 +103,27 @@ module _ (font k o big left size room n entryRoom : ℕ) (e : refusalBy font k o
 second : (a b c : ℕ) → orElse a (orElse b c) ≡ 0 → b ≡ 0
 second a b c e = orElse-none b c (orElse-none a (orElse b c) e .1) .0
 
-abbrev pub fontOf : List ℤ → List ℤ → ℤ → ℤ → Font
-fontOf s es b l = record { instructions = s; entries = es; boundary = b; left = l }
-
 -- a font that is taken has entries that are taken
-pub font-entered : (f : Font) → fontRefusal f ≡ 0 → entriesRefusal 65535 (f .entries) ≡ 0
+pub font-entered : (f : Packable) → packableRefusal f ≡ 0 → entriesRefusal 65535 (f .entries) ≡ 0
 font-entered f e =
     second (programRefusal (f .instructions)) (entriesRefusal 65535 (f .entries)) (orElse (absentRefusal 255 (f .boundary)) (absentRefusal 65535 (f .left))) e
 
-pub packable : (f : Font) (room entryRoom : ℕ) → packingRefusal f room entryRoom ≡ 0 → Packable f room entryRoom
-packable f room entryRoom e =
-    let t = parts (fontRefusal f) (fontRedirects f) (fontOffset f) (largest (labelsOf (f .entries))) (leftOr (f .left)) (length (packedInstructions f)) room (length (f .entries)) entryRoom e in
+-- what is refused of f once it is taken so far
+abbrev pub laterRefusal : Packable → ℕ → ℕ → ℕ
+laterRefusal f room entryRoom =
+    refusalBy (fontRedirects f) (fontOffset f) (largest (labelsOf (f .entries))) (leftOr (f .left)) (length (packedInstructions f)) room (length (f .entries)) entryRoom
+
+pub taken : (f : Packable) (room entryRoom : ℕ) → packingRefusal f room entryRoom ≡ 0 → Taken f room entryRoom
+taken f room entryRoom e =
+    let a = orElse-none (packableRefusal f) (laterRefusal f room entryRoom) e in
+    let t = parts (fontRedirects f) (fontOffset f) (largest (labelsOf (f .entries))) (leftOr (f .left)) (length (packedInstructions f)) room (length (f .entries)) entryRoom (a .1) in
     record {
-      entered = font-entered f (t .0);
-      few = t .1;
-      shifts = t .2;
-      shifts-left = t .3;
-      size = t .4;
-      entry-size = t .5;
+      entered = font-entered f (a .0);
+      few = t .0;
+      shifts = t .1;
+      shifts-left = t .2;
+      size = t .3;
+      entry-size = t .4;
     }
 
 -- ---- the numbers of the packed instructions
@@ -221,23 +224,23 @@ filling-is xs z v = rw (tabulate-getD xs z) at (filling-appends (λ j. getD xs j
 
 -- ---- what the numbers in front, the old ones and those at the end are
 
-abbrev pub packedNumber : ℤ → ℕ → ℕ → List ℕ → List ℤ → ℤ → ℕ → ℤ
-packedNumber z k o ls s l j = getD (front z k o ls ++ s ++ back l o) j (pos 0)
+abbrev pub packedAt : ℤ → ℕ → ℕ → List ℕ → List ℤ → ℤ → ℕ → ℤ
+packedAt z k o ls s l j = getD (front z k o ls ++ s ++ back l o) j (pos 0)
 
 module _ (z : ℤ) (k o : ℕ) (ls : List ℕ) (s : List ℤ) (l : ℤ) (os : o ≡ offsetBy (nonNeg z) k) (few : k ≤ length ls) where
-  pub number-front : (j : ℕ) → j < 4 * o → getD (redirect (presentOr z) (targetOf k o ls (j / 4)) 1) (j % 4) (pos 0) ≡ packedNumber z k o ls s l j
+  pub number-front : (j : ℕ) → j < 4 * o → getD (redirect (presentOr z) (targetOf k o ls (j / 4)) 1) (j % 4) (pos 0) ≡ packedAt z k o ls s l j
   number-front j h =
       sym (front-at z k o ls j os few h) ∙ sym (getD-first (front z k o ls) s (back l o) (pos 0) j (rw (length-front z k o ls os few) h))
 
-  pub number-old : (j : ℕ) → 4 * o ≤ j → j - 4 * o < length s → getD s (j - 4 * o) (pos 0) ≡ packedNumber z k o ls s l j
+  pub number-old : (j : ℕ) → 4 * o ≤ j → j - 4 * o < length s → getD s (j - 4 * o) (pos 0) ≡ packedAt z k o ls s l j
   number-old j h g =
       let e : length (front z k o ls) + (j - 4 * o) ≡ j = rw (length-front z k o ls os few) (omega arith) in
-      sym (getD-second (front z k o ls) s (back l o) (pos 0) (j - 4 * o) g) ∙ ap (packedNumber z k o ls s l) e
+      sym (getD-second (front z k o ls) s (back l o) (pos 0) (j - 4 * o) g) ∙ ap (packedAt z k o ls s l) e
 
-  pub number-back : (j : ℕ) → 4 * o ≤ j → length s ≤ j - 4 * o → getD (back l o) (j - 4 * o - length s) (pos 0) ≡ packedNumber z k o ls s l j
+  pub number-back : (j : ℕ) → 4 * o ≤ j → length s ≤ j - 4 * o → getD (back l o) (j - 4 * o - length s) (pos 0) ≡ packedAt z k o ls s l j
   number-back j h g =
       let e : length (front z k o ls) + length s + (j - 4 * o - length s) ≡ j = rw (length-front z k o ls os few) (omega arith) in
-      sym (getD-third (front z k o ls) s (back l o) (pos 0) (j - 4 * o - length s)) ∙ ap (packedNumber z k o ls s l) e
+      sym (getD-third (front z k o ls) s (back l o) (pos 0) (j - 4 * o - length s)) ∙ ap (packedAt z k o ls s l) e
 
   pub number-count : length (front z k o ls ++ s ++ back l o) ≡ 4 * o + length s + length (back l o)
   number-count =
@@ -283,23 +286,13 @@ pub entry-shifted : (k o : ℕ) (ls : List ℕ) (e p : ℕ) → p ≡ placeAmong
 entry-shifted k o ls e p g h l =
     number-pos (e + o) l ∙ rw (le-ltb (placeAmong e ls) k (let q : k ≤ placeAmong e ls = omega arith in q))
 
--- number j of the packed entries, by the redirects, the offset and the labels
-abbrev pub entryNumber : List ℤ → ℕ → ℕ → List ℕ → ℕ → ℤ
-entryNumber es k o ls j =
-    cond (eqb (j % 2) 0) (getD es j (pos 0)) (pos (packedEntry k o ls (wordOf (getD es j (pos 0)))))
+-- number j of the packed entries, by what it is
+module _ (es : List ℤ) (k o : ℕ) (ls : List ℕ) where
+  pub entry-char : (j : ℕ) → j % 2 ≡ 0 → getD es j (pos 0) ≡ entryNumber es k o ls j
+  entry-char j h = rw (eq-eqb (j % 2) 0 h)
 
-module _ (es : List ℤ) (k o : ℕ) (ls : List ℕ) (i : ℕ) where
-  entry-char : getD es (2 * i) (pos 0) ≡ entryNumber es k o ls (2 * i)
-  entry-char = rw (eq-eqb (2 * i % 2) 0 (omega arith))
-
-  entry-entry : pos (packedEntry k o ls (wordOf (getD es (2 * i + 1) (pos 0)))) ≡ entryNumber es k o ls (2 * i + 1)
-  entry-entry = rw (ne-eqb ((2 * i + 1) % 2) 0 (λ g. omega arith))
-
-  -- a character and its entry
-  pub filling-entry : {d₀ d : List ℤ} (d′ d″ : List ℤ) {v w : ℤ} → Filling (entryNumber es k o ls) d₀ d (2 * i) → 2 * i + 1 < length d₀ → d′ ≡ set d (2 * i) v → v ≡ getD es (2 * i) (pos 0) → d″ ≡ set d′ (2 * i + 1) w → w ≡ pos (packedEntry k o ls (wordOf (getD es (2 * i + 1) (pos 0)))) → Filling (entryNumber es k o ls) d₀ d″ (2 * (i + 1))
-  filling-entry d′ d″ h l e g e′ g′ =
-      let n : 2 * i + 1 + 1 ≡ 2 * (i + 1) = omega arith in
-      rw n at (filling-put (filling-put h (omega arith) e (g ∙ entry-char)) l e′ (g′ ∙ entry-entry))
+  pub entry-entry : (j : ℕ) → (j % 2 ≡ 0 → ⊥) → pos (packedEntry k o ls (wordOf (getD es j (pos 0)))) ≡ entryNumber es k o ls j
+  entry-entry j h = rw (ne-eqb (j % 2) 0 h)
 
 -- ---- the redirects and the offset of a font, from its labels
 
@@ -308,20 +301,20 @@ offset-le true zero = omega arith
 offset-le false zero = omega arith
 offset-le b (suc k) = omega arith
 
-refusal-same : {font font′ k k′ o o′ big big′ left left′ size size′ : ℕ} (room n entryRoom : ℕ) → font ≡ font′ → k ≡ k′ → o ≡ o′ → big ≡ big′ → left ≡ left′ → size ≡ size′ → refusalBy font k o big left size room n entryRoom ≡ refusalBy font′ k′ o′ big′ left′ size′ room n entryRoom
-refusal-same room n entryRoom a b c d e f = rw (a, b, c, d, e, f)
+refusal-same : {k k′ o o′ big big′ size size′ : ℕ} (left room n entryRoom : ℕ) → k ≡ k′ → o ≡ o′ → big ≡ big′ → size ≡ size′ → refusalBy k o big left size room n entryRoom ≡ refusalBy k′ o′ big′ left size′ room n entryRoom
+refusal-same left room n entryRoom a b c d = rw (a, b, c, d)
 
 under : (limit : ℕ) (es : List ℤ) → entriesRefusal limit es ≡ 0 → Under (suc limit) (labelsOf es)
 under limit es ok = labels-under es (suc limit) (length es / 2) (λ i h. omega (arith, entry-le limit es ok i h))
 
 -- ls are the labels of f, b says whether it has a boundary character, k and o are its redirects and its offset
-pub record Plan (f : Font) (ls : List ℕ) (b : Bool) (k o : ℕ) : Type 0 where
+pub record Plan (f : Packable) (ls : List ℕ) (b : Bool) (k o : ℕ) : Type 0 where
   pub same : ls ≡ labelsOf (f .entries)
   pub bounded : b ≡ nonNeg (f .boundary)
   pub redirects : k ≡ redirectsOf b ls
   pub offset : o ≡ offsetBy b k
 
-module _ {f : Font} {ls : List ℕ} {b : Bool} {k o : ℕ} (p : Plan f ls b k o) where
+module _ {f : Packable} {ls : List ℕ} {b : Bool} {k o : ℕ} (p : Plan f ls b k o) where
   pub plan-redirects : k ≡ fontRedirects f
   plan-redirects = p .redirects ∙ rw (p .bounded, p .same)
 
@@ -344,9 +337,13 @@ module _ {f : Font} {ls : List ℕ} {b : Bool} {k o : ℕ} (p : Plan f ls b k o)
   plan-size =
       ap length (sym plan-packed) ∙ number-count (f .boundary) k o ls (f .instructions) (f .left) plan-front plan-few
 
-  pub plan-refusal : (room entryRoom big left size : ℕ) → fontRefusal f ≡ 0 → big ≡ getD ls 0 0 → left ≡ leftOr (f .left) → size ≡ 4 * o + length (f .instructions) + length (back (f .left) o) → refusalBy 0 k o big left size room (length (f .entries)) entryRoom ≡ packingRefusal f room entryRoom
-  plan-refusal room entryRoom big left size ok bigs lefts sizes =
-      refusal-same room (length (f .entries)) entryRoom (sym ok) plan-redirects plan-offset (bigs ∙ first-largest ls ∙ ap largest (p .same)) lefts (sizes ∙ sym plan-size)
+  pub plan-refusal : (room entryRoom size : ℕ) → packableRefusal f ≡ 0 → size ≡ 4 * o + length (f .instructions) + length (back (f .left) o) → refusalBy k o (largest ls) (leftOr (f .left)) size room (length (f .entries)) entryRoom ≡ packingRefusal f room entryRoom
+  plan-refusal room entryRoom size ok sizes =
+      refusal-same (leftOr (f .left)) room (length (f .entries)) entryRoom plan-redirects plan-offset (ap largest (p .same)) (sizes ∙ sym plan-size)
+      ∙ sym (second-is (packableRefusal f) (laterRefusal f room entryRoom) ok)
+
+  pub plan-offset-lt : length ls ≤ 256 → o < 65536
+  plan-offset-lt h = omega (arith, p .offset, offset-le b k, plan-few)
 
   pub plan-offset-le : fontRedirects f ≤ 255 → o ≤ 256
   plan-offset-le h = omega (arith, p .offset, offset-le b k, plan-redirects)
@@ -361,7 +358,7 @@ module _ {f : Font} {ls : List ℕ} {b : Bool} {k o : ℕ} (p : Plan f ls b k o)
   plan-answer size e = rw (e, ← plan-size, plan-redirects, plan-offset)
 
   -- every label, shifted, fits
-  pub plan-shifts : {room entryRoom : ℕ} → Packable f room entryRoom → (j : ℕ) → getD ls j 0 + o ≤ 65535
+  pub plan-shifts : {room entryRoom : ℕ} → Taken f room entryRoom → (j : ℕ) → getD ls j 0 + o ≤ 65535
   plan-shifts q j =
       let u : Under 65536 (labelsOf (f .entries)) = under 65535 (f .entries) (q .entered) in
       rw (p .same, plan-offset) (omega (arith, largest-le u j, q .shifts))
@@ -372,44 +369,47 @@ module _ {f : Font} {ls : List ℕ} {b : Bool} {k o : ℕ} (p : Plan f ls b k o)
 pub lent-number : {w : ℕ} (z : ℤ) → SFits w32 z → w ≡ wordOf (numberOf (wordOf z)) → numberOf w ≡ z
 lent-number z h e = ap numberOf e ∙ ap (λ (x : ℤ). numberOf (wordOf x)) (number-word z h) ∙ number-word z h
 
-pub lent-font : (s es : List ℤ) {b b′ l l′ : ℤ} → b′ ≡ b → l′ ≡ l → fontOf s es b′ l′ ≡ fontOf s es b l
+pub lent-font : (s es : List ℤ) {b b′ l l′ : ℤ} → b′ ≡ b → l′ ≡ l → packable s es b′ l′ ≡ packable s es b l
 lent-font s es e g = rw (e, g)
-
-pub refusal-of : {f g : Font} (room entryRoom : ℕ) {r : ℕ} → f ≡ g → r ≡ packingRefusal f room entryRoom → r ≡ packingRefusal g room entryRoom
-refusal-of room entryRoom e h = h ∙ ap (λ (x : Font). packingRefusal x room entryRoom) e
 
 -- ---- the answer and both lists
 
-pub packing-first : (f : Font) (room entryRoom : ℕ) {r : ℕ} → r ≡ fontRefusal f → (r ≡ 0 → ⊥) → r ≡ packingRefusal f room entryRoom
-packing-first f room entryRoom e h =
-    first-refusal (orElse (redirectRefusal (fontRedirects f)) (orElse (shiftRefusal f) (orElse (roomRefusal (length (packedInstructions f)) room) (roomRefusal (length (f .entries)) entryRoom)))) e h
+pub packing-first : (f : Packable) (room entryRoom : ℕ) {r : ℕ} → r ≡ packableRefusal f → (r ≡ 0 → ⊥) → r ≡ packingRefusal f room entryRoom
+packing-first f room entryRoom e h = first-refusal (laterRefusal f room entryRoom) e h
 
-refused : (f : Font) {r m : ℕ} → r ≡ m → (r ≡ 0 → ⊥) → Refused r ≡ packedBy m f
+refused : (f : Packable) {r m : ℕ} → r ≡ m → (r ≡ 0 → ⊥) → Refused r ≡ packedBy m f
 refused f {m = zero} e h = absurd (h e)
 refused f {m = suc m} e h = ap Refused e
 
-module _ (f : Font) (out entriesOut zeros zerosOut : List ℤ) (e : zeros ≡ replicate (length out) (pos 0)) (g : zerosOut ≡ replicate (length entriesOut) (pos 0)) where
-  rooms : packingRefusal f (length zeros) (length zerosOut) ≡ packingRefusal f (length out) (length entriesOut)
-  rooms =
-      ap (λ (n : ℕ). packingRefusal f n (length zerosOut)) (ap length e ∙ length-replicate (length out) (pos 0))
-      ∙ ap (λ (n : ℕ). packingRefusal f (length out) n) (ap length g ∙ length-replicate (length entriesOut) (pos 0))
-
-  pub packs-refused : (r : ℕ) → r ≡ packingRefusal f (length zeros) (length zerosOut) → (r ≡ 0 → ⊥) → Packs f out entriesOut (Refused r) zeros zerosOut
+-- by the outputs, which are zero
+module _ (f : Packable) (out entriesOut : List ℤ) (zeros : out ≡ replicate (length out) (pos 0)) (zerosOut : entriesOut ≡ replicate (length entriesOut) (pos 0)) where
+  pub packs-refused : (r : ℕ) → r ≡ packingRefusal f (length out) (length entriesOut) → (r ≡ 0 → ⊥) → Packs f out entriesOut (Refused r) out entriesOut
   packs-refused r t h =
       record {
-        answer = refused f (t ∙ rooms) h;
-        instructions = refused-list (pos 0) (length out) (packedInstructions f) (t ∙ rooms) h e;
-        entries = refused-list (pos 0) (length entriesOut) (packedEntries f) (t ∙ rooms) h g;
+        answer = refused f t h;
+        instructions = refused-list (pos 0) (length out) (packedInstructions f) t h zeros;
+        entries = refused-list (pos 0) (length entriesOut) (packedEntries f) t h zerosOut;
       }
 
-  pub packs-taken : (r : Packed) (out′ entriesOut′ : List ℤ) → packingRefusal f (length zeros) (length zerosOut) ≡ 0 → r ≡ packedBy 0 f → Appending (packedInstructions f) zeros out′ → Appending (packedEntries f) zerosOut entriesOut′ → Packs f out entriesOut r out′ entriesOut′
-  packs-taken r out′ entriesOut′ t a x y =
-      let q : packingRefusal f (length out) (length entriesOut) ≡ 0 = sym rooms ∙ t in
+  pub packs-taken : (r : Packed) (out′ entriesOut′ : List ℤ) → packingRefusal f (length out) (length entriesOut) ≡ 0 → r ≡ packedBy 0 f → Appending (packedInstructions f) out out′ → Appending (packedEntries f) entriesOut entriesOut′ → Packs f out entriesOut r out′ entriesOut′
+  packs-taken r out′ entriesOut′ q a x y =
       record {
         answer = rw q a;
-        instructions = rw q (appending-rest zeros (pos 0) (length out) e x);
-        entries = rw q (appending-rest zerosOut (pos 0) (length entriesOut) g y);
+        instructions = rw q (appending-rest out (pos 0) (length out) zeros x);
+        entries = rw q (appending-rest entriesOut (pos 0) (length entriesOut) zerosOut y);
       }
+
+-- an output that was zeroed
+pub zeroed-length : (out : List ℤ) {zeros : List ℤ} → zeros ≡ replicate (length out) (pos 0) → length zeros ≡ length out
+zeroed-length out e = ap length e ∙ length-replicate (length out) (pos 0)
+
+pub zeroed-is : (out : List ℤ) {zeros : List ℤ} → zeros ≡ replicate (length out) (pos 0) → zeros ≡ replicate (length zeros) (pos 0)
+zeroed-is out e = e ∙ ap (λ (n : ℕ). replicate n (pos 0)) (sym (zeroed-length out e))
+
+-- only the lengths of the outputs matter
+pub packs-lengths : {f g : Packable} (out out₀ entriesOut entriesOut₀ : List ℤ) {r : Packed} {out′ entriesOut′ : List ℤ} → f ≡ g → length out₀ ≡ length out → length entriesOut₀ ≡ length entriesOut → Packs f out₀ entriesOut₀ r out′ entriesOut′ → Packs g out entriesOut r out′ entriesOut′
+packs-lengths out out₀ entriesOut entriesOut₀ e n m p =
+    record { answer = rw (e, n, m) at (p .answer); instructions = rw (e, n, m) at (p .instructions); entries = rw (e, n, m) at (p .entries) }
 
 -- ---- what packing is for: the old instructions are there, each entry is one byte, and it unpacks to the old entry, shifted
 
@@ -427,12 +427,12 @@ unpack-redirect : (s : List ℤ) (e t : ℕ) → e < count s → isKind 3 s e �
 unpack-redirect s e t h k g l = rw (k, g, lt-ltb t (count s) l, lt-ltb e (count s) h)
 
 -- of the entry at place i: its character stays, and its packed entry is one byte, which unpacks to the old entry, shifted
-pub record Unpacks (f : Font) (i : ℕ) : Type 0 where
+pub record Unpacks (f : Packable) (i : ℕ) : Type 0 where
   pub char : charAt (packedEntries f) i ≡ charAt (f .entries) i
   pub byte : within 255 (entryAt (packedEntries f) i) ≡ true
   pub entry : unpacks (packedInstructions f) (wordOf (entryAt (packedEntries f) i)) ≡ Entry (wordOf (entryAt (f .entries) i) + fontOffset f)
 
-module _ (f : Font) where
+module _ (f : Packable) where
   plan-of : Plan f (labelsOf (f .entries)) (nonNeg (f .boundary)) (fontRedirects f) (fontOffset f)
   plan-of = record { same = refl; bounded = refl; redirects = refl; offset = refl }
 
@@ -462,9 +462,9 @@ module _ (f : Font) where
   packed-same e h =
       from-same (old-field e 0 h (omega arith)) (old-field e 1 h (omega arith)) (old-field e 2 h (omega arith)) (old-field e 3 h (omega arith))
 
-  module _ (room entryRoom : ℕ) (taken : packingRefusal f room entryRoom ≡ 0) where
-    packs : Packable f room entryRoom
-    packs = packable f room entryRoom taken
+  module _ (room entryRoom : ℕ) (accepted : packingRefusal f room entryRoom ≡ 0) where
+    packs : Taken f room entryRoom
+    packs = taken f room entryRoom accepted
 
     redirected : (e : ℕ) → placeAmong e (labelsOf (f .entries)) < fontRedirects f → e < count (f .instructions) → unpacks (packedInstructions f) (placeAmong e (labelsOf (f .entries))) ≡ Entry (e + fontOffset f)
     redirected e h l =
@@ -502,9 +502,9 @@ module _ (f : Font) where
     pub entries-unpack : (i : ℕ) → i < length (f .entries) / 2 → wordOf (entryAt (f .entries) i) < count (f .instructions) → isKind 3 (f .instructions) (wordOf (entryAt (f .entries) i)) ≡ false → Unpacks f i
     entries-unpack i h l k =
         let e : entryAt (packedEntries f) i ≡ pos (packedEntry (fontRedirects f) (fontOffset f) (labelsOf (f .entries)) (wordOf (entryAt (f .entries) i))) =
-        getD-tabulate (length (f .entries)) (packedEntryNumber f) (2 * i + 1) (pos 0) (omega arith) ∙ sym (entry-entry (f .entries) (fontRedirects f) (fontOffset f) (labelsOf (f .entries)) i) in
+        getD-tabulate (length (f .entries)) (packedEntryNumber f) (2 * i + 1) (pos 0) (omega arith) ∙ sym (entry-entry (f .entries) (fontRedirects f) (fontOffset f) (labelsOf (f .entries)) (2 * i + 1) (λ z. omega arith)) in
         record {
-          char = getD-tabulate (length (f .entries)) (packedEntryNumber f) (2 * i) (pos 0) (omega arith) ∙ sym (entry-char (f .entries) (fontRedirects f) (fontOffset f) (labelsOf (f .entries)) i);
+          char = getD-tabulate (length (f .entries)) (packedEntryNumber f) (2 * i) (pos 0) (omega arith) ∙ sym (entry-char (f .entries) (fontRedirects f) (fontOffset f) (labelsOf (f .entries)) (2 * i) (omega arith));
           byte = ap (within 255) e ∙ le-leb (packedEntry (fontRedirects f) (fontOffset f) (labelsOf (f .entries)) (wordOf (entryAt (f .entries) i))) 255 (packed-byte (labels-has (f .entries) (length (f .entries) / 2) i h));
           entry = ap (λ (z : ℤ). unpacks (packedInstructions f) (wordOf z)) e ∙ packed-unpacks (wordOf (entryAt (f .entries) i)) l k;
         }

@@ -1,5 +1,5 @@
--- Packing: entries above 255 become redirects at the front, after `pack_entrypoints` of ligkern/lang.rs. PLtoTF 139 to 142: the label table, the
--- offset, the redirects, and 'location 0 can do double duty'.
+-- Packing: entries above 255 become redirects at the front, after `pack_entrypoints` of ligkern/lang.rs. PLtoTF 139 to 142: the redirects, and
+-- 'location 0 can do double duty'; the labels and the offset are those of crate labels.
 use mathlib.Core.Path.{_≡_}
 use mathlib.Core.Bool.{Bool, true, false, cond}
 use mathlib.Core.List.{List, [], _∷_, _++_}
@@ -13,42 +13,9 @@ use Rattle.words.specs.Lists.{tabulate}
 use Rattle.pack.specs.declared.Packed.{Packed}
 use Rattle.pack.specs.declared.Packed.the-variants.{Sizes, Refused}
 use Rattle.lang.specs.Records.{count}
-use Rattle.lang.specs.Checks.{programRefusal, entriesRefusal, absentRefusal, orElse, charAt, entryAt}
+use Rattle.lang.specs.Checks.{programRefusal, entriesRefusal, absentRefusal, orElse}
 use Rattle.lang.specs.Answers.{roomRefusal, listOf}
-
--- ---- PLtoTF 140: the labels, each once, the largest first
-
-unfoldable pub insertLabel : ℕ → List ℕ → List ℕ
-insertLabel e [] = e ∷ []
-insertLabel e (l ∷ ls) = cond (ltb l e) (e ∷ l ∷ ls) (cond (eqb l e) (l ∷ ls) (l ∷ insertLabel e ls))
-
--- of the first n entries
-unfoldable pub labels : List ℤ → ℕ → List ℕ
-labels es zero = []
-labels es (suc n) = insertLabel (wordOf (entryAt es n)) (labels es n)
-
-abbrev pub labelsOf : List ℤ → List ℕ
-labelsOf es = labels es (length es / 2)
-
--- ---- PLtoTF 141: the offset
-
--- with k redirects in front: how many more labels have no place below 256
-unfoldable pub redirectsFrom : ℕ → List ℕ → ℕ
-redirectsFrom k [] = k
-redirectsFrom k (l ∷ ls) = cond (leb (l + k) 255) k (redirectsFrom (suc k) ls)
-
--- The largest label decides whether there are redirects at all: with a boundary character it makes way for one instruction in front.
--- If it then has no place, that instruction is given up, and the first redirect does its duty.
-abbrev pub redirectsOf : Bool → List ℕ → ℕ
-redirectsOf b [] = 0
-redirectsOf true (l ∷ ls) = cond (leb (l + 1) 255) 0 (redirectsFrom 1 ls)
-redirectsOf false (l ∷ ls) = cond (leb l 255) 0 (redirectsFrom 1 ls)
-
--- how many instructions stand in front: the redirects, or the one that holds the boundary character
-abbrev pub offsetBy : Bool → ℕ → ℕ
-offsetBy true zero = 1
-offsetBy false zero = 0
-offsetBy b (suc k) = suc k
+use Rattle.labels.specs.Labels.{labelsOf, redirectsOf, offsetBy, largest}
 
 -- ---- PLtoTF 141 and 142: the packed entries and the instructions
 
@@ -83,30 +50,35 @@ abbrev pub back : ℤ → ℕ → List ℤ
 back (negsuc n) offset = []
 back (pos left) offset = redirect (pos 0) (left + offset) 0
 
--- a font to be packed
-pub record Font : Type 0 where
+-- a font to be packed, and the same from the lists and numbers that are lent
+pub record Packable : Type 0 where
   pub instructions : List ℤ
   pub entries : List ℤ
   pub boundary : ℤ
   pub left : ℤ
 
-abbrev pub fontRedirects : Font → ℕ
+abbrev pub packable : List ℤ → List ℤ → ℤ → ℤ → Packable
+packable s es b l = record { instructions = s; entries = es; boundary = b; left = l }
+
+abbrev pub fontRedirects : Packable → ℕ
 fontRedirects f = redirectsOf (nonNeg (f .boundary)) (labelsOf (f .entries))
 
-abbrev pub fontOffset : Font → ℕ
+abbrev pub fontOffset : Packable → ℕ
 fontOffset f = offsetBy (nonNeg (f .boundary)) (fontRedirects f)
 
-abbrev pub packedInstructions : Font → List ℤ
+abbrev pub packedInstructions : Packable → List ℤ
 packedInstructions f =
     front (f .boundary) (fontRedirects f) (fontOffset f) (labelsOf (f .entries)) ++ f .instructions ++ back (f .left) (fontOffset f)
 
--- number j of the packed entries: characters as they were lent, and their packed entries
-abbrev pub packedEntryNumber : Font → ℕ → ℤ
-packedEntryNumber f j =
-    cond (eqb (j % 2) 0) (getD (f .entries) j (pos 0))
-    (pos (packedEntry (fontRedirects f) (fontOffset f) (labelsOf (f .entries)) (wordOf (getD (f .entries) j (pos 0)))))
+-- number j of the packed entries: characters as they were lent, and their packed entries, by the redirects, the offset and the labels
+abbrev pub entryNumber : List ℤ → ℕ → ℕ → List ℕ → ℕ → ℤ
+entryNumber es redirects offset ls j =
+    cond (eqb (j % 2) 0) (getD es j (pos 0)) (pos (packedEntry redirects offset ls (wordOf (getD es j (pos 0)))))
 
-abbrev pub packedEntries : Font → List ℤ
+abbrev pub packedEntryNumber : Packable → ℕ → ℤ
+packedEntryNumber f = entryNumber (f .entries) (fontRedirects f) (fontOffset f) (labelsOf (f .entries))
+
+abbrev pub packedEntries : Packable → List ℤ
 packedEntries f = tabulate (length (f .entries)) (packedEntryNumber f)
 
 -- ---- refusals
@@ -119,20 +91,15 @@ redirectRefusal k = cond (leb k 255) 0 10
 abbrev pub fitsShifted : ℕ → ℕ → Bool
 fitsShifted e offset = leb (e + offset) 65535
 
-abbrev pub largest : List ℕ → ℕ
-largest [] = 0
-largest (l ∷ ls) = l
-
 abbrev pub leftOr : ℤ → ℕ
 leftOr (pos n) = n
 leftOr (negsuc n) = 0
 
-abbrev pub shiftRefusal : Font → ℕ
-shiftRefusal f =
-    cond (fitsShifted (largest (labelsOf (f .entries))) (fontOffset f)) (cond (fitsShifted (leftOr (f .left)) (fontOffset f)) 0 11) 11
+abbrev pub shiftRefusal : ℕ → ℕ → ℕ → ℕ
+shiftRefusal big left offset = cond (fitsShifted big offset) (cond (fitsShifted left offset) 0 11) 11
 
-abbrev pub fontRefusal : Font → ℕ
-fontRefusal f =
+abbrev pub packableRefusal : Packable → ℕ
+packableRefusal f =
     orElse (programRefusal (f .instructions))
     (orElse (entriesRefusal 65535 (f .entries)) (orElse (absentRefusal 255 (f .boundary)) (absentRefusal 65535 (f .left))))
 
@@ -141,20 +108,20 @@ abbrev pub packedNumber : Packed → ℕ
 packedNumber (Sizes n offset redirects) = 0
 packedNumber (Refused n) = n
 
-abbrev pub packingRefusal : Font → ℕ → ℕ → ℕ
+abbrev pub packingRefusal : Packable → ℕ → ℕ → ℕ
 packingRefusal f room entryRoom =
-    orElse (fontRefusal f)
+    orElse (packableRefusal f)
     (orElse (redirectRefusal (fontRedirects f))
-    (orElse (shiftRefusal f)
+    (orElse (shiftRefusal (largest (labelsOf (f .entries))) (leftOr (f .left)) (fontOffset f))
     (orElse (roomRefusal (length (packedInstructions f)) room) (roomRefusal (length (f .entries)) entryRoom))))
 
 -- the answer: how many instructions there are now, the offset and the number of redirects
-abbrev pub packedBy : ℕ → Font → Packed
+abbrev pub packedBy : ℕ → Packable → Packed
 packedBy zero f = Sizes (count (packedInstructions f)) (fontOffset f) (fontRedirects f)
 packedBy (suc r) f = Refused (suc r)
 
 -- the contract of pack_entrypoints
-pub record Packs (f : Font) (out entriesOut : List ℤ) (r : Packed) (out′ entriesOut′ : List ℤ) : Type 0 where
+pub record Packs (f : Packable) (out entriesOut : List ℤ) (r : Packed) (out′ entriesOut′ : List ℤ) : Type 0 where
   pub answer : r ≡ packedBy (packingRefusal f (length out) (length entriesOut)) f
   pub instructions : out′ ≡ listOf (packingRefusal f (length out) (length entriesOut)) (pos 0) (length out) (packedInstructions f)
   pub entries : entriesOut′ ≡ listOf (packingRefusal f (length out) (length entriesOut)) (pos 0) (length entriesOut) (packedEntries f)

@@ -3,28 +3,28 @@
 ghost use mathlib.Core.Path.{_≡_};
 ghost use mathlib.Core.List.{_++_};
 ghost use mathlib.Core.Bool.{cond};
-ghost use Prim.Native.Nat.{ℕ, _+_, _*_, _%_, _≤_, _<_};
+ghost use Prim.Native.Nat.{ℕ, _+_, _*_, _≤_, _<_};
 ghost use lib.Dec.{eqb};
 ghost use lib.IntN.{pos};
-ghost use lib.ListN.{length, getD};
+ghost use lib.ListN.{length, getD, replicate};
 ghost use lib.Signed.{nonNeg};
 ghost use Rattle.words.specs.Words.{wordOf, numberOf};
 ghost use Rattle.words.specs.Lists.{tabulate, Appending};
-ghost use Rattle.lang.specs.Checks.{entriesRefusal};
-ghost use Rattle.pack.specs.Packing.{Packs, Font, front, back, labelsOf, leftOr, offsetBy, packedBy, packedEntries, packedEntry, packedInstructions, packingRefusal, fontRefusal};
+ghost use Rattle.lang.specs.Checks.{entriesRefusal, orElse};
+ghost use Rattle.lang.specs.Answers.{roomRefusal};
+ghost use Rattle.labels.specs.Labels.{largest, offsetBy};
+ghost use Rattle.pack.specs.Packing.{Packs, packable, front, back, leftOr, entryNumber, redirectRefusal, shiftRefusal, packableRefusal};
 
-mod labels;
+mod numbers;
 
-use crate::labels::is_present;
-use crate::labels::label_entries;
-use crate::labels::offset_by;
-use crate::labels::place_among;
-use crate::labels::present_or_zero;
-use crate::labels::redirect_number;
-use crate::labels::redirects_of;
+use crate::numbers::is_present;
+use crate::numbers::place_among;
+use crate::numbers::present_or_zero;
+use crate::numbers::redirect_number;
 use checks::absent_refusal;
 use checks::entries_refusal;
 use checks::program_refusal;
+use labels::label;
 
 // What packing answers.
 pub enum Packed {
@@ -34,8 +34,8 @@ pub enum Packed {
 }
 
 // 1, else 2, else 4: what is lent is no font.
-fn font_refusal(instructions: &[i32], entries: &[i32], boundary: i32, left_entry: i32) -> u32
-    ensures { λ r. ⌜ r ≡ fontRefusal (record { instructions = now (instructions .entry); entries = now (entries .entry); boundary = boundary; left = «left_entry» }) ⌝ }
+fn packable_refusal(instructions: &[i32], entries: &[i32], boundary: i32, left_entry: i32) -> u32
+    ensures { λ r. ⌜ r ≡ packableRefusal (packable (now (instructions .entry)) (now (entries .entry)) boundary «left_entry») ⌝ }
 {
     let program = program_refusal(instructions);
     if program != 0 {
@@ -64,68 +64,47 @@ fn packed_size(instructions: &[i32], left: u32, offset: usize) -> usize
     }
 }
 
-// 10, else 11, else 15, of a font that is taken so far and whose labels are lent: 256 redirects, a shifted entry that passes 65,535, an output that
+// 11: the largest label, or the left entry, passes 65,535 once it is shifted.
+fn shift_refusal(labels: &[u32], left: u32, offset: usize) -> u32
+    requires { ⌜ offset < 65536 ⌝ }
+    ensures { λ r. ⌜ r ≡ shiftRefusal (largest (now (labels .entry))) (leftOr (numberOf left)) offset ⌝ }
+{
+    if 65535 < (words::u32_at(labels, 0) as usize) + offset {
+        return 11;
+    }
+    if 65535 < (present_or_zero(left) as usize) + offset {
+        11
+    } else {
+        0
+    }
+}
+
+// 10, else 11, else 15, of a font that is taken so far, from its labels and sizes: 256 redirects, a shifted entry that passes 65,535, an output that
 // is too short.
 fn labels_refusal(
-    instructions: &[i32],
-    entries: &[i32],
-    boundary: u32,
-    left: u32,
     labels: &[u32],
+    redirects: usize,
+    offset: usize,
+    left: u32,
+    size: usize,
     room: usize,
+    entry_size: usize,
     entry_room: usize,
 ) -> u32
-    requires { ⌜ (now labels ≡ labelsOf (now entries)) × (fontRefusal (record { instructions = now instructions; entries = now entries; boundary = numberOf boundary; left = numberOf left }) ≡ 0) ⌝ }
-    ensures { λ r. ⌜ r ≡ packingRefusal (record { instructions = now (instructions .entry); entries = now (entries .entry); boundary = numberOf boundary; left = numberOf left }) room «entry_room» ⌝ }
+    requires { ⌜ offset < 65536 ⌝ }
+    ensures { λ r. ⌜ r ≡ orElse (redirectRefusal redirects) (orElse (shiftRefusal (largest (now (labels .entry))) (leftOr (numberOf left)) offset) (orElse (roomRefusal size room) (roomRefusal «entry_size» «entry_room»))) ⌝ }
 {
-    let bounded = is_present(boundary);
-    let redirects = redirects_of(bounded, labels);
-    let offset = offset_by(bounded, redirects);
-    let shifted = (words::u32_at(labels, 0) as usize) + offset;
-    let shifted_left = (present_or_zero(left) as usize) + offset;
+    let shift = shift_refusal(labels, left, offset);
     if 255 < redirects {
         return 10;
     }
-    if 65535 < shifted {
-        return 11;
+    if shift != 0 {
+        return shift;
     }
-    if 65535 < shifted_left {
-        return 11;
-    }
-    if room < packed_size(instructions, left, offset) {
+    if room < size {
         return 15;
     }
-    if entry_room < entries.len() { 15 } else { 0 }
-}
-
-// The lowest refusal that holds; 0 where the font can be packed.
-fn packing_refusal(
-    instructions: &[i32],
-    entries: &[i32],
-    boundary: i32,
-    left_entry: i32,
-    room: usize,
-    entry_room: usize,
-) -> u32
-    ensures { λ r. ⌜ r ≡ packingRefusal (record { instructions = now (instructions .entry); entries = now (entries .entry); boundary = boundary; left = «left_entry» }) room «entry_room» ⌝ }
-{
-    let font = font_refusal(instructions, entries, boundary, left_entry);
-    if font != 0 {
-        return font;
-    }
-    let mut labels = [0u32; 256];
-    let count = label_entries(entries, &mut labels);
-    let bound = words::word_of(boundary);
-    let left = words::word_of(left_entry);
-    labels_refusal(
-        instructions,
-        entries,
-        bound,
-        left,
-        &labels[..count],
-        room,
-        entry_room,
-    )
+    if entry_room < entry_size { 15 } else { 0 }
 }
 
 // The target of the instruction in front at i: the shifted label i, or 0 where there are no redirects.
@@ -199,40 +178,38 @@ fn put_instructions(
     }
 }
 
-// The packed entry of the entry e.
-fn packed_entry(labels: &[u32], redirects: usize, offset: usize, e: u32) -> u32
-    requires { ⌜ (redirects ≤ 255) × (e + offset < 2147483648) ⌝ }
-    ensures { λ r. ⌜ numberOf r ≡ pos (packedEntry redirects offset (now (labels .entry)) e) ⌝ }
+// Number j of the packed entries: a character as it was lent, or a packed entry.
+fn entry_number(entries: &[i32], labels: &[u32], redirects: usize, offset: usize, j: usize) -> u32
+    requires { ⌜ (redirects ≤ 255) × (wordOf (getD (now entries) j (pos 0)) + offset < 2147483648) ⌝ }
+    ensures { λ r. ⌜ numberOf r ≡ entryNumber (now (entries .entry)) redirects offset (now (labels .entry)) j ⌝ }
 {
-    let place = place_among(labels, e);
+    let word = words::word_at(entries, j);
+    if j % 2 == 0 {
+        return word;
+    }
+    let place = place_among(labels, word);
     if place < redirects {
         place as u32
     } else {
-        e + (offset as u32)
+        word + (offset as u32)
     }
 }
 
 // The entries, packed, written to the front of the output in the lent order.
 fn put_entries(entries: &[i32], labels: &[u32], redirects: usize, offset: usize, out: &mut [i32])
     requires { ⌜ (redirects ≤ 255) × ((offset ≤ 256) × ((entriesRefusal 65535 (now entries) ≡ 0) × (length (now entries) ≤ length (now out)))) ⌝ }
-    ensures { λ _. ⌜ Appending (tabulate (length (now (entries .entry))) (λ j. cond (eqb (j % 2) 0) (getD (now (entries .entry)) j (pos 0)) (pos (packedEntry redirects offset (now (labels .entry)) (wordOf (getD (now (entries .entry)) j (pos 0))))))) (now (out .entry)) (now (out .exit)) ⌝ }
+    ensures { λ _. ⌜ Appending (tabulate (length (now (entries .entry))) (entryNumber (now (entries .entry)) redirects offset (now (labels .entry)))) (now (out .entry)) (now (out .exit)) ⌝ }
 {
-    let mut i = 0;
-    while i < entries.len() / 2 {
-        words::put_word(out, 2 * i, words::word_at(entries, 2 * i));
-        let packed = packed_entry(
-            labels,
-            redirects,
-            offset,
-            words::word_at(entries, 2 * i + 1),
-        );
-        words::put_word(out, 2 * i + 1, packed);
-        i += 1;
+    let mut j = 0;
+    while j < entries.len() {
+        let number = entry_number(entries, labels, redirects, offset, j);
+        words::put_word(out, j, number);
+        j += 1;
     }
 }
 
-// A font that can be packed: both outputs, and the answer.
-fn write_packed(
+// A font that is taken so far, and outputs that are zero: its labels, what they refuse, and else both outputs and the answer.
+fn pack_font(
     instructions: &[i32],
     entries: &[i32],
     boundary: u32,
@@ -240,20 +217,32 @@ fn write_packed(
     out: &mut [i32],
     entries_out: &mut [i32],
 ) -> Packed
-    requires { ⌜ packingRefusal (record { instructions = now instructions; entries = now entries; boundary = numberOf boundary; left = numberOf left }) (length (now out)) (length (now «entries_out»)) ≡ 0 ⌝ }
-    ensures answer { λ r. ⌜ r ≡ packedBy 0 (record { instructions = now (instructions .entry); entries = now (entries .entry); boundary = numberOf boundary; left = numberOf left }) ⌝ }
-    ensures instructions { λ r. ⌜ Appending (packedInstructions (record { instructions = now (instructions .entry); entries = now (entries .entry); boundary = numberOf boundary; left = numberOf left })) (now (out .entry)) (now (out .exit)) ⌝ }
-    ensures entries { λ r. ⌜ Appending (packedEntries (record { instructions = now (instructions .entry); entries = now (entries .entry); boundary = numberOf boundary; left = numberOf left })) (now («entries_out» .entry)) (now («entries_out» .exit)) ⌝ }
+    requires { ⌜ packableRefusal (packable (now instructions) (now entries) (numberOf boundary) (numberOf left)) ≡ 0 ⌝ }
+    requires { ⌜ (now out ≡ replicate (length (now out)) (pos 0)) × (now «entries_out» ≡ replicate (length (now «entries_out»)) (pos 0)) ⌝ }
+    ensures { λ r. ⌜ Packs (packable (now (instructions .entry)) (now (entries .entry)) (numberOf boundary) (numberOf left)) (now (out .entry)) (now («entries_out» .entry)) r (now (out .exit)) (now («entries_out» .exit)) ⌝ }
 {
     let mut table = [0u32; 256];
-    let count = label_entries(entries, &mut table);
+    let found = label(entries, is_present(boundary), &mut table);
+    let redirects = found.redirects;
+    let offset = found.offset;
+    let count = found.count;
     let labels = &table[..count];
-    let bounded = is_present(boundary);
-    let redirects = redirects_of(bounded, labels);
-    let offset = offset_by(bounded, redirects);
+    let size = packed_size(instructions, left, offset);
+    let refusal = labels_refusal(
+        labels,
+        redirects,
+        offset,
+        left,
+        size,
+        out.len(),
+        entries.len(),
+        entries_out.len(),
+    );
+    if refusal != 0 {
+        return Packed::Refused(refusal);
+    }
     put_instructions(instructions, boundary, left, labels, redirects, offset, out);
     put_entries(entries, labels, redirects, offset, entries_out);
-    let size = packed_size(instructions, left, offset);
     Packed::Sizes(size / 4, offset, redirects)
 }
 
@@ -266,22 +255,15 @@ pub fn pack_entrypoints(
     out: &mut [i32],
     entries_out: &mut [i32],
 ) -> Packed
-    ensures { λ r. ⌜ Packs (record { instructions = now (instructions .entry); entries = now (entries .entry); boundary = boundary; left = «left_entry» }) (now (out .entry)) (now («entries_out» .entry)) r (now (out .exit)) (now («entries_out» .exit)) ⌝ }
+    ensures { λ r. ⌜ Packs (packable (now (instructions .entry)) (now (entries .entry)) boundary «left_entry») (now (out .entry)) (now («entries_out» .entry)) r (now (out .exit)) (now («entries_out» .exit)) ⌝ }
 {
     words::zero::zero_i32(out);
     words::zero::zero_i32(entries_out);
-    let refusal = packing_refusal(
-        instructions,
-        entries,
-        boundary,
-        left_entry,
-        out.len(),
-        entries_out.len(),
-    );
-    if refusal != 0 {
-        return Packed::Refused(refusal);
+    let font = packable_refusal(instructions, entries, boundary, left_entry);
+    if font != 0 {
+        return Packed::Refused(font);
     }
     let bound = words::word_of(boundary);
     let left = words::word_of(left_entry);
-    write_packed(instructions, entries, bound, left, out, entries_out)
+    pack_font(instructions, entries, bound, left, out, entries_out)
 }

@@ -11,13 +11,13 @@ use Rattle.words.specs.Lists.{Filling}
 use Rattle.words.proofs.Lists.{filling-none, filling-length}
 use Rattle.pack.specs.Packing.{front, back}
 use Rattle.lang.proofs.Filled.{filling-put}
-use Rattle.pack.proofs.Packing.{packedNumber, number-count, filling-is}
+use Rattle.pack.proofs.Packing.{packedAt, number-count, filling-is}
 use borrow.Author.Needs.{needs}
 use Rattle.pack.proofs.put_instructions.Statement.{statement}
 use Rattle.pack.proofs.put_instructions.Tie as tie
 
 abbrev Inv-loop : tie.InvT-loop
-Inv-loop instructions boundary left labels redirects offset out₀ size j₀ out j = Filling (packedNumber (numberOf boundary) redirects offset labels instructions (numberOf left)) out₀ out j × (j ≤ size)
+Inv-loop instructions boundary left labels redirects offset out₀ size j₀ out j = Filling (packedAt (numberOf boundary) redirects offset labels instructions (numberOf left)) out₀ out j × (j ≤ size)
 
 abbrev μ-loop : tie.MeasureT-loop
 μ-loop instructions boundary left labels redirects offset out₀ size j₀ out j = size - j
@@ -33,7 +33,7 @@ size s =
 kept : (s : tie.At-loop Inv-loop μ-loop) → length (s .loop .out) ≡ length (s .before .before .before .args .out .now)
 kept s =
     let a = s .before .before .before .args in
-    filling-length (packedNumber (numberOf (a .boundary)) (a .redirects) (a .offset) (a .labels .now) (a .instructions .now) (numberOf (a .left))) (a .out .now) (s .loop .inv .0)
+    filling-length (packedAt (numberOf (a .boundary)) (a .redirects) (a .offset) (a .labels .now) (a .instructions .now) (numberOf (a .left))) (a .out .now) (s .loop .inv .0)
 
 room : (c : tie.In-loop Inv-loop μ-loop) → c .before .loop .j < length (c .before .before .before .before .args .out .now)
 room c = omega (arith, size (c .before), c .before .before .before .before .pre .1, c .loop-test .taken)
@@ -44,7 +44,7 @@ packed-size-requires c κs = omega (arith, c .before .pre .0 .1 .1 .0 0)
 loop-holds : tie.Need-loop-holds Inv-loop μ-loop
 loop-holds c =
     let a = c .before .before .args in (
-      filling-none (packedNumber (numberOf (a .boundary)) (a .redirects) (a .offset) (a .labels .now) (a .instructions .now) (numberOf (a .left)))
+      filling-none (packedAt (numberOf (a .boundary)) (a .redirects) (a .offset) (a .labels .now) (a .instructions .now) (numberOf (a .left)))
           (a .out .now),
       omega arith,
     )
