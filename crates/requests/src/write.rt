@@ -86,18 +86,24 @@ fn put_numbers(line: &mut [u8], k: usize, numbers: &[i32], n: usize) -> usize
     at
 }
 
-// The Rust panics where the port answers 10, 11 or 13.
-fn put_refusal(line: &mut [u8], k: usize, refusal: u32) -> usize
+// The Rust panics where the port answers 10, 11 or 13; another refusal it does not have.
+fn put_cause(line: &mut [u8], k: usize, refusal: u32) -> usize
     requires { ⌜ k ≤ length (now line) ⌝ }
     ensures { λ r. ⌜ r ≤ length (now (line .exit)) ⌝ }
 {
     match refusal {
         10 | 11 | 13 => put_bytes(line, k, b" panic"),
-        _ => {
-            let a = put_bytes(line, k, b" ?");
-            put_number(line, a, refusal)
-        }
+        _ => put_bytes(line, k, b" ?"),
     }
+}
+
+// A refusal: its cause and its number.
+fn put_refusal(line: &mut [u8], k: usize, refusal: u32) -> usize
+    requires { ⌜ k ≤ length (now line) ⌝ }
+    ensures { λ r. ⌜ r ≤ length (now (line .exit)) ⌝ }
+{
+    let a = put_cause(line, k, refusal);
+    put_number(line, a, refusal)
 }
 
 // The numbers of an answer, or its refusal.
