@@ -10,6 +10,7 @@ use common::font::TextItem;
 use std::collections::{HashMap, HashSet};
 use std::io::{BufRead, Write};
 use std::panic::{catch_unwind, AssertUnwindSafe};
+use std::sync::Mutex;
 
 /// The numbers of one request. Every reading fails on a number out of range.
 struct Numbers {
@@ -102,6 +103,20 @@ struct Font {
 impl Font {
     fn map(&self) -> HashMap<Char, u16> {
         self.entries.iter().copied().collect()
+    }
+    /// The same font with its entries above 511 lowered to 512, 513 and so on in their order, and without
+    /// the left-boundary entry: it packs with as many redirects, and no sum comes near 65536.
+    fn lowered(mut self) -> Font {
+        let mut high: Vec<u16> = self.entries.iter().map(|(_, e)| *e).filter(|e| *e > 511).collect();
+        high.sort();
+        high.dedup();
+        for (_, e) in &mut self.entries {
+            if let Ok(i) = high.binary_search(e) {
+                *e = 512 + i as u16;
+            }
+        }
+        self.program.left_boundary_char_entrypoint = None;
+        self
     }
     fn compile(&self, design: FixWord) -> (CompiledProgram, Vec<(Option<Char>, Char)>) {
         let (compiled, loops) =
@@ -458,7 +473,7 @@ fn read(letter: &str, n: &mut Numbers) -> Read<Call> {
     })
 }
 
-fn parse(line: &str) -> Read<(&str, Call)> {
+fn split(line: &str) -> Read<(&str, Numbers)> {
     let mut words = line.split_ascii_whitespace();
     let letter = words.next().ok_or("empty line")?;
     let list = words
@@ -468,7 +483,11 @@ fn parse(line: &str) -> Read<(&str, Call)> {
                 .map_err(|_| format!("not a number: {w}"))
         })
         .collect::<Read<Vec<i64>>>()?;
-    let mut numbers = Numbers { list, next: 0 };
+    Ok((letter, Numbers { list, next: 0 }))
+}
+
+fn parse(line: &str) -> Read<(&str, Call)> {
+    let (letter, mut numbers) = split(line)?;
     let call = read(letter, &mut numbers)?;
     if numbers.next != numbers.list.len() {
         return Err("the line is too long".into());
@@ -476,9 +495,54 @@ fn parse(line: &str) -> Read<(&str, Call)> {
     Ok((letter, call))
 }
 
+/// What the last panic said.
+static SAID: Mutex<String> = Mutex::new(String::new());
+
+fn listen() {
+    std::panic::set_hook(Box::new(|info| {
+        let payload = info.payload();
+        let text = match payload.downcast_ref::<&str>() {
+            Some(text) => text.to_string(),
+            None => payload.downcast_ref::<String>().cloned().unwrap_or_default(),
+        };
+        *SAID.lock().unwrap() = text;
+    }));
+}
+
+/// The number of the refusal that the last panic stands for, by what it said: the assertion of
+/// `to_scaled`; the offset of packing counted past a byte; the target of a redirect, an entry or the
+/// left-boundary entry plus the offset past 65535.
+fn said(letter: &str) -> Option<i64> {
+    let text = SAID.lock().unwrap();
+    if text.ends_with("a == 0 || a == 255") {
+        Some(13)
+    } else if letter == "P" && text.contains("cannot exceed 256") {
+        Some(10)
+    } else if letter == "P" && (text.contains("enough space") || text.ends_with("add with overflow")) {
+        Some(11)
+    } else {
+        None
+    }
+}
+
+/// The number of the refusal that the panic on this line stands for. Where 11 holds, 10 comes before it
+/// if it holds too: the Rust is asked once more, on the lowered font, where only 10 can be the answer.
+fn refusal(line: &str) -> Option<i64> {
+    let (letter, mut numbers) = split(line).ok()?;
+    let number = said(letter)?;
+    if number == 11 {
+        let mut font = numbers.font().ok()?.lowered();
+        let map = font.map();
+        if catch_unwind(AssertUnwindSafe(|| font.program.pack_entrypoints(map))).is_err() {
+            return said(letter);
+        }
+    }
+    Some(number)
+}
+
 /// Answers the requests on standard input; the exit status is returned.
 pub fn main() -> i32 {
-    std::panic::set_hook(Box::new(|_| {}));
+    listen();
     let mut out = std::io::BufWriter::new(std::io::stdout().lock());
     for (i, line) in std::io::stdin().lock().lines().enumerate() {
         let line = match line {
@@ -504,7 +568,12 @@ pub fn main() -> i32 {
                     text.push_str(&number.to_string());
                 }
             }
-            Err(_) => text.push_str(" panic"),
+            Err(_) => {
+                text.push_str(" panic");
+                if let Some(number) = refusal(&line) {
+                    text.push_str(&format!(" {number}"));
+                }
+            }
         }
         if writeln!(out, "{text}").is_err() {
             return 2;

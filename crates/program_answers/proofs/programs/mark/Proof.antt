@@ -1,0 +1,57 @@
+-- `program_answers::programs::mark` keeps the length of the marks: the invariant.
+-- Assumes nothing.
+use native.Mathlib.Omega.{arith}
+use Prim.Native.Nat.{ℕ, _≤_, _<_, _-_}
+use mathlib.Core.Path.{_≡_}
+use lib.ListN.{length}
+use Rattle.program_answers.proofs.programs.mark.Statement.{statement}
+use Rattle.program_answers.proofs.programs.mark.Tie as tie
+
+abbrev Inv-loop : tie.InvT-loop
+Inv-loop listed marks₀ i₀ marks i = length marks ≡ length marks₀
+
+abbrev μ-loop : tie.MeasureT-loop
+μ-loop listed marks₀ i₀ marks i = length listed - i
+
+loop-holds : tie.Need-loop-holds Inv-loop μ-loop
+loop-holds c = omega arith
+
+word-at-requires : tie.Need-word-at-requires Inv-loop μ-loop
+word-at-requires c κs = tt
+
+cast-put-u8 : tie.Need-cast-put-u8 Inv-loop μ-loop
+cast-put-u8 c = omega arith
+
+put-u8-requires : tie.Need-put-u8-requires Inv-loop μ-loop
+put-u8-requires c κs = tt
+
+add-i : tie.Need-add-i Inv-loop μ-loop
+add-i c = omega arith
+
+loop-less : tie.Need-loop-less Inv-loop μ-loop
+loop-less c = omega arith
+
+loop-again : tie.Need-loop-again Inv-loop μ-loop
+loop-again c = omega (arith, c .before .before .put-u8 .kept .0)
+
+same-length : tie.Need-same-length Inv-loop μ-loop
+same-length c = omega arith
+
+returns : tie.Need-returns Inv-loop μ-loop
+returns c = tt
+
+pub mark-spec : {M : Type 1} → statement M
+mark-spec =
+    tie.close
+    (tie.spec
+    Inv-loop
+    μ-loop
+    loop-holds
+    word-at-requires
+    cast-put-u8
+    put-u8-requires
+    add-i
+    loop-less
+    loop-again
+    same-length
+    returns)

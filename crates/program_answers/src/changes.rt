@@ -1,0 +1,69 @@
+// The answers that write a program anew: K, J and P.
+use crate::instructions::put_instructions;
+use crate::room::records;
+use crate::room::values;
+use lang::Written;
+use pack::Packed;
+use requests::answer::put_count;
+use requests::answer::put_list;
+use requests::answer::put_one;
+use requests::request::entries_of;
+use requests::request::from_end;
+use requests::request::instructions_of;
+use requests::request::kerns_of;
+use requests::request::number_at;
+use requests::request::part;
+
+// J FONT
+pub(crate) fn with_kerns(font: &[i32], out: &mut [i32]) -> Written {
+    let mut program = records();
+    match kerns::pack_kerns(instructions_of(font), kerns_of(font), &mut program) {
+        Written::Count(n) => Written::Count(put_instructions(out, 0, &program, n)),
+        Written::Refused(n) => Written::Refused(n),
+    }
+}
+
+// K FONT
+pub(crate) fn with_indices(font: &[i32], out: &mut [i32]) -> Written {
+    let mut program = records();
+    let mut list = values();
+    let instructions = instructions_of(font);
+    match kerns::unpack_kerns(instructions, &mut program, &mut list) {
+        Written::Count(m) => {
+            let a = put_count(out, 0, m);
+            let b = put_list(out, a, part(&list, 0, m));
+            Written::Count(put_instructions(out, b, &program, instructions.len() / 4))
+        }
+        Written::Refused(n) => Written::Refused(n),
+    }
+}
+
+// The packed program, its entries, and the left entry, which stays as it was.
+fn put_packed(out: &mut [i32], program: &[i32], n: usize, entries: &[i32], left: u32) -> usize {
+    let a = put_instructions(out, 0, program, n);
+    let b = put_count(out, a, entries.len() / 2);
+    let c = put_list(out, b, entries);
+    put_one(out, c, left)
+}
+
+// P FONT
+pub(crate) fn packed(font: &[i32], out: &mut [i32]) -> Written {
+    let mut program = records();
+    let mut listed = values();
+    let entries = entries_of(font);
+    let left = number_at(font, from_end(font, 1));
+    match pack::pack_entrypoints(
+        instructions_of(font),
+        entries,
+        number_at(font, from_end(font, 2)),
+        left,
+        &mut program,
+        &mut listed,
+    ) {
+        Packed::Sizes(n, _, _) => {
+            let kept = part(&listed, 0, entries.len());
+            Written::Count(put_packed(out, &program, n, kept, words::word_of(left)))
+        }
+        Packed::Refused(n) => Written::Refused(n),
+    }
+}

@@ -1,0 +1,36 @@
+// The answers of the port to requests about numbers and programs, with the letters of tools/oracle: the program vectors compares them with the Rust's.
+// A request has at most 16,384 numbers, so a program at most 4,096 instructions.
+ghost use lib.ListN.{length};
+ghost use Rattle.requests.specs.Answers.{Within};
+use lang::Written;
+use requests::answer::fitting;
+
+mod changes;
+mod instructions;
+mod numbers;
+mod programs;
+mod room;
+
+fn answer_by(letter: u8, numbers: &[i32], out: &mut [i32]) -> Written {
+    match letter {
+        b'S' => numbers::scaled(numbers, out),
+        b'O' => numbers::operation(numbers, out),
+        b'V' => numbers::seven_bit(numbers, out),
+        b'I' => programs::chain_from(numbers, out),
+        b'K' => changes::with_indices(numbers, out),
+        b'J' => changes::with_kerns(numbers, out),
+        b'U' => programs::unpacked(numbers, out),
+        b'B' => programs::seven_bit_safe(numbers, out),
+        b'R' => programs::reached(numbers, out),
+        b'P' => changes::packed(numbers, out),
+        _ => Written::Refused(16),
+    }
+}
+
+// The numbers of the answer to a request, or the number of its refusal: 15 where the list is too short, 16 for another letter.
+pub fn answer(letter: u8, numbers: &[i32], out: &mut [i32]) -> Written
+    ensures { λ r. ⌜ Within r (length (now (out .exit))) ⌝ }
+{
+    let answer = answer_by(letter, numbers, out);
+    fitting(answer, out.len())
+}

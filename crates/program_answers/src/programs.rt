@@ -1,0 +1,117 @@
+// The answers about a program: I, U, B and R.
+ghost use Prim.Native.Nat.{_≤_};
+use crate::room::indices;
+use crate::room::places;
+use crate::room::values;
+use lang::Written;
+use requests::answer::bit;
+use requests::answer::put_count;
+use requests::answer::put_list;
+use requests::answer::put_one;
+use requests::answer::put_words;
+use requests::request::after;
+use requests::request::entries_of;
+use requests::request::from_end;
+use requests::request::front;
+use requests::request::instructions_of;
+use requests::request::items;
+use requests::request::number_at;
+use requests::request::part;
+use requests::request::rest;
+use unpack::SevenBit;
+use unpack::Unpacked;
+
+// I entry FONT
+pub(crate) fn chain_from(numbers: &[i32], out: &mut [i32]) -> Written {
+    let mut list = indices();
+    let instructions = instructions_of(rest(numbers, 1));
+    match chain::instructions_for_entrypoint(instructions, number_at(numbers, 0), &mut list) {
+        Written::Count(n) => {
+            let a = put_count(out, 0, n);
+            Written::Count(put_words(out, a, &list, n))
+        }
+        Written::Refused(n) => Written::Refused(n),
+    }
+}
+
+// Passthrough from a list of indices: a byte an instruction, 1 at each index of the list.
+fn mark(listed: &[i32], marks: &mut [u8]) {
+    let mut i = 0;
+    while i < listed.len() {
+        words::put_u8(marks, words::word_at(listed, i) as usize, 1);
+        i += 1;
+    }
+}
+
+fn put_if_set(out: &mut [i32], at: usize, mark: u8, i: usize) -> usize
+    ensures { λ r. ⌜ at ≤ r ⌝ }
+{
+    if mark == 0 {
+        return at;
+    }
+    put_count(out, at, i)
+}
+
+// The indices of the marks that are set.
+fn put_marked(out: &mut [i32], at: usize, marks: &[u8]) -> usize
+    ensures { λ r. ⌜ at ≤ r ⌝ }
+{
+    let mut next = at;
+    let mut i = 0;
+    while i < marks.len() {
+        next = put_if_set(out, next, marks[i], i);
+        i += 1;
+    }
+    next
+}
+
+// An unpacked entry and the marks that are left, whose number stands before them.
+fn put_entry(out: &mut [i32], entry: usize, marks: &[u8]) -> usize {
+    let a = put_count(out, 0, 0);
+    let b = put_count(out, a, entry);
+    let c = put_count(out, b, 0);
+    let d = put_marked(out, c, marks);
+    put_count(out, b, d - c);
+    d
+}
+
+// U entry PASSTHROUGH FONT
+pub(crate) fn unpacked(numbers: &[i32], out: &mut [i32]) -> Written {
+    let instructions = instructions_of(rest(numbers, after(numbers, 1, 1)));
+    let mut marks = places();
+    mark(items(numbers, 1, 1), &mut marks);
+    let through = front(&marks, instructions.len() / 4);
+    let mut left = places();
+    match unpack::unpack_entrypoint(instructions, number_at(numbers, 0), through, &mut left) {
+        Unpacked::Entry(e) => Written::Count(put_entry(out, e, &left)),
+        Unpacked::Direct => Written::Count(put_one(out, 0, 8)),
+        Unpacked::Indirect => Written::Count(put_one(out, 0, 9)),
+        Unpacked::Unfit(n) => Written::Refused(n),
+    }
+}
+
+// B FONT
+pub(crate) fn seven_bit_safe(font: &[i32], out: &mut [i32]) -> Written {
+    match unpack::is_seven_bit_safe(instructions_of(font), entries_of(font)) {
+        SevenBit::Safe(safe) => Written::Count(put_one(out, 0, bit(safe))),
+        SevenBit::Unfit(n) => Written::Refused(n),
+    }
+}
+
+// R PASSTHROUGH FONT
+pub(crate) fn reached(numbers: &[i32], out: &mut [i32]) -> Written {
+    let font = rest(numbers, after(numbers, 0, 1));
+    let instructions = instructions_of(font);
+    let mut marks = places();
+    mark(items(numbers, 0, 1), &mut marks);
+    let through = front(&marks, instructions.len() / 4);
+    let left = number_at(font, from_end(font, 1));
+    let mut reach = values();
+    match reach::reachable_iter(instructions, entries_of(font), left, through, &mut reach) {
+        Written::Count(n) => {
+            let a = put_count(out, 0, n);
+            Written::Count(put_list(out, a, part(&reach, 0, n % 4294967296 * 2)))
+        }
+        Written::Refused(n) => Written::Refused(n),
+    }
+}
