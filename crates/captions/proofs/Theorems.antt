@@ -31,7 +31,7 @@ use Rattle.captions.specs.declared.RunOptions.{RunOptions}
 use Rattle.captions.specs.Tables.{opCount, entries}
 use Rattle.captions.specs.Form.{sizesForm}
 use Rattle.captions.specs.Steps.{rightItem}
-use Rattle.captions.specs.Demand3.{Caption, Answered, Reads, Loop, Demand3}
+use Rattle.captions.specs.Demand3.{Caption, Answered, Reads, Loop, Demand3, EveryAcceptedFont}
 use Rattle.captions.proofs.FontCodes.{font-form}
 use Rattle.captions.proofs.FontTable.{below, font-holds-below}
 use Rattle.captions.proofs.Running.{Fit, runs}
@@ -152,7 +152,7 @@ demand-by f l few fits e =
     record {
       reported = loopsOfFont f;
       loop-list = (refl, sym e);
-      reported-never = Compiling.reported-never f;
+      reported-never = λ q m. let n = Compiling.reported-never f q m in let r = Compiling.never-in-range f (q .left) (q .right) n in (r .0, r .1, n);
       some-loop = (λ h. a-loop f (omega (arith, h, e)), λ k. omega (arith, loop-listed f k (loopsOfFont f) refl, e));
       no-loop = (λ h. Compiling.no-loops f .0 (none-listed (loopsOfFont f) (sym e ∙ h)), λ h. e ∙ ap (λ (qs : List Pair). length qs) (Compiling.no-loops f .1 h));
       set-as-read = λ h word options c. set-run f few fits word options c (none-listed (loopsOfFont f) (sym e ∙ h));
@@ -160,9 +160,8 @@ demand-by f l few fits e =
       run-reads = λ word options c items r. read-run f few fits word options c items r;
     }
 
--- DEMAND 3. Whatever font compile accepts: what it says of loops is true, and what it wrote sets every word as the reading reads it.
-pub demand-3 : (f : Font) (pairs ops loops : List ℤ) (work : List ℕ) (p o l : ℕ) (pairs′ ops′ loops′ : List ℤ) (work′ : List ℕ) →
-    Compiles f pairs ops loops work (Tables p o l) pairs′ ops′ loops′ work′ → Demand3 f l (take (6 * p) pairs′) (take (2 * o) ops′) (take (2 * l) loops′)
+-- DEMAND 3: specs/Demand3.
+pub demand-3 : EveryAcceptedFont
 demand-3 f pairs ops loops work p o l pairs′ ops′ loops′ work′ c =
     let room = roomIn pairs ops loops work in
     let a = accepted (compileRefusal f room) f p o l (c .answer) in

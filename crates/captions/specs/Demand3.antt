@@ -1,21 +1,23 @@
 -- Demand 3, of the whole list, in the terms of the calls: document 01, 'What every contract owes the setter', c and e. `Compiles` is the contract of
 -- compile, and begin's and step's contracts are equations with `beginOf` and `stepOf`; `answers` are n steps, each handed the state that the last one
--- returned. What is proved of an accepted font is the record `Demand3`; the theorem is `demand-3` of proofs/Theorems.
+-- returned. What is proved of an accepted font is the record `Demand3`; the statement whole is `EveryAcceptedFont`, at the end.
 use mathlib.Core.Path.{_≡_}
 use mathlib.Core.Bool.{Bool, true, false, not}
 use mathlib.Core.List.{List, map, List·Memᴰ}
 use mathlib.Core.Logic.{_↔_}
-use Prim.Native.Nat.{ℕ, _<_, _≤_}
+use Prim.Native.Nat.{ℕ, _*_, _<_, _≤_}
 use lib.IntN.{ℤ}
 use lib.Dec.{leb}
-use lib.ListN.{length, getD}
+use lib.ListN.{length, getD, take}
 use Rattle.lang.specs.Every.{every}
 use Rattle.lang.specs.Records.{absentOr}
 use Rattle.reading.specs.Items.{Left, Out}
 use Rattle.reading.specs.Reading.{reading, ended, NeverEnds, Ends}
 use Rattle.reading.specs.Depth.{Pair}
 use Rattle.fonts.specs.Fonts.{numberOfLeft}
+use Rattle.fonts.specs.declared.Compiled.the-variants.{Tables}
 use Rattle.fonts.specs.Numbers.{loopNumbers}
+use Rattle.fonts.specs.Compiled.{Compiles}
 use Rattle.fonts.specs.Fonts.{Font, rulesOf}
 use Rattle.captions.specs.declared.RunOptions.{RunOptions}
 use Rattle.captions.specs.declared.State.{State}
@@ -52,10 +54,10 @@ pub record Loop (f : Font) : Type 0 where
 
 -- Of a font that compile accepts: l loops, and the pairs, ops and loop list that it wrote, without the zeroed rest.
 pub record Demand3 (f : Font) (l : ℕ) (pairs ops loops : List ℤ) : Type 0 where
-  -- the loop list is a list of l pairs, and every pair that is reported never ends
+  -- the loop list is a list of l pairs, and every pair that is reported, a left of -1 to 255 and a right of 0 to 255, never ends
   pub reported : List Pair
   pub loop-list : (loops ≡ loopNumbers reported) × (length reported ≡ l)
-  pub reported-never : (q : Pair) → List·Memᴰ q reported → NeverEnds (rulesOf f) (q .left) (q .right)
+  pub reported-never : (q : Pair) → List·Memᴰ q reported → (numberOfLeft (q .left) < 257) × (q .right < 256) × NeverEnds (rulesOf f) (q .left) (q .right)
   -- a loop is reported exactly when some pair never ends; none exactly when every pair ends
   pub some-loop : (0 < l) ↔ Loop f
   pub no-loop : (l ≡ 0) ↔ ((x : Left) (y : ℕ) → Ends (rulesOf f) x y)
@@ -64,3 +66,11 @@ pub record Demand3 (f : Font) (l : ℕ) (pairs ops loops : List ℤ) : Type 0 wh
   -- loops or not: no step is refused, and every run ends; and whatever the reading of the word gives once it ends, the run gives
   pub run-ends : (word : List ℕ) (options : RunOptions) → Caption word options → (items : List Out) × Answered f pairs ops word options items
   pub run-reads : (word : List ℕ) (options : RunOptions) → Caption word options → (items : List Out) → Reads f word options items → Answered f pairs ops word options items
+
+-- DEMAND 3, whole: whatever font compile is lent, with whatever lists, if its answer is no refusal then `Demand3` holds of what it answered and wrote: of the
+-- count of its loops, and of the pairs, ops and loops cut to their counts. Proved: `demand-3` of proofs/Theorems.
+abbrev pub EveryAcceptedFont : Type 0
+EveryAcceptedFont =
+    (f : Font) (pairs ops loops : List ℤ) (work : List ℕ) (p o l : ℕ) (pairs′ ops′ loops′ : List ℤ) (work′ : List ℕ) →
+    Compiles f pairs ops loops work (Tables p o l) pairs′ ops′ loops′ work′ →
+    Demand3 f l (take (6 * p) pairs′) (take (2 * o) ops′) (take (2 * l) loops′)

@@ -3,6 +3,7 @@
 --   Reading  THE definition: one step, the reading of a list, of a pair and of a word
 --   Depth    a pair computed by depth, which is what a compiled table holds, and what a pair waits for
 --   Loops    the loop list of document 01
+--   Cycles   what that list is, said of cycles: one pair of each
 --   Run      the plain run over a table of pairs, one item a step
 --   Form     the form of a table's entry
 -- What is proved of them is stated in proofs/Theorems.antt.
@@ -10,5 +11,6 @@ pub mod Items
 pub mod Reading
 pub mod Depth
 pub mod Loops
+pub mod Cycles
 pub mod Run
 pub mod Form
