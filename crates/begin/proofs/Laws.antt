@@ -6,11 +6,13 @@ use mathlib.Core.List.{List, [], _∷_}
 use Prim.Native.Nat.{ℕ, zero, suc}
 use native.Mathlib.Omega.{arith}
 use lib.ListN.{length, getD}
+use Rattle.lang.specs.Answers.{replyOf}
 use Rattle.captions.specs.declared.RunOptions.{RunOptions}
 use Rattle.captions.specs.declared.NextLeft.the-variants as next
 use Rattle.captions.specs.declared.State.{State}
 use Rattle.captions.specs.declared.Begun.the-variants.{Run, Refused}
-use Rattle.captions.specs.Begin.{fresh, freshState, begunBy}
+use Rattle.captions.specs.Replies.{stateNumbers, begunReply}
+use Rattle.captions.specs.Begin.{fresh, freshState}
 
 pub fresh-boundary : (word : List ℕ) (options : RunOptions) → options .«disable_left_boundary» ≡ false → fresh next.Boundary 0 ≡ freshState word options
 fresh-boundary word options e = rw e
@@ -23,9 +25,13 @@ pub fresh-letter : (word : List ℕ) (options : RunOptions) → options .«disab
 fresh-letter [] options e h = absurd (h refl)
 fresh-letter (c ∷ cs) options e h = rw e
 
-pub begun-refused : (n : ℕ) (s : State) → (n ≡ 0 → ⊥) → Refused n ≡ begunBy n s
-begun-refused zero s h = absurd (h refl)
-begun-refused (suc n) s h = refl
+module _ (n r : ℕ) (e : n ≡ r) where
+  pub begun-refused : (s : State) → (n ≡ 0 → ⊥) → begunReply (Refused n) ≡ replyOf r (stateNumbers s)
+  begun-refused s h = rw (← e) (by n h)
+    where
+      by : (m : ℕ) → (m ≡ 0 → ⊥) → begunReply (Refused m) ≡ replyOf m (stateNumbers s)
+      by zero z = absurd (z refl)
+      by (suc m) z = refl
 
-pub begun-run : (n : ℕ) (s : State) → n ≡ 0 → Run s ≡ begunBy n s
-begun-run n s e = rw e
+  pub begun-run : {s t : State} → n ≡ 0 → s ≡ t → begunReply (Run s) ≡ replyOf r (stateNumbers t)
+  begun-run z q = rw (← e, z, q)

@@ -1,6 +1,7 @@
 // A fresh run, after `run_with_options` of ligkern/mod.rs: what it is given is checked whole, in time linear in it.
 ghost use mathlib.Core.Path.{_≡_};
-ghost use Rattle.captions.specs.Begin.{lettersRefusal, beginRefusal, freshState, beginOf};
+ghost use Rattle.captions.specs.Replies.{begunReply};
+ghost use Rattle.captions.specs.Begin.{lettersRefusal, beginRefusal, freshState, beginReply};
 ghost use Rattle.captions.specs.Begin as begun;
 use captions::Begun;
 use captions::Consumes;
@@ -81,7 +82,7 @@ fn fresh_state(word: &[u32], options: RunOptions) -> State
 
 // A run that has given nothing.
 pub fn begin(pairs: &[i32], ops: &[i32], boundary: i32, word: &[u32], options: RunOptions) -> Begun
-    ensures { λ r. ⌜ r ≡ beginOf (now (pairs .entry)) (now (ops .entry)) boundary (now (word .entry)) options ⌝ }
+    ensures { λ r. ⌜ begunReply r ≡ beginReply (now (pairs .entry)) (now (ops .entry)) boundary (now (word .entry)) options ⌝ }
 {
     let refusal = begin_refusal(pairs, ops, boundary, word, options);
     if refusal != 0 {

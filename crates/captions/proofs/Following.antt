@@ -1,42 +1,39 @@
 -- A step from a sound state answers as the plain run over the table does, and is not refused: by turns, one letter each.
 -- Assumes nothing.
-use mathlib.Core.Path.{_≡_, refl, sym, ap, _∙_, subst}
+use mathlib.Core.Path.{_≡_, refl, subst}
 use mathlib.Core.Bool.{Bool, true, false, cond}
 use mathlib.Core.List.{List, [], _∷_}
-use mathlib.Core.Option.{Option, none, some, Option·map}
-use Prim.Native.Nat.{ℕ, zero, suc, _+_, _-_, _*_, _%_, _<_, _≤_}
+use mathlib.Core.Option.{Option, some}
+use Prim.Native.Nat.{ℕ, zero, suc, _+_, _-_, _%_, _≤_}
 use native.Mathlib.Omega.{arith}
 use lib.IntN.{ℤ}
-use lib.Dec.{ltb, leb, eqb}
-use lib.ListN.{length, drop, getD, drop-of-length-le}
-use lib.Seq.{drop-cons}
-use borrow.Author.Tests.{le-leb, leb-true, ltb-true, ltb-false, ne-eqb}
+use lib.Dec.{leb, eqb}
+use lib.ListN.{length, drop}
+use borrow.Author.Tests.{leb-true, ne-eqb}
 use Rattle.words.specs.Words.{wordOf}
 use Rattle.lang.specs.Every.{both, every}
 use Rattle.lang.specs.Records.{within, absentOr}
 use Rattle.lang.proofs.Every.{every-at, both-left, both-right}
 use Rattle.lang.proofs.Records.{within-bound}
-use Rattle.reading.specs.Items.{Left, bnd, chr, Item, item, flag, plain, inserted, Head, edge, at, key, Out, glyph, kern}
-use Rattle.reading.specs.Depth.{Res, Finished, raiseLeft}
+use Rattle.reading.specs.Items.{Out, glyph, kern}
+use Rattle.reading.specs.Depth.{Finished}
 use Rattle.reading.specs.Form.{noPlain, formed}
 use Rattle.reading.specs.Run as plainly
 use Rattle.fonts.specs.Fonts.{leftOf}
 use Rattle.captions.specs.declared.NextLeft.{NextLeft}
 use Rattle.captions.specs.declared.NextLeft.the-variants as next
 use Rattle.captions.specs.declared.Consumes.{Consumes}
-use Rattle.captions.specs.declared.Consumes.the-variants as consumes
 use Rattle.captions.specs.declared.State.{State}
-use Rattle.captions.specs.declared.Answer.the-variants.{Char, Ligature, Kern, End, Refused}
+use Rattle.captions.specs.declared.Answer.the-variants.{Char}
 use Rattle.captions.specs.declared.Step.{Step}
 use Rattle.captions.specs.declared.Turned.{Turned}
-use Rattle.captions.specs.declared.Turned.the-variants.{Gives, Goes}
-use Rattle.captions.specs.Tables.{pairCount, opCount, number, leftPlace, keyBy, keyAt, find, firstOp, countOf, lastCode, lastFlag, entryAt, entries, opsFrom, opFits, recordFits}
+use Rattle.captions.specs.Tables.{pairCount, opCount, number, leftPlace, keyBy, find, firstOp, countOf, lastCode, lastFlag, entryAt, opsFrom, opFits, recordFits}
 use Rattle.captions.specs.Form.{pairForm, tableForm, keyForm, opsEnd, comesAfter, sizesForm}
-use Rattle.captions.specs.Steps.{refused, leftLetters, gathered, leftPlaceOf, leftConsumed, afterRight, readOn, withNext, giveLeft, entered, turnBy, turnWith, turnAtEnd, turnAtLetter, turn, onward, byNext, stepBy, runOn, nextFits, giveCharacter}
+use Rattle.captions.specs.Steps.{stepBy}
 use Rattle.captions.proofs.Finding.{find-inside}
-use Rattle.captions.proofs.Raising.{raiseFirst, raise-none, raise-outs, raise-last, raise-last-none, hasGlyph, plainFirst, form-ops, left-plain-first, left-carried, boundary-no-plain}
-use Rattle.captions.proofs.Sound.{state, isPending, waiting, isLigature, mode, carries, nextOf, shownOf, Sound, opsOf, runOf, Follows}
-use Rattle.captions.proofs.Giving.{gives-letter, gives-pending, gives-ligature, gives-op}
+use Rattle.captions.proofs.Raising.{raiseFirst}
+use Rattle.captions.proofs.Sound.{state, isPending, nextOf, Sound, Follows}
+use Rattle.captions.proofs.Giving.{gives-ligature, gives-op}
 
 -- ---- what a table of the form says of a pair that is found
 

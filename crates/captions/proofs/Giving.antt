@@ -1,34 +1,30 @@
 -- A step that looks nothing up gives what the plain run gives: an op, a last ligature, or the end.
 -- Assumes nothing.
-use mathlib.Core.Path.{_≡_, refl, sym, ap, _∙_, subst}
+use mathlib.Core.Path.{_≡_, refl}
 use mathlib.Core.Bool.{Bool, true, false, cond}
-use mathlib.Core.List.{List, [], _∷_}
-use mathlib.Core.Option.{Option, none, some}
-use Prim.Native.Nat.{ℕ, zero, suc, _+_, _-_, _<_, _≤_}
+use mathlib.Core.List.{List, _∷_}
+use Prim.Native.Nat.{ℕ, zero, suc, _+_, _-_, _≤_}
 use native.Mathlib.Omega.{arith}
 use lib.IntN.{ℤ}
-use lib.Dec.{ltb, leb, eqb}
+use lib.Dec.{leb, eqb}
 use lib.ListN.{length, drop}
 use borrow.Author.Tests.{le-leb, leb-true, ne-eqb}
 use Rattle.words.specs.Words.{wordOf}
 use Rattle.lang.specs.Every.{both, every}
 use Rattle.lang.proofs.Every.{every-at}
-use Rattle.reading.specs.Items.{Item, item, plain, inserted, Head, edge, at, Out, glyph, kern}
+use Rattle.reading.specs.Items.{plain, inserted, Out, glyph, kern}
 use Rattle.reading.specs.Form.{noPlain}
 use Rattle.reading.specs.Run as plainly
 use Rattle.captions.specs.declared.NextLeft.{NextLeft}
-use Rattle.captions.specs.declared.NextLeft.the-variants as next
 use Rattle.captions.specs.declared.Consumes.{Consumes}
 use Rattle.captions.specs.declared.Consumes.the-variants as consumes
-use Rattle.captions.specs.declared.State.{State}
 use Rattle.captions.specs.declared.Answer.{Answer}
-use Rattle.captions.specs.declared.Answer.the-variants.{Char, Ligature, Kern, End, Refused}
-use Rattle.captions.specs.declared.Step.{Step}
-use Rattle.captions.specs.Tables.{opCount, opKind, opValue, opAt, opsFrom, opFits}
-use Rattle.captions.specs.Steps.{refused, leftLetters, taken, takesBoundary, settled, giveItem, giveCharacter, giveLigature, afterOp, giveOp, opsFit, readOp, endsWord, nextFits}
-use Rattle.captions.specs.Runs.{Shown, shows, ends, shown}
+use Rattle.captions.specs.declared.Answer.the-variants.{Char, Ligature, Kern}
+use Rattle.captions.specs.Tables.{opCount, opKind, opValue, opsFrom, opFits}
+use Rattle.captions.specs.Steps.{leftLetters, takesBoundary, giveItem, giveCharacter, giveLigature, opsFit, readOp, endsWord, nextFits}
+use Rattle.captions.specs.Runs.{shows, shown}
 use Rattle.captions.proofs.Raising.{raiseFirst, raise-none, hasGlyph, plainFirst}
-use Rattle.captions.proofs.Sound.{state, isPending, waiting, mode, carries, nextOf, shownOf, Sound, opsOf, runOf, Follows}
+use Rattle.captions.proofs.Sound.{state, isPending, waiting, mode, nextOf, Sound, Follows}
 
 no : {A : Type 0} → _≡_ {A = Bool} false true → A
 no e = absurd (let z : _≡_ {A = ℕ} 0 1 = cc in omega arith)

@@ -10,6 +10,7 @@
 --   Sound      the states that a run can be in, and the plain run that each stands for
 --   Giving, Following, Turning   a step answers as the plain run does: ops, what is given at once, and lefts that are looked up
 --   Running    any number of steps from a fresh state
+--   Replies    each reply determines its answer
 --   Ending     after the end comes only the end, for any table and state: specs/Ending
 pub mod Finding
 pub mod Bisecting
@@ -26,4 +27,5 @@ pub mod Following
 pub mod Turning
 pub mod Running
 pub mod Ending
+pub mod Replies
 pub mod Theorems

@@ -1,14 +1,14 @@
 -- Ops of a pair whose left is a ligature: the flag goes into the first character op. What the form of a table says of that op.
 -- Assumes nothing.
-use mathlib.Core.Path.{_≡_, refl, sym, ap, subst}
+use mathlib.Core.Path.{_≡_, refl, ap}
 use mathlib.Core.Bool.{Bool, true, false, cond}
-use mathlib.Core.List.{List, [], _∷_, _++_}
-use Prim.Native.Nat.{ℕ, zero, suc}
+use mathlib.Core.List.{List, [], _∷_}
+use Prim.Native.Nat.{ℕ}
 use lib.Dec.{eqb}
 use native.Mathlib.Omega.{arith}
 use Rattle.reading.specs.Items.{Left, bnd, chr, Item, item, flag, Out, glyph, kern}
 use Rattle.reading.specs.Depth.{Res, raise, raiseLeft}
-use Rattle.reading.specs.Form.{lastForm, noPlain, isLeft, lastTakes, opsForm, formed}
+use Rattle.reading.specs.Form.{lastForm, noPlain, opsForm, formed}
 
 unfoldable pub raiseFirst : Bool → List Out → List Out
 raiseFirst b [] = []

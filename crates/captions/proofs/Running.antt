@@ -1,6 +1,6 @@
 -- Any number of steps from a fresh state: they answer what the plain run over the decoded table answers, and none is refused.
 -- Assumes nothing.
-use mathlib.Core.Path.{_≡_, refl, sym, ap, _∙_, subst}
+use mathlib.Core.Path.{_≡_, refl, ap, _∙_}
 use mathlib.Core.Bool.{Bool, true, false, cond, not}
 use mathlib.Core.List.{List, [], _∷_, map}
 use mathlib.Core.Option.{Option, none, some}
@@ -8,11 +8,10 @@ use Prim.Native.Nat.{ℕ, zero, suc, _+_, _-_, _<_, _≤_}
 use native.Mathlib.Omega.{arith}
 use lib.IntN.{ℤ, pos, negsuc}
 use lib.Dec.{leb}
-use lib.ListN.{length, drop, getD}
+use lib.ListN.{length, getD}
 use borrow.Author.Tests.{le-leb, leb-true}
-use Rattle.lang.specs.Every.{both, every}
+use Rattle.lang.specs.Every.{every}
 use Rattle.lang.specs.Records.{absentOr}
-use Rattle.lang.specs.Checks.{unless, orElse, absentRefusal}
 use Rattle.lang.proofs.Every.{every-at}
 use Rattle.reading.specs.Items.{Out}
 use Rattle.reading.specs.Depth.{Finished}
@@ -20,17 +19,15 @@ use Rattle.reading.specs.Form.{noPlain}
 use Rattle.reading.specs.Run as plainly
 use Rattle.captions.specs.declared.RunOptions.{RunOptions}
 use Rattle.captions.specs.declared.NextLeft.the-variants as next
-use Rattle.captions.specs.declared.Consumes.the-variants as consumes
 use Rattle.captions.specs.declared.State.{State}
 use Rattle.captions.specs.declared.Answer.{Answer}
 use Rattle.captions.specs.declared.Answer.the-variants.{Char, Ligature, Kern, End, Refused}
-use Rattle.captions.specs.declared.Step.{Step}
 use Rattle.captions.specs.declared.Begun.the-variants.{Run}
 use Rattle.captions.specs.Tables.{opCount, entries, opsFrom}
-use Rattle.captions.specs.Form.{tableForm, tableRefusal}
-use Rattle.captions.specs.Begin.{edgesRefusal, lettersRefusal, wordRefusal, beginRefusal, fresh, withoutBoundary, freshState, begunBy, beginOf}
-use Rattle.captions.specs.Steps.{placed, turn, runOn, stepRefusal, handBack, stepOf, rightItem, nextFits}
-use Rattle.captions.specs.Runs.{answers, Shown, shows, ends, refuses, shown, thenEnds}
+use Rattle.captions.specs.Form.{tableForm}
+use Rattle.captions.specs.Begin.{edgesRefusal, wordRefusal, fresh, withoutBoundary, freshState, beginOf}
+use Rattle.captions.specs.Steps.{placed, turn, runOn, stepRefusal, handBack, stepOf, rightItem}
+use Rattle.captions.specs.Runs.{answers, Shown, shows, ends, shown, thenEnds}
 use Rattle.captions.proofs.Raising.{raiseFirst}
 use Rattle.captions.proofs.Sound.{state, shownOf, Sound, opsOf, runOf, Follows}
 use Rattle.captions.proofs.FontTable.{below}

@@ -2,13 +2,13 @@
 -- Assumes nothing.
 use mathlib.Core.Path.{_≡_}
 use mathlib.Core.Bool.{Bool, true, false, cond}
-use mathlib.Core.List.{List, [], _∷_}
+use mathlib.Core.List.{List}
 use mathlib.Core.Option.{Option, none, some}
 use Prim.Native.Nat.{ℕ, zero, suc, _+_, _≤_}
 use lib.IntN.{ℤ}
 use lib.ListN.{length, drop}
 use Rattle.lang.specs.Every.{both}
-use Rattle.reading.specs.Items.{Item, item, plain, inserted, Head, edge, at, Out, glyph, kern}
+use Rattle.reading.specs.Items.{plain, inserted, edge, at, Out}
 use Rattle.reading.specs.Form.{noPlain}
 use Rattle.reading.specs.Run as plainly
 use Rattle.captions.specs.declared.NextLeft.{NextLeft}

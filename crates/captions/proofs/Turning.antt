@@ -1,6 +1,6 @@
 -- A turn of a step, and all of them: from a sound state a step answers as the plain run over the decoded table does, and is not refused.
 -- Assumes nothing.
-use mathlib.Core.Path.{_≡_, refl, sym, ap, _∙_, subst}
+use mathlib.Core.Path.{_≡_, refl, sym, ap, _∙_}
 use mathlib.Core.Bool.{Bool, true, false, cond, not}
 use mathlib.Core.List.{List, [], _∷_}
 use mathlib.Core.Logic.{_⊎_, inl, inr}
@@ -14,7 +14,7 @@ use lib.Seq.{drop-cons}
 use borrow.Author.Tests.{le-leb, ltb-true, ltb-false, lt-ltb, ne-eqb}
 use Rattle.words.specs.Words.{wordOf}
 use Rattle.lang.specs.Every.{both}
-use Rattle.reading.specs.Items.{Left, bnd, chr, Item, item, flag, plain, inserted, Head, edge, at, key, Out, glyph, kern}
+use Rattle.reading.specs.Items.{chr, Item, item, plain, inserted, Head, edge, at, Out, glyph}
 use Rattle.reading.specs.Depth.{Res, Finished, raiseLeft}
 use Rattle.reading.specs.Form.{noPlain, opsForm}
 use Rattle.reading.specs.Run as plainly
@@ -24,16 +24,13 @@ use Rattle.captions.specs.declared.NextLeft.the-variants as next
 use Rattle.captions.specs.declared.Consumes.{Consumes}
 use Rattle.captions.specs.declared.Consumes.the-variants as consumes
 use Rattle.captions.specs.declared.State.{State}
-use Rattle.captions.specs.declared.Answer.the-variants.{End}
-use Rattle.captions.specs.declared.Step.{Step}
 use Rattle.captions.specs.declared.Turned.{Turned}
-use Rattle.captions.specs.declared.Turned.the-variants.{Gives, Goes}
 use Rattle.captions.specs.Tables.{opCount, number, keyBy, find, firstOp, countOf, lastCode, lastFlag, entryAt, entries, opAt, opsFrom, recordFits}
 use Rattle.captions.specs.Form.{tableForm}
-use Rattle.captions.specs.Steps.{refused, leftLetters, taken, takesBoundary, gathered, leftPlaceOf, leftConsumed, afterRight, readOn, entered, turnBy, turnWith, turnAtEnd, turnAtLetter, givesNothing, entryFits, turn, onward, stepBy, runOn, nextFits}
+use Rattle.captions.specs.Steps.{refused, leftLetters, takesBoundary, leftPlaceOf, leftConsumed, afterRight, readOn, entered, turnBy, turnWith, turnAtEnd, turnAtLetter, givesNothing, entryFits, turn, onward, runOn, nextFits}
 use Rattle.captions.proofs.FontTable.{below}
-use Rattle.captions.proofs.Raising.{raiseFirst, raise-none, raise-outs, raise-last, raise-last-none, hasGlyph, plainFirst, form-ops, left-plain-first, left-carried, boundary-no-plain}
-use Rattle.captions.proofs.Sound.{state, isPending, waiting, isLigature, mode, carries, nextOf, Sound, opsOf, runOf, Follows}
+use Rattle.captions.proofs.Raising.{raiseFirst, raise-outs, raise-last, raise-last-none, hasGlyph, plainFirst, form-ops, left-plain-first, left-carried, boundary-no-plain}
+use Rattle.captions.proofs.Sound.{state, isPending, waiting, isLigature, mode, nextOf, Sound, Follows}
 use Rattle.captions.proofs.Giving.{gives-letter, gives-pending}
 use Rattle.captions.proofs.Following.{Formed, found-formed, all-ops, isNow, gives-now, given-first, given-final, given-stop}
 

@@ -1,5 +1,5 @@
 -- A fresh run: document 01, 'Caption items'; after `run_with_options` of ligkern/mod.rs.
-use mathlib.Core.Bool.{Bool, true, false, cond}
+use mathlib.Core.Bool.{false, cond}
 use mathlib.Core.List.{List, [], _∷_}
 use Prim.Native.Nat.{ℕ, zero, suc}
 use lib.IntN.{ℤ}
@@ -7,6 +7,7 @@ use lib.Dec.{leb}
 use lib.ListN.{length, getD}
 use Rattle.lang.specs.Every.{every}
 use Rattle.lang.specs.Checks.{unless, orElse, absentRefusal}
+use Rattle.lang.specs.Answers.{Reply, replyOf}
 use Rattle.captions.specs.declared.RunOptions.{RunOptions}
 use Rattle.captions.specs.declared.NextLeft.{NextLeft}
 use Rattle.captions.specs.declared.NextLeft.the-variants as next
@@ -15,6 +16,7 @@ use Rattle.captions.specs.declared.State.{State}
 use Rattle.captions.specs.declared.Begun.{Begun}
 use Rattle.captions.specs.declared.Begun.the-variants.{Run, Refused}
 use Rattle.captions.specs.Form.{tableRefusal}
+use Rattle.captions.specs.Replies.{stateNumbers}
 
 -- the boundary character and the options that go with a word
 abbrev pub edgesRefusal : ℤ → RunOptions → ℕ
@@ -46,10 +48,14 @@ withoutBoundary (c ∷ cs) = fresh (next.Char c) 1
 abbrev pub freshState : List ℕ → RunOptions → State
 freshState word options = cond (options .«disable_left_boundary») (withoutBoundary word) (fresh next.Boundary 0)
 
+-- THE contract of begin: its answer, as document 01 has it
+abbrev pub beginReply : List ℤ → List ℤ → ℤ → List ℕ → RunOptions → Reply
+beginReply pairs ops boundary word options = replyOf (beginRefusal pairs ops boundary word options) (stateNumbers (freshState word options))
+
+-- .. and as a value of its type, which that determines
 abbrev pub begunBy : ℕ → State → Begun
 begunBy zero s = Run s
 begunBy (suc n) s = Refused (suc n)
 
--- THE contract of begin: its answer
 abbrev pub beginOf : List ℤ → List ℤ → ℤ → List ℕ → RunOptions → Begun
 beginOf pairs ops boundary word options = begunBy (beginRefusal pairs ops boundary word options) (freshState word options)

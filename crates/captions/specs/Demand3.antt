@@ -1,8 +1,8 @@
 -- Demand 3, of the whole list, in the terms of the calls: document 01, 'What every contract owes the setter', c and e. `Compiles` is the contract of
--- compile, and begin's and step's contracts are equations with `beginOf` and `stepOf`; `answers` are n steps, each handed the state that the last one
--- returned. What is proved of an accepted font is the record `Demand3`; the statement whole is `EveryAcceptedFont`, at the end.
+-- compile, and begin's and step's contracts say that they answer `beginOf` and `stepOf` (proofs/Replies); `answers` are n steps, each handed the state that
+-- the last one returned. What is proved of an accepted font is the record `Demand3`; the statement whole is `EveryAcceptedFont`, at the end.
 use mathlib.Core.Path.{_≡_}
-use mathlib.Core.Bool.{Bool, true, false, not}
+use mathlib.Core.Bool.{true, not}
 use mathlib.Core.List.{List, map, List·Memᴰ}
 use mathlib.Core.Logic.{_↔_}
 use Prim.Native.Nat.{ℕ, _*_, _<_, _≤_}

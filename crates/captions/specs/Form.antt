@@ -1,5 +1,5 @@
 -- The form of a pair table: document 01, last paragraph before the marked readings. Begin checks all of it.
-use mathlib.Core.Bool.{Bool, true, false, cond}
+use mathlib.Core.Bool.{Bool, true}
 use mathlib.Core.List.{List}
 use Prim.Native.Nat.{ℕ, zero, suc, _+_, _%_}
 use lib.IntN.{ℤ}

@@ -2,9 +2,9 @@
 -- `CompiledProgram::is_seven_bit_safe` of ligkern/mod.rs, and the original of an item as a part of the caller's word.
 use mathlib.Core.Path.{_≡_}
 use mathlib.Core.Bool.{Bool, true, false, cond}
-use mathlib.Core.List.{List, []}
+use mathlib.Core.List.{List, [], _∷_}
 use mathlib.Core.Option.{Option, none, some}
-use Prim.Native.Nat.{ℕ, zero, suc, _+_, _*_, _/_, _%_}
+use Prim.Native.Nat.{ℕ, _+_, _*_, _/_, _%_}
 use lib.IntN.{ℤ, pos}
 use lib.Dec.{ltb, leb, eqb}
 use lib.ListN.{length, take, drop}
@@ -13,14 +13,13 @@ use Rattle.words.specs.Lists.{tabulate}
 use Rattle.lang.specs.declared.Written.{Written}
 use Rattle.lang.specs.Every.{both, every}
 use Rattle.lang.specs.Checks.{unless, orElse, absentRefusal}
-use Rattle.lang.specs.Answers.{answerOf, listOf, roomRefusal}
+use Rattle.lang.specs.Answers.{Reply, replyOf, answerOf, listOf, roomRefusal}
 use Rattle.captions.specs.declared.NextLeft.{NextLeft}
 use Rattle.captions.specs.declared.NextLeft.the-variants as next
 use Rattle.captions.specs.declared.State.{State}
-use Rattle.captions.specs.declared.Told.{Told}
-use Rattle.captions.specs.declared.Told.the-variants.{Is, Refused}
 use Rattle.captions.specs.Tables.{pairCount, number, opKind, opValue, keyBy, leftPlace, find, firstOp, countOf, lastCode}
 use Rattle.captions.specs.Form.{keyForm, tableRefusal}
+use Rattle.captions.specs.Replies.{bit}
 use Rattle.captions.specs.Steps.{rightItem}
 
 -- ---- a word can be parted here: no op is to be given, and the next left is no ligature
@@ -38,11 +37,6 @@ isSeparationPoint s = cond (eqb (s .ops) 0) (notLigature (s .«next_left»)) fal
 abbrev pub originalOf : List ℕ → ℕ → ℕ → List ℕ
 originalOf word start n = cond (leb (start + n) (length word)) (take n (drop start word)) []
 
--- the answer to a question that is taken or refused
-abbrev pub toldBy : ℕ → Bool → Told
-toldBy zero b = Is b
-toldBy (suc n) b = Refused (suc n)
-
 -- ---- has_replacement: whether a left (-1 the boundary) and a right (-1 the boundary character) have an entry
 
 abbrev pub isFound : Option ℕ → Bool
@@ -58,9 +52,9 @@ abbrev pub hasRefusal : List ℤ → ℤ → ℤ → ℤ → ℕ
 hasRefusal pairs boundary left right =
     orElse (absentRefusal 255 boundary) (orElse (absentRefusal 255 left) (orElse (absentRefusal 255 right) (unless 7 (eqb (length pairs % 6) 0))))
 
--- THE contract of has_replacement: its answer
-abbrev pub hasOf : List ℤ → ℤ → ℤ → ℤ → Told
-hasOf pairs boundary left right = toldBy (hasRefusal pairs boundary left right) (hasEntry pairs left (rightItem boundary right))
+-- THE contract of has_replacement: its answer, as document 01 has it
+abbrev pub hasReply : List ℤ → ℤ → ℤ → ℤ → Reply
+hasReply pairs boundary left right = replyOf (hasRefusal pairs boundary left right) (bit (hasEntry pairs left (rightItem boundary right)) ∷ [])
 
 -- ---- all_pairs_with_replacements: left and right of every pair, in order
 
@@ -90,6 +84,6 @@ abbrev pub pairIsSafe : List ℤ → List ℤ → ℕ → Bool
 pairIsSafe pairs ops k =
     cond (both (leb (leftPlace (number pairs k 0)) 128) (ltb (wordOf (number pairs k 1)) 128)) (becomesSevenBit pairs ops k) true
 
--- THE contract of is_seven_bit_safe: its answer
-abbrev pub safeOf : List ℤ → List ℤ → Told
-safeOf pairs ops = toldBy (tableRefusal pairs ops) (every (pairCount pairs) (pairIsSafe pairs ops))
+-- THE contract of is_seven_bit_safe: its answer, as document 01 has it
+abbrev pub safeReply : List ℤ → List ℤ → Reply
+safeReply pairs ops = replyOf (tableRefusal pairs ops) (bit (every (pairCount pairs) (pairIsSafe pairs ops)) ∷ [])

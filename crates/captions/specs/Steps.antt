@@ -1,5 +1,6 @@
 -- One step of a run, over any table and any state: document 01, 'Caption items'; after `RunIter::next` of ligkern/mod.rs, whose call of itself is
 -- here a turn that reads one letter. A step checks what it reads, and a refused step hands its state back.
+use mathlib.Core.Path.{_≡_}
 use mathlib.Core.Bool.{Bool, true, false, cond, not}
 use mathlib.Core.List.{List}
 use mathlib.Core.Option.{Option, none, some}
@@ -23,6 +24,7 @@ use Rattle.captions.specs.declared.Step.{Step}
 use Rattle.captions.specs.declared.Turned.{Turned}
 use Rattle.captions.specs.declared.Turned.the-variants.{Gives, Goes}
 use Rattle.captions.specs.Tables.{opCount, opKind, opValue, keyBy, find, firstOp, countOf, lastCode, lastFlag, opFits, recordFits}
+use Rattle.captions.specs.Replies.{answerReply, isEnd}
 use Rattle.captions.specs.Begin.{edgesRefusal, wordRefusal}
 
 abbrev pub refused : ℕ → State → Step
@@ -285,7 +287,13 @@ abbrev pub steppedBy : ℕ → State → Step → Step
 steppedBy zero s t = handBack s (t .state) (t .answer)
 steppedBy (suc n) s t = refused (suc n) s
 
--- THE contract of step: its answer and the state that it leaves
+-- a step: its answer and the state that it leaves
 abbrev pub stepOf : List ℤ → List ℤ → ℤ → List ℕ → RunOptions → State → Step
 stepOf pairs ops boundary word options s =
     steppedBy (stepRefusal boundary word options) s (ranFrom pairs ops (rightItem boundary (options .«right_boundary_override»)) word s)
+
+-- THE contract of step: its answer, as document 01 has it, and the state that it leaves. Together they say that r is `stepOf` (proofs/Replies).
+pub record Stepped (pairs ops : List ℤ) (boundary : ℤ) (word : List ℕ) (options : RunOptions) (s : State) (r : Step) : Type 0 where
+  pub reply : answerReply (r .answer) ≡ answerReply (stepOf pairs ops boundary word options s .answer)
+  pub ends : isEnd (r .answer) ≡ isEnd (stepOf pairs ops boundary word options s .answer)
+  pub state : r .state ≡ stepOf pairs ops boundary word options s .state

@@ -1,8 +1,7 @@
 -- A pair table and its ops as they are lent, whatever they hold: document 01, 'The pair table'. Six numbers a pair (0 left, 1 right, 2 last code,
 -- 3 last flag, 4 first op, 5 op count), two an op (kind and value). A pair is found by bisection, in the definition too, so that what a step answers
 -- is said of any table; on a table in ascending order bisection finds the pair.
-use mathlib.Core.Path.{_≡_}
-use mathlib.Core.Bool.{Bool, true, false, cond}
+use mathlib.Core.Bool.{Bool, true, cond}
 use mathlib.Core.List.{List, [], _∷_}
 use mathlib.Core.Option.{Option, none, some, Option·map}
 use Prim.Native.Nat.{ℕ, zero, suc, _+_, _-_, _*_, _/_, _%_}
@@ -12,7 +11,7 @@ use lib.ListN.{length, getD}
 use Rattle.words.specs.Words.{wordOf}
 use Rattle.lang.specs.Every.{both}
 use Rattle.lang.specs.Records.{within}
-use Rattle.reading.specs.Items.{Left, Item, item, plain, inserted, Out, glyph, kern}
+use Rattle.reading.specs.Items.{Left, item, plain, inserted, Out, glyph, kern}
 use Rattle.reading.specs.Depth.{Res, Finished}
 use Rattle.fonts.specs.Fonts.{numberOfLeft}
 use Rattle.captions.specs.declared.Found.{Found}

@@ -6,12 +6,11 @@ use Prim.Native.Nat.{ℕ, _+_, _-_, _%_, _<_, _≤_}
 use lib.IntN.{ℤ}
 use lib.Dec.{eqb}
 use Rattle.words.specs.Words.{wordOf}
-use Rattle.lang.specs.Every.{both}
 use Rattle.lang.specs.Records.{within}
 use Rattle.reading.specs.Items.{Left, Item, Out}
 use Rattle.reading.specs.Form.{isLeft, opsForm}
 use Rattle.fonts.specs.Fonts.{leftOf}
-use Rattle.captions.specs.Tables.{number, opKind, opsFrom, leftPlace, lastFlag, lastCode, entryAt}
+use Rattle.captions.specs.Tables.{number, opKind, opsFrom, leftPlace, entryAt}
 
 -- ---- of `formed`: a pair's ops from the front
 

@@ -1,7 +1,8 @@
 -- What a function that fills a list answers, and what the list then holds: the answer and zeros, or zeros alone where it is refused.
 use mathlib.Core.Bool.{Bool, true, false, cond}
-use mathlib.Core.List.{List, _++_}
+use mathlib.Core.List.{List, [], _++_}
 use Prim.Native.Nat.{ℕ, zero, suc, _-_}
+use lib.IntN.{ℤ}
 use lib.Dec.{leb}
 use lib.ListN.{length, replicate}
 use Rattle.lang.specs.declared.Written.{Written}
@@ -29,3 +30,12 @@ answerOf (suc r) n = Refused (suc r)
 abbrev pub listOf {ℓ} : {A : Type ℓ} → ℕ → A → ℕ → List A → List A
 listOf zero o n xs = padded o n xs
 listOf (suc r) o n xs = replicate n o
+
+-- an answer as document 01 has it: the number (0 where it is taken) and the values
+pub record Reply : Type 0 where
+  pub number : ℕ
+  pub values : List ℤ
+
+abbrev pub replyOf : ℕ → List ℤ → Reply
+replyOf zero vs = record { number = 0; values = vs }
+replyOf (suc n) vs = record { number = suc n; values = [] }

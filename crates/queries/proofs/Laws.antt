@@ -2,7 +2,7 @@
 -- Assumes nothing.
 use mathlib.Core.Path.{_≡_, refl, sym, ap, _∙_}
 use mathlib.Core.Bool.{Bool, true, false}
-use mathlib.Core.List.{List, []}
+use mathlib.Core.List.{List, [], _∷_}
 use mathlib.Core.Option.{Option, none, some}
 use Prim.Native.Nat.{ℕ, zero, suc, _+_, _-_, _%_, _^_, _<_, _≤_}
 use native.Mathlib.Omega.{arith}
@@ -13,6 +13,7 @@ use borrow.Author.Tests.{le-leb, lt-leb, le-ltb, lt-ltb, eq-eqb, ne-eqb}
 use Rattle.words.specs.Words.{Word, wordOf}
 use Rattle.words.proofs.Bits.{read-pos, read-neg}
 use Rattle.lang.specs.Every.{both, every}
+use Rattle.lang.specs.Answers.{replyOf}
 use Rattle.lang.proofs.Every.{both-left, both-right, every-at}
 use Rattle.lang.proofs.Refusals.{unless-none}
 use Rattle.reading.specs.Form.{formed}
@@ -22,8 +23,9 @@ use Rattle.captions.specs.declared.Found.the-variants.{At, Nothing}
 use Rattle.captions.specs.declared.Told.the-variants.{Is, Refused}
 use Rattle.captions.specs.Tables.{pairCount, opCount, opFits, keyBy, leftPlace, find, foundAt, number, opKind, opValue, firstOp, lastCode, entryAt, recordFits}
 use Rattle.captions.specs.Form.{opsEnd, keyForm, pairForm, sizesForm, tableForm, tableRefusal}
+use Rattle.captions.specs.Replies.{bit, toldReply}
 use Rattle.captions.specs.Steps.{rightItem}
-use Rattle.captions.specs.Queries.{notLigature, isSeparationPoint, originalOf, toldBy, isFound, hasEntry, opIsSevenBit, becomesSevenBit, pairIsSafe}
+use Rattle.captions.specs.Queries.{notLigature, isSeparationPoint, originalOf, isFound, hasEntry, opIsSevenBit, becomesSevenBit, pairIsSafe}
 
 -- ---- a separation point
 
@@ -43,11 +45,11 @@ original-inside word start n h = let e : start + n - start ≡ n = omega arith i
 
 -- ---- an answer that is taken or refused
 
-pub told-refused : (n r : ℕ) (b : Bool) → n ≡ r → (n ≡ 0 → ⊥) → Refused n ≡ toldBy r b
-told-refused zero r b e h = absurd (h refl)
-told-refused (suc n) r b e h = rw (← e)
+pub told-refused : (n r : ℕ) (vs : List ℤ) → n ≡ r → (n ≡ 0 → ⊥) → toldReply (Refused n) ≡ replyOf r vs
+told-refused zero r vs e h = absurd (h refl)
+told-refused (suc n) r vs e h = rw (← e)
 
-pub told-is : (n r : ℕ) (a b : Bool) → n ≡ r → n ≡ 0 → a ≡ b → Is a ≡ toldBy r b
+pub told-is : (n r : ℕ) (a b : Bool) → n ≡ r → n ≡ 0 → a ≡ b → toldReply (Is a) ≡ replyOf r (bit b ∷ [])
 told-is n r a b e z q = rw (← e, z, q)
 
 -- ---- a pair that is found

@@ -4,8 +4,9 @@
 ghost use mathlib.Core.Path.{_≡_};
 ghost use Rattle.captions.specs.Tables.{keyBy};
 ghost use Rattle.captions.specs.Tables as tables;
+ghost use Rattle.captions.specs.Replies.{toldReply};
 ghost use Rattle.captions.specs.Steps.{rightItem};
-ghost use Rattle.captions.specs.Queries.{notLigature, isSeparationPoint, originalOf, isFound, hasEntry, hasRefusal, hasOf, ListsPairs, safeOf};
+ghost use Rattle.captions.specs.Queries.{notLigature, isSeparationPoint, originalOf, isFound, hasEntry, hasRefusal, hasReply, ListsPairs, safeReply};
 
 mod keys;
 mod seven_bit;
@@ -106,7 +107,7 @@ fn has_refusal(pairs: &[i32], boundary: i32, left: i32, right: i32) -> u32
 
 // Whether a left (-1 the boundary) and a right (-1 the boundary character) have an entry.
 pub fn has_replacement(pairs: &[i32], boundary: i32, left: i32, right: i32) -> Told
-    ensures { λ r. ⌜ r ≡ hasOf (now (pairs .entry)) boundary left right ⌝ }
+    ensures { λ r. ⌜ toldReply r ≡ hasReply (now (pairs .entry)) boundary left right ⌝ }
 {
     let refusal = has_refusal(pairs, boundary, left, right);
     if refusal != 0 {
@@ -130,7 +131,7 @@ pub fn all_pairs_with_replacements(pairs: &[i32], out: &mut [i32]) -> Written
 
 // Whether any pair of seven-bit characters, the left boundary among them, becomes seven-bit characters.
 pub fn is_seven_bit_safe(pairs: &[i32], ops: &[i32]) -> Told
-    ensures { λ r. ⌜ r ≡ safeOf (now (pairs .entry)) (now (ops .entry)) ⌝ }
+    ensures { λ r. ⌜ toldReply r ≡ safeReply (now (pairs .entry)) (now (ops .entry)) ⌝ }
 {
     let refusal = table_refusal(pairs, ops);
     if refusal != 0 {

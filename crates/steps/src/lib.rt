@@ -2,7 +2,7 @@
 // definition of the same name in captions/specs/Steps.antt.
 ghost use mathlib.Core.Path.{_≡_};
 ghost use Rattle.words.specs.Words.{numberOf};
-ghost use Rattle.captions.specs.Steps.{orBoundary, rightItem, handBack, stepOf};
+ghost use Rattle.captions.specs.Steps.{orBoundary, rightItem, handBack, Stepped};
 use captions::Answer;
 use captions::RunOptions;
 use captions::State;
@@ -45,7 +45,7 @@ pub fn step(
     options: RunOptions,
     state: State,
 ) -> Step
-    ensures { λ r. ⌜ r ≡ stepOf (now (pairs .entry)) (now (ops .entry)) boundary (now (word .entry)) options state ⌝ }
+    ensures { λ r. ⌜ Stepped (now (pairs .entry)) (now (ops .entry)) boundary (now (word .entry)) options state r ⌝ }
 {
     let edges = edges_refusal(boundary, options);
     if edges != 0 {

@@ -1,8 +1,8 @@
 // The pair table and the ops as they are lent, whatever they hold: one number as its 32 bits, what fits, and a pair found by bisection.
 ghost use mathlib.Core.Path.{_≡_};
-ghost use Prim.Native.Nat.{_+_, _%_, _<_, _≤_};
+ghost use Prim.Native.Nat.{_+_, _%_};
 ghost use Rattle.words.specs.Words.{Word};
-ghost use Rattle.captions.specs.Tables.{pairCount, opCount, number, opKind, opValue, keyBy, keyAt, opFits, recordFits, foundAt};
+ghost use Rattle.captions.specs.Tables.{number, opKind, opValue, keyBy, keyAt, opFits, recordFits, foundAt};
 ghost use Rattle.captions.specs.Tables as tables;
 ghost use Rattle.tables.specs.Parts.{lastFits};
 

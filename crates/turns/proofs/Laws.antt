@@ -20,8 +20,8 @@ use Rattle.captions.specs.declared.State.{State}
 use Rattle.captions.specs.declared.Turned.{Turned}
 use Rattle.captions.specs.declared.Turned.the-variants.{Gives, Goes}
 use Rattle.captions.specs.declared.Found.the-variants.{At, Nothing}
-use Rattle.captions.specs.Tables.{number, keyBy, find, foundAt}
-use Rattle.captions.specs.Steps.{refused, leftLetters, withPending, longer, opsPlaced, gathered, leftPlaceOf, afterRight, readOn, withNext, giveLeft, entered, givesNothing, entryFits, turnBy, turnWith, orBoundary, turnAtEnd, turnAtLetter, turn, nextFits, placed}
+use Rattle.captions.specs.Tables.{number, keyBy, find, foundAt, recordFits}
+use Rattle.captions.specs.Steps.{refused, leftLetters, withPending, longer, opsPlaced, gathered, leftPlaceOf, afterRight, readOn, withNext, giveLeft, entered, givesNothing, swallows, entryFits, turnBy, turnWith, orBoundary, turnAtEnd, turnAtLetter, turn, nextFits, placed}
 use Rattle.turns.specs.Turns.{turnLast, turnNext, lefts}
 
 -- ---- the left
@@ -119,6 +119,16 @@ module _ (pairs : List ℤ) (k : ℕ) {count : ℕ} (p : Word (number pairs k 5)
 
   pub gives-last : {flag : ℕ} → count ≡ 0 → Word (number pairs k 3) flag → not (eqb flag 1) ≡ givesNothing pairs k
   gives-last e q = rw (← p .is, ← q .is, eq-eqb count 0 e)
+
+module _ (pairs ops : List ℤ) (x : NextLeft) (k : ℕ) where
+  pub unread : recordFits pairs ops k ≡ false → entryFits pairs ops x k ≡ false
+  unread h = rw h
+
+  pub swallowed : recordFits pairs ops k ≡ true → swallows pairs x k ≡ true → entryFits pairs ops x k ≡ false
+  swallowed h e = rw (h, e)
+
+  pub followed : recordFits pairs ops k ≡ true → swallows pairs x k ≡ false → entryFits pairs ops x k ≡ true
+  followed h e = rw (h, e)
 
 -- ---- what is checked first
 

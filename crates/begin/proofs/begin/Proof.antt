@@ -4,8 +4,7 @@ use mathlib.Core.Path.{_≡_, ap, _∙_}
 use lib.IntN.{ℤ}
 use denote.Ref.{now}
 use Rattle.words.proofs.Bits.{number-word}
-use Rattle.captions.specs.declared.Begun.the-variants.{Run}
-use Rattle.captions.specs.Begin.{beginRefusal, freshState, begunBy}
+use Rattle.captions.specs.Begin.{beginRefusal, freshState}
 use Rattle.begin.proofs.Laws.{begun-refused, begun-run}
 use borrow.Author.Needs.{needs}
 use Rattle.begin.proofs.begin.Statement.{statement}
@@ -23,8 +22,8 @@ begin-refusal-requires c κs = search needs
 returns : tie.Need-returns
 returns c =
     let a = c .before .before .before .args in
-    let s = freshState (now (a .word)) (a .options) in
-    begun-refused (c .before .begin-refusal .result) s (c .if1 .taken) ∙ ap (λ n. begunBy n s) (refusal (c .before))
+    let b = c .before in
+    begun-refused (b .begin-refusal .result) (beginRefusal (now (a .pairs)) (now (a .ops)) (a .boundary) (now (a .word)) (a .options)) (refusal b) (freshState (now (a .word)) (a .options)) (c .if1 .taken)
 
 fresh-state-requires : tie.Need-fresh-state-requires
 fresh-state-requires c κs = search needs
@@ -32,9 +31,9 @@ fresh-state-requires c κs = search needs
 returns-2 : tie.Need-returns-2
 returns-2 c =
     let d = c .before in
-    let a = d .before .before .before .args in
-    let s = freshState (now (a .word)) (a .options) in
-    ap Run (c .fresh-state .ensures) ∙ begun-run (d .before .begin-refusal .result) s (d .if1 .left) ∙ ap (λ n. begunBy n s) (refusal (d .before))
+    let b = d .before in
+    let a = b .before .before .args in
+    begun-run (b .begin-refusal .result) (beginRefusal (now (a .pairs)) (now (a .ops)) (a .boundary) (now (a .word)) (a .options)) (refusal b) (d .if1 .left) (c .fresh-state .ensures)
 
 pub begin-spec : {M : Type 1} → statement M
 begin-spec = tie.close (tie.spec begin-refusal-requires returns fresh-state-requires returns-2)

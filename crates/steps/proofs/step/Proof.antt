@@ -5,6 +5,7 @@ use denote.Ref.{now}
 use Rattle.words.specs.Words.{numberOf}
 use Rattle.words.proofs.Bits.{number-word}
 use Rattle.captions.specs.Steps.{rightItem, orBoundary}
+use Rattle.captions.proofs.Replies.{stepped-as}
 use Rattle.steps.proofs.Laws.{refused-edges, refused-word, step-given}
 use borrow.Author.Needs.{needs}
 use Rattle.steps.proofs.step.Statement.{statement}
@@ -22,7 +23,8 @@ returns : tie.Need-returns
 returns c =
     let e = c .before in
     let a = e .before .before in
-    refused-edges (now (a .args .pairs)) (now (a .args .ops)) (a .args .boundary) (now (a .args .word)) (a .args .options) (a .args .state) (a .fits .boundary) (e .edges-refusal .result) (e .edges-refusal .ensures) (c .if1 .taken)
+    stepped-as (now (a .args .pairs)) (now (a .args .ops)) (a .args .boundary) (now (a .args .word)) (a .args .options) (a .args .state)
+    (refused-edges (now (a .args .pairs)) (now (a .args .ops)) (a .args .boundary) (now (a .args .word)) (a .args .options) (a .args .state) (a .fits .boundary) (e .edges-refusal .result) (e .edges-refusal .ensures) (c .if1 .taken))
 
 word-refusal-requires : tie.Need-word-refusal-requires
 word-refusal-requires c κs = search needs
@@ -32,8 +34,9 @@ returns-2 c =
     let w = c .before in
     let e = w .before .before in
     let a = e .before .before in
-    refused-word (now (a .args .pairs)) (now (a .args .ops)) (a .args .boundary) (now (a .args .word)) (a .args .options) (a .args .state) (a .fits .boundary) (e .edges-refusal .result) (e .edges-refusal .ensures)
-    (w .before .if1 .left) (w .word-refusal .result) (w .word-refusal .ensures) (c .if2 .taken)
+    stepped-as (now (a .args .pairs)) (now (a .args .ops)) (a .args .boundary) (now (a .args .word)) (a .args .options) (a .args .state)
+    (refused-word (now (a .args .pairs)) (now (a .args .ops)) (a .args .boundary) (now (a .args .word)) (a .args .options) (a .args .state) (a .fits .boundary) (e .edges-refusal .result) (e .edges-refusal .ensures)
+    (w .before .if1 .left) (w .word-refusal .result) (w .word-refusal .ensures) (c .if2 .taken))
 
 right-item-requires : tie.Need-right-item-requires
 right-item-requires c κs = search needs
@@ -50,9 +53,10 @@ returns-3 c =
     let w = i .before .before .before in
     let e = w .before .before in
     let a = e .before .before in
-    rw (c .hand-back .ensures)
+    stepped-as (now (a .args .pairs)) (now (a .args .ops)) (a .args .boundary) (now (a .args .word)) (a .args .options) (a .args .state)
+    (rw (c .hand-back .ensures)
     (step-given (now (a .args .pairs)) (now (a .args .ops)) (a .args .boundary) (now (a .args .word)) (a .args .options) (a .args .state) (a .fits .boundary) (e .edges-refusal .result) (e .edges-refusal .ensures)
-    (w .before .if1 .left) (w .word-refusal .result) (w .word-refusal .ensures) (orBoundary (numberOf (i .right-item .result))) (c .before .run .result) (i .before .before .if2 .left) (right i) (c .before .run .ensures))
+    (w .before .if1 .left) (w .word-refusal .result) (w .word-refusal .ensures) (orBoundary (numberOf (i .right-item .result))) (c .before .run .result) (i .before .before .if2 .left) (right i) (c .before .run .ensures)))
 
 pub step-spec : {M : Type 1} → statement M
 step-spec =

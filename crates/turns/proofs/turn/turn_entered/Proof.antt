@@ -1,10 +1,17 @@
 -- `turns::turn::turn_entered` meets its contract, by the tests of the record and of what it gives.
 -- Assumes nothing.
-use mathlib.Core.Path.{_∙_, sym}
+use mathlib.Core.Path.{_≡_, _∙_, sym}
+use mathlib.Core.Bool.{true}
+use denote.Ref.{now}
+use Rattle.captions.specs.Tables.{recordFits}
+use Rattle.turns.proofs.Laws.{unread, swallowed, followed}
 use borrow.Author.Tests.{not-true, not-false}
 use borrow.Author.Needs.{needs}
 use Rattle.turns.proofs.turn.turn_entered.Statement.{statement}
 use Rattle.turns.proofs.turn.turn_entered.Tie as tie
+
+fits : (c : tie.Else1) → let a = c .before .before .args in recordFits (now (a .pairs)) (now (a .ops)) (a .k) ≡ true
+fits c = sym (c .before .record-fits .ensures) ∙ not-false (c .before .record-fits .result) (c .if1 .left)
 
 record-fits-requires : tie.Need-record-fits-requires
 record-fits-requires c κs = search needs
@@ -15,7 +22,8 @@ refuses-requires c κs = search needs
 returns : tie.Need-returns
 returns c =
     let f = c .before .before in
-    rw (c .refuses .ensures, sym (f .record-fits .ensures) ∙ not-true (f .record-fits .result) (c .before .if1 .taken))
+    let a = f .before .args in
+    rw (c .refuses .ensures, unread (now (a .pairs)) (now (a .ops)) (a .x) (a .k) (sym (f .record-fits .ensures) ∙ not-true (f .record-fits .result) (c .before .if1 .taken)))
 
 swallows-requires : tie.Need-swallows-requires
 swallows-requires c κs = search needs
@@ -27,7 +35,8 @@ returns-2 : tie.Need-returns-2
 returns-2 c =
     let w = c .before .before in
     let f = w .before .before in
-    rw (c .refuses2 .ensures, sym (f .record-fits .ensures) ∙ not-false (f .record-fits .result) (w .before .if1 .left), sym (w .swallows .ensures) ∙ c .before .if2 .taken)
+    let a = f .before .args in
+    rw (c .refuses2 .ensures, swallowed (now (a .pairs)) (now (a .ops)) (a .x) (a .k) (fits (w .before)) (sym (w .swallows .ensures) ∙ c .before .if2 .taken))
 
 entered-requires : tie.Need-entered-requires
 entered-requires c κs = search needs
@@ -36,7 +45,8 @@ returns-3 : tie.Need-returns-3
 returns-3 c =
     let w = c .before .before in
     let f = w .before .before in
-    rw (c .entered .ensures, sym (f .record-fits .ensures) ∙ not-false (f .record-fits .result) (w .before .if1 .left), sym (w .swallows .ensures) ∙ c .before .if2 .left)
+    let a = f .before .args in
+    rw (c .entered .ensures, followed (now (a .pairs)) (now (a .ops)) (a .x) (a .k) (fits (w .before)) (sym (w .swallows .ensures) ∙ c .before .if2 .left))
 
 pub turn-entered-spec : {M : Type 1} → statement M
 turn-entered-spec =

@@ -1,0 +1,78 @@
+-- What is answered, as document 01 has it: the number (0 where it is taken) and the values of each case of an answer. The contracts of begin, step and
+-- the questions about a table are stated through these; each reply determines its answer (proofs/Replies).
+use mathlib.Core.Bool.{Bool, true, false}
+use mathlib.Core.List.{List, [], _∷_}
+use Prim.Native.Nat.{ℕ}
+use lib.IntN.{ℤ, pos}
+use Rattle.lang.specs.Answers.{Reply}
+use Rattle.captions.specs.declared.NextLeft.{NextLeft}
+use Rattle.captions.specs.declared.NextLeft.the-variants as next
+use Rattle.captions.specs.declared.Consumes.{Consumes}
+use Rattle.captions.specs.declared.Consumes.the-variants as consumes
+use Rattle.captions.specs.declared.State.{State}
+use Rattle.captions.specs.declared.Begun.{Begun}
+use Rattle.captions.specs.declared.Begun.the-variants as begun
+use Rattle.captions.specs.declared.Answer.{Answer}
+use Rattle.captions.specs.declared.Answer.the-variants.{Char, Ligature, Kern, End, Refused}
+use Rattle.captions.specs.declared.Told.{Told}
+use Rattle.captions.specs.declared.Told.the-variants as told
+
+abbrev pub bit : Bool → ℤ
+bit false = pos 0
+bit true = pos 1
+
+-- ---- begin: the state
+
+abbrev pub nextKind : NextLeft → ℕ
+nextKind next.Boundary = 0
+nextKind (next.Char c) = 1
+nextKind (next.Lig c) = 2
+nextKind (next.FinalLig c) = 3
+nextKind next.None = 4
+
+abbrev pub nextCode : NextLeft → ℕ
+nextCode next.Boundary = 0
+nextCode (next.Char c) = c
+nextCode (next.Lig c) = c
+nextCode (next.FinalLig c) = c
+nextCode next.None = 0
+
+abbrev pub consumesNumber : Consumes → ℕ
+consumesNumber consumes.Nothing = 0
+consumesNumber consumes.Letter = 1
+consumesNumber consumes.Boundary = 2
+
+-- the nine numbers of a state
+abbrev pub stateNumbers : State → List ℤ
+stateNumbers s =
+    pos (nextKind (s .«next_left»)) ∷ pos (nextCode (s .«next_left»))
+    ∷ pos (s .op) ∷ pos (s .ops) ∷ pos (s .read) ∷ pos (s .given)
+    ∷ pos (s .pending) ∷ bit (s .«pending_boundary») ∷ pos (consumesNumber (s .«consumes_left»)) ∷ []
+
+abbrev pub begunReply : Begun → Reply
+begunReply (begun.Run s) = record { number = 0; values = stateNumbers s }
+begunReply (begun.Refused n) = record { number = n; values = [] }
+
+-- ---- step: the six numbers of an item as a T line has them, and no value at the end
+
+abbrev pub answerReply : Answer → Reply
+answerReply (Char c start) = record { number = 0; values = pos 0 ∷ pos c ∷ pos start ∷ pos 1 ∷ pos 0 ∷ pos 0 ∷ [] }
+answerReply (Ligature c start n left right) =
+    record { number = 0; values = pos 1 ∷ pos c ∷ pos start ∷ pos n ∷ bit left ∷ bit right ∷ [] }
+answerReply (Kern k) = record { number = 0; values = pos 2 ∷ k ∷ pos 0 ∷ pos 0 ∷ pos 0 ∷ pos 0 ∷ [] }
+answerReply End = record { number = 0; values = [] }
+answerReply (Refused n) = record { number = n; values = [] }
+
+-- the end is no refusal, whatever its number
+abbrev pub isEnd : Answer → Bool
+isEnd (Char c start) = false
+isEnd (Ligature c start n left right) = false
+isEnd (Kern k) = false
+isEnd End = true
+isEnd (Refused n) = false
+
+-- ---- a question about a table: 1 or 0
+
+abbrev pub toldReply : Told → Reply
+toldReply (told.Is b) = record { number = 0; values = bit b ∷ [] }
+toldReply (told.Refused n) = record { number = n; values = [] }
