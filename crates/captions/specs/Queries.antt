@@ -2,7 +2,7 @@
 -- `CompiledProgram::is_seven_bit_safe` of ligkern/mod.rs, and the original of an item as a part of the caller's word.
 use mathlib.Core.Path.{_≡_}
 use mathlib.Core.Bool.{Bool, true, false, cond}
-use mathlib.Core.List.{List, []}
+use mathlib.Core.List.{List, [], _∷_}
 use mathlib.Core.Option.{Option, none, some}
 use Prim.Native.Nat.{ℕ, zero, suc, _+_, _*_, _/_, _%_}
 use lib.IntN.{ℤ, pos}
@@ -13,7 +13,7 @@ use Rattle.words.specs.Lists.{tabulate}
 use Rattle.lang.specs.declared.Written.{Written}
 use Rattle.lang.specs.Every.{both, every}
 use Rattle.lang.specs.Checks.{unless, orElse, absentRefusal}
-use Rattle.lang.specs.Answers.{answerOf, listOf, roomRefusal}
+use Rattle.lang.specs.Answers.{writtenReply, replyOf, listOf, roomRefusal}
 use Rattle.captions.specs.declared.NextLeft.{NextLeft}
 use Rattle.captions.specs.declared.NextLeft.the-variants as next
 use Rattle.captions.specs.declared.State.{State}
@@ -74,7 +74,7 @@ keysRefusal pairs room =
 
 -- THE contract of all_pairs_with_replacements: `out` is the list as it was lent, out′ as it comes back
 pub record ListsPairs (pairs out : List ℤ) (r : Written) (out′ : List ℤ) : Type 0 where
-  pub answer : r ≡ answerOf (keysRefusal pairs (length out)) (pairCount pairs)
+  pub answer : writtenReply r ≡ replyOf (keysRefusal pairs (length out)) (pos (pairCount pairs) ∷ [])
   pub list : out′ ≡ listOf (keysRefusal pairs (length out)) (pos 0) (length out) (keysOf pairs)
 
 -- ---- is_seven_bit_safe: what any pair of seven-bit characters (the left boundary among them) becomes is of seven-bit characters

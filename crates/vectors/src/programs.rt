@@ -122,7 +122,7 @@ fn put_unpacked(line: &mut [u8], k: usize, answer: Unpacked, marks: &[u8]) -> us
         }
         Unpacked::Direct => put_number(line, k, 8),
         Unpacked::Indirect => put_number(line, k, 9),
-        Unpacked::Unfit(n) => put_refusal(line, k, n),
+        Unpacked::Refused(n) => put_refusal(line, k, n),
     }
 }
 
@@ -156,7 +156,7 @@ pub(crate) fn seven_bit_safe(numbers: &[i32], line: &mut [u8], k: usize) -> usiz
     let entries = items(numbers, font.entries, 2);
     match unpack::is_seven_bit_safe(instructions, entries) {
         SevenBit::Safe(safe) => put_number(line, k, if safe { 1 } else { 0 }),
-        SevenBit::Unfit(n) => put_refusal(line, k, n),
+        SevenBit::Refused(n) => put_refusal(line, k, n),
     }
 }
 
