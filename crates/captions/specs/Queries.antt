@@ -13,7 +13,7 @@ use Rattle.words.specs.Lists.{tabulate}
 use Rattle.lang.specs.declared.Written.{Written}
 use Rattle.lang.specs.Every.{both, every}
 use Rattle.lang.specs.Checks.{unless, orElse, absentRefusal}
-use Rattle.lang.specs.Answers.{Reply, replyOf, answerOf, listOf, roomRefusal}
+use Rattle.lang.specs.Answers.{Reply, writtenReply, replyOf, listOf, roomRefusal}
 use Rattle.captions.specs.declared.NextLeft.{NextLeft}
 use Rattle.captions.specs.declared.NextLeft.the-variants as next
 use Rattle.captions.specs.declared.State.{State}
@@ -68,7 +68,7 @@ keysRefusal pairs room =
 
 -- THE contract of all_pairs_with_replacements: `out` is the list as it was lent, out′ as it comes back
 pub record ListsPairs (pairs out : List ℤ) (r : Written) (out′ : List ℤ) : Type 0 where
-  pub answer : r ≡ answerOf (keysRefusal pairs (length out)) (pairCount pairs)
+  pub answer : writtenReply r ≡ replyOf (keysRefusal pairs (length out)) (pos (pairCount pairs) ∷ [])
   pub list : out′ ≡ listOf (keysRefusal pairs (length out)) (pos 0) (length out) (keysOf pairs)
 
 -- ---- is_seven_bit_safe: what any pair of seven-bit characters (the left boundary among them) becomes is of seven-bit characters

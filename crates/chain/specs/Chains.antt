@@ -24,7 +24,7 @@ use Rattle.lang.specs.Operations.{fromBytes}
 use Rattle.lang.specs.Records.{count, field, instructionAt}
 use Rattle.lang.specs.Checks.{programRefusal, rangeRefusal, orElse}
 use Rattle.lang.specs.declared.Written.{Written}
-use Rattle.lang.specs.Answers.{roomRefusal, answerOf, listOf}
+use Rattle.lang.specs.Answers.{roomRefusal, writtenReply, replyOf, listOf}
 
 -- a program: how many instructions, and each of them
 abbrev pub Program : Type 0
@@ -94,5 +94,5 @@ walkRefusal s entry room =
 
 -- the contract of instructions_for_entrypoint: `out` is the list as it was lent, out′ as it comes back
 pub record Walked (s : List ℤ) (entry : ℤ) (out : List ℕ) (r : Written) (out′ : List ℕ) : Type 0 where
-  pub answer : r ≡ answerOf (walkRefusal s entry (length out)) (length (chainOf s (wordOf entry)))
+  pub answer : writtenReply r ≡ replyOf (walkRefusal s entry (length out)) (pos (length (chainOf s (wordOf entry))) ∷ [])
   pub list : out′ ≡ listOf (walkRefusal s entry (length out)) 0 (length out) (chainOf s (wordOf entry))

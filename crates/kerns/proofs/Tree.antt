@@ -15,7 +15,7 @@ use lib.Seq.{getD-set-same, getD-set-other}
 use Rattle.words.specs.Words.{wordOf, numberOf}
 use Rattle.words.proofs.Bits.{word-number}
 use Rattle.kerns.specs.Kerns.{placeOf}
-use Rattle.kerns.specs.Sharing.{wordAt, slotAfter, linkAfter, Passes, Ends, Reaches, Linked}
+use Rattle.kerns.specs.Sharing.{wordAt, slotAfter, linkAfter, Descends, Ends, Reaches, Linked}
 use Rattle.kerns.proofs.Places.{place-word, place-absent, place-grows, place-new, snoc-at, snoc-end, snoc-length}
 
 -- ---- words that agree in all bits are the same
@@ -29,12 +29,12 @@ bits-same (suc n) w v a b h =
 
 -- ---- a search
 
-pub passes-none : (ks : List ℤ) (links : List ℕ) (w : ℕ) → Passes ks links w 0
-passes-none ks links w = record { linked = λ j l. absurd (omega arith); others = λ j l. absurd (omega arith) }
+pub descends-none : (ks : List ℤ) (links : List ℕ) (w : ℕ) → Descends ks links w 0
+descends-none ks links w = record { linked = λ j l. absurd (omega arith); others = λ j l. absurd (omega arith) }
 
-module _ {ks : List ℤ} {links : List ℕ} {w n : ℕ} (s : Passes ks links w n) where
-  pub passes-more : (linkAfter links w n ≡ 0 → ⊥) → (wordAt ks (linkAfter links w n - 1) ≡ w → ⊥) → Passes ks links w (n + 1)
-  passes-more a b = record { linked = λ j l. link j (below j (omega arith)); others = λ j l. other j (below j (omega arith)) }
+module _ {ks : List ℤ} {links : List ℕ} {w n : ℕ} (s : Descends ks links w n) where
+  pub descends-more : (linkAfter links w n ≡ 0 → ⊥) → (wordAt ks (linkAfter links w n - 1) ≡ w → ⊥) → Descends ks links w (n + 1)
+  descends-more a b = record { linked = λ j l. link j (below j (omega arith)); others = λ j l. other j (below j (omega arith)) }
     where
       below : (j : ℕ) → j ≤ n → (j ≡ n) ⊎ (j < n)
       below j h = eq-or-lt-of-le h
@@ -47,8 +47,8 @@ module _ {ks : List ℤ} {links : List ℕ} {w n : ℕ} (s : Passes ks links w n
       other j (inl e) = rw e b
       other j (inr l) = s .others j l
 
-  pub passes-less : (j : ℕ) → j ≤ n → Passes ks links w j
-  passes-less j h = record { linked = λ k l. s .linked k (omega arith); others = λ k l. s .others k (omega arith) }
+  pub descends-less : (j : ℕ) → j ≤ n → Descends ks links w j
+  descends-less j h = record { linked = λ k l. s .linked k (omega arith); others = λ k l. s .others k (omega arith) }
 
 -- two searches that come to one slot passed as many values, and went by the same bits
 record Meet (v w n k : ℕ) : Type 0 where
@@ -63,7 +63,7 @@ meet-more v w n k m e = record { same = ap suc (m .same); bits = λ j l. by j (e
     by j (inr l) = m .bits j l
 
 module _ {ks : List ℤ} {links : List ℕ} (c : Linked ks links) where
-  meets : (v w n k : ℕ) → Passes ks links v n → Passes ks links w k → slotAfter links v n ≡ slotAfter links w k → Meet v w n k
+  meets : (v w n k : ℕ) → Descends ks links v n → Descends ks links w k → slotAfter links v n ≡ slotAfter links w k → Meet v w n k
   unfolding slotAfter
   meets v w zero zero s t e = record { same = refl; bits = λ j l. absurd (omega arith) }
   meets v w zero (suc k) s t e = absurd (omega arith)
@@ -72,21 +72,21 @@ module _ {ks : List ℤ} {links : List ℕ} (c : Linked ks links) where
       let a = s .linked n (omega arith) in
       let b = t .linked k (omega arith) in
       let same : linkAfter links v n ≡ linkAfter links w k = omega arith in
-      meet-more v w n k (meets v w n k (passes-less s n (omega arith)) (passes-less t k (omega arith)) (c .single (slotAfter links v n) (slotAfter links w k) a same)) (omega arith)
+      meet-more v w n k (meets v w n k (descends-less s n (omega arith)) (descends-less t k (omega arith)) (c .single (slotAfter links v n) (slotAfter links w k) a same)) (omega arith)
 
   -- the value to whose link a search comes after n others agrees with w in n bits
-  met : (w n p : ℕ) → Passes ks links w n → (l : p < length ks) → linkAfter links w n ≡ p + 1 → Meet w (wordAt ks p) n (c .reached p l .passed)
+  met : (w n p : ℕ) → Descends ks links w n → (l : p < length ks) → linkAfter links w n ≡ p + 1 → Meet w (wordAt ks p) n (c .reached p l .depth)
   met w n p s l e =
       let r = c .reached p l in
-      meets w (wordAt ks p) n (r .passed) s (r .passes) (c .single (slotAfter links w n) (slotAfter links (wordAt ks p) (r .passed)) (λ z. omega arith) (e ∙ sym (r .link-is)))
+      meets w (wordAt ks p) n (r .depth) s (r .descends) (c .single (slotAfter links w n) (slotAfter links (wordAt ks p) (r .depth)) (λ z. omega arith) (e ∙ sym (r .link-is)))
 
   -- so that the search for w passes at most 32
-  pub passes-few : (w n : ℕ) → w < 2 ^ 32 → Passes ks links w n → n ≤ 32
-  passes-few w n l s = by (decLe n 32)
+  pub descends-few : (w n : ℕ) → w < 2 ^ 32 → Descends ks links w n → n ≤ 32
+  descends-few w n l s = by (decLe n 32)
     where
       past : (p : ℕ) → linkAfter links w 32 ≡ p + 1 → p < length ks → 32 < n → ⊥
       past p e i h =
-          let same : w ≡ wordAt ks p = bits-same 32 w (wordAt ks p) l (c .words p i) (met w 32 p (passes-less s 32 (omega arith)) i e .bits) in
+          let same : w ≡ wordAt ks p = bits-same 32 w (wordAt ks p) l (c .words p i) (met w 32 p (descends-less s 32 (omega arith)) i e .bits) in
           let at-p : linkAfter links w 32 - 1 ≡ p = omega arith in
           s .others 32 h (rw at-p (sym same))
 
@@ -98,12 +98,12 @@ module _ {ks : List ℤ} {links : List ℕ} (c : Linked ks links) where
           absurd (past (linkAfter links w 32 - 1) (omega arith) (omega arith) (omega arith))
 
   -- the slot to which it comes
-  slot-le : (w n : ℕ) → Passes ks links w n → slotAfter links w n ≤ 2 * length ks
+  slot-le : (w n : ℕ) → Descends ks links w n → slotAfter links w n ≤ 2 * length ks
   unfolding slotAfter
   slot-le w zero s = omega arith
   slot-le w (suc n) s = omega (arith, s .linked n (omega arith), c .places (slotAfter links w n))
 
-  pub slot-lt : (w n : ℕ) → Passes ks links w n → slotAfter links w n < 65535
+  pub slot-lt : (w n : ℕ) → Descends ks links w n → slotAfter links w n < 65535
   slot-lt w n s = omega (arith, slot-le w n s, c .few)
 
   pub link-lt : (s : ℕ) → getD links s 0 < 32768
@@ -113,7 +113,7 @@ module _ {ks : List ℤ} {links : List ℕ} (c : Linked ks links) where
 
   module _ {w slot : ℕ} (h : Ends ks links w slot) where
     pub ends-lt : slot < 65535
-    ends-lt = rw (h .slot-is) (slot-lt w (h .passed) (h .passes))
+    ends-lt = rw (h .slot-is) (slot-lt w (h .depth) (h .descends))
 
     -- at a link: the value's place
     pub ends-found : w < 2 ^ 32 → (getD links slot 0 ≡ 0 → ⊥) → getD links slot 0 - 1 ≡ placeOf (numberOf w) ks
@@ -123,15 +123,15 @@ module _ {ks : List ℤ} {links : List ℕ} (c : Linked ks links) where
 
     -- at no link: the value is nowhere
     nowhere : (j : ℕ) → getD links slot 0 ≡ 0 → wordAt ks j ≡ w → Reaches ks links w j → ⊥
-    nowhere j none e r = by (decLe (r .passed) (h .passed)) (decLe (h .passed) (r .passed))
+    nowhere j none e r = by (decLe (r .depth) (h .depth)) (decLe (h .depth) (r .depth))
       where
-        empty : linkAfter links w (h .passed) ≡ 0
+        empty : linkAfter links w (h .depth) ≡ 0
         empty = rw (h .slot-is) at none
 
-        by : Dec (r .passed ≤ h .passed) → Dec (h .passed ≤ r .passed) → ⊥
-        by (yes a) (yes b) = let same : r .passed ≡ h .passed = omega arith in let d : 0 ≡ j + 1 = sym empty ∙ (rw same at (r .link-is)) in omega arith
-        by (yes a) (no b) = h .passes .others (r .passed) (omega arith) (let d : linkAfter links w (r .passed) - 1 ≡ j = omega (arith, r .link-is) in rw d e)
-        by (no a) b = r .passes .linked (h .passed) (omega arith) empty
+        by : Dec (r .depth ≤ h .depth) → Dec (h .depth ≤ r .depth) → ⊥
+        by (yes a) (yes b) = let same : r .depth ≡ h .depth = omega arith in let d : 0 ≡ j + 1 = sym empty ∙ (rw same at (r .link-is)) in omega arith
+        by (yes a) (no b) = h .descends .others (r .depth) (omega arith) (let d : linkAfter links w (r .depth) - 1 ≡ j = omega (arith, r .link-is) in rw d e)
+        by (no a) b = r .descends .linked (h .depth) (omega arith) empty
 
     pub ends-absent : w < 2 ^ 32 → getD links slot 0 ≡ 0 → placeOf (numberOf w) ks ≡ length ks
     ends-absent l none = place-absent (numberOf w) ks (λ j i d. let e : wordAt ks j ≡ w = d ∙ word-number w l in nowhere j none e (rw e at (c .reached j i)))
@@ -170,23 +170,23 @@ module _ {ks : List ℤ} {links : List ℕ} (c : Linked ks links) (v : ℤ) {slo
   link-kept s some = getD-set-other links slot s (length ks + 1) 0 (λ e. some (rw e none))
 
   -- and so do the searches, which go over links alone
-  slot-kept : (w n : ℕ) → Passes ks links w n → slotAfter (set links slot (length ks + 1)) w n ≡ slotAfter links w n
+  slot-kept : (w n : ℕ) → Descends ks links w n → slotAfter (set links slot (length ks + 1)) w n ≡ slotAfter links w n
   unfolding slotAfter
   slot-kept w zero s = refl
-  slot-kept w (suc n) s = rw (slot-kept w n (passes-less s n (omega arith)), link-kept (slotAfter links w n) (s .linked n (omega arith)))
+  slot-kept w (suc n) s = rw (slot-kept w n (descends-less s n (omega arith)), link-kept (slotAfter links w n) (s .linked n (omega arith)))
 
-  link-after : (w n : ℕ) → Passes ks links w n → (linkAfter links w n ≡ 0 → ⊥) → linkAfter (set links slot (length ks + 1)) w n ≡ linkAfter links w n
+  link-after : (w n : ℕ) → Descends ks links w n → (linkAfter links w n ≡ 0 → ⊥) → linkAfter (set links slot (length ks + 1)) w n ≡ linkAfter links w n
   link-after w n s some = rw (slot-kept w n s) (link-kept (slotAfter links w n) some)
 
-  passes-kept : (w n : ℕ) → Passes ks links w n → Passes (ks ++ (v ∷ [])) (set links slot (length ks + 1)) w n
-  passes-kept w n s =
+  descends-kept : (w n : ℕ) → Descends ks links w n → Descends (ks ++ (v ∷ [])) (set links slot (length ks + 1)) w n
+  descends-kept w n s =
       record {
         linked = λ j l. rw (same j l) (s .linked j l);
         others = λ j l. rw (same j l, snoc-at ks v (linkAfter links w j - 1) (omega (arith, s .linked j l, c .places (slotAfter links w j)))) (s .others j l);
       }
     where
       same : (j : ℕ) → j < n → linkAfter (set links slot (length ks + 1)) w j ≡ linkAfter links w j
-      same j l = link-after w j (passes-less s j (omega arith)) (s .linked j l)
+      same j l = link-after w j (descends-less s j (omega arith)) (s .linked j l)
 
   -- the new link
   link-new : getD (set links slot (length ks + 1)) slot 0 ≡ length ks + 1
@@ -196,17 +196,17 @@ module _ {ks : List ℤ} {links : List ℕ} (c : Linked ks links) (v : ℤ) {slo
   reached-more p (inl e) =
       rw (e, snoc-end ks v)
       record {
-        passed = h .passed;
-        passes = passes-kept (wordOf v) (h .passed) (h .passes);
-        link-is = rw (slot-kept (wordOf v) (h .passed) (h .passes), ← h .slot-is) link-new;
+        depth = h .depth;
+        descends = descends-kept (wordOf v) (h .depth) (h .descends);
+        link-is = rw (slot-kept (wordOf v) (h .depth) (h .descends), ← h .slot-is) link-new;
       }
   reached-more p (inr l) =
       let r = c .reached p l in
       rw (snoc-at ks v p l)
       record {
-        passed = r .passed;
-        passes = passes-kept (wordAt ks p) (r .passed) (r .passes);
-        link-is = link-after (wordAt ks p) (r .passed) (r .passes) (λ z. omega (arith, r .link-is)) ∙ r .link-is;
+        depth = r .depth;
+        descends = descends-kept (wordAt ks p) (r .depth) (r .descends);
+        link-is = link-after (wordAt ks p) (r .depth) (r .descends) (λ z. omega (arith, r .link-is)) ∙ r .link-is;
       }
 
   link-cases : (s : ℕ) → LinkCase links slot (length ks + 1) s

@@ -11,7 +11,7 @@ use Rattle.words.specs.Lists.{tabulate}
 use Rattle.lang.specs.Records.{count, field, isKind}
 use Rattle.lang.specs.Checks.{programRefusal, kernsRefusal, orElse}
 use Rattle.lang.specs.declared.Written.{Written}
-use Rattle.lang.specs.Answers.{roomRefusal, answerOf, listOf}
+use Rattle.lang.specs.Answers.{roomRefusal, writtenReply, replyOf, listOf}
 
 -- number j of a program in which each instruction i that passes a test has another kind and another operand
 abbrev pub changed : List ℤ → (ℕ → Bool) → ℤ → (ℕ → ℤ) → ℕ → ℤ
@@ -58,11 +58,11 @@ unpackRefusal s room kernRoom =
 
 -- the contract of pack_kerns
 pub record PacksKerns (s kerns out : List ℤ) (r : Written) (out′ : List ℤ) : Type 0 where
-  pub answer : r ≡ answerOf (packRefusal s kerns (length out)) (count s)
+  pub answer : writtenReply r ≡ replyOf (packRefusal s kerns (length out)) (pos (count s) ∷ [])
   pub list : out′ ≡ listOf (packRefusal s kerns (length out)) (pos 0) (length out) (packed s kerns)
 
 -- the contract of unpack_kerns
 pub record UnpacksKerns (s out kerns : List ℤ) (r : Written) (out′ kerns′ : List ℤ) : Type 0 where
-  pub answer : r ≡ answerOf (unpackRefusal s (length out) (length kerns)) (length (kernsOf s))
+  pub answer : writtenReply r ≡ replyOf (unpackRefusal s (length out) (length kerns)) (pos (length (kernsOf s)) ∷ [])
   pub list : out′ ≡ listOf (unpackRefusal s (length out) (length kerns)) (pos 0) (length out) (unpacked s)
   pub shares : kerns′ ≡ listOf (unpackRefusal s (length out) (length kerns)) (pos 0) (length kerns) (kernsOf s)

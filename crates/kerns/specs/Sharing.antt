@@ -23,24 +23,24 @@ slotAfter links w (suc n) = 2 * (getD links (slotAfter links w n) 0 - 1) + 1 + w
 abbrev pub linkAfter : List ℕ → ℕ → ℕ → ℕ
 linkAfter links w n = getD links (slotAfter links w n) 0
 
--- the search for w passes n values: there are that many, and all are others
-pub record Passes (ks : List ℤ) (links : List ℕ) (w n : ℕ) : Type 0 where
+-- the search for w goes down by n values: there are that many on its way, and all are others
+pub record Descends (ks : List ℤ) (links : List ℕ) (w n : ℕ) : Type 0 where
   pub linked : (j : ℕ) → j < n → linkAfter links w j ≡ 0 → ⊥
   pub others : (j : ℕ) → j < n → wordAt ks (linkAfter links w j - 1) ≡ w → ⊥
 
--- it passes at most 32 values and ends at a slot that has no link, or w's
+-- it goes down by at most 32 values and ends at a slot that has no link, or w's
 pub record Ends (ks : List ℤ) (links : List ℕ) (w slot : ℕ) : Type 0 where
-  pub passed : ℕ
-  pub near : passed ≤ 32
-  pub passes : Passes ks links w passed
-  pub slot-is : slot ≡ slotAfter links w passed
+  pub depth : ℕ
+  pub near : depth ≤ 32
+  pub descends : Descends ks links w depth
+  pub slot-is : slot ≡ slotAfter links w depth
   pub stops : (getD links slot 0 ≡ 0 → ⊥) → wordAt ks (getD links slot 0 - 1) ≡ w
 
 -- it comes to the link of place p
 pub record Reaches (ks : List ℤ) (links : List ℕ) (w p : ℕ) : Type 0 where
-  pub passed : ℕ
-  pub passes : Passes ks links w passed
-  pub link-is : linkAfter links w passed ≡ p + 1
+  pub depth : ℕ
+  pub descends : Descends ks links w depth
+  pub link-is : linkAfter links w depth ≡ p + 1
 
 -- each value of ks stands there once, has one link, and is reached by the search for it
 pub record Linked (ks : List ℤ) (links : List ℕ) : Type 0 where

@@ -2,18 +2,20 @@
 -- Assumes nothing.
 use mathlib.Core.Path.{_≡_, refl, sym, ap, _∙_}
 use mathlib.Core.Bool.{Bool, true, false}
-use mathlib.Core.List.{List}
+use mathlib.Core.List.{List, [], _∷_}
 use Prim.Native.Nat.{ℕ, zero, suc, _%_, _<_, _≤_}
 use native.Mathlib.Omega.{arith}
-use lib.IntN.{ℤ}
+use lib.IntN.{ℤ, pos}
 use lib.Dec.{leb, eqb}
 use lib.ListN.{length}
 use borrow.Author.Tests.{leb-true, le-leb, lt-leb}
+use Rattle.words.specs.Replies.{Reply, replyOf}
+use Rattle.lang.specs.declared.Written.{Written}
 use Rattle.lang.specs.declared.Written.the-variants.{Count, Refused}
 use Rattle.lang.specs.Every.{both}
 use Rattle.lang.specs.Records.{count}
 use Rattle.lang.specs.Checks.{unless, orElse, sizeRefusal, recordRefusal, programRefusal}
-use Rattle.lang.specs.Answers.{roomRefusal, answerOf}
+use Rattle.lang.specs.Answers.{roomRefusal, writtenReply}
 use Rattle.lang.proofs.Every.{both-right}
 
 -- ---- the first of two numbers that is not 0
@@ -67,9 +69,23 @@ room-short needed room h = rw (lt-leb needed room h)
 
 -- ---- the answer by the refusal
 
-pub refused-answer : {m r : ℕ} (n : ℕ) → r ≡ m → (r ≡ 0 → ⊥) → Refused r ≡ answerOf m n
-refused-answer {m = zero} n e h = absurd (h e)
-refused-answer {m = suc m} n e h = ap Refused e
+-- a refusal's reply is its number alone, whatever the values would be
+pub refused-reply : {m r : ℕ} (vs : List ℤ) → r ≡ m → (r ≡ 0 → ⊥) → _≡_ {A = Reply} (record { number = r; values = [] }) (replyOf m vs)
+refused-reply {m = zero} vs e h = absurd (h e)
+refused-reply {m = suc m} vs e h = rw e
 
-pub taken-answer : {m : ℕ} (n : ℕ) → m ≡ 0 → Count n ≡ answerOf m n
-taken-answer n e = rw e
+pub taken-reply : {m : ℕ} (vs : List ℤ) → m ≡ 0 → replyOf 0 vs ≡ replyOf m vs
+taken-reply vs e = rw e
+
+pub refused-answer : {m r : ℕ} (n : ℕ) → r ≡ m → (r ≡ 0 → ⊥) → writtenReply (Refused r) ≡ replyOf m (pos n ∷ [])
+refused-answer n e h = refused-reply (pos n ∷ []) e h
+
+pub taken-answer : {m : ℕ} (n : ℕ) → m ≡ 0 → writtenReply (Count n) ≡ replyOf m (pos n ∷ [])
+taken-answer n e = taken-reply (pos n ∷ []) e
+
+-- the answer is known from its reply
+pub written-injective : (x y : Written) → writtenReply x ≡ writtenReply y → x ≡ y
+written-injective (Count m) (Count n) e = let q : _≡_ {A = List ℤ} (pos m ∷ []) (pos n ∷ []) = ap (λ (r : Reply). r .values) e in cc
+written-injective (Count m) (Refused n) e = let q : _≡_ {A = List ℤ} (pos m ∷ []) [] = ap (λ (r : Reply). r .values) e in let z : _≡_ {A = ℕ} 0 1 = cc in absurd (omega arith)
+written-injective (Refused m) (Count n) e = let q : _≡_ {A = List ℤ} [] (pos n ∷ []) = ap (λ (r : Reply). r .values) e in let z : _≡_ {A = ℕ} 0 1 = cc in absurd (omega arith)
+written-injective (Refused m) (Refused n) e = ap Refused (ap (λ (r : Reply). r .number) e)

@@ -6,8 +6,7 @@ use Prim.Native.Nat.{ℕ, suc}
 use lib.IntN.{ℤ, pos, negsuc}
 use lib.Dec.{eqb}
 use Rattle.tfm.specs.declared.ToScaled.{ToScaled}
-use Rattle.tfm.specs.declared.ToScaled.the-variants.{Scaled, NegativeDesignSize, TooLarge}
-use Rattle.tfm.specs.Scaled.{refusal, toScaled}
+use Rattle.tfm.specs.Scaled.{scaledReply, toScaled}
 use Rattle.lang.specs.declared.operation.PostLigOperation.{PostLigOperation}
 use Rattle.lang.specs.declared.operation.PostLigOperation.the-variants.{RetainBothMoveNowhere, RetainBothMoveToInserted, RetainBothMoveToRight, RetainRightMoveToInserted, RetainRightMoveToRight, RetainLeftMoveNowhere, RetainLeftMoveToInserted, RetainNeitherMoveToInserted}
 use Rattle.lang.specs.declared.operation.Operation.{Operation}
@@ -28,11 +27,9 @@ pub record Row : Type 0 where
 
 -- ---- answers as numbers
 
--- the number of a refusal, or 0 and the value
+-- the number of a reply, and its values
 abbrev pub scaledNumbers : ToScaled → List ℤ
-scaledNumbers (Scaled v) = pos 0 ∷ v ∷ []
-scaledNumbers NegativeDesignSize = pos (refusal NegativeDesignSize) ∷ []
-scaledNumbers TooLarge = pos (refusal TooLarge) ∷ []
+scaledNumbers x = pos (scaledReply x .number) ∷ scaledReply x .values
 
 -- the standard op byte of an operation
 abbrev pub opByte : PostLigOperation → ℕ

@@ -1,3 +1,4 @@
 pub mod Entered
 pub mod Places
 pub mod Packing
+pub mod Purpose

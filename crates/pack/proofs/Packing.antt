@@ -1,5 +1,4 @@
--- Laws of packing: refusals in their order, the numbers of the packed instructions and entries, and what packing is for: `packed-same`,
--- `packed-unpacks`, `packed-byte` and `entries-unpack`, at the end.
+-- Laws of packing: refusals in their order, the numbers of the packed instructions and entries, and the answer.
 -- Assumes nothing.
 use mathlib.Core.Path.{_≡_, refl, sym, ap, _∙_}
 use mathlib.Core.Bool.{Bool, true, false, cond}
@@ -19,20 +18,15 @@ use Rattle.words.specs.Words.{wordOf, numberOf}
 use Rattle.words.specs.Lists.{tabulate, Filling, Appending}
 use Rattle.words.proofs.Bits.{number-pos, number-neg, number-word}
 use Rattle.words.proofs.Lists.{length-tabulate, getD-tabulate, appending-rest}
-use Rattle.lang.specs.declared.instruction.Instruction.{Instruction}
-use Rattle.unpack.specs.declared.Unpacked.the-variants.{Entry}
-use Rattle.lang.specs.Records.{count, field, within, nextOf, operationOf, instructionAt}
-use Rattle.lang.specs.Records.{isKind}
-use Rattle.unpack.specs.Unpacking.{targetAt, unpacks}
 use Rattle.lang.specs.Checks.{programRefusal, entriesRefusal, absentRefusal, orElse, charAt, entryAt}
 use Rattle.pack.specs.declared.Packed.{Packed}
 use Rattle.pack.specs.declared.Packed.the-variants.{Sizes, Refused}
-use Rattle.lang.specs.Answers.{roomRefusal}
-use Rattle.lang.proofs.Refusals.{first-refusal, second-is, orElse-none, unless-none, room-fits}
+use Rattle.lang.specs.Answers.{Reply, replyOf, roomRefusal}
+use Rattle.lang.proofs.Refusals.{first-refusal, second-is, orElse-none, unless-none, room-fits, refused-reply}
 use Rattle.lang.proofs.Filled.{filling-put, refused-list}
 use Rattle.labels.specs.Labels.{labelsOf, redirectsOf, offsetBy, largest}
 use Rattle.labels.proofs.Redirects.{Under, labels-under, largest-le, first-largest, redirects-le, offset-some, labels-has, unredirected}
-use Rattle.pack.specs.Packing.{Packable, packable, redirectsTo, redirect, presentOr, leftOr, front, back, fontRedirects, fontOffset, packableRefusal, redirectRefusal, fitsShifted, shiftRefusal, packingRefusal, packedInstructions, packedEntry, entryNumber, packedEntryNumber, packedEntries, packedBy, placeAmong, Packs}
+use Rattle.pack.specs.Packing.{Packable, packable, redirectsTo, redirect, presentOr, leftOr, front, back, fontRedirects, fontOffset, packableRefusal, redirectRefusal, fitsShifted, shiftRefusal, packingRefusal, packedInstructions, packedEntry, entryNumber, packedEntryNumber, packedEntries, packedSizes, packedReply, placeAmong, Packs}
 use Rattle.pack.proofs.Entered.{entry-le}
 use Rattle.pack.proofs.Places.{present-test, present-is, place-is, place-lt}
 
@@ -304,7 +298,7 @@ offset-le b (suc k) = omega arith
 refusal-same : {k k′ o o′ big big′ size size′ : ℕ} (left room n entryRoom : ℕ) → k ≡ k′ → o ≡ o′ → big ≡ big′ → size ≡ size′ → refusalBy k o big left size room n entryRoom ≡ refusalBy k′ o′ big′ left size′ room n entryRoom
 refusal-same left room n entryRoom a b c d = rw (a, b, c, d)
 
-under : (limit : ℕ) (es : List ℤ) → entriesRefusal limit es ≡ 0 → Under (suc limit) (labelsOf es)
+pub under : (limit : ℕ) (es : List ℤ) → entriesRefusal limit es ≡ 0 → Under (suc limit) (labelsOf es)
 under limit es ok = labels-under es (suc limit) (length es / 2) (λ i h. omega (arith, entry-le limit es ok i h))
 
 -- ls are the labels of f, b says whether it has a boundary character, k and o are its redirects and its offset
@@ -333,7 +327,7 @@ module _ {f : Packable} {ls : List ℕ} {b : Bool} {k o : ℕ} (p : Plan f ls b 
       ∙ ap (λ (n : ℕ). front (f .boundary) (fontRedirects f) n ls ++ f .instructions ++ back (f .left) n) plan-offset
       ∙ ap (λ (t : List ℕ). front (f .boundary) (fontRedirects f) (fontOffset f) t ++ f .instructions ++ back (f .left) (fontOffset f)) (p .same)
 
-  plan-size : length (packedInstructions f) ≡ 4 * o + length (f .instructions) + length (back (f .left) o)
+  pub plan-size : length (packedInstructions f) ≡ 4 * o + length (f .instructions) + length (back (f .left) o)
   plan-size =
       ap length (sym plan-packed) ∙ number-count (f .boundary) k o ls (f .instructions) (f .left) plan-front plan-few
 
@@ -354,7 +348,7 @@ module _ {f : Packable} {ls : List ℕ} {b : Bool} {k o : ℕ} (p : Plan f ls b 
       ∙ ap (λ (n : ℕ). tabulate (length (f .entries)) (entryNumber (f .entries) (fontRedirects f) n ls)) plan-offset
       ∙ ap (λ (t : List ℕ). tabulate (length (f .entries)) (entryNumber (f .entries) (fontRedirects f) (fontOffset f) t)) (p .same)
 
-  pub plan-answer : (size : ℕ) → size ≡ 4 * o + length (f .instructions) + length (back (f .left) o) → Sizes (size / 4) o k ≡ packedBy 0 f
+  pub plan-answer : (size : ℕ) → size ≡ 4 * o + length (f .instructions) + length (back (f .left) o) → packedReply (Sizes (size / 4) o k) ≡ replyOf 0 (packedSizes f)
   plan-answer size e = rw (e, ← plan-size, plan-redirects, plan-offset)
 
   -- every label, shifted, fits
@@ -377,21 +371,17 @@ lent-font s es e g = rw (e, g)
 pub packing-first : (f : Packable) (room entryRoom : ℕ) {r : ℕ} → r ≡ packableRefusal f → (r ≡ 0 → ⊥) → r ≡ packingRefusal f room entryRoom
 packing-first f room entryRoom e h = first-refusal (laterRefusal f room entryRoom) e h
 
-refused : (f : Packable) {r m : ℕ} → r ≡ m → (r ≡ 0 → ⊥) → Refused r ≡ packedBy m f
-refused f {m = zero} e h = absurd (h e)
-refused f {m = suc m} e h = ap Refused e
-
 -- by the outputs, which are zero
 module _ (f : Packable) (out entriesOut : List ℤ) (zeros : out ≡ replicate (length out) (pos 0)) (zerosOut : entriesOut ≡ replicate (length entriesOut) (pos 0)) where
   pub packs-refused : (r : ℕ) → r ≡ packingRefusal f (length out) (length entriesOut) → (r ≡ 0 → ⊥) → Packs f out entriesOut (Refused r) out entriesOut
   packs-refused r t h =
       record {
-        answer = refused f t h;
+        answer = refused-reply (packedSizes f) t h;
         instructions = refused-list (pos 0) (length out) (packedInstructions f) t h zeros;
         entries = refused-list (pos 0) (length entriesOut) (packedEntries f) t h zerosOut;
       }
 
-  pub packs-taken : (r : Packed) (out′ entriesOut′ : List ℤ) → packingRefusal f (length out) (length entriesOut) ≡ 0 → r ≡ packedBy 0 f → Appending (packedInstructions f) out out′ → Appending (packedEntries f) entriesOut entriesOut′ → Packs f out entriesOut r out′ entriesOut′
+  pub packs-taken : (r : Packed) (out′ entriesOut′ : List ℤ) → packingRefusal f (length out) (length entriesOut) ≡ 0 → packedReply r ≡ replyOf 0 (packedSizes f) → Appending (packedInstructions f) out out′ → Appending (packedEntries f) entriesOut entriesOut′ → Packs f out entriesOut r out′ entriesOut′
   packs-taken r out′ entriesOut′ q a x y =
       record {
         answer = rw q a;
@@ -411,100 +401,10 @@ pub packs-lengths : {f g : Packable} (out out₀ entriesOut entriesOut₀ : List
 packs-lengths out out₀ entriesOut entriesOut₀ e n m p =
     record { answer = rw (e, n, m) at (p .answer); instructions = rw (e, n, m) at (p .instructions); entries = rw (e, n, m) at (p .entries) }
 
--- ---- what packing is for: the old instructions are there, each entry is one byte, and it unpacks to the old entry, shifted
+-- ---- the answer is known from its reply
 
-fromFields : ℤ → ℤ → ℤ → ℤ → Instruction
-fromFields next right kind operand =
-    record { «next_instruction» = nextOf next; «right_char» = record { 0 = wordOf right % 256 }; operation = operationOf (wordOf kind) operand }
-
-from-same : {a a′ b b′ c c′ d d′ : ℤ} → a ≡ a′ → b ≡ b′ → c ≡ c′ → d ≡ d′ → fromFields a b c d ≡ fromFields a′ b′ c′ d′
-from-same p q r s = rw (p, q, r, s)
-
-unpack-plain : (s : List ℤ) (e : ℕ) → e < count s → isKind 3 s e ≡ false → unpacks s e ≡ Entry e
-unpack-plain s e h k = rw (k, lt-ltb e (count s) h)
-
-unpack-redirect : (s : List ℤ) (e t : ℕ) → e < count s → isKind 3 s e ≡ true → targetAt s e ≡ t → t < count s → unpacks s e ≡ Entry t
-unpack-redirect s e t h k g l = rw (k, g, lt-ltb t (count s) l, lt-ltb e (count s) h)
-
--- of the entry at place i: its character stays, and its packed entry is one byte, which unpacks to the old entry, shifted
-pub record Unpacks (f : Packable) (i : ℕ) : Type 0 where
-  pub char : charAt (packedEntries f) i ≡ charAt (f .entries) i
-  pub byte : within 255 (entryAt (packedEntries f) i) ≡ true
-  pub entry : unpacks (packedInstructions f) (wordOf (entryAt (packedEntries f) i)) ≡ Entry (wordOf (entryAt (f .entries) i) + fontOffset f)
-
-module _ (f : Packable) where
-  plan-of : Plan f (labelsOf (f .entries)) (nonNeg (f .boundary)) (fontRedirects f) (fontOffset f)
-  plan-of = record { same = refl; bounded = refl; redirects = refl; offset = refl }
-
-  whole-size : length (packedInstructions f) ≡ 4 * fontOffset f + length (f .instructions) + length (back (f .left) (fontOffset f))
-  whole-size = plan-size plan-of
-
-  -- number m of the old instruction e, and of redirect p
-  old-field : (e m : ℕ) → e < count (f .instructions) → m < 4 → field (packedInstructions f) (e + fontOffset f) m ≡ field (f .instructions) e m
-  old-field e m h l =
-      let j : 4 * (e + fontOffset f) + m - 4 * fontOffset f ≡ 4 * e + m = omega arith in
-      rw (lt-ltb (e + fontOffset f) (count (packedInstructions f)) (omega (arith, whole-size)), lt-ltb e (count (f .instructions)) h)
-      (sym (number-old (f .boundary) (fontRedirects f) (fontOffset f) (labelsOf (f .entries)) (f .instructions) (f .left) refl (plan-few plan-of) (4 * (e + fontOffset f) + m) (omega arith) (omega arith))
-      ∙ ap (λ (n : ℕ). getD (f .instructions) n (pos 0)) j)
-
-  front-field : (p m : ℕ) → p < fontRedirects f → m < 4 → field (packedInstructions f) p m ≡ getD (redirect (presentOr (f .boundary)) (getD (labelsOf (f .entries)) p 0 + fontOffset f) 1) m (pos 0)
-  front-field p m h l =
-      let o : fontOffset f ≡ fontRedirects f = offset-some (nonNeg (f .boundary)) (fontRedirects f) (λ z. omega arith) in
-      let q : (4 * p + m) / 4 ≡ p = omega arith in
-      let r : (4 * p + m) % 4 ≡ m = omega arith in
-      rw (lt-ltb p (count (packedInstructions f)) (omega (arith, whole-size)))
-      (sym (number-front (f .boundary) (fontRedirects f) (fontOffset f) (labelsOf (f .entries)) (f .instructions) (f .left) refl (plan-few plan-of) (4 * p + m) (omega arith))
-      ∙ rw (q, r, ne-eqb (fontRedirects f) 0 (λ z. omega arith)))
-
-  -- the old instructions stand behind those in front
-  pub packed-same : (e : ℕ) → e < count (f .instructions) → instructionAt (packedInstructions f) (e + fontOffset f) ≡ instructionAt (f .instructions) e
-  unfolding fromFields
-  packed-same e h =
-      from-same (old-field e 0 h (omega arith)) (old-field e 1 h (omega arith)) (old-field e 2 h (omega arith)) (old-field e 3 h (omega arith))
-
-  module _ (room entryRoom : ℕ) (accepted : packingRefusal f room entryRoom ≡ 0) where
-    packs : Taken f room entryRoom
-    packs = taken f room entryRoom accepted
-
-    redirected : (e : ℕ) → placeAmong e (labelsOf (f .entries)) < fontRedirects f → e < count (f .instructions) → unpacks (packedInstructions f) (placeAmong e (labelsOf (f .entries))) ≡ Entry (e + fontOffset f)
-    redirected e h l =
-        let p : ℕ = placeAmong e (labelsOf (f .entries)) in
-        let o : fontOffset f ≡ fontRedirects f = offset-some (nonNeg (f .boundary)) (fontRedirects f) (λ z. omega arith) in
-        let x : getD (labelsOf (f .entries)) p 0 ≡ e = place-is e (labelsOf (f .entries)) (omega (arith, plan-few plan-of)) in
-        let m : e + fontOffset f ≤ 65535 = omega (arith, plan-shifts plan-of packs p) in
-        let n : (e + fontOffset f + 65536) % 65536 ≡ e + fontOffset f = omega arith in
-        unpack-redirect (packedInstructions f) p (e + fontOffset f) (omega (arith, whole-size))
-        (ap (λ (z : ℤ). eqb (wordOf z) 3) (front-field p 2 h (omega arith)))
-        (ap (λ (z : ℤ). wordOf z % 65536) (front-field p 3 h (omega arith)) ∙ ap (λ (t : ℕ). (t + fontOffset f + 65536) % 65536) x ∙ n)
-        (omega (arith, whole-size))
-
-    -- an old instruction that is no redirect itself is what its packed entry unpacks to
-    pub packed-unpacks : (e : ℕ) → e < count (f .instructions) → isKind 3 (f .instructions) e ≡ false → unpacks (packedInstructions f) (packedEntry (fontRedirects f) (fontOffset f) (labelsOf (f .entries)) e) ≡ Entry (e + fontOffset f)
-    packed-unpacks e h k = go (ltb (placeAmong e (labelsOf (f .entries))) (fontRedirects f)) refl
-      where
-        go : (b : Bool) → ltb (placeAmong e (labelsOf (f .entries))) (fontRedirects f) ≡ b → unpacks (packedInstructions f) (cond b (placeAmong e (labelsOf (f .entries))) (e + fontOffset f)) ≡ Entry (e + fontOffset f)
-        go true t = redirected e (ltb-true (placeAmong e (labelsOf (f .entries))) (fontRedirects f) t) h
-        go false t =
-            unpack-plain (packedInstructions f) (e + fontOffset f) (omega (arith, whole-size))
-            (ap (λ (z : ℤ). eqb (wordOf z) 3) (old-field e 2 h (omega arith)) ∙ k)
-
-    -- a label's packed entry is one byte
-    pub packed-byte : {e : ℕ} → List·Memᴰ e (labelsOf (f .entries)) → packedEntry (fontRedirects f) (fontOffset f) (labelsOf (f .entries)) e ≤ 255
-    packed-byte {e} m = go (ltb (placeAmong e (labelsOf (f .entries))) (fontRedirects f)) refl
-      where
-        go : (b : Bool) → ltb (placeAmong e (labelsOf (f .entries))) (fontRedirects f) ≡ b → cond b (placeAmong e (labelsOf (f .entries))) (e + fontOffset f) ≤ 255
-        go true t = omega (arith, ltb-true (placeAmong e (labelsOf (f .entries))) (fontRedirects f) t, packs .few)
-        go false t =
-            let l : fontRedirects f ≤ placeAmong e (labelsOf (f .entries)) = ltb-false (placeAmong e (labelsOf (f .entries))) (fontRedirects f) t in
-            let x : getD (labelsOf (f .entries)) (placeAmong e (labelsOf (f .entries))) 0 ≡ e = place-is e (labelsOf (f .entries)) (place-lt m) in
-            omega (arith, unredirected (nonNeg (f .boundary)) (labelsOf (f .entries)) (under 65535 (f .entries) (packs .entered)) (placeAmong e (labelsOf (f .entries))) (place-lt m) l)
-
-    pub entries-unpack : (i : ℕ) → i < length (f .entries) / 2 → wordOf (entryAt (f .entries) i) < count (f .instructions) → isKind 3 (f .instructions) (wordOf (entryAt (f .entries) i)) ≡ false → Unpacks f i
-    entries-unpack i h l k =
-        let e : entryAt (packedEntries f) i ≡ pos (packedEntry (fontRedirects f) (fontOffset f) (labelsOf (f .entries)) (wordOf (entryAt (f .entries) i))) =
-        getD-tabulate (length (f .entries)) (packedEntryNumber f) (2 * i + 1) (pos 0) (omega arith) ∙ sym (entry-entry (f .entries) (fontRedirects f) (fontOffset f) (labelsOf (f .entries)) (2 * i + 1) (λ z. omega arith)) in
-        record {
-          char = getD-tabulate (length (f .entries)) (packedEntryNumber f) (2 * i) (pos 0) (omega arith) ∙ sym (entry-char (f .entries) (fontRedirects f) (fontOffset f) (labelsOf (f .entries)) (2 * i) (omega arith));
-          byte = ap (within 255) e ∙ le-leb (packedEntry (fontRedirects f) (fontOffset f) (labelsOf (f .entries)) (wordOf (entryAt (f .entries) i))) 255 (packed-byte (labels-has (f .entries) (length (f .entries) / 2) i h));
-          entry = ap (λ (z : ℤ). unpacks (packedInstructions f) (wordOf z)) e ∙ packed-unpacks (wordOf (entryAt (f .entries) i)) l k;
-        }
+pub packed-injective : (x y : Packed) → packedReply x ≡ packedReply y → x ≡ y
+packed-injective (Sizes a b c) (Sizes a′ b′ c′) e = let q : _≡_ {A = List ℤ} (pos a ∷ pos b ∷ pos c ∷ []) (pos a′ ∷ pos b′ ∷ pos c′ ∷ []) = ap (λ (r : Reply). r .values) e in cc
+packed-injective (Sizes a b c) (Refused n) e = let q : _≡_ {A = List ℤ} (pos a ∷ pos b ∷ pos c ∷ []) [] = ap (λ (r : Reply). r .values) e in let z : _≡_ {A = ℕ} 0 1 = cc in absurd (omega arith)
+packed-injective (Refused m) (Sizes a b c) e = let q : _≡_ {A = List ℤ} [] (pos a ∷ pos b ∷ pos c ∷ []) = ap (λ (r : Reply). r .values) e in let z : _≡_ {A = ℕ} 0 1 = cc in absurd (omega arith)
+packed-injective (Refused m) (Refused n) e = ap Refused (ap (λ (r : Reply). r .number) e)

@@ -14,7 +14,7 @@ use Rattle.pack.specs.declared.Packed.{Packed}
 use Rattle.pack.specs.declared.Packed.the-variants.{Sizes, Refused}
 use Rattle.lang.specs.Records.{count}
 use Rattle.lang.specs.Checks.{programRefusal, entriesRefusal, absentRefusal, orElse}
-use Rattle.lang.specs.Answers.{roomRefusal, listOf}
+use Rattle.lang.specs.Answers.{Reply, replyOf, roomRefusal, listOf}
 use Rattle.labels.specs.Labels.{labelsOf, redirectsOf, offsetBy, largest}
 
 -- ---- PLtoTF 141 and 142: the packed entries and the instructions
@@ -103,11 +103,6 @@ packableRefusal f =
     orElse (programRefusal (f .instructions))
     (orElse (entriesRefusal 65535 (f .entries)) (orElse (absentRefusal 255 (f .boundary)) (absentRefusal 65535 (f .left))))
 
--- document 01's number of an answer
-abbrev pub packedNumber : Packed → ℕ
-packedNumber (Sizes n offset redirects) = 0
-packedNumber (Refused n) = n
-
 abbrev pub packingRefusal : Packable → ℕ → ℕ → ℕ
 packingRefusal f room entryRoom =
     orElse (packableRefusal f)
@@ -115,13 +110,19 @@ packingRefusal f room entryRoom =
     (orElse (shiftRefusal (largest (labelsOf (f .entries))) (leftOr (f .left)) (fontOffset f))
     (orElse (roomRefusal (length (packedInstructions f)) room) (roomRefusal (length (f .entries)) entryRoom))))
 
--- the answer: how many instructions there are now, the offset and the number of redirects
-abbrev pub packedBy : ℕ → Packable → Packed
-packedBy zero f = Sizes (count (packedInstructions f)) (fontOffset f) (fontRedirects f)
-packedBy (suc r) f = Refused (suc r)
+-- ---- the answer
+
+-- how many instructions there are now, the offset and the number of redirects
+abbrev pub packedSizes : Packable → List ℤ
+packedSizes f = pos (count (packedInstructions f)) ∷ pos (fontOffset f) ∷ pos (fontRedirects f) ∷ []
+
+-- an answer as document 01 has it
+abbrev pub packedReply : Packed → Reply
+packedReply (Sizes n offset redirects) = replyOf 0 (pos n ∷ pos offset ∷ pos redirects ∷ [])
+packedReply (Refused n) = record { number = n; values = [] }
 
 -- the contract of pack_entrypoints
 pub record Packs (f : Packable) (out entriesOut : List ℤ) (r : Packed) (out′ entriesOut′ : List ℤ) : Type 0 where
-  pub answer : r ≡ packedBy (packingRefusal f (length out) (length entriesOut)) f
+  pub answer : packedReply r ≡ replyOf (packingRefusal f (length out) (length entriesOut)) (packedSizes f)
   pub instructions : out′ ≡ listOf (packingRefusal f (length out) (length entriesOut)) (pos 0) (length out) (packedInstructions f)
   pub entries : entriesOut′ ≡ listOf (packingRefusal f (length out) (length entriesOut)) (pos 0) (length entriesOut) (packedEntries f)

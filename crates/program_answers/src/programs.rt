@@ -86,7 +86,7 @@ pub(crate) fn unpacked(numbers: &[i32], out: &mut [i32]) -> Written {
         Unpacked::Entry(e) => Written::Count(put_entry(out, e, &left)),
         Unpacked::Direct => Written::Count(put_one(out, 0, 8)),
         Unpacked::Indirect => Written::Count(put_one(out, 0, 9)),
-        Unpacked::Unfit(n) => Written::Refused(n),
+        Unpacked::Refused(n) => Written::Refused(n),
     }
 }
 
@@ -94,7 +94,7 @@ pub(crate) fn unpacked(numbers: &[i32], out: &mut [i32]) -> Written {
 pub(crate) fn seven_bit_safe(font: &[i32], out: &mut [i32]) -> Written {
     match unpack::is_seven_bit_safe(instructions_of(font), entries_of(font)) {
         SevenBit::Safe(safe) => Written::Count(put_one(out, 0, bit(safe))),
-        SevenBit::Unfit(n) => Written::Refused(n),
+        SevenBit::Refused(n) => Written::Refused(n),
     }
 }
 

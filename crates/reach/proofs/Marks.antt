@@ -22,7 +22,7 @@ use Rattle.lang.specs.Records.{count, instructionAt}
 use Rattle.lang.specs.Checks.{entryAt}
 use Rattle.lang.proofs.Filled.{filling-put}
 use Rattle.chain.specs.Chains.{Program, onward, stepAt}
-use Rattle.reach.specs.Reach.{entriesMarked, leftMarked, passed, marksAfter, marksFrom, adjustedSkip, stateOf, skipOf, reachNumber}
+use Rattle.reach.specs.Reach.{entriesMarked, leftMarked, onwardMarked, marksAfter, marksFrom, adjustedSkip, stateOf, skipOf, reachNumber}
 
 -- ---- the entries are marked (TFtoPL 68)
 
@@ -70,10 +70,10 @@ step-ends n program i r h e g =
 pub step-onward : (n : ℕ) (program : Program) (i j on : ℕ) (r : Next) → i < n → r ≡ stepAt n program i → r ≡ At j on → on ≡ onward n (program i .«next_instruction») i
 step-onward n program i j on r h e g = cc (step-at n program i h)
 
-pub pass-bare : (s : List ℤ) (m : List ℕ) (i : ℕ) → getD m i 0 ≡ 0 → m ≡ passed s m i
+pub pass-bare : (s : List ℤ) (m : List ℕ) (i : ℕ) → getD m i 0 ≡ 0 → m ≡ onwardMarked s m i
 pass-bare s m i e = rw (eq-eqb (getD m i 0) 0 e)
 
-pub pass-marked : (s : List ℤ) (m m′ : List ℕ) (i on : ℕ) → (getD m i 0 ≡ 0 → ⊥) → on ≡ onward (count s) (instructionAt s i .«next_instruction») i → m′ ≡ set m on 1 → m′ ≡ passed s m i
+pub pass-marked : (s : List ℤ) (m m′ : List ℕ) (i on : ℕ) → (getD m i 0 ≡ 0 → ⊥) → on ≡ onward (count s) (instructionAt s i .«next_instruction») i → m′ ≡ set m on 1 → m′ ≡ onwardMarked s m i
 pass-marked s m m′ i on h e g = rw (ne-eqb (getD m i 0) 0 h) (g ∙ ap (λ (k : ℕ). set m k 1) e)
 
 module _ (s es : List ℤ) (left : ℤ) where
@@ -84,7 +84,7 @@ module _ (s es : List ℤ) (left : ℤ) where
       let b : length m₁ ≡ count s = ap length a ∙ length-entries (count s) es (length es / 2) in
       g ∙ ap (λ (n : ℕ). leftMarked n left m₁) b ∙ ap (λ (m : List ℕ). leftMarked (count s) left m) a
 
-  pub pass-more : (i : ℕ) (m m′ : List ℕ) → m ≡ marksAfter s es left i → m′ ≡ passed s m i → m′ ≡ marksAfter s es left (i + 1)
+  pub pass-more : (i : ℕ) (m m′ : List ℕ) → m ≡ marksAfter s es left i → m′ ≡ onwardMarked s m i → m′ ≡ marksAfter s es left (i + 1)
   unfolding marksAfter
   pass-more i m m′ e g = rw add-one (g ∙ rw e)
 

@@ -14,7 +14,7 @@ use Rattle.lang.specs.declared.instruction.NextInstruction.{NextInstruction}
 use Rattle.lang.specs.declared.instruction.NextInstruction.the-variants.{Stop, Skip}
 use Rattle.lang.specs.Records.{count, field, instructionAt}
 use Rattle.lang.specs.Checks.{programRefusal, entriesRefusal, absentRefusal, passthroughRefusal, orElse, entryAt}
-use Rattle.lang.specs.Answers.{roomRefusal, answerOf, listOf}
+use Rattle.lang.specs.Answers.{roomRefusal, writtenReply, replyOf, listOf}
 use Rattle.chain.specs.Chains.{onward}
 
 -- a mark at a place; past the end there is none to set
@@ -31,14 +31,14 @@ abbrev pub leftMarked : ℕ → ℤ → List ℕ → List ℕ
 leftMarked n left marks = cond (eqb (wordOf left + 1) n) marks (mark marks (wordOf left))
 
 -- TFtoPL 70, of instruction i: where it is marked, so is the one it goes on to
-abbrev pub passed : List ℤ → List ℕ → ℕ → List ℕ
-passed s marks i =
+abbrev pub onwardMarked : List ℤ → List ℕ → ℕ → List ℕ
+onwardMarked s marks i =
     cond (eqb (getD marks i 0) 0) marks (mark marks (onward (count s) (instructionAt s i .«next_instruction») i))
 
 -- of the first k instructions, in order
 unfoldable pub marksAfter : List ℤ → List ℤ → ℤ → ℕ → List ℕ
 marksAfter s es left zero = leftMarked (count s) left (entriesMarked (count s) es (length es / 2))
-marksAfter s es left (suc k) = passed s (marksAfter s es left k) k
+marksAfter s es left (suc k) = onwardMarked s (marksAfter s es left k) k
 
 -- 1 for each instruction that is reachable, 0 for each that is not
 abbrev pub reachable : List ℤ → List ℤ → ℤ → List ℕ
@@ -76,5 +76,5 @@ reachRefusal s es left p room =
 
 -- the contract of reachable_iter
 pub record Reaches (s es : List ℤ) (left : ℤ) (p : List ℕ) (out : List ℤ) (r : Written) (out′ : List ℤ) : Type 0 where
-  pub answer : r ≡ answerOf (reachRefusal s es left p (length out)) (count s)
+  pub answer : writtenReply r ≡ replyOf (reachRefusal s es left p (length out)) (pos (count s) ∷ [])
   pub list : out′ ≡ listOf (reachRefusal s es left p (length out)) (pos 0) (length out) (reachList s es left p)

@@ -7,7 +7,7 @@ ghost use lib.ListN.{length, drop};
 ghost use Rattle.words.specs.Words.{numberOf};
 ghost use Rattle.words.specs.Lists.{tabulate};
 ghost use Rattle.lang.specs.Records.{count};
-ghost use Rattle.reach.specs.Reach.{entriesMarked, leftMarked, passed, reachable, marksFrom, adjustedSkip, stateOf, skipOf, reachNumber, reachRefusal, Reaches};
+ghost use Rattle.reach.specs.Reach.{entriesMarked, leftMarked, onwardMarked, reachable, marksFrom, adjustedSkip, stateOf, skipOf, reachNumber, reachRefusal, Reaches};
 use chain::Next;
 use chain::next_instruction;
 use checks::absent_refusal;
@@ -77,7 +77,7 @@ fn mark_left(left_entry: i32, marks: &mut [u8])
 // TFtoPL 70, of instruction i: where it is marked, so is the one it goes on to.
 fn mark_onward(instructions: &[i32], i: usize, marks: &mut [u8])
     requires { ⌜ i < count (now instructions) ⌝ }
-    ensures { λ _. ⌜ now (marks .exit) ≡ passed (now (instructions .entry)) (now (marks .entry)) i ⌝ }
+    ensures { λ _. ⌜ now (marks .exit) ≡ onwardMarked (now (instructions .entry)) (now (marks .entry)) i ⌝ }
 {
     if words::u8_at(marks, i) == 0 {
         return;

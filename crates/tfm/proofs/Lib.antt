@@ -5,3 +5,4 @@ pub mod Products
 pub mod Differences
 pub mod TopByte
 pub mod Rounding
+pub mod Replies

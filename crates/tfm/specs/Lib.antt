@@ -1,2 +1,2 @@
--- Definitions of crate tfm: Scaled, what scaling a kern gives, from TeX 568, 571 and 572.
+-- Crate tfm is held to one file, Scaled: what scaling a kern gives, from TeX 568, 571 and 572. Read `toScaled` at its end, and then upwards.
 pub mod Scaled

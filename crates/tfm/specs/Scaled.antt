@@ -2,19 +2,21 @@
 -- A fix_word is given by its four bytes a, b, c, d, that is by its 32 bits.
 use mathlib.Core.Path.{_≡_}
 use mathlib.Core.Bool.{Bool, true, false, cond}
+use mathlib.Core.List.{[], _∷_}
 use Prim.Native.Nat.{ℕ, zero, suc, _+_, _*_, _/_, _%_, _<_, _≤_}
 use lib.IntN.{ℤ, pos, negsuc, _-ℤ_}
 use lib.Dec.{ltb, eqb}
 use Rattle.words.specs.Words.{wordOf}
+use Rattle.words.specs.Replies.{Reply, replyOf}
 use Rattle.tfm.specs.declared.Multiplier.{Multiplier}
 use Rattle.tfm.specs.declared.ToScaled.{ToScaled}
 use Rattle.tfm.specs.declared.ToScaled.the-variants.{Scaled, NegativeDesignSize, TooLarge}
 
--- document 01's number of each answer; 0 where it is taken
-abbrev pub refusal : ToScaled → ℕ
-refusal (Scaled v) = 0
-refusal NegativeDesignSize = 5
-refusal TooLarge = 13
+-- an answer as document 01 has it
+abbrev pub scaledReply : ToScaled → Reply
+scaledReply (Scaled v) = replyOf 0 (v ∷ [])
+scaledReply NegativeDesignSize = replyOf 5 []
+scaledReply TooLarge = replyOf 13 []
 
 -- TeX 568: z from a design size, which has four bits more of fraction
 abbrev pub zOfDesign : ℕ → ℕ

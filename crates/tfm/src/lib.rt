@@ -3,7 +3,7 @@
 ghost use mathlib.Core.Path.{_≡_};
 ghost use Prim.Native.Nat.{_<_, _^_, _/_, _%_};
 ghost use lib.Dec.{leb};
-ghost use Rattle.tfm.specs.Scaled.{toScaled, zOfDesign, multiplier, Below, lowBytes, scaledFrom};
+ghost use Rattle.tfm.specs.Scaled.{scaledReply, toScaled, zOfDesign, multiplier, Below, lowBytes, scaledFrom};
 
 // A fix_word: a number in units of 2^-20.
 pub struct FixWord(pub i32);
@@ -24,7 +24,7 @@ impl FixWord {
 
     // This number times the design size, in scaled points.
     pub fn to_scaled(self, design_size: FixWord) -> ToScaled
-        ensures { λ r. ⌜ r ≡ toScaled (self .0) («design_size» .0) ⌝ }
+        ensures { λ r. ⌜ scaledReply r ≡ scaledReply (toScaled (self .0) («design_size» .0)) ⌝ }
     {
         let design = words::word_of(design_size.0);
         if 2147483648 <= design {

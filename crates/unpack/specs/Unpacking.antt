@@ -1,9 +1,9 @@
 -- The entry of a character from the packed one, with what it passes through, after `unpack_entrypoint`; the program's seven-bit test, after
 -- `is_seven_bit_safe` of ligkern/lang.rs. TeX 545: an entry at a redirect stands for the redirect's target.
 use mathlib.Core.Path.{_≡_}
-use mathlib.Core.Bool.{Bool, true, false, cond}
+use mathlib.Core.Bool.{Bool, true, false, cond, not}
 use mathlib.Core.List.{List, [], _∷_}
-use Prim.Native.Nat.{ℕ, zero, suc, _/_, _%_}
+use Prim.Native.Nat.{ℕ, _/_, _%_}
 use lib.IntN.{ℤ, pos}
 use lib.Dec.{leb, ltb, eqb}
 use lib.ListN.{length, getD}
@@ -12,61 +12,68 @@ use Rattle.words.specs.Lists.{tabulate}
 use Rattle.lang.specs.declared.operation.Operation.{Operation}
 use Rattle.lang.specs.declared.operation.Operation.the-variants.{Kern, KernAtIndex, Ligature, EntrypointRedirect}
 use Rattle.unpack.specs.declared.Unpacked.{Unpacked}
-use Rattle.unpack.specs.declared.Unpacked.the-variants.{Entry, Direct, Indirect, Unfit}
+use Rattle.unpack.specs.declared.Unpacked.the-variants.{Entry, Direct, Indirect, Refused}
 use Rattle.unpack.specs.declared.SevenBit.{SevenBit}
-use Rattle.unpack.specs.declared.SevenBit.the-variants.{Safe, Unfit as UnfitFont}
+use Rattle.unpack.specs.declared.SevenBit.the-variants.{Safe, Refused as RefusedFont}
 use Rattle.lang.specs.Every.{both, every}
 use Rattle.lang.specs.Records.{count, field, rightOf, instructionAt}
-use Rattle.lang.specs.Checks.{programRefusal, rangeRefusal, entriesRefusal, passthroughRefusal, orElse, charAt, entryAt}
-use Rattle.lang.specs.Answers.{listOf}
+use Rattle.lang.specs.Checks.{programRefusal, rangeRefusal, entriesRefusal, passthroughRefusal, orElse, unless, charAt, entryAt}
+use Rattle.lang.specs.Answers.{Reply, replyOf, listOf, roomRefusal}
 use Rattle.chain.specs.Chains.{chainOf}
 use Rattle.lang.specs.Records.{isKind}
 
--- document 01's number of an answer
-abbrev pub unpackedNumber : Unpacked → ℕ
-unpackedNumber (Entry e) = 0
-unpackedNumber Direct = 8
-unpackedNumber Indirect = 9
-unpackedNumber (Unfit n) = n
+-- ---- what an entry stands for
 
 -- the target of the redirect at i
 abbrev pub targetAt : List ℤ → ℕ → ℕ
 targetAt s i = wordOf (field s i 3) % 65536
 
+-- a redirect's target, or the entry itself
+abbrev pub standsFor : List ℤ → ℕ → ℕ
+standsFor s e = cond (isKind 3 s e) (targetAt s e) e
+
 -- 8: the entry is past the instructions. 9: it is at a redirect whose target is past them.
-abbrev pub unpacks : List ℤ → ℕ → Unpacked
-unpacks s e =
-    cond (ltb e (count s))
-    (cond (isKind 3 s e) (cond (ltb (targetAt s e) (count s)) (Entry (targetAt s e)) Indirect) (Entry e))
-    Direct
+abbrev pub entryRefusal : List ℤ → ℕ → ℕ
+entryRefusal s e = cond (ltb e (count s)) (cond (isKind 3 s e) (unless 9 (ltb (targetAt s e) (count s))) 0) 8
 
-abbrev pub fits : ℕ → Unpacked → Unpacked
-fits zero u = u
-fits (suc r) u = Unfit (suc r)
+-- the lowest that holds, for a list of `room` places
+abbrev pub unpackRefusal : List ℤ → ℤ → List ℕ → ℕ → ℕ
+unpackRefusal s e p room =
+    orElse (programRefusal s)
+    (orElse (rangeRefusal 255 e) (orElse (passthroughRefusal p s) (orElse (entryRefusal s (wordOf e)) (roomRefusal (length p) room))))
 
--- 15, the highest, where all else is taken
-abbrev pub roomFor : List ℕ → ℕ → Unpacked → Unpacked
-roomFor p room (Entry e) = cond (leb (length p) room) (Entry e) (Unfit 15)
-roomFor p room Direct = Direct
-roomFor p room Indirect = Indirect
-roomFor p room (Unfit n) = Unfit n
+-- what unpack_entrypoint answers
+abbrev pub unpackEntry : List ℤ → ℤ → List ℕ → ℕ → Reply
+unpackEntry s e p room = replyOf (unpackRefusal s e p room) (pos (standsFor s (wordOf e)) ∷ [])
 
-unfoldable pub unpackEntry : List ℤ → ℤ → List ℕ → ℕ → Unpacked
-unpackEntry s e p room =
-    roomFor p room
-    (fits (orElse (programRefusal s) (orElse (rangeRefusal 255 e) (passthroughRefusal p s))) (unpacks s (wordOf e)))
+-- passthrough at place i afterwards, as 0 or 1: as before, and set at an entry that is a redirect
+abbrev pub passthroughAt : List ℤ → ℕ → List ℕ → ℕ → ℕ
+passthroughAt s e p i =
+    cond (eqb i e) (cond (isKind 3 s e) 1 (cond (eqb (getD p i 0) 0) 0 1)) (cond (eqb (getD p i 0) 0) 0 1)
 
--- passthrough afterwards: as before, and set at an entry that is a redirect
-abbrev pub passes : List ℤ → ℕ → List ℕ → ℕ → ℕ
-passes s e p i = cond (eqb i e) (cond (isKind 3 s e) 1 (cond (eqb (getD p i 0) 0) 0 1)) (cond (eqb (getD p i 0) 0) 0 1)
-
+-- at every place
 abbrev pub passthroughAfter : List ℤ → ℕ → List ℕ → List ℕ
-passthroughAfter s e p = tabulate (length p) (passes s e p)
+passthroughAfter s e p = tabulate (length p) (passthroughAt s e p)
+
+-- an answer as document 01 has it
+abbrev pub unpackedReply : Unpacked → Reply
+unpackedReply (Entry e) = replyOf 0 (pos e ∷ [])
+unpackedReply Direct = replyOf 8 []
+unpackedReply Indirect = replyOf 9 []
+unpackedReply (Refused n) = record { number = n; values = [] }
+
+-- 8 and 9 are answered by their names
+abbrev pub isNamed : Unpacked → Bool
+isNamed (Entry e) = true
+isNamed Direct = true
+isNamed Indirect = true
+isNamed (Refused n) = both (not (eqb n 8)) (not (eqb n 9))
 
 -- the contract of unpack_entrypoint
 pub record UnpacksEntry (s : List ℤ) (e : ℤ) (p out : List ℕ) (r : Unpacked) (out′ : List ℕ) : Type 0 where
-  pub answer : r ≡ unpackEntry s e p (length out)
-  pub list : out′ ≡ listOf (unpackedNumber (unpackEntry s e p (length out))) 0 (length out) (passthroughAfter s (wordOf e) p)
+  pub answer : unpackedReply r ≡ unpackEntry s e p (length out)
+  pub named : isNamed r ≡ true
+  pub list : out′ ≡ listOf (unpackRefusal s e p (length out)) 0 (length out) (passthroughAfter s (wordOf e) p)
 
 -- ---- the program's seven-bit test
 
@@ -87,14 +94,11 @@ entrySafe s es i =
 abbrev pub isSevenBitSafe : List ℤ → List ℤ → Bool
 isSevenBitSafe s es = every (length es / 2) (entrySafe s es)
 
--- document 01's number of an answer
-abbrev pub sevenBitNumber : SevenBit → ℕ
-sevenBitNumber (Safe b) = 0
-sevenBitNumber (UnfitFont n) = n
+-- an answer as document 01 has it: 1 where the program is safe, 0 where it is not
+abbrev pub sevenBitReply : SevenBit → Reply
+sevenBitReply (Safe b) = replyOf 0 (cond b (pos 1) (pos 0) ∷ [])
+sevenBitReply (RefusedFont n) = record { number = n; values = [] }
 
-abbrev pub sevenBitBy : ℕ → Bool → SevenBit
-sevenBitBy zero b = Safe b
-sevenBitBy (suc r) b = UnfitFont (suc r)
-
-abbrev pub sevenBit : List ℤ → List ℤ → SevenBit
-sevenBit s es = sevenBitBy (orElse (programRefusal s) (entriesRefusal 65535 es)) (isSevenBitSafe s es)
+-- what is_seven_bit_safe answers
+abbrev pub sevenBit : List ℤ → List ℤ → Reply
+sevenBit s es = replyOf (orElse (programRefusal s) (entriesRefusal 65535 es)) (cond (isSevenBitSafe s es) (pos 1) (pos 0) ∷ [])

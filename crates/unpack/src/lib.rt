@@ -1,19 +1,20 @@
 // The entry of a character from the packed one, after `unpack_entrypoint` (ligkern/lang.rs lines 533 to 553); the program's seven-bit test, after
 // `is_seven_bit_safe` (lines 664 to 675).
 ghost use mathlib.Core.Path.{_≡_};
-ghost use mathlib.Core.List.{_++_};
+ghost use mathlib.Core.Bool.{true};
+ghost use mathlib.Core.List.{[], _++_};
 ghost use Prim.Native.Nat.{_<_, _≤_, _/_};
 ghost use lib.ListN.{length, drop};
-ghost use Rattle.lang.specs.Checks.{programRefusal, rangeRefusal, passthroughRefusal, orElse};
 ghost use Rattle.chain.specs.Chains.{chainOf};
 ghost use Rattle.lang.specs.Records.{isKind};
-ghost use Rattle.unpack.specs.Unpacking.{unpacks, unpackEntry, passes, passthroughAfter, UnpacksEntry, insertsSevenBit, allSevenBit, entrySafe, isSevenBitSafe, sevenBit};
+ghost use Rattle.unpack.specs.Unpacking.{targetAt, standsFor, entryRefusal, unpackRefusal, unpackedReply, isNamed, passthroughAt, passthroughAfter, UnpacksEntry, insertsSevenBit, allSevenBit, entrySafe, isSevenBitSafe, sevenBitReply, sevenBit};
 use chain::Next;
 use chain::next_instruction;
 use checks::entries_refusal;
 use checks::passthrough_refusal;
 use checks::program_refusal;
 use checks::range_refusal;
+use checks::room_refusal;
 use lang::instruction::field_at;
 
 // What unpacking an entry answers.
@@ -24,13 +25,13 @@ pub enum Unpacked {
     // The entry is at a redirect whose target is past them.
     Indirect,
     // Another refusal, by its number.
-    Unfit(u32),
+    Refused(u32),
 }
 
 // What the seven-bit test answers.
 pub enum SevenBit {
     Safe(bool),
-    Unfit(u32),
+    Refused(u32),
 }
 
 // The instruction at index i is a redirect.
@@ -40,28 +41,45 @@ fn is_redirect(instructions: &[i32], i: usize) -> bool
     field_at(instructions, i, 2) == 3
 }
 
-// What an entry stands for: itself, or a redirect's target.
-fn stands_for(instructions: &[i32], entry: usize) -> Unpacked
-    ensures { λ r. ⌜ r ≡ unpacks (now (instructions .entry)) entry ⌝ }
+// The target of the redirect at index i.
+fn target_at(instructions: &[i32], i: usize) -> usize
+    ensures { λ r. ⌜ r ≡ targetAt (now (instructions .entry)) i ⌝ }
 {
-    let n = instructions.len() / 4;
-    if n <= entry {
-        return Unpacked::Direct;
-    }
-    if !is_redirect(instructions, entry) {
-        return Unpacked::Entry(entry);
-    }
-    let target = (field_at(instructions, entry, 3) % 65536) as usize;
-    if target < n {
-        Unpacked::Entry(target)
+    (field_at(instructions, i, 3) % 65536) as usize
+}
+
+// What an entry stands for: a redirect's target, or itself.
+fn stands_for(instructions: &[i32], entry: usize) -> usize
+    ensures { λ r. ⌜ r ≡ standsFor (now (instructions .entry)) entry ⌝ }
+{
+    if is_redirect(instructions, entry) {
+        target_at(instructions, entry)
     } else {
-        Unpacked::Indirect
+        entry
     }
 }
 
-// 1 and 2 of the program, 4 of the entry and of passthrough; 0 where all are taken.
-fn refusal(instructions: &[i32], entry: i32, passthrough: &[u8]) -> u32
-    ensures { λ r. ⌜ r ≡ orElse (programRefusal (now (instructions .entry))) (orElse (rangeRefusal 255 entry) (passthroughRefusal (now (passthrough .entry)) (now (instructions .entry)))) ⌝ }
+// 8 and 9 of an entry; 0 where it can be followed.
+fn entry_refusal(instructions: &[i32], entry: usize) -> u32
+    ensures { λ r. ⌜ r ≡ entryRefusal (now (instructions .entry)) entry ⌝ }
+{
+    let n = instructions.len() / 4;
+    if n <= entry {
+        return 8;
+    }
+    if !is_redirect(instructions, entry) {
+        return 0;
+    }
+    if target_at(instructions, entry) < n {
+        0
+    } else {
+        9
+    }
+}
+
+// The first refusal that holds, 0 where none does; `room` is the length of the list that is to be.
+fn unpack_refusal(instructions: &[i32], entry: i32, passthrough: &[u8], room: usize) -> u32
+    ensures { λ r. ⌜ r ≡ unpackRefusal (now (instructions .entry)) entry (now (passthrough .entry)) room ⌝ }
 {
     let program = program_refusal(instructions);
     if program != 0 {
@@ -71,32 +89,33 @@ fn refusal(instructions: &[i32], entry: i32, passthrough: &[u8]) -> u32
     if range != 0 {
         return range;
     }
-    passthrough_refusal(passthrough, instructions)
+    let through = passthrough_refusal(passthrough, instructions);
+    if through != 0 {
+        return through;
+    }
+    let place = entry_refusal(instructions, words::word_of(entry) as usize);
+    if place != 0 {
+        return place;
+    }
+    room_refusal(passthrough.len(), room)
 }
 
-// The whole answer, before anything is written: `room` is the length of the list that is to be.
-fn answer(instructions: &[i32], entry: i32, passthrough: &[u8], room: usize) -> Unpacked
-    ensures { λ r. ⌜ r ≡ unpackEntry (now (instructions .entry)) entry (now (passthrough .entry)) room ⌝ }
+// A refusal by its number; 8 and 9 have names.
+fn refused(number: u32) -> Unpacked
+    ensures { λ r. ⌜ (unpackedReply r ≡ record { number = number; values = [] }) × (isNamed r ≡ true) ⌝ }
 {
-    let refused = refusal(instructions, entry, passthrough);
-    if refused != 0 {
-        return Unpacked::Unfit(refused);
+    if number == 8 {
+        return Unpacked::Direct;
     }
-    let place = words::word_of(entry) as usize;
-    let found = stands_for(instructions, place);
-    let Unpacked::Entry(_) = found else {
-        return found;
-    };
-    if passthrough.len() <= room {
-        found
-    } else {
-        Unpacked::Unfit(15)
+    if number == 9 {
+        return Unpacked::Indirect;
     }
+    Unpacked::Refused(number)
 }
 
 // Passthrough at i afterwards, as 0 and 1.
-fn passed(instructions: &[i32], entry: usize, passthrough: &[u8], i: usize) -> u8
-    ensures { λ r. ⌜ r ≡ passes (now (instructions .entry)) entry (now (passthrough .entry)) i ⌝ }
+fn passthrough_at(instructions: &[i32], entry: usize, passthrough: &[u8], i: usize) -> u8
+    ensures { λ r. ⌜ r ≡ passthroughAt (now (instructions .entry)) entry (now (passthrough .entry)) i ⌝ }
 {
     if i == entry {
         if is_redirect(instructions, entry) {
@@ -111,13 +130,13 @@ fn passed(instructions: &[i32], entry: usize, passthrough: &[u8], i: usize) -> u
 }
 
 // Passthrough afterwards, at the front of a list that has room for it.
-fn pass(instructions: &[i32], entry: usize, passthrough: &[u8], out: &mut [u8])
+fn put_passthrough(instructions: &[i32], entry: usize, passthrough: &[u8], out: &mut [u8])
     requires { ⌜ length (now passthrough) ≤ length (now out) ⌝ }
     ensures { λ _. ⌜ now (out .exit) ≡ passthroughAfter (now (instructions .entry)) entry (now (passthrough .entry)) ++ drop (length (now (passthrough .entry))) (now (out .entry)) ⌝ }
 {
     let mut i = 0;
     while i < passthrough.len() {
-        out[i] = passed(instructions, entry, passthrough, i);
+        out[i] = passthrough_at(instructions, entry, passthrough, i);
         i += 1;
     }
 }
@@ -132,13 +151,13 @@ pub fn unpack_entrypoint(
     ensures { λ r. ⌜ UnpacksEntry (now (instructions .entry)) entry (now (passthrough .entry)) (now (out .entry)) r (now (out .exit)) ⌝ }
 {
     words::zero::zero_u8(out);
-    let found = answer(instructions, entry, passthrough, out.len());
-    let Unpacked::Entry(_) = found else {
-        return found;
-    };
+    let refusal = unpack_refusal(instructions, entry, passthrough, out.len());
+    if refusal != 0 {
+        return refused(refusal);
+    }
     let place = words::word_of(entry) as usize;
-    pass(instructions, place, passthrough, out);
-    found
+    put_passthrough(instructions, place, passthrough, out);
+    Unpacked::Entry(stands_for(instructions, place))
 }
 
 // The instruction at index i, for a right character below 128, inserts none above 127.
@@ -197,15 +216,15 @@ fn all_are_safe(instructions: &[i32], entries: &[i32]) -> bool
 
 // Whether no instruction for two characters below 128 inserts one above 127.
 pub fn is_seven_bit_safe(instructions: &[i32], entries: &[i32]) -> SevenBit
-    ensures { λ r. ⌜ r ≡ sevenBit (now (instructions .entry)) (now (entries .entry)) ⌝ }
+    ensures { λ r. ⌜ sevenBitReply r ≡ sevenBit (now (instructions .entry)) (now (entries .entry)) ⌝ }
 {
     let program = program_refusal(instructions);
     if program != 0 {
-        return SevenBit::Unfit(program);
+        return SevenBit::Refused(program);
     }
     let listed = entries_refusal(65535, entries);
     if listed != 0 {
-        return SevenBit::Unfit(listed);
+        return SevenBit::Refused(listed);
     }
     SevenBit::Safe(all_are_safe(instructions, entries))
 }

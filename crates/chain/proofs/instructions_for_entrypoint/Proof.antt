@@ -1,52 +1,27 @@
 -- `chain::instructions_for_entrypoint` meets its contract: where the walk is refused the list is zeros, else the chain is written over them.
 -- Assumes nothing.
-use mathlib.Core.Path.{_≡_, refl, sym, ap, _∙_}
-use mathlib.Core.Bool.{Bool, true, false}
+use mathlib.Core.Path.{_≡_, sym, ap, _∙_}
 use mathlib.Core.List.{List}
-use Prim.Native.Nat.{ℕ, zero, suc, _≤_, _%_}
-use native.Mathlib.Omega.{arith}
+use Prim.Native.Nat.{ℕ, _≤_}
 use lib.IntN.{ℤ}
-use lib.Dec.{leb, eqb}
 use lib.ListN.{length, replicate, length-replicate}
 use mir.Syntax.{w32}
 use mir.Val.{ofZ, toZ, SFits}
 use mir.ValLaws.{toZ-ofZ}
-use borrow.Author.Tests.{leb-true}
 use borrow.Author.Needs.{needs}
 use denote.Ref.{now}
 use Rattle.words.specs.Words.{wordOf}
 use Rattle.words.specs.Lists.{Appending}
 use Rattle.words.proofs.Lists.{appending-rest}
 use Rattle.lang.specs.declared.Written.the-variants.{Count, Refused}
-use Rattle.lang.specs.Every.{both}
 use Rattle.lang.specs.Records.{count}
-use Rattle.lang.specs.Checks.{orElse, unless, sizeRefusal, programRefusal, rangeRefusal}
-use Rattle.lang.specs.Answers.{answerOf, listOf}
+use Rattle.lang.specs.Checks.{orElse, programRefusal, rangeRefusal}
+use Rattle.lang.specs.Answers.{roomRefusal}
+use Rattle.lang.proofs.Refusals.{orElse-none, program-size, room-fits, refused-answer, taken-answer}
+use Rattle.lang.proofs.Filled.{refused-list}
 use Rattle.chain.specs.Chains.{chainOf, walkRefusal, Walked}
 use Rattle.chain.proofs.instructions_for_entrypoint.Statement.{statement}
 use Rattle.chain.proofs.instructions_for_entrypoint.Tie as tie
-
--- where nothing is refused, neither of two is
-none-of : (a b : ℕ) → orElse a b ≡ 0 → (a ≡ 0) × (b ≡ 0)
-none-of zero b e = (refl, e)
-none-of (suc a) b e = absurd (omega arith)
-
-second-holds : (t u : Bool) → unless 1 (both t u) ≡ 0 → u ≡ true
-second-holds true true e = refl
-second-holds true false e = absurd (omega arith)
-second-holds false u e = absurd (omega arith)
-
-has-room : (t : Bool) → unless 15 t ≡ 0 → t ≡ true
-has-room true e = refl
-has-room false e = absurd (omega arith)
-
-answers : (r k n : ℕ) → r ≡ k → (r ≡ 0 → ⊥) → Refused r ≡ answerOf k n
-answers r zero n e h = absurd (h e)
-answers r (suc k) n e h = ap Refused e
-
-zeros : (r k n : ℕ) (xs : List ℕ) → r ≡ k → (r ≡ 0 → ⊥) → replicate n 0 ≡ listOf k 0 n xs
-zeros r zero n xs e h = absurd (h e)
-zeros r (suc k) n xs e h = refl
 
 -- the list has been zeroed, and the refusal asked of the entry's bits and the list as it is then
 module _ (s : List ℤ) (entry : ℤ) (out zeroed : List ℕ) (f : SFits w32 entry) (z : zeroed ≡ replicate (length out) 0) (r : ℕ) (asked : r ≡ walkRefusal s (toZ w32 (ofZ w32 entry)) (length zeroed)) where
@@ -56,8 +31,8 @@ module _ (s : List ℤ) (entry : ℤ) (out zeroed : List ℕ) (f : SFits w32 ent
   refused : (r ≡ 0 → ⊥) → Walked s entry out (Refused r) zeroed
   refused h =
       record {
-        answer = answers r (walkRefusal s entry (length out)) _ refusal-is h;
-        list = z ∙ zeros r (walkRefusal s entry (length out)) (length out) _ refusal-is h;
+        answer = refused-answer (length (chainOf s (wordOf entry))) refusal-is h;
+        list = refused-list 0 (length out) (chainOf s (wordOf entry)) refusal-is h z;
       }
 
   -- the word of the entry, and the chain from there
@@ -69,14 +44,13 @@ module _ (s : List ℤ) (entry : ℤ) (out zeroed : List ℕ) (f : SFits w32 ent
     nothing-refused = sym refusal-is ∙ taken
 
     few : count s ≤ 32767
-    few =
-        leb-true (count s) 32767
-        (second-holds (eqb (length s % 4) 0) (leb (count s) 32767) (none-of (sizeRefusal s) _ (none-of (programRefusal s) _ nothing-refused .0) .0))
+    few = program-size s (orElse-none (programRefusal s) (orElse (rangeRefusal 65535 entry) (roomRefusal (length (chainOf s (wordOf entry))) (length out))) nothing-refused .0)
 
     room : length (chainOf s w) ≤ length zeroed
     room =
-        rw (word-is, z, length-replicate)
-        (leb-true (length (chainOf s (wordOf entry))) (length out) (has-room (leb (length (chainOf s (wordOf entry))) (length out)) (none-of (rangeRefusal 65535 entry) _ (none-of (programRefusal s) _ nothing-refused .1) .1)))
+        let a = orElse-none (programRefusal s) (orElse (rangeRefusal 65535 entry) (roomRefusal (length (chainOf s (wordOf entry))) (length out))) nothing-refused in
+        let b = orElse-none (rangeRefusal 65535 entry) (roomRefusal (length (chainOf s (wordOf entry))) (length out)) (a .1) in
+        rw (word-is, z, length-replicate) (room-fits (length (chainOf s (wordOf entry))) (length out) (b .1))
 
     ready : (count s ≤ 32767) × (length (chainOf s w) ≤ length zeroed)
     ready = (few, room)
@@ -84,7 +58,7 @@ module _ (s : List ℤ) (entry : ℤ) (out zeroed : List ℕ) (f : SFits w32 ent
     written : (m : ℕ) (out′ : List ℕ) → m ≡ length (chainOf s w) → Appending (chainOf s w) zeroed out′ → Walked s entry out (Count m) out′
     written m out′ e h =
         record {
-          answer = rw nothing-refused (ap Count (rw word-is at e));
+          answer = rw (rw word-is at e) (taken-answer (length (chainOf s (wordOf entry))) nothing-refused);
           list = rw nothing-refused (appending-rest zeroed 0 (length out) z (rw word-is at h));
         }
 

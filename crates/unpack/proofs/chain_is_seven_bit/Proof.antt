@@ -10,7 +10,7 @@ use Rattle.lang.specs.Records.{count, instructionAt}
 use Rattle.chain.specs.Chains.{chainOf}
 use Rattle.unpack.specs.Unpacking.{allSevenBit}
 use Rattle.chain.proofs.Walks.{Stepped, step-on, step-end}
-use Rattle.unpack.proofs.Passing.{sevens-end, sevens-fail, sevens-more}
+use Rattle.unpack.proofs.Unpacking.{sevens-end, sevens-fail, sevens-more}
 use borrow.Author.Needs.{needs}
 use Rattle.unpack.proofs.chain_is_seven_bit.Statement.{statement}
 use Rattle.unpack.proofs.chain_is_seven_bit.Tie as tie

@@ -2,7 +2,7 @@
 -- Assumes nothing.
 use mathlib.Core.Path.{sym, _∙_}
 use denote.Ref.{now}
-use Rattle.unpack.proofs.Passing.{safe-above, safe-chain}
+use Rattle.unpack.proofs.Unpacking.{safe-above, safe-chain}
 use borrow.Author.Needs.{needs}
 use Rattle.unpack.proofs.entry_is_safe.Statement.{statement}
 use Rattle.unpack.proofs.entry_is_safe.Tie as tie

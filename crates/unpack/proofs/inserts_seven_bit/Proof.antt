@@ -2,7 +2,7 @@
 -- Assumes nothing.
 use mathlib.Core.Path.{sym}
 use denote.Ref.{now}
-use Rattle.unpack.proofs.Passing.{right-above, inserts-nothing, inserts-one}
+use Rattle.unpack.proofs.Unpacking.{right-above, inserts-nothing, inserts-one}
 use borrow.Author.Needs.{needs}
 use Rattle.unpack.proofs.inserts_seven_bit.Statement.{statement}
 use Rattle.unpack.proofs.inserts_seven_bit.Tie as tie

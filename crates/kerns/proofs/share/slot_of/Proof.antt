@@ -9,8 +9,8 @@ use lib.IntN.{ℤ}
 use lib.ListN.{getD}
 use lib.Pow.{shr-le}
 use denote.Ref.{now}
-use Rattle.kerns.specs.Sharing.{wordAt, slotAfter, Passes, Ends, Linked}
-use Rattle.kerns.proofs.Tree.{passes-none, passes-more, passes-few, slot-lt, link-lt}
+use Rattle.kerns.specs.Sharing.{wordAt, slotAfter, Descends, Ends, Linked}
+use Rattle.kerns.proofs.Tree.{descends-none, descends-more, descends-few, slot-lt, link-lt}
 use borrow.Author.Needs.{needs}
 use Rattle.kerns.proofs.share.slot_of.Statement.{statement}
 use Rattle.kerns.proofs.share.slot_of.Tie as tie
@@ -18,26 +18,26 @@ use Rattle.kerns.proofs.share.slot_of.Tie as tie
 -- the search for w came to the slot
 record Comes (ks : List ℤ) (links : List ℕ) (w slot bit : ℕ) : Type 0 where
   slot-is : slot ≡ slotAfter links w bit
-  passes : Passes ks links w bit
+  descends : Descends ks links w bit
 
 module _ {ks : List ℤ} {links : List ℕ} {w slot bit : ℕ} (c : Linked ks links) (s : Comes ks links w slot bit) where
   comes-lt : slot < 65535
-  comes-lt = rw (s .slot-is) (slot-lt c w bit (s .passes))
+  comes-lt = rw (s .slot-is) (slot-lt c w bit (s .descends))
 
   ends : w < 2 ^ 32 → ((getD links slot 0 ≡ 0 → ⊥) → wordAt ks (getD links slot 0 - 1) ≡ w) → Ends ks links w slot
-  ends l h = record { passed = bit; near = passes-few c w bit l (s .passes); passes = s .passes; slot-is = s .slot-is; stops = h }
+  ends l h = record { depth = bit; near = descends-few c w bit l (s .descends); descends = s .descends; slot-is = s .slot-is; stops = h }
 
   -- it goes on past another value
   module _ {r : ℕ} (some : getD links slot 0 ≡ 0 → ⊥) (read : r ≡ wordAt ks (getD links slot 0 - 1)) (other : r ≡ w → ⊥) where
-    onward : Passes ks links w (bit + 1)
-    onward = passes-more (s .passes) (rw (← s .slot-is) some) (rw (← s .slot-is) (λ e. other (read ∙ e)))
+    onward : Descends ks links w (bit + 1)
+    onward = descends-more (s .descends) (rw (← s .slot-is) some) (rw (← s .slot-is) (λ e. other (read ∙ e)))
 
     bit-lt : w < 2 ^ 32 → bit < 32
-    bit-lt l = omega (arith, passes-few c w (bit + 1) l onward)
+    bit-lt l = omega (arith, descends-few c w (bit + 1) l onward)
 
     goes : Comes ks links w (2 * (getD links slot 0 - 1) + 1 + w / 2 ^ bit % 2) (bit + 1)
     unfolding slotAfter
-    goes = record { slot-is = rw (s .slot-is, add-one bit); passes = onward }
+    goes = record { slot-is = rw (s .slot-is, add-one bit); descends = onward }
 
 abbrev Inv-loop : tie.InvT-loop
 Inv-loop kerns links word slot₀ bit₀ slot bit = Comes kerns links word slot bit
@@ -47,7 +47,7 @@ abbrev μ-loop : tie.MeasureT-loop
 
 loop-holds : tie.Need-loop-holds Inv-loop μ-loop
 unfolding slotAfter
-loop-holds c = record { slot-is = refl; passes = passes-none (now (c .args .kerns)) (now (c .args .links)) (c .args .word) }
+loop-holds c = record { slot-is = refl; descends = descends-none (now (c .args .kerns)) (now (c .args .links)) (c .args .word) }
 
 mul-if1 : tie.Need-mul-if1 Inv-loop μ-loop
 mul-if1 c = omega (arith, comes-lt (c .before .pre) (c .loop .inv))

@@ -9,7 +9,7 @@ use borrow.Author.Needs.{needs}
 use Rattle.words.specs.Words.{wordOf, numberOf}
 use Rattle.words.proofs.Bits.{number-word}
 use Rattle.tfm.specs.declared.ToScaled.the-variants.{NegativeDesignSize}
-use Rattle.tfm.specs.Scaled.{toScaled, zOfDesign, scaledFrom}
+use Rattle.tfm.specs.Scaled.{scaledReply, toScaled, zOfDesign, scaledFrom}
 use Rattle.tfm.proofs.FixWord.to_scaled.Statement.{statement}
 use Rattle.tfm.proofs.FixWord.to_scaled.Tie as tie
 
@@ -36,7 +36,7 @@ returns c =
     let a = s .before .args in
     let f = s .struct-told .given .0 .1 in
     let d = word-is (a .design-size .0) (c .before .word-of .result) f (c .before .word-of .ensures) in
-    negative (a .self .0) (a .design-size .0) f (rw d at (c .if1 .taken))
+    ap scaledReply (negative (a .self .0) (a .design-size .0) f (rw d at (c .if1 .taken)))
 
 word-of-requires-2 : tie.Need-word-of-requires-2
 word-of-requires-2 c κs = search needs
@@ -56,7 +56,9 @@ returns-2 c =
     let f = s .struct-told .given .0 .1 in
     let d = word-is (a .design-size .0) (n .before .word-of .result) f (n .before .word-of .ensures) in
     let w = word-is (a .self .0) (c .before .before .word-of2 .result) (k .struct-told2 .given .0 .1) (c .before .before .word-of2 .ensures) in
-    c .scaled-from .ensures ∙ rw (c .before .z-of-design .ensures, d, w) (scaled (a .self .0) (a .design-size .0) f (rw d at (n .if1 .left)))
+    let x : c .scaled-from .result ≡ toScaled (a .self .0) (a .design-size .0) =
+    c .scaled-from .ensures ∙ rw (c .before .z-of-design .ensures, d, w) (scaled (a .self .0) (a .design-size .0) f (rw d at (n .if1 .left))) in
+    ap scaledReply x
 
 pub to-scaled-spec : {M : Type 1} → statement M
 to-scaled-spec =
