@@ -1,5 +1,5 @@
-// The answers of the port to requests about a font as a whole, with the letters of tools/oracle: C here, W in runs, A in questions. The font is compiled
-// first; the lists have room for 1,024 pairs with a rule, 1,024 ops and 1,024 loops.
+// The answers of the port to requests about a font as a whole, with the letters of tools/oracle: C, and W and A, which crate table_answers answers from
+// the compiled table. The lists have room for 1,024 pairs with a rule, 1,024 ops and 1,024 loops.
 ghost use lib.ListN.{length};
 ghost use Rattle.requests.specs.Answers.{Within};
 use fonts::Compiled;
@@ -17,9 +17,7 @@ use requests::request::number_at;
 use requests::request::part;
 use requests::request::rest;
 
-mod questions;
 mod room;
-mod runs;
 
 // A pair's six numbers without its first op, and then its ops.
 fn put_pair(out: &mut [i32], at: usize, pair: &[i32], ops: &[i32]) -> usize {
@@ -86,9 +84,30 @@ fn answer_by(
 ) -> Written {
     match letter {
         b'C' => Written::Count(put_compiled(out, pairs, ops, loops)),
-        b'W' => runs::word_set(numbers, pairs, ops, out),
-        b'A' => questions::replaced(numbers, pairs, ops, out),
-        _ => Written::Refused(16),
+        _ => table_answers::answer(letter, numbers, pairs, ops, out),
+    }
+}
+
+// The answer from what was compiled.
+fn answer_from(
+    letter: u8,
+    numbers: &[i32],
+    compiled: Compiled,
+    pairs: &[i32],
+    ops: &[i32],
+    loops: &[i32],
+    out: &mut [i32],
+) -> Written {
+    match compiled {
+        Compiled::Tables(p, o, m) => answer_by(
+            letter,
+            numbers,
+            part(pairs, 0, p % 4294967296 * 6),
+            part(ops, 0, o % 4294967296 * 2),
+            part(loops, 0, m % 4294967296 * 2),
+            out,
+        ),
+        Compiled::Refused(n) => Written::Refused(n),
     }
 }
 
@@ -97,20 +116,9 @@ fn compiled(letter: u8, numbers: &[i32], out: &mut [i32]) -> Written {
     let mut pairs = room::table();
     let mut ops = room::list();
     let mut loops = room::list();
-    match compile_font(
-        sized_font(letter, numbers),
-        &mut pairs,
-        &mut ops,
-        &mut loops,
-    ) {
-        Compiled::Tables(p, o, m) => {
-            let of_pairs = part(&pairs, 0, p % 4294967296 * 6);
-            let of_ops = part(&ops, 0, o % 4294967296 * 2);
-            let of_loops = part(&loops, 0, m % 4294967296 * 2);
-            answer_by(letter, numbers, of_pairs, of_ops, of_loops, out)
-        }
-        Compiled::Refused(n) => Written::Refused(n),
-    }
+    let sized = sized_font(letter, numbers);
+    let compiled = compile_font(sized, &mut pairs, &mut ops, &mut loops);
+    answer_from(letter, numbers, compiled, &pairs, &ops, &loops, out)
 }
 
 // The numbers of the answer to a request, or the number of its refusal: 15 where the list is too short, 16 for another letter.

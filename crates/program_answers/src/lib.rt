@@ -1,12 +1,10 @@
-// The answers of the port to requests about numbers and programs, with the letters of tools/oracle: the program vectors compares them with the Rust's.
+// The answers of the port to requests about numbers and programs, with the letters of tools/oracle: S, O and V in numbers, I, U, B and R in programs.
 // A request has at most 16,384 numbers, so a program at most 4,096 instructions.
 ghost use lib.ListN.{length};
 ghost use Rattle.requests.specs.Answers.{Within};
 use lang::Written;
 use requests::answer::fitting;
 
-mod changes;
-mod instructions;
 mod numbers;
 mod programs;
 mod room;
@@ -17,12 +15,9 @@ fn answer_by(letter: u8, numbers: &[i32], out: &mut [i32]) -> Written {
         b'O' => numbers::operation(numbers, out),
         b'V' => numbers::seven_bit(numbers, out),
         b'I' => programs::chain_from(numbers, out),
-        b'K' => changes::with_indices(numbers, out),
-        b'J' => changes::with_kerns(numbers, out),
         b'U' => programs::unpacked(numbers, out),
         b'B' => programs::seven_bit_safe(numbers, out),
         b'R' => programs::reached(numbers, out),
-        b'P' => changes::packed(numbers, out),
         _ => Written::Refused(16),
     }
 }

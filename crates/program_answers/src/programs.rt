@@ -75,6 +75,16 @@ fn put_entry(out: &mut [i32], entry: usize, marks: &[u8]) -> usize {
     d
 }
 
+// What unpacking answered, and the marks that it left.
+fn put_unpacked(out: &mut [i32], answer: Unpacked, marks: &[u8]) -> Written {
+    match answer {
+        Unpacked::Entry(e) => Written::Count(put_entry(out, e, marks)),
+        Unpacked::Direct => Written::Count(put_one(out, 0, 8)),
+        Unpacked::Indirect => Written::Count(put_one(out, 0, 9)),
+        Unpacked::Refused(n) => Written::Refused(n),
+    }
+}
+
 // U entry PASSTHROUGH FONT
 pub(crate) fn unpacked(numbers: &[i32], out: &mut [i32]) -> Written {
     let instructions = instructions_of(rest(numbers, after(numbers, 1, 1)));
@@ -82,12 +92,8 @@ pub(crate) fn unpacked(numbers: &[i32], out: &mut [i32]) -> Written {
     mark(items(numbers, 1, 1), &mut marks);
     let through = front(&marks, instructions.len() / 4);
     let mut left = places();
-    match unpack::unpack_entrypoint(instructions, number_at(numbers, 0), through, &mut left) {
-        Unpacked::Entry(e) => Written::Count(put_entry(out, e, &left)),
-        Unpacked::Direct => Written::Count(put_one(out, 0, 8)),
-        Unpacked::Indirect => Written::Count(put_one(out, 0, 9)),
-        Unpacked::Refused(n) => Written::Refused(n),
-    }
+    let answer = unpack::unpack_entrypoint(instructions, number_at(numbers, 0), through, &mut left);
+    put_unpacked(out, answer, &left)
 }
 
 // B FONT
@@ -98,20 +104,30 @@ pub(crate) fn seven_bit_safe(font: &[i32], out: &mut [i32]) -> Written {
     }
 }
 
-// R PASSTHROUGH FONT
-pub(crate) fn reached(numbers: &[i32], out: &mut [i32]) -> Written {
-    let font = rest(numbers, after(numbers, 0, 1));
-    let instructions = instructions_of(font);
-    let mut marks = places();
-    mark(items(numbers, 0, 1), &mut marks);
-    let through = front(&marks, instructions.len() / 4);
-    let left = number_at(font, from_end(font, 1));
-    let mut reach = values();
-    match reach::reachable_iter(instructions, entries_of(font), left, through, &mut reach) {
+// What reach answered, and the two numbers an instruction that it wrote.
+fn put_reach(out: &mut [i32], answer: Written, reach: &[i32]) -> Written {
+    match answer {
         Written::Count(n) => {
             let a = put_count(out, 0, n);
-            Written::Count(put_list(out, a, part(&reach, 0, n % 4294967296 * 2)))
+            Written::Count(put_list(out, a, part(reach, 0, n % 4294967296 * 2)))
         }
         Written::Refused(n) => Written::Refused(n),
     }
+}
+
+// Reach of a font, with a mark for each instruction that is passed through.
+fn reach_of(font: &[i32], marks: &[u8], reach: &mut [i32]) -> Written {
+    let instructions = instructions_of(font);
+    let through = front(marks, instructions.len() / 4);
+    let left = number_at(font, from_end(font, 1));
+    reach::reachable_iter(instructions, entries_of(font), left, through, reach)
+}
+
+// R PASSTHROUGH FONT
+pub(crate) fn reached(numbers: &[i32], out: &mut [i32]) -> Written {
+    let mut marks = places();
+    mark(items(numbers, 0, 1), &mut marks);
+    let mut reach = values();
+    let answer = reach_of(rest(numbers, after(numbers, 0, 1)), &marks, &mut reach);
+    put_reach(out, answer, &reach)
 }

@@ -2,14 +2,7 @@
 ghost use mathlib.Core.Path.{_≡_};
 ghost use lib.ListN.{length};
 
-// Four numbers for each instruction.
-pub(crate) fn records() -> [i32; 16384]
-    ensures { λ r. ⌜ 16384 ≡ length r ⌝ }
-{
-    [0; 16384]
-}
-
-// A number for each instruction, or two for each of 2,048.
+// Two numbers for each instruction.
 pub(crate) fn values() -> [i32; 8192]
     ensures { λ r. ⌜ 8192 ≡ length r ⌝ }
 {

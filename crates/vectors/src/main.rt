@@ -22,6 +22,7 @@ fn room() -> [u8; 786432]
 fn answer_by(letter: u8, numbers: &[i32], out: &mut [i32]) -> Written {
     match letter {
         b'C' | b'W' | b'A' => font_answers::answer(letter, numbers, out),
+        b'K' | b'J' | b'P' => change_answers::answer(letter, numbers, out),
         _ => program_answers::answer(letter, numbers, out),
     }
 }

@@ -1,10 +1,10 @@
--- `font_answers::runs::first` lends no more than there is.
+-- `table_answers::runs::first` lends no more than there is.
 -- Assumes nothing.
 use mathlib.Core.Path.{sym}
 use lib.Seq.{length-take-le}
 use borrow.Author.Needs.{needs}
-use Rattle.font_answers.proofs.runs.first.Statement.{statement}
-use Rattle.font_answers.proofs.runs.first.Tie as tie
+use Rattle.table_answers.proofs.runs.first.Statement.{statement}
+use Rattle.table_answers.proofs.runs.first.Tie as tie
 
 slice-aggregate-result : tie.Need-slice-aggregate-result
 slice-aggregate-result c = sym (length-take-le _ _ (c .before .if1 .taken))

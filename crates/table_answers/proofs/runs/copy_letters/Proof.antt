@@ -1,11 +1,11 @@
--- `font_answers::runs::copy_letters` keeps the length of the word: the invariant.
+-- `table_answers::runs::copy_letters` keeps the length of the word: the invariant.
 -- Assumes nothing.
 use native.Mathlib.Omega.{arith}
 use Prim.Native.Nat.{ℕ, _≤_, _<_, _-_}
 use mathlib.Core.Path.{_≡_}
 use lib.ListN.{length}
-use Rattle.font_answers.proofs.runs.copy_letters.Statement.{statement}
-use Rattle.font_answers.proofs.runs.copy_letters.Tie as tie
+use Rattle.table_answers.proofs.runs.copy_letters.Statement.{statement}
+use Rattle.table_answers.proofs.runs.copy_letters.Tie as tie
 
 abbrev Inv-loop : tie.InvT-loop
 Inv-loop list word₀ i₀ word i = length word ≡ length word₀

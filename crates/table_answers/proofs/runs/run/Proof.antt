@@ -1,11 +1,11 @@
--- `font_answers::runs::run` makes at most 1,024 calls. The invariant: the length of the list stays.
+-- `table_answers::runs::run` makes at most 1,024 calls. The invariant: the length of the list stays.
 -- Assumes nothing.
 use native.Mathlib.Omega.{arith}
 use Prim.Native.Nat.{ℕ, _≤_, _<_, _-_}
 use mathlib.Core.Path.{_≡_}
 use lib.ListN.{length}
-use Rattle.font_answers.proofs.runs.run.Statement.{statement}
-use Rattle.font_answers.proofs.runs.run.Tie as tie
+use Rattle.table_answers.proofs.runs.run.Statement.{statement}
+use Rattle.table_answers.proofs.runs.run.Tie as tie
 
 abbrev Inv-loop : tie.InvT-loop
 Inv-loop pairs ops boundary word options calls₀ s₀ n₀ calls s n = length calls ≡ length calls₀

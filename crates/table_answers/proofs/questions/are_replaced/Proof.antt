@@ -1,10 +1,10 @@
--- `font_answers::questions::are_replaced` counts up to the end of the list.
+-- `table_answers::questions::are_replaced` counts up to the end of the list.
 -- Assumes nothing.
 use native.Mathlib.Omega.{arith}
 use Prim.Native.Nat.{ℕ, _≤_, _<_, _-_}
 use lib.ListN.{length}
-use Rattle.font_answers.proofs.questions.are_replaced.Statement.{statement}
-use Rattle.font_answers.proofs.questions.are_replaced.Tie as tie
+use Rattle.table_answers.proofs.questions.are_replaced.Statement.{statement}
+use Rattle.table_answers.proofs.questions.are_replaced.Tie as tie
 
 abbrev Inv-loop : tie.InvT-loop
 Inv-loop pairs boundary keys i₀ i = Unit {0}

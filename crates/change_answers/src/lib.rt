@@ -1,9 +1,12 @@
-// The answers that write a program anew: K, J and P.
+// The answers of the port to requests that write a program anew, with the letters of tools/oracle: K, J and P. A request has at most 16,384 numbers, so a
+// program at most 4,096 instructions.
+ghost use mathlib.Core.Path.{_≡_};
+ghost use lib.ListN.{length};
+ghost use Rattle.requests.specs.Answers.{Within};
 use crate::instructions::put_instructions;
-use crate::room::records;
-use crate::room::values;
 use lang::Written;
 use pack::Packed;
+use requests::answer::fitting;
 use requests::answer::put_count;
 use requests::answer::put_list;
 use requests::answer::put_one;
@@ -14,8 +17,24 @@ use requests::request::kerns_of;
 use requests::request::number_at;
 use requests::request::part;
 
+mod instructions;
+
+// Room for a program, four numbers an instruction.
+fn records() -> [i32; 16384]
+    ensures { λ r. ⌜ 16384 ≡ length r ⌝ }
+{
+    [0; 16384]
+}
+
+// Room for a kern an instruction, or the entries of 256 characters.
+fn values() -> [i32; 4096]
+    ensures { λ r. ⌜ 4096 ≡ length r ⌝ }
+{
+    [0; 4096]
+}
+
 // J FONT
-pub(crate) fn with_kerns(font: &[i32], out: &mut [i32]) -> Written {
+fn with_kerns(font: &[i32], out: &mut [i32]) -> Written {
     let mut program = records();
     match kerns::pack_kerns(instructions_of(font), kerns_of(font), &mut program) {
         Written::Count(n) => Written::Count(put_instructions(out, 0, &program, n)),
@@ -24,7 +43,7 @@ pub(crate) fn with_kerns(font: &[i32], out: &mut [i32]) -> Written {
 }
 
 // K FONT
-pub(crate) fn with_indices(font: &[i32], out: &mut [i32]) -> Written {
+fn with_indices(font: &[i32], out: &mut [i32]) -> Written {
     let mut program = records();
     let mut list = values();
     let instructions = instructions_of(font);
@@ -47,7 +66,7 @@ fn put_packed(out: &mut [i32], program: &[i32], n: usize, entries: &[i32], left:
 }
 
 // P FONT
-pub(crate) fn packed(font: &[i32], out: &mut [i32]) -> Written {
+fn packed(font: &[i32], out: &mut [i32]) -> Written {
     let mut program = records();
     let mut listed = values();
     let entries = entries_of(font);
@@ -66,4 +85,21 @@ pub(crate) fn packed(font: &[i32], out: &mut [i32]) -> Written {
         }
         Packed::Refused(n) => Written::Refused(n),
     }
+}
+
+fn answer_by(letter: u8, font: &[i32], out: &mut [i32]) -> Written {
+    match letter {
+        b'K' => with_indices(font, out),
+        b'J' => with_kerns(font, out),
+        b'P' => packed(font, out),
+        _ => Written::Refused(16),
+    }
+}
+
+// The numbers of the answer to a request, or the number of its refusal: 15 where the list is too short, 16 for another letter.
+pub fn answer(letter: u8, font: &[i32], out: &mut [i32]) -> Written
+    ensures { λ r. ⌜ Within r (length (now (out .exit))) ⌝ }
+{
+    let answer = answer_by(letter, font, out);
+    fitting(answer, out.len())
 }

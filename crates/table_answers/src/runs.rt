@@ -95,12 +95,20 @@ fn begin_and_run(
 }
 
 // The n items of a run that ended, and n + 1 flags.
-fn put_calls(out: &mut [i32], calls: &[i32], n: usize) -> usize
+fn put_calls(out: &mut [i32], n: usize, calls: &[i32]) -> usize
     requires { ⌜ n < 1024 ⌝ }
 {
     let a = put_count(out, 0, n);
     let b = put_list(out, a, part(calls, 0, 6 * n));
     put_list(out, b, part(calls, 6144, 6145 + n))
+}
+
+// The same, or the refusal.
+fn put_run(out: &mut [i32], answer: Written, calls: &[i32]) -> Written {
+    match answer {
+        Written::Count(n) => Written::Count(put_calls(out, n % 1024, calls)),
+        Written::Refused(n) => Written::Refused(n),
+    }
 }
 
 // Letters from the numbers of a request.
@@ -120,20 +128,23 @@ fn first(word: &[u32], n: usize) -> &[u32] {
     word
 }
 
-// The items and the separation flags of a word, after the left boundary, the override and the word that the numbers begin with.
+// The options that the numbers begin with: whether the left boundary is used, and the override.
+fn options_of(numbers: &[i32]) -> RunOptions {
+    RunOptions {
+        disable_left_boundary: words::word_at(numbers, 0) == 0,
+        right_boundary_override: number_at(numbers, 1),
+    }
+}
+
+// The items and the separation flags of the word that comes next.
 pub(crate) fn word_set(numbers: &[i32], pairs: &[i32], ops: &[i32], out: &mut [i32]) -> Written {
     let list = items(numbers, 2, 1);
     let mut letters = room::words();
     copy_letters(list, &mut letters);
-    let options = RunOptions {
-        disable_left_boundary: words::word_at(numbers, 0) == 0,
-        right_boundary_override: number_at(numbers, 1),
-    };
     let boundary = number_at(numbers, from_end(numbers, 2));
+    let options = options_of(numbers);
     let mut calls = room::calls();
     let word = first(&letters, list.len());
-    match begin_and_run(pairs, ops, boundary, word, options, &mut calls) {
-        Written::Count(n) => Written::Count(put_calls(out, &calls, n % 1024)),
-        Written::Refused(n) => Written::Refused(n),
-    }
+    let answer = begin_and_run(pairs, ops, boundary, word, options, &mut calls);
+    put_run(out, answer, &calls)
 }

@@ -47,17 +47,31 @@ fn put_safe(out: &mut [i32], keys: &[i32], safe: Told) -> Written {
     }
 }
 
-// The pairs with a replacement, and whether the table is seven-bit safe; 7 where a listed pair is said to have no replacement.
-pub(crate) fn replaced(numbers: &[i32], pairs: &[i32], ops: &[i32], out: &mut [i32]) -> Written {
-    let mut list = room::list();
-    match all_pairs_with_replacements(pairs, &mut list) {
+// The pairs that were listed, and whether the table is seven-bit safe; 7 where a listed pair is said to have no replacement.
+fn put_replaced(
+    out: &mut [i32],
+    listed: Written,
+    list: &[i32],
+    boundary: i32,
+    pairs: &[i32],
+    ops: &[i32],
+) -> Written {
+    match listed {
         Written::Count(n) => {
-            let keys = part(&list, 0, n % 4294967296 * 2);
-            if !are_replaced(pairs, number_at(numbers, from_end(numbers, 2)), keys) {
+            let keys = part(list, 0, n % 4294967296 * 2);
+            if !are_replaced(pairs, boundary, keys) {
                 return Written::Refused(7);
             }
             put_safe(out, keys, is_seven_bit_safe(pairs, ops))
         }
         Written::Refused(n) => Written::Refused(n),
     }
+}
+
+// The pairs with a replacement, and whether the table is seven-bit safe.
+pub(crate) fn replaced(numbers: &[i32], pairs: &[i32], ops: &[i32], out: &mut [i32]) -> Written {
+    let mut list = room::list();
+    let listed = all_pairs_with_replacements(pairs, &mut list);
+    let boundary = number_at(numbers, from_end(numbers, 2));
+    put_replaced(out, listed, &list, boundary, pairs, ops)
 }

@@ -1,11 +1,11 @@
--- `program_answers::instructions::put_instructions` keeps the length of the list: the invariant.
+-- `change_answers::instructions::put_instructions` keeps the length of the list: the invariant.
 -- Assumes nothing.
 use native.Mathlib.Omega.{arith}
 use Prim.Native.Nat.{ℕ, _≤_, _<_, _-_}
 use mathlib.Core.Path.{_≡_}
 use lib.ListN.{length}
-use Rattle.program_answers.proofs.instructions.put_instructions.Statement.{statement}
-use Rattle.program_answers.proofs.instructions.put_instructions.Tie as tie
+use Rattle.change_answers.proofs.instructions.put_instructions.Statement.{statement}
+use Rattle.change_answers.proofs.instructions.put_instructions.Tie as tie
 
 abbrev Inv-loop : tie.InvT-loop
 Inv-loop out₀ at instructions n next₀ i₀ out next i = length out ≡ length out₀
