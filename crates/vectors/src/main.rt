@@ -29,8 +29,11 @@ fn answer_by(letter: u8, numbers: &[i32], out: &mut [i32]) -> Written {
     }
 }
 
-// Writes the answer to the request of a line.
+// Writes the answer to the request of a line; an empty line has none.
 fn answer(request: &[u8]) {
+    if request.len() == 0 {
+        return;
+    }
     let letter = words::u8_at(request, 0);
     let mut numbers = [0i32; 16384];
     let mut out = [0i32; 32768];
