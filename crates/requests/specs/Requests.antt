@@ -1,5 +1,5 @@
--- The lists among the numbers of a request, and the font at their end: instructions, kerns and entries, each a length and so many items, then the
--- boundary character and the left-boundary entry.
+-- The lists among the numbers of a request, and the font at their end: instructions, kerns and entries, each a length and so many
+-- items, then the boundary character and the left-boundary entry.
 use mathlib.Core.Bool.{cond}
 use mathlib.Core.List.{List, []}
 use Prim.Native.Nat.{ℕ, _+_, _-_, _*_}

@@ -11,6 +11,8 @@ use requests::request::front;
 use requests::request::part;
 use requests::write::put_line;
 
+mod fonts;
+
 // Room for the requests.
 fn room() -> [u8; 786432]
     ensures { λ r. ⌜ 786432 ≡ length r ⌝ }
@@ -21,14 +23,17 @@ fn room() -> [u8; 786432]
 // The answer to a request, by its letter.
 fn answer_by(letter: u8, numbers: &[i32], out: &mut [i32]) -> Written {
     match letter {
-        b'C' | b'W' | b'A' => font_answers::answer(letter, numbers, out),
+        b'C' | b'W' | b'A' => fonts::compiled(letter, numbers, out),
         b'K' | b'J' | b'P' => change_answers::answer(letter, numbers, out),
         _ => program_answers::answer(letter, numbers, out),
     }
 }
 
-// Writes the answer to the request of a line.
+// Writes the answer to the request of a line; an empty line has none.
 fn answer(request: &[u8]) {
+    if request.len() == 0 {
+        return;
+    }
     let letter = words::u8_at(request, 0);
     let mut numbers = [0i32; 16384];
     let mut out = [0i32; 32768];

@@ -1,0 +1,9 @@
+-- What compiling a font answers.
+use Prim.Native.Nat.{ℕ, _<_}
+use Rattle.compiler.specs.declared.Compiled.{Compiled}
+use Rattle.compiler.specs.declared.Compiled.the-variants.{Tables, Refused}
+
+-- a refusal has a number
+abbrev pub Numbered : Compiled → Type 0
+Numbered (Tables p o m) = Unit
+Numbered (Refused n) = 0 < n
