@@ -38,7 +38,16 @@ beginRefusal pairs ops boundary word options =
 -- a state with no ops, no letters given and no pending ligature
 abbrev pub fresh : NextLeft → ℕ → State
 fresh n r =
-    record { «next_left» = n; op = 0; ops = 0; read = r; given = 0; pending = 0; «pending_boundary» = false; «consumes_left» = consumes.Nothing }
+    record {
+      «next_left» = n;
+      op = 0;
+      ops = 0;
+      read = r;
+      given = 0;
+      pending = 0;
+      «pending_boundary» = false;
+      «consumes_left» = consumes.Nothing;
+    }
 
 -- without the left boundary the first letter stands left of the cursor
 abbrev pub withoutBoundary : List ℕ → State

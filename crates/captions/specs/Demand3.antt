@@ -1,6 +1,7 @@
--- Demand 3, of the whole list, in the terms of the calls: document 01, 'What every contract owes the setter', c and e. `Compiles` is the contract of
--- compile, and begin's and step's contracts say that they answer `beginOf` and `stepOf` (proofs/Replies); `answers` are n steps, each handed the state that
--- the last one returned. What is proved of an accepted font is the record `Demand3`; the statement whole is `EveryAcceptedFont`, at the end.
+-- Demand 3, of the whole list, in the terms of the calls: document 01, 'What every contract owes the setter', c and e. `Compiles` is the
+-- contract of compile, and begin's and step's contracts say that they answer `beginOf` and `stepOf` (proofs/Replies); `answers` are n
+-- steps, each handed the state that the last one returned. What is proved of an accepted font is the record `Demand3`; the statement whole
+-- is `EveryAcceptedFont`, at the end.
 use mathlib.Core.Path.{_≡_}
 use mathlib.Core.Bool.{true, not}
 use mathlib.Core.List.{List, map, List·Memᴰ}
@@ -32,8 +33,8 @@ pub record Caption (word : List ℕ) (options : RunOptions) : Type 0 where
   pub word-fits : length word ≤ 65535
   pub override-fits : absentOr 255 (options .«right_boundary_override») ≡ true
 
--- Begin, lent these pairs and ops and the font's boundary character, is not refused; and for every n the answers of the n steps from it are the first n of
--- the items, by kind and by code or scaled kern, followed by the end at each step. So no step is refused.
+-- Begin, lent these pairs and ops and the font's boundary character, is not refused; and for every n the answers of the n steps from it
+-- are the first n of the items, by kind and by code or scaled kern, followed by the end at each step. So no step is refused.
 pub record Answered (f : Font) (pairs ops : List ℤ) (word : List ℕ) (options : RunOptions) (items : List Out) : Type 0 where
   pub start : State
   pub begins : beginOf pairs ops (f .boundary) word options ≡ Run start
@@ -42,7 +43,8 @@ pub record Answered (f : Font) (pairs ops : List ℤ) (word : List ℕ) (options
 -- the reading of the word ends, and gives these items
 pub record Reads (f : Font) (word : List ℕ) (options : RunOptions) (items : List Out) : Type 0 where
   pub steps : ℕ
-  pub reads : reading (rulesOf f) steps (not (options .«disable_left_boundary»)) word (rightItem (f .boundary) (options .«right_boundary_override»)) ≡ ended items
+  pub reads : reading (rulesOf f) steps (not (options .«disable_left_boundary»)) word
+      (rightItem (f .boundary) (options .«right_boundary_override»)) ≡ ended items
 
 -- a pair of a left of -1 to 255 and a right of 0 to 255 that never ends
 pub record Loop (f : Font) : Type 0 where
@@ -57,18 +59,22 @@ pub record Demand3 (f : Font) (l : ℕ) (pairs ops loops : List ℤ) : Type 0 wh
   -- the loop list is a list of l pairs, and every pair that is reported, a left of -1 to 255 and a right of 0 to 255, never ends
   pub reported : List Pair
   pub loop-list : (loops ≡ loopNumbers reported) × (length reported ≡ l)
-  pub reported-never : (q : Pair) → List·Memᴰ q reported → (numberOfLeft (q .left) < 257) × (q .right < 256) × NeverEnds (rulesOf f) (q .left) (q .right)
+  pub reported-never : (q : Pair) → List·Memᴰ q reported →
+      (numberOfLeft (q .left) < 257) × (q .right < 256) × NeverEnds (rulesOf f) (q .left) (q .right)
   -- a loop is reported exactly when some pair never ends; none exactly when every pair ends
   pub some-loop : (0 < l) ↔ Loop f
   pub no-loop : (l ≡ 0) ↔ ((x : Left) (y : ℕ) → Ends (rulesOf f) x y)
   -- where none is reported, the reading of every word ends, and the run gives its items in order, then the end for ever
-  pub set-as-read : l ≡ 0 → (word : List ℕ) (options : RunOptions) → Caption word options → (items : List Out) × Reads f word options items × Answered f pairs ops word options items
+  pub set-as-read : l ≡ 0 → (word : List ℕ) (options : RunOptions) → Caption word options →
+      (items : List Out) × Reads f word options items × Answered f pairs ops word options items
   -- loops or not: no step is refused, and every run ends; and whatever the reading of the word gives once it ends, the run gives
-  pub run-ends : (word : List ℕ) (options : RunOptions) → Caption word options → (items : List Out) × Answered f pairs ops word options items
-  pub run-reads : (word : List ℕ) (options : RunOptions) → Caption word options → (items : List Out) → Reads f word options items → Answered f pairs ops word options items
+  pub run-ends : (word : List ℕ) (options : RunOptions) → Caption word options →
+      (items : List Out) × Answered f pairs ops word options items
+  pub run-reads : (word : List ℕ) (options : RunOptions) → Caption word options → (items : List Out) →
+      Reads f word options items → Answered f pairs ops word options items
 
--- DEMAND 3, whole: whatever font compile is lent, with whatever lists, if its answer is no refusal then `Demand3` holds of what it answered and wrote: of the
--- count of its loops, and of the pairs, ops and loops cut to their counts. Proved: `demand-3` of proofs/Theorems.
+-- DEMAND 3, whole: whatever font compile is lent, with whatever lists, if its answer is no refusal then `Demand3` holds of what it answered
+-- and wrote: of the count of its loops, and of the pairs, ops and loops cut to their counts. Proved: `demand-3` of proofs/Theorems.
 abbrev pub EveryAcceptedFont : Type 0
 EveryAcceptedFont =
     (f : Font) (pairs ops loops : List ℤ) (work : List ℕ) (p o l : ℕ) (pairs′ ops′ loops′ : List ℤ) (work′ : List ℕ) →

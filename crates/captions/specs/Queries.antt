@@ -1,5 +1,5 @@
--- What else a host asks of a run, of a table or of a word: after `is_separation_point`, `has_replacement`, `all_pairs_with_replacements` and
--- `CompiledProgram::is_seven_bit_safe` of ligkern/mod.rs, and the original of an item as a part of the caller's word.
+-- What else a host asks of a run, of a table or of a word: after `is_separation_point`, `has_replacement`, `all_pairs_with_replacements`
+-- and `CompiledProgram::is_seven_bit_safe` of ligkern/mod.rs, and the original of an item as a part of the caller's word.
 use mathlib.Core.Path.{_≡_}
 use mathlib.Core.Bool.{Bool, true, false, cond}
 use mathlib.Core.List.{List, [], _∷_}
@@ -50,11 +50,13 @@ hasEntry pairs left (some r) = isFound (find pairs (keyBy (leftPlace left) r))
 -- 4, then 7 for pairs not in sixes
 abbrev pub hasRefusal : List ℤ → ℤ → ℤ → ℤ → ℕ
 hasRefusal pairs boundary left right =
-    orElse (absentRefusal 255 boundary) (orElse (absentRefusal 255 left) (orElse (absentRefusal 255 right) (unless 7 (eqb (length pairs % 6) 0))))
+    orElse (absentRefusal 255 boundary)
+    (orElse (absentRefusal 255 left) (orElse (absentRefusal 255 right) (unless 7 (eqb (length pairs % 6) 0))))
 
 -- THE contract of has_replacement: its answer, as document 01 has it
 abbrev pub hasReply : List ℤ → ℤ → ℤ → ℤ → Reply
-hasReply pairs boundary left right = replyOf (hasRefusal pairs boundary left right) (bit (hasEntry pairs left (rightItem boundary right)) ∷ [])
+hasReply pairs boundary left right =
+    replyOf (hasRefusal pairs boundary left right) (bit (hasEntry pairs left (rightItem boundary right)) ∷ [])
 
 -- ---- all_pairs_with_replacements: left and right of every pair, in order
 

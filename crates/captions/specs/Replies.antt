@@ -1,5 +1,5 @@
--- What is answered, as document 01 has it: the number (0 where it is taken) and the values of each case of an answer. The contracts of begin, step and
--- the questions about a table are stated through these; each reply determines its answer (proofs/Replies).
+-- What is answered, as document 01 has it: the number (0 where it is taken) and the values of each case of an answer. The contracts of
+-- begin, step and the questions about a table are stated through these; each reply determines its answer (proofs/Replies).
 use mathlib.Core.Bool.{Bool, true, false}
 use mathlib.Core.List.{List, [], _∷_}
 use Prim.Native.Nat.{ℕ}

@@ -1,4 +1,5 @@
--- Any number of steps, each handed the state that the last returned, and what they answer by kind and by code or scaled kern: what demand 3 speaks of.
+-- Any number of steps, each handed the state that the last returned, and what they answer by kind and by code or scaled kern: what demand
+-- 3 speaks of.
 use mathlib.Core.List.{List, [], _∷_}
 use Prim.Native.Nat.{ℕ, zero, suc}
 use lib.IntN.{ℤ}
@@ -13,7 +14,8 @@ use Rattle.captions.specs.Steps.{stepOf}
 unfoldable pub answers : List ℤ → List ℤ → ℤ → List ℕ → RunOptions → ℕ → State → List Answer
 answers pairs ops boundary word options zero s = []
 answers pairs ops boundary word options (suc n) s =
-    stepOf pairs ops boundary word options s .answer ∷ answers pairs ops boundary word options n (stepOf pairs ops boundary word options s .state)
+    stepOf pairs ops boundary word options s .answer
+    ∷ answers pairs ops boundary word options n (stepOf pairs ops boundary word options s .state)
 
 -- an answer by kind and by code or scaled kern
 pub data Shown : Type 0 where

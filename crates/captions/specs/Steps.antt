@@ -1,5 +1,5 @@
--- One step of a run, over any table and any state: document 01, 'Caption items'; after `RunIter::next` of ligkern/mod.rs, whose call of itself is
--- here a turn that reads one letter. A step checks what it reads, and a refused step hands its state back.
+-- One step of a run, over any table and any state: document 01, 'Caption items'; after `RunIter::next` of ligkern/mod.rs, whose call of
+-- itself is here a turn that reads one letter. A step checks what it reads, and a refused step hands its state back.
 use mathlib.Core.Path.{_≡_}
 use mathlib.Core.Bool.{Bool, true, false, cond, not}
 use mathlib.Core.List.{List}
@@ -57,7 +57,16 @@ takesBoundary s = cond (s .«pending_boundary») true (leftBoundary (s .«consum
 -- n letters more are given; nothing is pending, and the left is taken
 abbrev pub settled : ℕ → State → State
 settled n s =
-    record { «next_left» = s .«next_left»; op = s .op; ops = s .ops; read = s .read; given = s .given + n; pending = 0; «pending_boundary» = false; «consumes_left» = consumes.Nothing }
+    record {
+      «next_left» = s .«next_left»;
+      op = s .op;
+      ops = s .ops;
+      read = s .read;
+      given = s .given + n;
+      pending = 0;
+      «pending_boundary» = false;
+      «consumes_left» = consumes.Nothing;
+    }
 
 -- an item whose original is n letters long; 7 where that passes the letters that were read
 abbrev pub giveItem : Answer → ℕ → State → Step
@@ -79,7 +88,16 @@ giveLigature c right s = giveItem (Ligature c (s .given) (taken s) (takesBoundar
 -- the state after an op
 abbrev pub afterOp : State → State
 afterOp s =
-    record { «next_left» = s .«next_left»; op = suc (s .op); ops = s .ops - 1; read = s .read; given = s .given; pending = s .pending; «pending_boundary» = s .«pending_boundary»; «consumes_left» = s .«consumes_left» }
+    record {
+      «next_left» = s .«next_left»;
+      op = suc (s .op);
+      ops = s .ops - 1;
+      read = s .read;
+      given = s .given;
+      pending = s .pending;
+      «pending_boundary» = s .«pending_boundary»;
+      «consumes_left» = s .«consumes_left»;
+    }
 
 abbrev pub isNone : NextLeft → Bool
 isNone next.Boundary = false
@@ -110,7 +128,16 @@ readOp ops s = cond (opsFit ops s) (giveOp ops s) (refused 7 s)
 -- a pending ligature of n letters, which took its left in
 abbrev pub withPending : ℕ → Bool → State → State
 withPending n boundary s =
-    record { «next_left» = s .«next_left»; op = s .op; ops = s .ops; read = s .read; given = s .given; pending = n; «pending_boundary» = boundary; «consumes_left» = consumes.Nothing }
+    record {
+      «next_left» = s .«next_left»;
+      op = s .op;
+      ops = s .ops;
+      read = s .read;
+      given = s .given;
+      pending = n;
+      «pending_boundary» = boundary;
+      «consumes_left» = consumes.Nothing;
+    }
 
 -- the pending ligature with one letter more
 abbrev pub longer : State → State
@@ -152,7 +179,16 @@ readOn false n = n
 
 abbrev pub withNext : NextLeft → ℕ → State → State
 withNext n r s =
-    record { «next_left» = n; op = s .op; ops = s .ops; read = r; given = s .given; pending = s .pending; «pending_boundary» = s .«pending_boundary»; «consumes_left» = consumes.Nothing }
+    record {
+      «next_left» = n;
+      op = s .op;
+      ops = s .ops;
+      read = r;
+      given = s .given;
+      pending = s .pending;
+      «pending_boundary» = s .«pending_boundary»;
+      «consumes_left» = consumes.Nothing;
+    }
 
 -- a left without an entry is given as it stands; a left boundary gives nothing
 abbrev pub giveLeft : NextLeft → State → Turned
@@ -165,19 +201,32 @@ giveLeft next.None s = Goes s
 -- the ops of an entry are to be given, and its last is next
 abbrev pub entered : List ℤ → NextLeft → Bool → State → ℕ → State
 entered pairs x letter s k =
-    record { «next_left» = afterRight letter (item (lastFlag pairs k) (lastCode pairs k)); op = firstOp pairs k; ops = countOf pairs k; read = readOn letter (s .read); given = s .given; pending = s .pending; «pending_boundary» = s .«pending_boundary»; «consumes_left» = leftConsumed x }
+    record {
+      «next_left» = afterRight letter (item (lastFlag pairs k) (lastCode pairs k));
+      op = firstOp pairs k;
+      ops = countOf pairs k;
+      read = readOn letter (s .read);
+      given = s .given;
+      pending = s .pending;
+      «pending_boundary» = s .«pending_boundary»;
+      «consumes_left» = leftConsumed x;
+    }
 
 -- an entry that gives nothing: no ops, and a last that is the right as it came
 abbrev pub givesNothing : List ℤ → ℕ → Bool
 givesNothing pairs k = both (eqb (countOf pairs k) 0) (not (lastFlag pairs k))
 
+-- a left that is a character, or a ligature, and not the boundary
+abbrev pub isCharacter : NextLeft → Bool
+isCharacter next.Boundary = false
+isCharacter (next.Char c) = true
+isCharacter (next.Lig c) = true
+isCharacter (next.FinalLig c) = false
+isCharacter next.None = false
+
 -- a left character would be lost: its entry gives nothing. A table of the form has no such entry.
 abbrev pub swallows : List ℤ → NextLeft → ℕ → Bool
-swallows pairs next.Boundary k = false
-swallows pairs (next.Char c) k = givesNothing pairs k
-swallows pairs (next.Lig c) k = givesNothing pairs k
-swallows pairs (next.FinalLig c) k = false
-swallows pairs next.None k = false
+swallows pairs x k = both (isCharacter x) (givesNothing pairs k)
 
 -- what an entry must be for a step to follow it from a left
 abbrev pub entryFits : List ℤ → List ℤ → NextLeft → ℕ → Bool
@@ -229,7 +278,16 @@ onward go (Goes s) = go s
 -- the state with nothing next
 abbrev pub withNothingNext : State → State
 withNothingNext s =
-    record { «next_left» = next.None; op = s .op; ops = s .ops; read = s .read; given = s .given; pending = s .pending; «pending_boundary» = s .«pending_boundary»; «consumes_left» = s .«consumes_left» }
+    record {
+      «next_left» = next.None;
+      op = s .op;
+      ops = s .ops;
+      read = s .read;
+      given = s .given;
+      pending = s .pending;
+      «pending_boundary» = s .«pending_boundary»;
+      «consumes_left» = s .«consumes_left»;
+    }
 
 -- no ops are to be given: a last ligature is given as it stands, and a left is looked up
 abbrev pub byNext : (NextLeft → State → Turned) → (State → Step) → State → NextLeft → Step
@@ -266,7 +324,8 @@ placed ops word s =
     (both (leb (s .pending) (s .read))
     (both (opsPlaced ops s) (nextFits (s .«next_left»)))))
 
--- THE contract of run: turns from a state until one answers, one letter a turn and a turn for the right item; 7 where the state points outside
+-- THE contract of run: turns from a state until one answers, one letter a turn and a turn for the right item; 7 where the state points
+-- outside
 abbrev pub ranFrom : List ℤ → List ℤ → Option ℕ → List ℕ → State → Step
 ranFrom pairs ops right word s =
     cond (placed ops word s) (runOn ops (turn pairs ops right word) (suc (length word - s .read)) s) (refused 7 s)
@@ -292,7 +351,8 @@ abbrev pub stepOf : List ℤ → List ℤ → ℤ → List ℕ → RunOptions �
 stepOf pairs ops boundary word options s =
     steppedBy (stepRefusal boundary word options) s (ranFrom pairs ops (rightItem boundary (options .«right_boundary_override»)) word s)
 
--- THE contract of step: its answer, as document 01 has it, and the state that it leaves. Together they say that r is `stepOf` (proofs/Replies).
+-- THE contract of step: its answer, as document 01 has it, and the state that it leaves. Together they say that r is `stepOf`
+-- (proofs/Replies).
 pub record Stepped (pairs ops : List ℤ) (boundary : ℤ) (word : List ℕ) (options : RunOptions) (s : State) (r : Step) : Type 0 where
   pub reply : answerReply (r .answer) ≡ answerReply (stepOf pairs ops boundary word options s .answer)
   pub ends : isEnd (r .answer) ≡ isEnd (stepOf pairs ops boundary word options s .answer)

@@ -1,6 +1,6 @@
--- A pair table and its ops as they are lent, whatever they hold: document 01, 'The pair table'. Six numbers a pair (0 left, 1 right, 2 last code,
--- 3 last flag, 4 first op, 5 op count), two an op (kind and value). A pair is found by bisection, in the definition too, so that what a step answers
--- is said of any table; on a table in ascending order bisection finds the pair.
+-- A pair table and its ops as they are lent, whatever they hold: document 01, 'The pair table'. Six numbers a pair (0 left, 1 right, 2
+-- last code, 3 last flag, 4 first op, 5 op count), two an op (kind and value). A pair is found by bisection, in the definition too, so
+-- that what a step answers is said of any table; on a table in ascending order bisection finds the pair.
 use mathlib.Core.Bool.{Bool, true, cond}
 use mathlib.Core.List.{List, [], _∷_}
 use mathlib.Core.Option.{Option, none, some, Option·map}
@@ -35,7 +35,8 @@ opValue ops i = getD ops (2 * i + 1) (pos 0)
 
 -- ---- finding a pair
 
--- a pair's place in the order of pairs: by left, -1 first, then by right. Two pairs have one key only where they have the same left and right.
+-- a pair's place in the order of pairs: by left, -1 first, then by right. Two pairs have one key only where they have the same left and
+-- right.
 abbrev pub keyBy : ℕ → ℕ → ℕ
 keyBy left right = 4294967296 * left + right
 

@@ -1,7 +1,7 @@
 -- What compiling a font answers.
 use Prim.Native.Nat.{ℕ, _<_}
-use Rattle.compiler.specs.declared.Compiled.{Compiled}
-use Rattle.compiler.specs.declared.Compiled.the-variants.{Tables, Refused}
+use Rattle.fonts.specs.declared.Compiled.{Compiled}
+use Rattle.fonts.specs.declared.Compiled.the-variants.{Tables, Refused}
 
 -- a refusal has a number
 abbrev pub Numbered : Compiled → Type 0

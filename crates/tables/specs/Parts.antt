@@ -12,4 +12,5 @@ use Rattle.captions.specs.Tables.{number, lastFlag, lastCode}
 -- of `recordFits`: what the last must be
 abbrev pub lastFits : List ℤ → ℕ → Bool
 lastFits pairs k =
-    both (within 255 (number pairs k 2)) (both (within 1 (number pairs k 3)) (cond (lastFlag pairs k) true (eqb (lastCode pairs k) (wordOf (number pairs k 1)))))
+    both (within 255 (number pairs k 2))
+    (both (within 1 (number pairs k 3)) (cond (lastFlag pairs k) true (eqb (lastCode pairs k) (wordOf (number pairs k 1)))))

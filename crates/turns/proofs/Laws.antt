@@ -1,5 +1,5 @@
 -- What a turn gives, by the tests of the code. Assumes nothing.
-use mathlib.Core.Path.{_≡_, refl, sym, ap}
+use mathlib.Core.Path.{_≡_, refl, sym, ap, _∙_}
 use mathlib.Core.Bool.{Bool, true, false, cond, not}
 use mathlib.Core.List.{List}
 use mathlib.Core.Option.{Option, none, some}
@@ -21,8 +21,12 @@ use Rattle.captions.specs.declared.Turned.{Turned}
 use Rattle.captions.specs.declared.Turned.the-variants.{Gives, Goes}
 use Rattle.captions.specs.declared.Found.the-variants.{At, Nothing}
 use Rattle.captions.specs.Tables.{number, keyBy, find, foundAt, recordFits}
-use Rattle.captions.specs.Steps.{refused, leftLetters, withPending, longer, opsPlaced, gathered, leftPlaceOf, afterRight, readOn, withNext, giveLeft, entered, givesNothing, swallows, entryFits, turnBy, turnWith, orBoundary, turnAtEnd, turnAtLetter, turn, nextFits, placed}
-use Rattle.turns.specs.Turns.{turnLast, turnNext, lefts}
+use Rattle.captions.specs.Replies.{nextCode}
+use Rattle.captions.specs.Steps.{refused, ended, giveCharacter, isCharacter, leftLetters, withPending, longer, opsPlaced, gathered, leftPlaceOf, afterRight, readOn, withNext, giveLeft, entered, swallows, entryFits, turnBy, turnWith, orBoundary, turnAtEnd, turnAtLetter, turn, nextFits, placed}
+use Rattle.turns.specs.Turns.{turnNext, lefts}
+
+no : {A : Type 0} → _≡_ {A = Bool} false true → A
+no e = absurd (let z : _≡_ {A = ℕ} 0 1 = cc in omega arith)
 
 -- ---- the left
 
@@ -52,6 +56,21 @@ module _ (s : State) where
 
   pub longer-boundary : s .«consumes_left» ≡ consumes.Boundary → withPending (s .pending + 1) true s ≡ longer s
   longer-boundary e = let n : s .pending + 1 ≡ suc (s .pending + 0) = omega arith in rw e (pending-as s n (or-true (s .«pending_boundary»)))
+
+-- a left that is given as it stands
+pub left-gives : (x : NextLeft) (s : State) → isCharacter x ≡ true → giveLeft x s ≡ Gives (giveCharacter (nextCode x) s)
+left-gives next.Boundary s h = no h
+left-gives (next.Char c) s h = refl
+left-gives (next.Lig c) s h = refl
+left-gives (next.FinalLig c) s h = no h
+left-gives next.None s h = no h
+
+pub left-goes : (x : NextLeft) (s : State) → isCharacter x ≡ false → giveLeft x s ≡ Goes s
+left-goes next.Boundary s h = refl
+left-goes (next.Char c) s h = no (sym h)
+left-goes (next.Lig c) s h = no (sym h)
+left-goes (next.FinalLig c) s h = refl
+left-goes next.None s h = refl
 
 pub left-small : (x : NextLeft) → nextFits x ≡ true → leftPlaceOf x ≤ 256
 left-small next.Boundary h = omega arith
@@ -84,19 +103,34 @@ module _ (pairs ops : List ℤ) (s : State) where
       turnWith pairs ops x letter y s ≡ cond (entryFits pairs ops x k) (Goes (entered pairs x letter s k)) (Gives (refused 7 s))
   turn-some x letter y k h = ap (turnBy pairs ops x letter y s) h
 
-  pub last-item : (w : ℕ) (x : NextLeft) → w < 2 ^ 31 → turnLast pairs ops (orBoundary (numberOf w)) x s ≡ turnWith pairs ops x false w s
-  last-item w x h = ap (λ (z : ℤ). turnLast pairs ops (orBoundary z) x s) (number-pos w h)
+  -- the word's end
+  pub end-empty : (o : Option ℕ) (x : NextLeft) → isCharacter x ≡ false → turnAtEnd pairs ops o x s ≡ Gives (ended s)
+  end-empty o next.Boundary h = refl
+  end-empty o (next.Char c) h = no (sym h)
+  end-empty o (next.Lig c) h = no (sym h)
+  end-empty o (next.FinalLig c) h = refl
+  end-empty o next.None h = refl
 
-  pub last-free : (w : ℕ) (x : NextLeft) → 2 ^ 31 ≤ w → turnLast pairs ops (orBoundary (numberOf w)) x s ≡ giveLeft x (withNext next.None (s .read) s)
-  last-free w x h = ap (λ (z : ℤ). turnLast pairs ops (orBoundary z) x s) (number-neg w h)
+  end-some : (r : ℕ) (x : NextLeft) → isCharacter x ≡ true → turnAtEnd pairs ops (some r) x s ≡ turnWith pairs ops x false r s
+  end-some r next.Boundary h = no h
+  end-some r (next.Char c) h = refl
+  end-some r (next.Lig c) h = refl
+  end-some r (next.FinalLig c) h = no h
+  end-some r next.None h = no h
 
-  pub end-char : (o : Option ℕ) (c : ℕ) → turnAtEnd pairs ops o (next.Char c) s ≡ turnLast pairs ops o (next.Char c) s
-  end-char none c = refl
-  end-char (some r) c = refl
+  end-none : (x : NextLeft) → isCharacter x ≡ true → turnAtEnd pairs ops none x s ≡ giveLeft x (withNext next.None (s .read) s)
+  end-none next.Boundary h = no h
+  end-none (next.Char c) h = refl
+  end-none (next.Lig c) h = refl
+  end-none (next.FinalLig c) h = no h
+  end-none next.None h = no h
 
-  pub end-lig : (o : Option ℕ) (c : ℕ) → turnAtEnd pairs ops o (next.Lig c) s ≡ turnLast pairs ops o (next.Lig c) s
-  end-lig none c = refl
-  end-lig (some r) c = refl
+  module _ (w : ℕ) (x : NextLeft) (h : isCharacter x ≡ true) where
+    pub end-item : w < 2 ^ 31 → turnAtEnd pairs ops (orBoundary (numberOf w)) x s ≡ turnWith pairs ops x false w s
+    end-item l = ap (λ (z : ℤ). turnAtEnd pairs ops (orBoundary z) x s) (number-pos w l) ∙ end-some w x h
+
+    pub end-free : 2 ^ 31 ≤ w → turnAtEnd pairs ops (orBoundary (numberOf w)) x s ≡ giveLeft x (withNext next.None (s .read) s)
+    end-free l = ap (λ (z : ℤ). turnAtEnd pairs ops (orBoundary z) x s) (number-neg w l) ∙ end-none x h
 
   pub letter-fits : (x : NextLeft) (y : ℕ) → y ≤ 255 → turnAtLetter pairs ops x y s ≡ turnWith pairs ops x true y s
   letter-fits x y h = rw (le-leb y 255 h)
@@ -113,12 +147,16 @@ module _ (pairs ops : List ℤ) (s : State) where
 
 -- ---- an entry, by the words that were read
 
-module _ (pairs : List ℤ) (k : ℕ) {count : ℕ} (p : Word (number pairs k 5) count) where
-  pub gives-ops : (count ≡ 0 → ⊥) → false ≡ givesNothing pairs k
-  gives-ops h = rw (← p .is, ne-eqb count 0 h)
+module _ (pairs : List ℤ) (x : NextLeft) (k : ℕ) where
+  pub boundary-keeps : isCharacter x ≡ false → false ≡ swallows pairs x k
+  boundary-keeps h = rw h
 
-  pub gives-last : {flag : ℕ} → count ≡ 0 → Word (number pairs k 3) flag → not (eqb flag 1) ≡ givesNothing pairs k
-  gives-last e q = rw (← p .is, ← q .is, eq-eqb count 0 e)
+  module _ (h : isCharacter x ≡ true) {count : ℕ} (p : Word (number pairs k 5) count) where
+    pub ops-keep : (count ≡ 0 → ⊥) → false ≡ swallows pairs x k
+    ops-keep n = rw (h, ← p .is, ne-eqb count 0 n)
+
+    pub last-keeps : {flag : ℕ} → count ≡ 0 → Word (number pairs k 3) flag → not (eqb flag 1) ≡ swallows pairs x k
+    last-keeps e q = rw (h, ← p .is, ← q .is, eq-eqb count 0 e)
 
 module _ (pairs ops : List ℤ) (x : NextLeft) (k : ℕ) where
   pub unread : recordFits pairs ops k ≡ false → entryFits pairs ops x k ≡ false

@@ -1,8 +1,7 @@
 -- The loop of a step while it runs: one turn of it, and what keeps its sums small.
 use mathlib.Core.Path.{_≡_}
-use mathlib.Core.Bool.{true, false, cond}
+use mathlib.Core.Bool.{true, cond}
 use mathlib.Core.List.{List}
-use mathlib.Core.Option.{Option, none, some}
 use Prim.Native.Nat.{ℕ, suc, _+_, _-_, _*_, _<_, _≤_}
 use lib.IntN.{ℤ}
 use lib.Dec.{eqb}
@@ -11,12 +10,7 @@ use Rattle.captions.specs.declared.NextLeft.the-variants as next
 use Rattle.captions.specs.declared.State.{State}
 use Rattle.captions.specs.declared.Turned.{Turned}
 use Rattle.captions.specs.declared.Turned.the-variants.{Gives}
-use Rattle.captions.specs.Steps.{ended, giveLigature, readOp, withNext, giveLeft, turnWith, withNothingNext, nextFits}
-
--- a left at the word's end, with the right item if there is one
-abbrev pub turnLast : List ℤ → List ℤ → Option ℕ → NextLeft → State → Turned
-turnLast pairs ops none x s = giveLeft x (withNext next.None (s .read) s)
-turnLast pairs ops (some r) x s = turnWith pairs ops x false r s
+use Rattle.captions.specs.Steps.{ended, giveLigature, readOp, withNothingNext, nextFits}
 
 -- no ops are to be given: a turn that answers, or goes on
 abbrev pub turnNext : (NextLeft → State → Turned) → State → NextLeft → Turned
@@ -42,7 +36,8 @@ lefts next.None = 0
 abbrev pub turnsLeft : ℕ → State → ℕ
 turnsLeft n s = n - s .read + lefts (s .«next_left»)
 
--- a state within a word of n letters and m ops, and no slice has more letters; each turn makes the pending ligature at most two letters longer
+-- a state within a word of n letters and m ops, and no slice has more letters; each turn makes the pending ligature at most two letters
+-- longer
 pub record Within (n m : ℕ) (s : State) : Type 0 where
   pub short : n < 4611686018427387904
   pub read : s .read ≤ n

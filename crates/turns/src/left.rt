@@ -3,7 +3,8 @@ ghost use mathlib.Core.Path.{_≡_};
 ghost use mathlib.Core.Bool.{true};
 ghost use Prim.Native.Nat.{_<_};
 ghost use Rattle.reading.specs.Items.{item};
-ghost use Rattle.captions.specs.Steps.{gathered, leftPlaceOf, leftConsumed, afterRight, readOn, withNext, giveLeft, withPending, longer, nextFits};
+ghost use Rattle.captions.specs.Replies.{nextCode};
+ghost use Rattle.captions.specs.Steps.{gathered, leftPlaceOf, leftConsumed, afterRight, readOn, withNext, giveLeft, isCharacter, withPending, longer, nextFits};
 use captions::Consumes;
 use captions::NextLeft;
 use captions::State;
@@ -124,15 +125,39 @@ pub(crate) fn with_next(next: NextLeft, read: usize, s: State) -> State
     }
 }
 
-// A left without an entry is given as it stands.
+// A left that is a character, or a ligature.
+pub(crate) fn is_character(x: NextLeft) -> bool
+    ensures { λ r. ⌜ r ≡ isCharacter x ⌝ }
+{
+    match x {
+        NextLeft::Boundary => false,
+        NextLeft::Char(_) => true,
+        NextLeft::Lig(_) => true,
+        NextLeft::FinalLig(_) => false,
+        NextLeft::None => false,
+    }
+}
+
+// Its code.
+fn next_code(x: NextLeft) -> u32
+    ensures { λ r. ⌜ r ≡ nextCode x ⌝ }
+{
+    match x {
+        NextLeft::Boundary => 0,
+        NextLeft::Char(c) => c,
+        NextLeft::Lig(c) => c,
+        NextLeft::FinalLig(c) => c,
+        NextLeft::None => 0,
+    }
+}
+
+// A left without an entry is given as it stands; a left boundary gives nothing.
 pub(crate) fn give_left(x: NextLeft, s: State) -> Turned
     ensures { λ r. ⌜ r ≡ giveLeft x s ⌝ }
 {
-    match x {
-        NextLeft::Boundary => Turned::Goes(s),
-        NextLeft::Char(c) => Turned::Gives(give_character(c, s)),
-        NextLeft::Lig(c) => Turned::Gives(give_character(c, s)),
-        NextLeft::FinalLig(_) => Turned::Goes(s),
-        NextLeft::None => Turned::Goes(s),
+    if !is_character(x) {
+        return Turned::Goes(s);
     }
+    let given = give_character(next_code(x), s);
+    Turned::Gives(given)
 }

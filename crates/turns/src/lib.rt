@@ -59,11 +59,9 @@ fn turn_next(pairs: &[i32], ops: &[i32], right: u32, word: &[u32], s: State) -> 
 {
     let next = s.next_left;
     match next {
-        NextLeft::Boundary => turn(pairs, ops, right, word, next, s),
-        NextLeft::Char(_) => turn(pairs, ops, right, word, next, s),
-        NextLeft::Lig(_) => turn(pairs, ops, right, word, next, s),
         NextLeft::FinalLig(c) => give_last(c, s),
         NextLeft::None => ends(s),
+        _ => turn(pairs, ops, right, word, next, s),
     }
 }
 

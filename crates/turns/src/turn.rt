@@ -4,12 +4,11 @@ ghost use mathlib.Core.Bool.{true, cond};
 ghost use Prim.Native.Nat.{_<_};
 ghost use Rattle.words.specs.Words.{numberOf};
 ghost use Rattle.reading.specs.Items.{plain};
-ghost use Rattle.captions.specs.Tables.{pairCount};
-ghost use Rattle.captions.specs.Steps.{refused, ended, afterRight, readOn, withNext, giveLeft, entered, givesNothing, swallows, entryFits, turnWith, orBoundary, turnAtEnd, turnAtLetter, turn, nextFits};
-ghost use Rattle.turns.specs.Turns.{turnLast};
+ghost use Rattle.captions.specs.Steps.{refused, ended, afterRight, readOn, withNext, giveLeft, entered, swallows, entryFits, turnWith, orBoundary, turnAtEnd, turnAtLetter, turn, nextFits};
 use super::left::after_right;
 use super::left::gathered;
 use super::left::give_left;
+use super::left::is_character;
 use super::left::left_consumed;
 use super::left::left_place_of;
 use super::left::read_on;
@@ -46,7 +45,7 @@ fn refuses(number: u32, s: State) -> Turned
 
 // The ops of entry k are to be given, and its last is next.
 fn entered(pairs: &[i32], x: NextLeft, letter: bool, s: State, k: usize) -> State
-    requires { ⌜ (k < pairCount (now pairs)) × (s .read < 9223372036854775808) ⌝ }
+    requires { ⌜ s .read < 9223372036854775808 ⌝ }
     ensures { λ r. ⌜ r ≡ entered (now (pairs .entry)) x letter s k ⌝ }
 {
     let code = number_at(pairs, k, 2);
@@ -79,32 +78,22 @@ fn turn_free(x: NextLeft, letter: bool, y: u32, s: State) -> Turned
     give_left(x, after)
 }
 
-// Entry k gives nothing: it has no ops, and its last is the right as it came.
-fn gives_nothing(pairs: &[i32], k: usize) -> bool
-    ensures { λ r. ⌜ r ≡ givesNothing (now (pairs .entry)) k ⌝ }
+// A left character would be lost: its entry has no ops, and its last is the right as it came.
+fn swallows(pairs: &[i32], x: NextLeft, k: usize) -> bool
+    ensures { λ r. ⌜ r ≡ swallows (now (pairs .entry)) x k ⌝ }
 {
+    if !is_character(x) {
+        return false;
+    }
     if number_at(pairs, k, 5) != 0 {
         return false;
     }
     number_at(pairs, k, 3) != 1
 }
 
-// A left character would be lost: its entry gives nothing.
-fn swallows(pairs: &[i32], x: NextLeft, k: usize) -> bool
-    ensures { λ r. ⌜ r ≡ swallows (now (pairs .entry)) x k ⌝ }
-{
-    match x {
-        NextLeft::Boundary => false,
-        NextLeft::Char(_) => gives_nothing(pairs, k),
-        NextLeft::Lig(_) => gives_nothing(pairs, k),
-        NextLeft::FinalLig(_) => false,
-        NextLeft::None => false,
-    }
-}
-
 // A pair with entry k.
 fn turn_entered(pairs: &[i32], ops: &[i32], x: NextLeft, letter: bool, s: State, k: usize) -> Turned
-    requires { ⌜ (k < pairCount (now pairs)) × (s .read < 9223372036854775808) ⌝ }
+    requires { ⌜ s .read < 9223372036854775808 ⌝ }
     ensures { λ r. ⌜ r ≡ cond (entryFits (now (pairs .entry)) (now (ops .entry)) x k) (Turned.Goes (entered (now (pairs .entry)) x letter s k)) (Turned.Gives (refused 7 s)) ⌝ }
 {
     if !record_fits(pairs, ops, k) {
@@ -129,30 +118,19 @@ fn turn_with(pairs: &[i32], ops: &[i32], x: NextLeft, letter: bool, y: u32, s: S
     }
 }
 
-// A left at the word's end.
-fn turn_last(pairs: &[i32], ops: &[i32], right: u32, x: NextLeft, s: State) -> Turned
+// At the word's end, with the right item if there is one; an empty word reads as nothing.
+fn turn_at_end(pairs: &[i32], ops: &[i32], right: u32, x: NextLeft, s: State) -> Turned
     requires { ⌜ (nextFits x ≡ true) × (s .read < 9223372036854775808) ⌝ }
-    ensures { λ r. ⌜ r ≡ turnLast (now (pairs .entry)) (now (ops .entry)) (orBoundary (numberOf right)) x s ⌝ }
+    ensures { λ r. ⌜ r ≡ turnAtEnd (now (pairs .entry)) (now (ops .entry)) (orBoundary (numberOf right)) x s ⌝ }
 {
+    if !is_character(x) {
+        return ends(s);
+    }
     if right < 2147483648 {
         return turn_with(pairs, ops, x, false, right, s);
     }
     let after = with_next(NextLeft::None, s.read, s);
     give_left(x, after)
-}
-
-// At the word's end; an empty word reads as nothing.
-fn turn_at_end(pairs: &[i32], ops: &[i32], right: u32, x: NextLeft, s: State) -> Turned
-    requires { ⌜ (nextFits x ≡ true) × (s .read < 9223372036854775808) ⌝ }
-    ensures { λ r. ⌜ r ≡ turnAtEnd (now (pairs .entry)) (now (ops .entry)) (orBoundary (numberOf right)) x s ⌝ }
-{
-    match x {
-        NextLeft::Boundary => ends(s),
-        NextLeft::Char(_) => turn_last(pairs, ops, right, x, s),
-        NextLeft::Lig(_) => turn_last(pairs, ops, right, x, s),
-        NextLeft::FinalLig(_) => ends(s),
-        NextLeft::None => ends(s),
-    }
 }
 
 // 4: a letter out of range.

@@ -1,58 +1,36 @@
--- `turns::left::give_left` meets its contract, by the arm that is taken.
+-- `turns::left::give_left` meets its contract, by whether the left is a character.
 -- Assumes nothing.
+use mathlib.Core.Path.{_∙_, sym}
+use borrow.Author.Tests.{not-true, not-false}
+use Rattle.turns.proofs.Laws.{left-gives, left-goes}
 use borrow.Author.Needs.{needs}
 use Rattle.turns.proofs.left.give_left.Statement.{statement}
 use Rattle.turns.proofs.left.give_left.Tie as tie
 
-enum-told : tie.Need-enum-told
-enum-told c = search needs
+is-character-requires : tie.Need-is-character-requires
+is-character-requires c κs = search needs
 
-enum-known-x : tie.Need-enum-known-x
-enum-known-x c = search needs
+returns : tie.Need-returns
+returns c =
+    let i = c .before in
+    let a = i .before .args in
+    sym (left-goes (a .x) (a .s) (sym (i .is-character .ensures) ∙ not-true (i .is-character .result) (c .if1 .taken)))
+
+next-code-requires : tie.Need-next-code-requires
+next-code-requires c κs = search needs
 
 give-character-requires : tie.Need-give-character-requires
 give-character-requires c κs = search needs
 
-enum-known-x-2 : tie.Need-enum-known-x-2
-enum-known-x-2 c = search needs
-
-give-character-requires-2 : tie.Need-give-character-requires-2
-give-character-requires-2 c κs = search needs
-
-enum-told-2 : tie.Need-enum-told-2
-enum-told-2 c = search needs
-
-enum-told-3 : tie.Need-enum-told-3
-enum-told-3 c = search needs
-
-returns : tie.Need-returns
-returns c = rw (c .enum-told .given .1)
-
 returns-2 : tie.Need-returns-2
-returns-2 c = rw (c .give-character .ensures, c .before .before .x .given .1)
-
-returns-3 : tie.Need-returns-3
-returns-3 c = rw (c .give-character2 .ensures, c .before .before .x2 .given .1)
-
-returns-4 : tie.Need-returns-4
-returns-4 c = rw (c .enum-told2 .given .1)
-
-returns-5 : tie.Need-returns-5
-returns-5 c = rw (c .enum-told3 .given .1)
+returns-2 c =
+    let e = c .before .before in
+    let i = e .before in
+    let a = i .before .args in
+    rw (c .give-character .ensures, c .before .next-code .ensures)
+    (sym (left-gives (a .x) (a .s) (sym (i .is-character .ensures) ∙ not-false (i .is-character .result) (e .if1 .left))))
 
 pub give-left-spec : {M : Type 1} → statement M
 give-left-spec =
     tie.close
-    (tie.spec
-    enum-told
-    enum-known-x
-    give-character-requires
-    enum-known-x-2
-    give-character-requires-2
-    enum-told-2
-    enum-told-3
-    returns
-    returns-2
-    returns-3
-    returns-4
-    returns-5)
+    (tie.spec is-character-requires returns next-code-requires give-character-requires returns-2)

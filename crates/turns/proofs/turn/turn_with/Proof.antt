@@ -1,4 +1,4 @@
--- `turns::turn::turn_with` meets its contract, by whether the pair is found; what is found is in the table.
+-- `turns::turn::turn_with` meets its contract, by whether the pair is found.
 -- Assumes nothing.
 use mathlib.Core.Path.{_≡_, _∙_, sym, ap}
 use mathlib.Core.Option.{some}
@@ -6,7 +6,6 @@ use Prim.Native.Nat.{ℕ}
 use denote.Ref.{now}
 use Rattle.captions.specs.Tables.{keyBy, find, foundAt}
 use Rattle.captions.specs.Steps.{leftPlaceOf}
-use Rattle.captions.proofs.Finding.{find-inside}
 use Rattle.turns.proofs.Laws.{found-none, found-some, turn-none, turn-some}
 use borrow.Author.Needs.{needs}
 use Rattle.turns.proofs.turn.turn_with.Statement.{statement}
@@ -41,9 +40,7 @@ enum-known-k : tie.Need-enum-known-k
 enum-known-k c = search needs
 
 turn-entered-requires : tie.Need-turn-entered-requires
-turn-entered-requires c κs =
-    let a = c .before .before .before .before .before in
-    (find-inside (now (a .args .pairs)) (keyBy (leftPlaceOf (a .args .x)) (a .args .y)) (c .before .k .given .0 .0) (inside (c .before)) .0, a .pre .1)
+turn-entered-requires c κs = search needs
 
 returns : tie.Need-returns
 returns c =
