@@ -1,6 +1,6 @@
--- Chains. Document 01, 'The pair table': each next goes to index + 1 + next; a chain stops at an index past the end. TeX 1039 and TFtoPL 91.
--- Which instruction is the rule (`ruleIndex`) and what it does (`actsAs`) are two definitions. Both are said of a count and of a function
--- from an index to an instruction, so that they hold of any form in which a program is lent.
+-- Chains. Document 01, 'The pair table': each next goes to index + 1 + next; a chain stops at an index past the end. TeX 1039 and TFtoPL
+-- 91. Which instruction is the rule (`ruleIndex`) and what it does (`actsAs`) are two definitions. Both are said of a count and of a
+-- function from an index to an instruction, so that they hold of any form in which a program is lent.
 use mathlib.Core.Path.{_≡_}
 use mathlib.Core.Bool.{Bool, true, false, cond}
 use mathlib.Core.List.{List, [], _∷_}

@@ -1,6 +1,7 @@
--- How kern values that stand in a list once are found again: their places are the nodes of a digital search tree (Knuth, TAOCP 3, 6.3). A search goes on from place p to
--- the left or to the right by the next of the value's 32 bits, the lowest first. `links` has the root in slot 0, and what is left and right of place p in slots 2 p + 1 and 2 p + 2.
--- A link is one more than a place, and 0 for none. Only private functions' contracts cite this.
+-- How kern values that stand in a list once are found again: their places are the nodes of a digital search tree (Knuth, TAOCP 3, 6.3).
+-- A search goes on from place p to the left or to the right by the next of the value's 32 bits, the lowest first. `links` has the root
+-- in slot 0, and what is left and right of place p in slots 2 p + 1 and 2 p + 2. A link is one more than a place, and 0 for none. Only
+-- private functions' contracts cite this.
 use mathlib.Core.Path.{_≡_}
 use mathlib.Core.List.{List}
 use Prim.Native.Nat.{ℕ, zero, suc, _+_, _-_, _*_, _/_, _%_, _^_, _<_, _≤_}

@@ -1,4 +1,4 @@
--- Definitions of crate lang:
+-- What crate lang, and the crates above it, are held to, in the order to read in:
 --   Operations  what op bytes mean
 --   Every       every index below a number passes a test
 --   Records     the four numbers of an instruction, and the instruction that they are

@@ -1,5 +1,5 @@
--- What op bytes mean. TeX 545: an op byte below 128 is 4a + 2b + c, with 0 ≤ a ≤ b + c and b, c at most 1: b = 0 deletes the left character,
--- c = 0 the right, and a is the cursor's advance. TFtoPL 77: any other acts as 0, and is reported.
+-- What op bytes mean. TeX 545: an op byte below 128 is 4a + 2b + c, with 0 ≤ a ≤ b + c and b, c at most 1: b = 0 deletes the left
+-- character, c = 0 the right, and a is the cursor's advance. TFtoPL 77: any other acts as 0, and is reported.
 use mathlib.Core.Bool.{Bool, true, false, cond}
 use Prim.Native.Nat.{ℕ, zero, suc, _+_, _-_, _*_, _/_, _%_}
 use lib.Dec.{leb, ltb, eqb}

@@ -29,7 +29,8 @@ abbrev pub nextOf : ℤ → NextInstruction
 nextOf (negsuc n) = Stop
 nextOf (pos n) = Skip (n % 256)
 
--- The operation of a kind and an operand. A kind past 3 reads as 0, and what passes an operand's range is left off: `isInstruction` refuses both.
+-- The operation of a kind and an operand. A kind past 3 reads as 0, and what passes an operand's range is left off: `isInstruction`
+-- refuses both.
 abbrev pub operationOf : ℕ → ℤ → Operation
 operationOf kind z =
     cond (eqb kind 1) (KernAtIndex (wordOf z % 65536))

@@ -1,5 +1,5 @@
--- Packing: entries above 255 become redirects at the front, after `pack_entrypoints` of ligkern/lang.rs. PLtoTF 139 to 142: the redirects, and
--- 'location 0 can do double duty'; the labels and the offset are those of crate labels.
+-- Packing: entries above 255 become redirects at the front, after `pack_entrypoints` of ligkern/lang.rs. PLtoTF 139 to 142: the
+-- redirects, and 'location 0 can do double duty'; the labels and the offset are those of crate labels.
 use mathlib.Core.Path.{_≡_}
 use mathlib.Core.Bool.{Bool, true, false, cond}
 use mathlib.Core.List.{List, [], _∷_, _++_}

@@ -16,12 +16,17 @@ use Rattle.pack.specs.Packing.{Packable, fontOffset, packedInstructions,
 abbrev pub oldEntry : Packable → ℕ → ℕ
 oldEntry f i = wordOf (entryAt (f .entries) i)
 
--- Its character stays; its packed entry is one byte; what unpack_entrypoint answers for that, with any passthrough and room for it, is the old
--- entry, shifted; and there stands the old instruction.
+-- what unpack_entrypoint answers for its packed entry, with any passthrough p and room for it: the old entry, shifted
+abbrev pub UnpacksTo : Packable → ℕ → List ℕ → ℕ → Type 0
+UnpacksTo f i p room =
+    length p ≡ count (packedInstructions f) → length p ≤ room
+    → unpackEntry (packedInstructions f) (entryAt (packedEntries f) i) p room ≡ replyOf 0 (pos (oldEntry f i + fontOffset f) ∷ [])
+
+-- its character stays; its packed entry is one byte, which unpacks so; and there stands the old instruction
 pub record UnpacksAt (f : Packable) (i : ℕ) : Type 0 where
   pub char : charAt (packedEntries f) i ≡ charAt (f .entries) i
   pub byte : within 255 (entryAt (packedEntries f) i) ≡ true
-  pub entry : (p : List ℕ) (room : ℕ) → length p ≡ count (packedInstructions f) → length p ≤ room → unpackEntry (packedInstructions f) (entryAt (packedEntries f) i) p room ≡ replyOf 0 (pos (oldEntry f i + fontOffset f) ∷ [])
+  pub entry : (p : List ℕ) (room : ℕ) → UnpacksTo f i p room
   pub same : instructionAt (packedInstructions f) (oldEntry f i + fontOffset f) ≡ instructionAt (f .instructions) (oldEntry f i)
 
 -- So it is with every entry that leads to an instruction that is no redirect, of a font that is packed into at most 32,767 instructions.

@@ -1,5 +1,5 @@
--- Reach: which instructions a font's entries lead to, after `reachable_array` and `reachable_iter` of ligkern/lang.rs. TFtoPL 66 to 70 compute
--- the activity of each step, and TFtoPL 75 counts skips over reachable steps alone.
+-- Reach: which instructions a font's entries lead to, after `reachable_array` and `reachable_iter` of ligkern/lang.rs. TFtoPL 66 to 70
+-- compute the activity of each step, and TFtoPL 75 counts skips over reachable steps alone.
 use mathlib.Core.Path.{_≡_}
 use mathlib.Core.Bool.{Bool, true, false, cond}
 use mathlib.Core.List.{List, [], _∷_}
@@ -72,7 +72,8 @@ reachList s es left p = tabulate (2 * count s) (reachNumber s (reachable s es le
 abbrev pub reachRefusal : List ℤ → List ℤ → ℤ → List ℕ → ℕ → ℕ
 reachRefusal s es left p room =
     orElse (programRefusal s)
-    (orElse (entriesRefusal 65535 es) (orElse (absentRefusal 65535 left) (orElse (passthroughRefusal p s) (roomRefusal (2 * count s) room))))
+    (orElse (entriesRefusal 65535 es)
+    (orElse (absentRefusal 65535 left) (orElse (passthroughRefusal p s) (roomRefusal (2 * count s) room))))
 
 -- the contract of reachable_iter
 pub record Reaches (s es : List ℤ) (left : ℤ) (p : List ℕ) (out : List ℤ) (r : Written) (out′ : List ℤ) : Type 0 where
