@@ -196,15 +196,7 @@ pub fn settle(
 ) -> SettledFont
     ensures { λ r. ⌜ ((b : ℤ) → SettlesBy (fontOf (now (instructions .entry)) (now (kerns .entry)) (now (entries .entry)) b «left_entry» «design_size») (min room (length (now (work .entry)) / 16)) (now (work .entry)) (now (work .exit)) r) ⌝ }
 {
-    match prepare(
-        instructions,
-        kerns,
-        entries,
-        left_entry,
-        design_size,
-        work,
-        room,
-    ) {
+    match prepare(instructions, kerns, entries, left_entry, design_size, work, room) {
         Prepared::Refused(number) => SettledFont::Refused(number),
         Prepared::Rows(n, e, scaled) => {
             let m = settle_rows(work, n);

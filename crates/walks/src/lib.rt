@@ -84,15 +84,7 @@ pub fn find_loops(
 ) -> WalkedFont
     ensures { λ r. ⌜ ((b : ℤ) → FindsLoopsBy (fontOf (now (instructions .entry)) (now (kerns .entry)) (now (entries .entry)) b «left_entry» «design_size») (min room (length (now (work .entry)) / 16)) (now (work .entry)) (now (work .exit)) r) ⌝ }
 {
-    match settle(
-        instructions,
-        kerns,
-        entries,
-        left_entry,
-        design_size,
-        work,
-        room,
-    ) {
+    match settle(instructions, kerns, entries, left_entry, design_size, work, room) {
         SettledFont::Refused(number) => WalkedFont::Refused(number),
         SettledFont::Rows(n, e, m, scaled) => {
             let r = walk_rows(work, n, e);
