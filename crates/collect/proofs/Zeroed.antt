@@ -12,6 +12,7 @@ use Rattle.fonts.specs.Fonts.{pairsBy}
 use Rattle.pairs.specs.declared.Collected.{Collected}
 use Rattle.pairs.specs.declared.Collected.the-variants.{Rows, Refused}
 use Rattle.pairs.specs.PairRows.{Collects, CollectsBy}
+use Rattle.pairs.proofs.RowNumberLaws.{collected-rows}
 use Rattle.collect.specs.Collecting.{collectRefusal, CollectsFont}
 
 -- the work zeroed has room for as many rows
@@ -38,10 +39,13 @@ module _ (s table : List ℤ) (room : ℕ) (w w′ : List ℕ) where
     pub rows-left : (n k : ℕ) → u ≡ Rows n k → CollectsFont s table top w w₁ (Rows n k)
     rows-left n k i =
         let q : (n ≤ top) × Collects s table z w₁ n k = subst (CollectsBy s table top z w₁) i at-table in
-        let a = q .1 in (
+        let a = q .1 in
+        let c : Collects s table w w₁ n k =
+        record { same-length = a .same-length ∙ long; all = a .all; ascending = a .ascending; pair = a .pair; turns = a .turns; rest = a .rest; after = a .after } in (
           rw (le-leb (count s) 32767 few, le-leb (length (pairsBy s table)) top (omega (arith, q .0, a .all))),
           q .0,
-          record { same-length = a .same-length ∙ long; all = a .all; ascending = a .ascending; pair = a .pair; turns = a .turns; rest = a .rest },
+          c,
+          collected-rows s table w w₁ n k c,
         )
 
     pub zeros-left : (k : ℕ) → u ≡ Refused k → length w₁ ≡ length z → w′ ≡ replicate (length w₁) 0 → CollectsFont s table top w w′ (Refused k)

@@ -146,12 +146,7 @@ fn add_left(
 }
 
 // At most `cap` rows are written, to a work buffer of zeros. 12.
-fn collect_rows(
-    instructions: &[i32],
-    table: &[i32; 257],
-    work: &mut [u32],
-    cap: usize,
-) -> Collected
+fn collect_rows(instructions: &[i32], table: &[i32; 257], work: &mut [u32], cap: usize) -> Collected
     requires { ⌜ (count (now instructions) ≤ 32767) × (16 * cap ≤ length (now work)) × (now work ≡ replicate (length (now work)) 0) ⌝ }
     ensures { λ r. ⌜ CollectsBy (now (instructions .entry)) (now (table .entry)) cap (now (work .entry)) (now (work .exit)) r ⌝ }
 {

@@ -15,6 +15,7 @@
 --   Tied         rows and the font's rules agree
 --   Sorted       sorting by the order of walks
 --   LoopLaws     the walks over the rows give the loop list
+--   RowNumberLaws  every number of the rows that hold a list of pairs
 pub mod RowLaws
 pub mod RowSearch
 pub mod Tally
@@ -31,3 +32,4 @@ pub mod PairRowLaws
 pub mod Tied
 pub mod Sorted
 pub mod LoopLaws
+pub mod RowNumberLaws

@@ -228,7 +228,7 @@ module _ (n id : ℕ) (w : List ℕ) (k : ℕ) (u : List ℕ) (j : ℕ) (g : Und
 
 -- ---- a pair met before
 
-not-so : (b : Bool) → (b ≡ true → ⊥) → b ≡ false
+pub not-so : (b : Bool) → (b ≡ true → ⊥) → b ≡ false
 not-so true h = absurd (h refl)
 not-so false h = refl
 
@@ -236,7 +236,7 @@ left-itself : (l : Left) → sameLeft l l ≡ true
 left-itself bnd = refl
 left-itself (chr c) = eq-eqb c c refl
 
-pair-itself : (p : Pair) → samePair p p ≡ true
+pub pair-itself : (p : Pair) → samePair p p ≡ true
 pair-itself p = rw (left-itself (p .left)) (eq-eqb (p .right) (p .right) refl)
 
 left-same : (l m : Left) → sameLeft l m ≡ true → l ≡ m
@@ -250,7 +250,7 @@ both-so true b e = (refl, e)
 both-so false b e = absurd (false≢true e)
 
 -- two rows that have the same pair are one
-same-row : (n : ℕ) (w : List ℕ) → Ascending n w → (j k : ℕ) → j < n → k < n → samePair (pairAt w j) (pairAt w k) ≡ true → j ≡ k
+pub same-row : (n : ℕ) (w : List ℕ) → Ascending n w → (j k : ℕ) → j < n → k < n → samePair (pairAt w j) (pairAt w k) ≡ true → j ≡ k
 same-row n w a j k h l e =
     let b = both-so (sameLeft (leftOf (at w j 0)) (leftOf (at w k 0))) (eqb (at w j 1) (at w k 1)) e in
     one-row n w a j k h l

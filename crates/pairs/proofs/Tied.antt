@@ -72,11 +72,18 @@ module _ (s table : List ℤ) where
 
 -- ---- the rows
 
+-- rows that are a list's pairs, each at its place
+pub pairs-are : (ps : List Ruled) (n : ℕ) (w : List ℕ) → n ≡ length ps → ((k : ℕ) → k < n → ruledAt w k ≡ nth ps k) → pairs n w ≡ ps
+pairs-are ps n w all each =
+    ext-getD (record { pair = record { left = bnd; right = 0 }; index = 0 }) (pairs n w) ps
+    (length-tabulate n (ruledAt w) ∙ all)
+    (λ i h. let l : i < n = rw (length-tabulate n (ruledAt w)) at h in getD-tabulate n (ruledAt w) i _ l ∙ each i l)
+
 module _ (f : Font) (w₀ w w′ : List ℕ) (n e : ℕ) (c : Collects (f .instructions) (tableOf f) w₀ w n e) (r : Writes (f .instructions) (f .kerns) (f .design) n w w′) where
   kept : (k g : ℕ) → k < n → g < 3 → at w′ k g ≡ at w k g
-  kept k g h l = r .same k g h (omega arith) (λ i. omega arith) (λ i. omega arith)
+  kept k g h l = r .same k g (omega arith) (λ i. omega arith) (λ i. omega arith)
 
-  ruled-tied : (k : ℕ) → k < n → ruledAt w′ k ≡ nth (pairsOf f) k
+  pub ruled-tied : (k : ℕ) → k < n → ruledAt w′ k ≡ nth (pairsOf f) k
   ruled-tied k h =
       let a = kept k 0 h (omega arith) in
       let b = kept k 1 h (omega arith) in
@@ -85,10 +92,7 @@ module _ (f : Font) (w₀ w w′ : List ℕ) (n e : ℕ) (c : Collects (f .instr
       q ∙ c .pair k h
 
   pub pairs-tied : pairs n w′ ≡ pairsOf f
-  pairs-tied =
-      ext-getD (record { pair = record { left = bnd; right = 0 }; index = 0 }) (pairs n w′) (pairsOf f)
-      (length-tabulate n (ruledAt w′) ∙ c .all)
-      (λ i h. let l : i < n = rw (length-tabulate n (ruledAt w′)) at h in getD-tabulate n (ruledAt w′) i _ l ∙ ruled-tied i l)
+  pairs-tied = pairs-are (pairsOf f) n w′ (c .all) ruled-tied
 
   pub ascending : Ascending n w′
   ascending =

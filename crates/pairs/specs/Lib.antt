@@ -7,6 +7,7 @@
 --   LoopRows       the loop list over the rows
 --   LoopSteps     the walks that find it, step by step
 --   OpSteps     ops and pairs written
+--   RowNumbers   every number of the rows as the first stage leaves them
 --   PairRows     the rows of a font, and what their rules do
 --   PairSteps  the same, step by step
 pub mod Rows
@@ -16,5 +17,6 @@ pub mod OpRows
 pub mod LoopRows
 pub mod LoopSteps
 pub mod OpSteps
+pub mod RowNumbers
 pub mod PairRows
 pub mod PairSteps

@@ -11,14 +11,16 @@ use Rattle.lang.specs.Every.{every}
 use Rattle.lang.specs.Records.{instructionAt}
 use Rattle.chain.specs.Chains.{actsAs}
 use Rattle.pairs.specs.declared.Collected.{Collected}
+use Rattle.pairs.specs.declared.Effect.{Effect}
 use Rattle.pairs.specs.declared.Collected.the-variants.{Rows, Refused}
 use Rattle.pairs.specs.Rows.{at, ruledAt, ruleAt, ruleFits, Ascending}
 use Rattle.pairs.specs.LoopRows.{WalkOrder}
+use Rattle.pairs.specs.RowNumbers.{effectOf}
 use Rattle.fonts.specs.Fonts.{pairsBy, ruleOfOperation}
 use Rattle.fonts.specs.Numbers.{nth}
 use Rattle.fonts.specs.Compiled.{scales}
 
--- n rows, of which e are the boundary's: each is its pair, and every number but 0, 1, 2 and 15 is 0
+-- n rows, of which e are the boundary's: each is its pair, every number but 0, 1, 2 and 15 is 0, and so is what follows the rows
 pub record Collects (s table : List ℤ) (w w′ : List ℕ) (n e : ℕ) : Type 0 where
   pub same-length : length w′ ≡ length w
   pub all : n ≡ length (pairsBy s table)
@@ -26,6 +28,7 @@ pub record Collects (s table : List ℤ) (w w′ : List ℕ) (n e : ℕ) : Type 
   pub pair : (k : ℕ) → k < n → ruledAt w′ k ≡ nth (pairsBy s table) k
   pub turns : WalkOrder n e w′
   pub rest : (k f : ℕ) → k < n → 2 < f → f < 15 → at w′ k f ≡ 0
+  pub after : (k f : ℕ) → n ≤ k → f < 16 → at w′ k f ≡ 0
 
 -- by the answer: the rows, or 12, since there are more pairs than the cap
 abbrev pub CollectsBy : List ℤ → List ℤ → ℕ → List ℕ → List ℕ → Collected → Type 0
@@ -39,10 +42,17 @@ operationAt s kerns w k = actsAs kerns (instructionAt s (at w k 2) .operation)
 abbrev pub rowsScale : List ℤ → List ℤ → ℤ → List ℕ → ℕ → Bool
 rowsScale s kerns design w n = every n (λ k. scales design (operationAt s kerns w k))
 
+-- what the rule of row k does
+abbrev pub effectAt : List ℤ → List ℤ → ℤ → List ℕ → ℕ → Effect
+effectAt s kerns design w k = effectOf design (operationAt s kerns w k)
+
 -- numbers 3 and 4 of each row say its rule, and nothing else has changed
 pub record Writes (s kerns : List ℤ) (design : ℤ) (n : ℕ) (w w′ : List ℕ) : Type 0 where
   pub same-length : length w′ ≡ length w
-  pub same : (k f : ℕ) → k < n → f < 16 → (f ≡ 3 → ⊥) → (f ≡ 4 → ⊥) → at w′ k f ≡ at w k f
+  pub same : (k f : ℕ) → f < 16 → (f ≡ 3 → ⊥) → (f ≡ 4 → ⊥) → at w′ k f ≡ at w k f
+  pub after : (k f : ℕ) → n ≤ k → f < 16 → at w′ k f ≡ at w k f
+  pub op : (k : ℕ) → k < n → at w′ k 3 ≡ effectAt s kerns design w k .op
+  pub value : (k : ℕ) → k < n → at w′ k 4 ≡ effectAt s kerns design w k .value
   pub rules : (k : ℕ) → k < n → ruleAt w′ k ≡ ruleOfOperation design (operationAt s kerns w k)
   pub ops : (k : ℕ) → k < n → ruleFits (at w′ k 3) (at w′ k 4) ≡ true
 

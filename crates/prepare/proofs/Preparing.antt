@@ -7,18 +7,24 @@ use Prim.Native.Nat.{ℕ, _<_, _≤_}
 use native.Mathlib.Omega.{arith}
 use lib.IntN.{ℤ}
 use lib.ListN.{length, replicate}
+use Rattle.lang.specs.Answers.{padded}
 use Rattle.lang.specs.Every.{every}
 use Rattle.lang.specs.Records.{instructionAt}
 use Rattle.lang.proofs.Every.{every-ext}
 use Rattle.chain.specs.Chains.{actsAs}
 use Rattle.reading.specs.Loops.{Ruled}
-use Rattle.fonts.specs.Fonts.{Font, tableOf}
+use Rattle.fonts.specs.Fonts.{Font, tableOf, pairsOf}
 use Rattle.fonts.specs.Compiled.{scales, pairScales, allScale}
 use Rattle.pairs.specs.declared.Collected.{Collected}
 use Rattle.pairs.specs.declared.Collected.the-variants as collected
 use Rattle.pairs.specs.declared.Prepared.the-variants.{Rows, Refused}
-use Rattle.pairs.specs.PairRows.{Collects, operationAt, rowsScale, Encodes}
-use Rattle.pairs.proofs.Tied.{pairs-tied, rules-tied, ascending}
+use Rattle.pairs.specs.declared.Effect.{Effect}
+use Rattle.pairs.specs.Rows.{at}
+use Rattle.pairs.specs.LoopRows.{WalkOrder}
+use Rattle.pairs.specs.RowNumbers.{effectOf, pairEffect, fontRowNumbers}
+use Rattle.pairs.specs.PairRows.{Collects, operationAt, effectAt, rowsScale, Encodes}
+use Rattle.pairs.proofs.Tied.{ruled-tied, pairs-tied, rules-tied, ascending}
+use Rattle.pairs.proofs.RowNumberLaws.{rows-are}
 use Rattle.pairs.proofs.LoopLaws.{turns-same}
 use Rattle.collect.specs.Collecting.{collectRefusal, CollectsFont}
 use Rattle.prepare.specs.Prepares.{prepareRefusal, PreparesBy}
@@ -45,6 +51,29 @@ module _ (f : Font) (cap : ℕ) (w : List ℕ) where
     all-same : rowsScale (f .instructions) (f .kerns) (f .design) w₁ n ≡ allScale f
     all-same = every-ext n _ _ scales-same ∙ ap (λ (j : ℕ). every j (pairScales f)) (c .all)
 
+    turns : WalkOrder n e w₂
+    turns =
+        let r = d .written in
+        turns-same n e w₁ w₂ (λ k g h l. r .same k g (omega arith) (λ i. omega arith) (λ i. omega arith)) (λ k h. r .same k 15 (omega arith) (λ i. omega arith) (λ i. omega arith)) (c .turns)
+
+    -- a number that is neither a pair's nor a rule's
+    blank : (k g : ℕ) → k < n → 4 < g → g < 15 → at w₂ k g ≡ 0
+    blank k g h i l = d .written .same k g (omega arith) (λ j. omega arith) (λ j. omega arith) ∙ c .rest k g h (omega arith) l
+
+    -- the effect of row k is that of the font's pair k
+    effect-same : (k : ℕ) → k < n → effectAt (f .instructions) (f .kerns) (f .design) w₁ k ≡ pairEffect f k
+    effect-same k h = ap (λ (x : Ruled). effectOf (f .design) (actsAs (f .kerns) (instructionAt (f .instructions) (x .index) .operation))) (c .pair k h)
+
+    numbers : w₂ ≡ padded 0 (length w) (fontRowNumbers f)
+    numbers =
+        let r = d .written in
+        rows-are (pairsOf f) n e w₂ (ascending f w w₁ w₂ n e c r) (c .all) (ruled-tied f w w₁ w₂ n e c r) turns (λ k. pairEffect f k .op) (λ k. pairEffect f k .value)
+        (λ k h. r .op k h ∙ ap (λ (x : Effect). x .op) (effect-same k h))
+        (λ k h. r .value k h ∙ ap (λ (x : Effect). x .value) (effect-same k h))
+        blank
+        (λ k g h i. r .after k g h i ∙ c .after k g h i)
+        ∙ ap (λ (m : ℕ). padded 0 m (fontRowNumbers f)) (r .same-length ∙ c .same-length)
+
     pub prepared : PreparesBy f cap w w₂ (Rows n e b)
     prepared =
         let r = d .written in (
@@ -56,9 +85,10 @@ module _ (f : Font) (cap : ℕ) (w : List ℕ) where
             encoded = record { ascending = ascending f w w₁ w₂ n e c r; ops = r .ops };
             pairs-are = pairs-tied f w w₁ w₂ n e c r;
             rules-are = rules-tied f w w₁ w₂ n e c r;
-            turns = turns-same n e w₁ w₂ (λ k g h l. r .same k g h (omega arith) (λ i. omega arith) (λ i. omega arith)) (λ k h. r .same k 15 h (omega arith) (λ i. omega arith) (λ i. omega arith)) (c .turns);
-            new = λ k h. r .same k 5 h (omega arith) (λ i. omega arith) (λ i. omega arith) ∙ c .rest k 5 h (omega arith) (omega arith);
-            unmet = λ k h. r .same k 14 h (omega arith) (λ i. omega arith) (λ i. omega arith) ∙ c .rest k 14 h (omega arith) (omega arith);
+            turns = turns;
+            new = λ k h. blank k 5 h (omega arith) (omega arith);
+            unmet = λ k h. blank k 14 h (omega arith) (omega arith);
             count-is = c .all;
           },
+          numbers,
         )

@@ -1,18 +1,18 @@
 // What each row's rule does: its op byte and inserted character, or 128 and its scaled kern. After lines 167 to 212 of ligkern/compiler.rs.
 ghost use mathlib.Core.Path.{_≡_};
-ghost use mathlib.Core.Bool.{true};
 ghost use Rattle.lang.specs.Every.{both};
 ghost use Rattle.pairs.specs.Rows.{Ascending};
 ghost use Rattle.pairs.specs.PairRows.{Encodes};
-ghost use Rattle.pairs.specs.PairSteps.{byteOfOperation, isRule, kernOperation, Says};
+ghost use Rattle.tfm.specs.Scaled.{toScaled};
+ghost use Rattle.pairs.specs.RowNumbers.{byteOfOperation, kernEffect, effectOf};
 use chain::operation_at;
 use lang::operation::Operation;
 use lang::operation::PostLigOperation;
 use pairs::Effect;
-use tfm::FixWord;
-use tfm::ToScaled;
 use rows::get;
 use rows::put;
+use tfm::FixWord;
+use tfm::ToScaled;
 
 // The standard op byte of an operation.
 fn op_byte(operation: PostLigOperation) -> u32
@@ -32,7 +32,7 @@ fn op_byte(operation: PostLigOperation) -> u32
 
 // A kern at a design size; one that does not scale is a kern of zero.
 fn kern_effect(kern: FixWord, design_size: i32) -> Effect
-    ensures { λ r. ⌜ Says «design_size» (kernOperation kern) r ⌝ }
+    ensures { λ r. ⌜ r ≡ kernEffect (toScaled (kern .0) «design_size») ⌝ }
 {
     match kern.to_scaled(FixWord(design_size)) {
         ToScaled::Scaled(v) => Effect {
@@ -48,10 +48,9 @@ fn kern_effect(kern: FixWord, design_size: i32) -> Effect
     }
 }
 
-// What a rule does at a design size.
+// What an operation does at a design size, as a rule.
 fn effect_of(operation: Operation, design_size: i32) -> Effect
-    requires { ⌜ isRule operation ≡ true ⌝ }
-    ensures { λ r. ⌜ Says «design_size» operation r ⌝ }
+    ensures { λ r. ⌜ r ≡ effectOf «design_size» operation ⌝ }
 {
     match operation {
         Operation::Kern(kern) => kern_effect(kern, design_size),

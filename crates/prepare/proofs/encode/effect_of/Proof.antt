@@ -1,7 +1,7 @@
--- `prepare::encode::effect_of` meets its contract: a kern scaled, a ligature by its op byte; a rule is nothing else.
+-- `prepare::encode::effect_of` meets its contract: a kern scaled, a ligature by its op byte.
 -- Assumes nothing.
 use Rattle.words.proofs.Bits.{number-word}
-use Rattle.pairs.proofs.EncodeLaws.{ligature-says, no-other, says-of}
+use Rattle.pairs.proofs.EncodeLaws.{kern-effect-is, ligature-effect, other-effect}
 use borrow.Author.Needs.{needs}
 use Rattle.prepare.proofs.encode.effect_of.Statement.{statement}
 use Rattle.prepare.proofs.encode.effect_of.Tie as tie
@@ -22,15 +22,15 @@ cast-t8 : tie.Need-cast-t8
 cast-t8 c = search needs
 
 returns : tie.Need-returns
-returns c = let a = c .before .before .before .before in says-of (a .args .design-size) _ (a .args .operation) _ (c .kern-effect .result) (number-word (a .args .design-size) (a .fits .design-size)) (c .before .before .operation .given .1) (c .kern-effect .ensures)
+returns c = let a = c .before .before .before .before in kern-effect-is (a .args .design-size) _ (a .args .operation) _ (c .kern-effect .result) (number-word (a .args .design-size) (a .fits .design-size)) (c .before .before .operation .given .1) (c .kern-effect .ensures)
 
 returns-2 : tie.Need-returns-2
 returns-2 c =
     let a = c .before .before .before .before .before in
-    ligature-says (a .args .design-size) (a .args .operation) _ _ _ (c .before .op-byte .result) (c .before .before .before .operation2 .given .1) (c .before .op-byte .ensures) (c .struct-known .given .0 .fits)
+    ligature-effect (a .args .design-size) (a .args .operation) _ _ _ (c .before .op-byte .result) (c .before .before .before .operation2 .given .1) (c .before .op-byte .ensures)
 
 returns-3 : tie.Need-returns-3
-returns-3 c = let a = c .before in no-other (a .args .operation) (a .pre) (c .match .keys3)
+returns-3 c = let a = c .before in other-effect (a .args .design-size) (a .args .operation) (c .match .keys3)
 
 pub effect-of-spec : {M : Type 1} → statement M
 effect-of-spec =

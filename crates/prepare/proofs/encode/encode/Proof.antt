@@ -1,16 +1,13 @@
 -- `prepare::encode::encode` meets its contract. The loop's invariant: numbers 3 and 4 of the rows passed say their rules, `scaled` is whether each of their
 -- kerns has a scaled value, and nothing else has changed. The measure is how many rows are left.
 -- Assumes nothing.
-use mathlib.Core.Path.{ap, _∙_}
 use Prim.Native.Nat.{_-_}
 use native.Mathlib.Omega.{arith}
 use borrow.Author.Needs.{needs}
 use denote.Ref.{now}
 use Rattle.words.specs.Words.{wordOf, numberOf}
 use Rattle.words.proofs.Bits.{number-word}
-use Rattle.lang.specs.Records.{instructionAt}
-use Rattle.pairs.specs.PairSteps.{isRule}
-use Rattle.pairs.proofs.EncodeLaws.{Encoding, encoding-none, encoding-step, encoding-end, acts-rule}
+use Rattle.pairs.proofs.EncodeLaws.{Encoding, encoding-none, encoding-step, encoding-end}
 use Rattle.prepare.proofs.encode.encode.Statement.{statement}
 use Rattle.prepare.proofs.encode.encode.Tie as tie
 
@@ -35,9 +32,7 @@ operation-at-requires : tie.Need-operation-at-requires Inv-loop μ-loop
 operation-at-requires c κs = search needs
 
 effect-of-requires : tie.Need-effect-of-requires Inv-loop μ-loop
-effect-of-requires c κs =
-    let a = c .before .before .before .before .before .before in
-    ap isRule (c .operation-at .ensures) ∙ acts-rule (now (a .args .kerns)) (instructionAt (now (a .args .instructions)) (c .before .get .result) .operation)
+effect-of-requires c κs = search needs
 
 put-requires : tie.Need-put-requires Inv-loop μ-loop
 put-requires c κs = search needs
@@ -72,7 +67,7 @@ returns : tie.Need-returns Inv-loop μ-loop
 returns c =
     let e = c .before in
     let a = e .before .before in
-    encoding-end (now (a .args .instructions)) (now (a .args .kerns)) (numberOf (wordOf (a .args .design-size))) (a .args .n) (now (a .args .work)) (e .loop .work) (e .loop .k) (e .loop .scaled) (e .loop .inv) (c .loop-test .left) (a .args .design-size) (number-word (a .args .design-size) (a .fits .design-size))
+    encoding-end (now (a .args .instructions)) (now (a .args .kerns)) (numberOf (wordOf (a .args .design-size))) (a .args .n) (now (a .args .work)) (e .loop .work) (e .loop .k) (e .loop .scaled) (e .loop .inv) (c .loop-test .left) (a .args .design-size) (a .fits .design-size) (number-word (a .args .design-size) (a .fits .design-size))
 
 pub encode-spec : {M : Type 1} → statement M
 encode-spec =

@@ -7,7 +7,8 @@ use Rattle.words.specs.Words.{wordOf, numberOf}
 use Rattle.words.proofs.Bits.{number-word}
 use Rattle.tfm.specs.Scaled.{toScaled}
 use Rattle.tfm.proofs.Replies.{scaled-injective}
-use Rattle.pairs.proofs.EncodeLaws.{kern-says, kern-unscaled}
+use Rattle.pairs.specs.RowNumbers.{kernEffect}
+use Rattle.pairs.proofs.EncodeLaws.{kern-scaled, kern-unscaled}
 use borrow.Author.Needs.{needs}
 use Rattle.prepare.proofs.encode.kern_effect.Statement.{statement}
 use Rattle.prepare.proofs.encode.kern_effect.Tie as tie
@@ -32,12 +33,13 @@ returns : tie.Need-returns
 returns c =
     let a = c .before .before .before .before .before in
     let f : SFits w32 (c .before .before .v .given .0 .0) = record { sfits = c .before .known-told .given .0 .1 } in
-    kern-says (a .args .design-size) (a .args .kern) (c .before .before .before .before .to-scaled .result) (c .before .before .v .given .0 .0) (c .word-of .result) (scaled (c .before .before .before .before)) (c .before .before .v .given .1) f (c .word-of .ensures ∙ ap wordOf (number-word (c .before .before .v .given .0 .0) f))
+    kern-scaled (c .before .before .before .before .to-scaled .result) (c .before .before .v .given .0 .0) (c .word-of .result) (c .before .before .v .given .1) (c .word-of .ensures ∙ ap wordOf (number-word (c .before .before .v .given .0 .0) f))
+    ∙ ap kernEffect (scaled (c .before .before .before .before))
 
 returns-2 : tie.Need-returns-2
 returns-2 c =
     let a = c .before .before in
-    kern-unscaled (a .args .design-size) (a .args .kern) (c .before .to-scaled .result) (scaled (c .before)) (c .match .keys2)
+    kern-unscaled (c .before .to-scaled .result) (c .match .keys2) ∙ ap kernEffect (scaled (c .before))
 
 pub kern-effect-spec : {M : Type 1} → statement M
 kern-effect-spec =
