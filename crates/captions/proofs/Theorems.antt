@@ -13,7 +13,7 @@ use borrow.Author.Tests.{leb-true, eqb-true}
 use Rattle.lang.specs.Every.{both}
 use Rattle.lang.specs.Records.{absentOr}
 use Rattle.lang.specs.Checks.{orElse, programRefusal, kernsRefusal, entriesRefusal, absentRefusal, designRefusal}
-use Rattle.lang.specs.Answers.{padded}
+use Rattle.lang.specs.Answers.{Reply, replyOf, padded}
 use Rattle.lang.proofs.Every.{both-left}
 use Rattle.lang.proofs.Refusals.{orElse-none, unless-none}
 use Rattle.reading.specs.Items.{Out, glyph, kern, item}
@@ -25,7 +25,7 @@ use Rattle.reading.proofs.Theorems as Reading
 use Rattle.fonts.specs.declared.Compiled.the-variants.{Tables}
 use Rattle.fonts.specs.Numbers.{opsOf, entryOf, opNumbers, opsBefore, opsTable, loopNumbers}
 use Rattle.fonts.specs.Fonts.{Font, pairsOf, rulesOf}
-use Rattle.fonts.specs.Compiled.{Room, roomIn, finishedOf, loopsOfFont, totalOps, fontTable, fontOps, fontLoops, fontRefusal, pairsRefusal, kernRefusal, opsRefusal, loopsRefusal, tablesRefusal, compileRefusal, compiledBy, ListsWritten, Compiles}
+use Rattle.fonts.specs.Compiled.{Room, roomIn, finishedOf, loopsOfFont, totalOps, fontTable, fontOps, fontLoops, fontRefusal, pairsRefusal, kernRefusal, opsRefusal, loopsRefusal, tablesRefusal, compileRefusal, compiledReply, fontCounts, ListsWritten, Compiles}
 use Rattle.fonts.proofs.Theorems as Compiling
 use Rattle.captions.specs.declared.RunOptions.{RunOptions}
 use Rattle.captions.specs.Tables.{opCount, entries}
@@ -38,9 +38,11 @@ use Rattle.captions.proofs.Running.{Fit, runs}
 
 -- ---- an accepted font
 
-pub accepted : (n : ℕ) (f : Font) (p o l : ℕ) → Tables p o l ≡ compiledBy n f → (n ≡ 0) × (p ≡ length (fontTable f) / 6) × (o ≡ totalOps f) × (l ≡ length (loopsOfFont f))
-accepted zero f p o l e = (refl, cc, cc, cc)
-accepted (suc n) f p o l e = absurd (let z : _≡_ {A = ℕ} 0 1 = cc in omega arith)
+pub accepted : (n : ℕ) (f : Font) (p o l : ℕ) → compiledReply (Tables p o l) ≡ replyOf n (fontCounts f) → (n ≡ 0) × (p ≡ length (fontTable f) / 6) × (o ≡ totalOps f) × (l ≡ length (loopsOfFont f))
+accepted zero f p o l e =
+    let v : pos p ∷ pos o ∷ pos l ∷ [] ≡ fontCounts f = ap (λ (r : Reply). r .values) e in
+    (refl, cc, cc, cc)
+accepted (suc n) f p o l e = absurd (let z : 0 ≡ suc n = ap (λ (r : Reply). r .number) e in omega arith)
 
 module _ (f : Font) (room : Room) (taken : compileRefusal f room ≡ 0) where
   few-ops : totalOps f ≤ 2147483647

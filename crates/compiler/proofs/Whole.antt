@@ -8,11 +8,12 @@ use lib.ListN.{length, replicate}
 use borrow.Author.Tests.{le-leb}
 use Rattle.lang.specs.Checks.{orElse, programRefusal, kernsRefusal, entriesRefusal, absentRefusal, designRefusal}
 use Rattle.lang.specs.Records.{count}
+use Rattle.lang.specs.Answers.{replyOf}
 use Rattle.lang.proofs.Refusals.{orElse-none, program-size}
 use Rattle.fonts.specs.declared.Compiled.{Compiled}
 use Rattle.fonts.specs.declared.Compiled.the-variants.{Refused}
 use Rattle.fonts.specs.Fonts.{Font, fontOf}
-use Rattle.fonts.specs.Compiled.{roomIn, longRefusal, fontRefusal, tablesRefusal, buildRefusal, compileRefusal, compiledBy, ListsWritten, Compiles}
+use Rattle.fonts.specs.Compiled.{roomIn, longRefusal, fontRefusal, tablesRefusal, buildRefusal, compileRefusal, compiledReply, fontCounts, ListsWritten, Compiles}
 use Rattle.lists.specs.Builds.{Builds}
 
 -- the same of the font as it was lent
@@ -23,7 +24,7 @@ module _ (f : Font) (ps os ls : List ℤ) (work : List ℕ) (r : Compiled) (ps�
   abbrev z : List ℤ → List ℤ
   z xs = replicate (length xs) (pos 0)
 
-  refused-by : (k m : ℕ) → m ≡ k → (k ≡ 0 → ⊥) → (Refused k ≡ compiledBy m f) × ListsWritten f m ps os ls (z ps) (z os) (z ls)
+  refused-by : (k m : ℕ) → m ≡ k → (k ≡ 0 → ⊥) → (compiledReply (Refused k) ≡ replyOf m (fontCounts f)) × ListsWritten f m ps os ls (z ps) (z os) (z ls)
   refused-by zero m e h = absurd (h refl)
   refused-by (suc k) m e h = rw e (refl, record { table = refl; ops-table = refl; loop-list = refl })
 
@@ -49,7 +50,7 @@ module _ (f : Font) (ps os ls : List ℤ) (work : List ℕ) (r : Compiled) (ps�
   compiled e b =
       let m = same-number e in
       record {
-        answer = b .answer ∙ ap (λ (x : ℕ). compiledBy x f) m;
+        answer = b .answer ∙ ap (λ (x : ℕ). replyOf x (fontCounts f)) m;
         lists = subst (λ (x : ℕ). ListsWritten f x ps os ls ps′ os′ ls′) m (b .lists);
         cleared = b .cleared;
       }

@@ -1,8 +1,8 @@
 -- What compiling answers, and what it leaves in every list: the contract of `compile`. Document 01, 'The pair table' and the table of numbers.
 use mathlib.Core.Path.{_≡_}
 use mathlib.Core.Bool.{Bool, true, false, cond}
-use mathlib.Core.List.{List}
-use Prim.Native.Nat.{ℕ, zero, suc, _*_, _/_}
+use mathlib.Core.List.{List, [], _∷_}
+use Prim.Native.Nat.{ℕ, _*_, _/_}
 use lib.IntN.{ℤ, pos}
 use lib.Dec.{leb}
 use lib.ListN.{length, replicate}
@@ -14,7 +14,7 @@ use Rattle.lang.specs.declared.operation.Operation.the-variants.{Kern, KernAtIn
 use Rattle.lang.specs.Every.{both, every}
 use Rattle.lang.specs.Records.{count, instructionAt}
 use Rattle.lang.specs.Checks.{programRefusal, kernsRefusal, entriesRefusal, absentRefusal, designRefusal, orElse}
-use Rattle.lang.specs.Answers.{listOf, roomRefusal}
+use Rattle.lang.specs.Answers.{Reply, replyOf, listOf, roomRefusal}
 use Rattle.chain.specs.Chains.{actsAs}
 use Rattle.reading.specs.Depth.{Finished, Pair}
 use Rattle.reading.specs.Loops.{finished, loopList}
@@ -111,15 +111,14 @@ buildRefusal f room = orElse (longRefusal (f .instructions)) (tablesRefusal f ro
 abbrev pub compileRefusal : Font → Room → ℕ
 compileRefusal f room = orElse (fontRefusal f) (tablesRefusal f room)
 
--- document 01's number of an answer
-abbrev pub compiledNumber : Compiled → ℕ
-compiledNumber (Tables p o l) = 0
-compiledNumber (Refused n) = n
+-- what compile answers, as document 01 has it: the counts, or the number
+abbrev pub compiledReply : Compiled → Reply
+compiledReply (Tables p o l) = replyOf 0 (pos p ∷ pos o ∷ pos l ∷ [])
+compiledReply (Refused n) = record { number = n; values = [] }
 
 -- the counts: pairs in the table, ops, loops
-abbrev pub compiledBy : ℕ → Font → Compiled
-compiledBy zero f = Tables (length (fontTable f) / 6) (totalOps f) (length (loopsOfFont f))
-compiledBy (suc r) f = Refused (suc r)
+abbrev pub fontCounts : Font → List ℤ
+fontCounts f = pos (length (fontTable f) / 6) ∷ pos (totalOps f) ∷ pos (length (loopsOfFont f)) ∷ []
 
 -- the three lists, by the refusal: what is written and zeros, or zeros alone
 pub record ListsWritten (f : Font) (n : ℕ) (pairs ops loops pairs′ ops′ loops′ : List ℤ) : Type 0 where
@@ -132,6 +131,6 @@ roomIn pairs ops loops work = roomOf (length pairs) (length ops) (length loops) 
 
 -- The contract of compile: the answer, and the final content of every lent list, taken or refused.
 pub record Compiles (f : Font) (pairs ops loops : List ℤ) (work : List ℕ) (r : Compiled) (pairs′ ops′ loops′ : List ℤ) (work′ : List ℕ) : Type 0 where
-  pub answer : r ≡ compiledBy (compileRefusal f (roomIn pairs ops loops work)) f
+  pub answer : compiledReply r ≡ replyOf (compileRefusal f (roomIn pairs ops loops work)) (fontCounts f)
   pub lists : ListsWritten f (compileRefusal f (roomIn pairs ops loops work)) pairs ops loops pairs′ ops′ loops′
   pub cleared : work′ ≡ replicate (length work) 0

@@ -1,7 +1,7 @@
 -- The stages put together: what is refused, and what the lists hold, of a font whose rows were counted and whose ops were written.
 -- Assumes nothing.
 use mathlib.Core.Path.{_≡_, refl, sym, ap, _∙_, subst}
-use mathlib.Core.List.{List}
+use mathlib.Core.List.{List, [], _∷_}
 use Prim.Native.Nat.{ℕ, zero, suc, _*_, _/_, _<_, _≤_}
 use native.Mathlib.Omega.{arith}
 use lib.IntN.{ℤ, pos}
@@ -10,14 +10,14 @@ use lib.ListN.{length, replicate, length-replicate}
 use Rattle.words.specs.Lists.{tabulate}
 use Rattle.words.proofs.Lists.{length-tabulate}
 use Rattle.lang.specs.Checks.{orElse}
-use Rattle.lang.specs.Answers.{padded, listOf}
+use Rattle.lang.specs.Answers.{padded, listOf, replyOf}
 use Rattle.lang.proofs.Refusals.{orElse-none, room-fits}
 use Rattle.reading.specs.Loops.{finished}
 use Rattle.fonts.specs.declared.Compiled.{Compiled}
 use Rattle.fonts.specs.declared.Compiled.the-variants.{Tables, Refused}
 use Rattle.fonts.specs.Fonts.{Font}
 use Rattle.fonts.specs.Numbers.{pairTable, loopNumbers}
-use Rattle.fonts.specs.Compiled.{Room, roomOf, roomIn, totalOps, loopsOfFont, fontTable, fontOps, fontLoops, longRefusal, pairsRefusal, kernRefusal, opsRefusal, loopsRefusal, tablesRefusal, buildRefusal, compiledBy, ListsWritten}
+use Rattle.fonts.specs.Compiled.{Room, roomOf, roomIn, totalOps, loopsOfFont, fontTable, fontOps, fontLoops, longRefusal, pairsRefusal, kernRefusal, opsRefusal, loopsRefusal, tablesRefusal, buildRefusal, compiledReply, fontCounts, ListsWritten}
 use Rattle.pairs.specs.declared.CountedFont.{CountedFont}
 use Rattle.pairs.specs.declared.CountedFont.the-variants as counted
 use Rattle.pairs.specs.Rows.{at, pairAt}
@@ -62,7 +62,7 @@ module _ (f : Font) (ps os ls zp zl : List ℤ) (w w₁ : List ℕ) (bp : zp ≡
   room-is : roomOf (length zp) (length os) (length zl) (length w) ≡ roomIn ps os ls w
   room-is = let a = pair-long in let b = loop-long in λ i. roomOf (a i) (length os) (b i) (length w)
 
-  unfit-by : (k j : ℕ) → j ≡ k → 0 < k → os′ ≡ replicate (length os) (pos 0) → (Refused k ≡ compiledBy j f) × ListsWritten f j ps os ls zp os′ zl
+  unfit-by : (k j : ℕ) → j ≡ k → 0 < k → os′ ≡ replicate (length os) (pos 0) → (compiledReply (Refused k) ≡ replyOf j (fontCounts f)) × ListsWritten f j ps os ls zp os′ zl
   unfit-by zero j e h o = absurd (omega arith)
   unfit-by (suc k) j e h o = rw e (refl, record { table = bp; ops-table = o; loop-list = bl })
 
@@ -85,7 +85,7 @@ module _ (f : Font) (ps os ls zp zl : List ℤ) (w w₁ : List ℕ) (bp : zp ≡
         let e : buildRefusal f (roomIn ps os ls w) ≡ 0 = sym (ap (buildRefusal f) room-is) ∙ p .counted .0 in
         let t = table-is f w₁ n m r g in
         record {
-          answer = rw e (let x = c ∙ ap length t in let y = p .counted .2 in let v = loops-count f w₁ n m r g in λ i. Tables (x i / 6) (y i) (v i));
+          answer = rw e (let x = c ∙ ap length t in let y = p .counted .2 in let v = loops-count f w₁ n m r g in λ i. replyOf 0 (pos (x i / 6) ∷ pos (y i) ∷ pos (v i) ∷ []));
           lists =
               rw e
               (record {
