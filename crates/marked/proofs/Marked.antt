@@ -1,8 +1,7 @@
 -- Every marked reading of document 01 holds of the definitions: what each row gives is what document 01 says. antt computes all but the rows of whole fonts, which are lemmas.
 -- Assumes nothing.
 use mathlib.Core.Path.{_≡_, refl}
-use mathlib.Core.List.{List, map}
-use lib.IntN.{ℤ}
+use mathlib.Core.List.{map}
 use Rattle.tfm.specs.Scaled.{toScaled, halve}
 use Rattle.lang.specs.Operations.{fromBytes, ligature}
 use Rattle.labels.specs.Labels.{insertLabel, labels, redirectsFrom}
