@@ -11,6 +11,7 @@ use lib.Dec.{T}
 use Rattle.reading.specs.Items.{Left, Rule, free, Rules, plain, Head, at, key, head, Out}
 use Rattle.reading.specs.Reading.{act, read, Read, done, more, NeverEnds, Ends}
 use Rattle.reading.specs.Depth.{Res, Pair}
+use Rattle.reading.specs.Cycles.{OnePerCycle}
 use Rattle.reading.specs.Form.{formed}
 use Rattle.reading.proofs.Steps.{key-head, more-not-done, nothing-right, turn-more}
 use Rattle.reading.proofs.Theorems as Reading
@@ -50,6 +51,10 @@ some-loop f h = Reading.loops-some (rulesOf f) (pairsOf f) (covers-font f) h
 
 pub reported-never : (f : Font) (p : Pair) → List·Memᴰ p (loopsOfFont f) → NeverEnds (rulesOf f) (p .left) (p .right)
 reported-never f p m = Reading.loops-never (rulesOf f) (pairsOf f) (covers-font f) p m
+
+-- The loop list has one pair of each cycle.
+pub one-per-cycle : (f : Font) → OnePerCycle (rulesOf f) (pairsOf f)
+one-per-cycle f = Reading.one-per-cycle (rulesOf f) (pairsOf f) (covers-font f)
 
 -- where a pair has no rule, one step ends it
 free-ends : (rule : Rules) (l : Left) (r : ℕ) → rule l r ≡ free → NeverEnds rule l r → ⊥

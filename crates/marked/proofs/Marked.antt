@@ -1,20 +1,19 @@
--- Every marked reading of document 01 holds of the definitions: what each row gives is what document 01 says. antt computes all but the loop list of a whole font, which is a lemma.
+-- Every marked reading of document 01 holds of the definitions: what each row gives is what document 01 says. antt computes all but the rows of whole fonts, which are lemmas.
 -- Assumes nothing.
 use mathlib.Core.Path.{_≡_, refl}
-use mathlib.Core.List.{List, map}
-use lib.IntN.{ℤ}
+use mathlib.Core.List.{map}
 use Rattle.tfm.specs.Scaled.{toScaled, halve}
 use Rattle.lang.specs.Operations.{fromBytes, ligature}
 use Rattle.labels.specs.Labels.{insertLabel, labels, redirectsFrom}
 use Rattle.pack.specs.Packing.{placeAmong, redirectsTo}
 use Rattle.reading.specs.Depth.{comp, raiseLeft}
 use Rattle.reading.specs.Loops.{loopList, insert, ordered, unfinished, walk, walks, member}
-use Rattle.marked.specs.Rows.{Row, loopRow, otherRows, rows, rulesBy, pairsFrom, pairNumbers}
-use Rattle.marked.proofs.Compiling.{one-loop}
+use Rattle.marked.specs.Rows.{Row, otherRows, rows, rulesBy, pairsFrom, pairNumbers}
+use Rattle.marked.proofs.Compiling.{one-loop, accepted, table, ops, word}
 
 others : map (λ (row : Row). row .given) otherRows ≡ map (λ (row : Row). row .said) otherRows
 unfolding otherRows rulesBy pairsFrom pairNumbers toScaled halve fromBytes ligature comp raiseLeft loopList insert ordered unfinished walk walks member insertLabel labels redirectsFrom placeAmong redirectsTo
 others = refl
 
 pub marked : map (λ (row : Row). row .given) rows ≡ map (λ (row : Row). row .said) rows
-marked = rw (one-loop, others) refl
+marked = rw (one-loop, accepted, table, ops, word, others) refl

@@ -1,7 +1,9 @@
--- The readings marked M of document 01, one row each: what the definitions give, as numbers, and what document 01 says. The theorem
--- `marked` of proofs/Marked says that the two columns are equal.
+-- The readings marked M of document 01, one row each: what the definitions give, as numbers, and what document 01 says. With them stands
+-- its example of the column text: a font that compiling accepts, without a loop, and a word that is read in it, so that what demand 3
+-- asks of a font is met by one. The theorem `marked` of proofs/Marked says that the two columns are equal.
 use mathlib.Core.Bool.{Bool, true, false, cond}
 use mathlib.Core.List.{List, [], _∷_}
+use mathlib.Core.Option.{none}
 use Prim.Native.Nat.{ℕ, suc}
 use lib.IntN.{ℤ, pos, negsuc}
 use lib.Dec.{eqb}
@@ -15,10 +17,14 @@ use Rattle.lang.specs.Operations.{fromBytes}
 use Rattle.labels.specs.Labels.{labelsOf}
 use Rattle.pack.specs.Packing.{Packable, packable, packedEntryNumber, fontOffset, fontRedirects, front}
 use Rattle.reading.specs.Items.{Left, bnd, chr, Rule, free, lig, Rules}
+use Rattle.reading.specs.Reading.{Reading, ended, going, reading}
 use Rattle.reading.specs.Depth.{Pair}
 use Rattle.reading.specs.Loops.{Ruled, loopList}
-use Rattle.fonts.specs.Fonts.{Font as LentFont}
-use Rattle.fonts.specs.Compiled.{fontLoops}
+use Rattle.fonts.specs.declared.Compiled.{Compiled}
+use Rattle.fonts.specs.declared.Compiled.the-variants.{Tables, Refused}
+use Rattle.fonts.specs.Fonts.{Font as LentFont, fontOf, rulesOf}
+use Rattle.fonts.specs.Numbers.{opNumbers}
+use Rattle.fonts.specs.Compiled.{roomOf, compileRefusal, compiledBy, fontTable, fontOps, fontLoops}
 
 -- what the definitions give, and what document 01 says
 pub record Row : Type 0 where
@@ -61,6 +67,16 @@ unfoldable pub pairNumbers : List Pair → List ℤ
 pairNumbers [] = []
 pairNumbers (p ∷ ps) = leftNumber (p .left) ∷ pos (p .right) ∷ pairNumbers ps
 
+-- the number of a refusal, or 0 and how many pairs, ops and loops there are
+abbrev pub compiledNumbers : Compiled → List ℤ
+compiledNumbers (Tables p o l) = pos 0 ∷ pos p ∷ pos o ∷ pos l ∷ []
+compiledNumbers (Refused n) = pos n ∷ []
+
+-- the items of a reading that has ended, or -1
+abbrev pub readingNumbers : Reading → List ℤ
+readingNumbers (ended os) = opNumbers os
+readingNumbers going = negsuc 0 ∷ []
+
 -- ---- fonts of a few rules
 
 pub record Entry : Type 0 where
@@ -99,13 +115,47 @@ packedNumbers f = packedEntryNumber f 1 ∷ pos (fontOffset f) ∷ pos (fontRedi
 
 -- a font of one entry, that of character 65, and one instruction: right 66, op 3 inserting 66
 abbrev pub oneRule : LentFont
-oneRule = record { instructions = negsuc 0 ∷ pos 66 ∷ pos 2 ∷ pos 834 ∷ []; kerns = []; entries = pos 65 ∷ pos 0 ∷ []; boundary = negsuc 0; left = negsuc 0; design = pos 10485760 }
+oneRule = fontOf (negsuc 0 ∷ pos 66 ∷ pos 2 ∷ pos 834 ∷ []) [] (pos 65 ∷ pos 0 ∷ []) (negsuc 0) (negsuc 0) (pos 10485760)
+
+-- the font of document 01's example, 'The column text': character 102 before 105 becomes the ligature 200, and before 33 has a kern
+abbrev pub exampleFont : LentFont
+exampleFont =
+    fontOf (pos 0 ∷ pos 105 ∷ pos 2 ∷ pos 200 ∷ negsuc 0 ∷ pos 33 ∷ pos 1 ∷ pos 0 ∷ []) (pos 131072 ∷ []) (pos 102 ∷ pos 0 ∷ [])
+    (negsuc 0) (negsuc 0) (pos 10485760)
 
 -- ---- the table
 
 -- entry 65 to one instruction, right 66, op 3 inserting 66: loop (65, 66), of the loop list that compiling writes
 abbrev pub loopRow : Row
 loopRow = record { given = fontLoops oneRule; said = pos 65 ∷ pos 66 ∷ [] }
+
+-- the example is accepted in room for two pairs, four ops and no loop: two pairs, two ops and no loop
+abbrev pub acceptedRow : Row
+acceptedRow =
+    record {
+      given = compiledNumbers (compiledBy (compileRefusal exampleFont (roomOf 12 8 0 32)) exampleFont);
+      said = pos 0 ∷ pos 2 ∷ pos 2 ∷ pos 0 ∷ [];
+    }
+
+-- its pair table, as the lines P have it, with the first op before the op count: (102, 33), then (102, 105)
+abbrev pub tableRow : Row
+tableRow =
+    record {
+      given = fontTable exampleFont;
+      said = pos 102 ∷ pos 33 ∷ pos 33 ∷ pos 0 ∷ pos 0 ∷ pos 2 ∷ pos 102 ∷ pos 105 ∷ pos 200 ∷ pos 1 ∷ pos 2 ∷ pos 0 ∷ [];
+    }
+
+-- its ops, as the lines O have them: character 102, then the kern
+abbrev pub opsRow : Row
+opsRow = record { given = fontOps exampleFont; said = pos 0 ∷ pos 102 ∷ pos 2 ∷ pos 81920 ∷ [] }
+
+-- its word with the left boundary and no right item, after three steps, as the lines T have it: the ligature 200, then the character 33
+abbrev pub wordRow : Row
+wordRow =
+    record {
+      given = readingNumbers (reading (rulesOf exampleFont) 3 true (102 ∷ 105 ∷ 33 ∷ []) none);
+      said = pos 1 ∷ pos 200 ∷ pos 0 ∷ pos 33 ∷ [];
+    }
 
 -- the others
 unfoldable pub otherRows : List Row
@@ -147,4 +197,4 @@ otherRows =
     ∷ []
 
 abbrev pub rows : List Row
-rows = loopRow ∷ otherRows
+rows = loopRow ∷ acceptedRow ∷ tableRow ∷ opsRow ∷ wordRow ∷ otherRows

@@ -10,6 +10,7 @@
 --   Enough    how deep is deep enough
 --   Complete  a pair that has not finished at that depth never ends
 --   LoopList  the loop list is empty exactly when every pair ends
+--   Cycles    the loop list has one pair of each cycle
 --   Holds     what it is for a table to hold a font's finished pairs
 --   RunAll    the run as one list, and its steps
 --   RunRight  the run gives what the reading gives
@@ -24,6 +25,7 @@ pub mod Covers
 pub mod Enough
 pub mod Complete
 pub mod LoopList
+pub mod Cycles
 pub mod Holds
 pub mod RunAll
 pub mod RunRight

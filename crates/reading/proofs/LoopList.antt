@@ -1,19 +1,21 @@
 -- The loop list: every pair on it never ends, and where some pair never ends it is not empty, since the first walk meets nothing of
--- earlier walks and cannot leave the pairs that have not finished, so that it comes back to a pair of its own.
+-- earlier walks and cannot leave the pairs that have not finished, so that it stops at a pair of its own.
 -- Assumes nothing.
-use mathlib.Core.Path.{_≡_, refl, sym, _∙_}
+use mathlib.Core.Path.{_≡_, refl, sym, _∙_, ap}
 use mathlib.Core.Bool.{Bool, true, false, cond, false≢true}
-use mathlib.Core.List.{List, [], _∷_, _++_, List·Memᴰ, List·Memᴰ·head, List·Memᴰ·tail, List·Memᴰ·cases-cons, List·Memᴰ·append-cases, List·Memᴰ·eq-of-singleton, List·Memᴰ·not-nil, cons-ne-nil}
+use mathlib.Core.List.{List, [], _∷_, _++_, List·Memᴰ, List·Memᴰ·head, List·Memᴰ·tail, List·Memᴰ·cases-cons, List·Memᴰ·append-cases, List·Memᴰ·eq-of-singleton, List·Memᴰ·not-nil, Memᴰ·append-left, Memᴰ·append-right, cons-ne-nil}
 use mathlib.Core.Logic.{_↔_, _⊎_, inl, inr, ⊎-elim}
 use mathlib.Core.Option.{Option, none, some, Option·none-ne-some}
 use Prim.Native.Nat.{ℕ, zero, suc, _+_, _<_}
 use native.Mathlib.Omega.{arith}
 use lib.Dec.{T, eqb, eqb-refl}
 use lib.ListN.{length}
+use borrow.Author.Tests.{eqb-true}
 use Rattle.reading.specs.Items.{Left, bnd, chr, Rules, at}
 use Rattle.reading.specs.Reading.{NeverEnds, Ends}
 use Rattle.reading.specs.Depth.{Res, Finished, Pair}
 use Rattle.reading.specs.Loops.{Ruled, sameLeft, samePair, member, walkedBefore, insert, ordered, isFinished, unfinished, waits, Walked, walk, walks, finished, loopList}
+use Rattle.reading.specs.Cycles.{followed}
 use Rattle.reading.proofs.Right.{right}
 use Rattle.reading.proofs.Count.{count, count-all, grown}
 use Rattle.reading.proofs.Covers.{Covers}
@@ -45,9 +47,95 @@ member-more p q ps e = rw e (both (samePair p q))
     both true = refl
     both false = refl
 
+pub in-member : {p : Pair} {ps : List Pair} → List·Memᴰ p ps → member p ps ≡ true
+in-member (List·Memᴰ·head {x} {xs} e) = rw e (member-own x xs)
+in-member {p} (List·Memᴰ·tail {x} {xs} m) = member-more p x xs (in-member m)
+
+both-true : (a b : Bool) → cond a b false ≡ true → (a ≡ true) × (b ≡ true)
+both-true true b e = (refl, e)
+both-true false b e = absurd (false≢true e)
+
+left-same : (l m : Left) → sameLeft l m ≡ true → l ≡ m
+left-same bnd bnd e = refl
+left-same bnd (chr b) e = absurd (false≢true e)
+left-same (chr a) bnd e = absurd (false≢true e)
+left-same (chr a) (chr b) e = ap chr (eqb-true a b e)
+
+pair-same : (p q : Pair) → samePair p q ≡ true → p ≡ q
+pair-same p q e =
+    let t = both-true (sameLeft (p .left) (q .left)) (eqb (p .right) (q .right)) e in
+    of-parts (left-same (p .left) (q .left) (t .0)) (eqb-true (p .right) (q .right) (t .1))
+  where
+    of-parts : {l m : Left} {r s : ℕ} → l ≡ m → r ≡ s → _≡_ {A = Pair} (record { left = l; right = r }) (record { left = m; right = s })
+    of-parts a b = cc
+
+in-by : (p q : Pair) (ps : List Pair) (b : Bool) → samePair p q ≡ b → (member p ps ≡ true → List·Memᴰ p ps) → cond b true (member p ps) ≡ true → List·Memᴰ p (q ∷ ps)
+in-by p q ps true i k e = List·Memᴰ·head (pair-same p q i)
+in-by p q ps false i k e = List·Memᴰ·tail (k e)
+
+pub member-in : (p : Pair) (ps : List Pair) → member p ps ≡ true → List·Memᴰ p ps
+unfolding member
+member-in p [] e = absurd (false≢true e)
+member-in p (q ∷ ps) e = in-by p q ps (samePair p q) refl (member-in p ps) e
+
 none-found : (xs ys : List Pair) → xs ++ ys ≡ [] → xs ≡ []
 none-found [] ys e = refl
 none-found (x ∷ xs) ys e = absurd (cons-ne-nil x (xs ++ ys) e)
+
+-- ---- where a walk stops
+
+-- The pairs that a walk has met, and p the one that comes next: each of them leads to one of them or to p, and p is met from each.
+pub record Leads (next : Pair → Pair) (own : List Pair) (p : Pair) : Type 0 where
+  pub on : (q : Pair) → List·Memᴰ q own → List·Memᴰ (next q) (p ∷ own)
+  pub to : (q : Pair) → List·Memᴰ q own → (n : ℕ) × (followed next (suc n) q ≡ p)
+
+-- A walk stops at p: a pair of earlier walks, where it finds nothing, or else one of its own, which it finds.
+pub data StopsAt (met : List Pair) (w : Walked) (p : Pair) : Type 0 where
+  earlier : List·Memᴰ p met → w .found ≡ [] → StopsAt met w p
+  again : (List·Memᴰ p met → ⊥) → List·Memᴰ p (w .own) → w .found ≡ p ∷ [] → StopsAt met w p
+
+-- What a walk leaves that has met `own` and goes on from p.
+pub record Stops (next : Pair → Pair) (met own : List Pair) (p : Pair) (w : Walked) : Type 0 where
+  pub last : Pair
+  pub leads : Leads next (w .own) last
+  pub keeps : (q : Pair) → List·Memᴰ q own → List·Memᴰ q (w .own)
+  pub from : List·Memᴰ p (w .own ++ met)
+  pub how : StopsAt met w last
+
+module _ (next : Pair → Pair) where
+  pub followed-last : (n : ℕ) (p : Pair) → followed next (suc n) p ≡ next (followed next n p)
+  unfolding followed
+  followed-last zero p = refl
+  followed-last (suc n) p = followed-last n (next p)
+
+  once : (p : Pair) → followed next 1 p ≡ next p
+  unfolding followed
+  once p = refl
+
+  leads-none : (p : Pair) → Leads next [] p
+  leads-none p = record { on = λ q m. absurd (List·Memᴰ·not-nil m); to = λ q m. absurd (List·Memᴰ·not-nil m) }
+
+  leads-on : {own : List Pair} {p : Pair} → Leads next own p → Leads next (p ∷ own) (next p)
+  leads-on {own} {p} l = record { on = λ q m. on q (List·Memᴰ·cases-cons m); to = λ q m. to q (List·Memᴰ·cases-cons m) }
+    where
+      on : (q : Pair) → (q ≡ p) ⊎ List·Memᴰ q own → List·Memᴰ (next q) (next p ∷ p ∷ own)
+      on q (inl e) = List·Memᴰ·head (ap next e)
+      on q (inr m) = List·Memᴰ·tail (l .on q m)
+
+      to : (q : Pair) → (q ≡ p) ⊎ List·Memᴰ q own → (n : ℕ) × (followed next (suc n) q ≡ next p)
+      to q (inl e) = (0, once q ∙ ap next e)
+      to q (inr m) = (suc (l .to q m .0), followed-last (suc (l .to q m .0)) q ∙ ap next (l .to q m .1))
+
+  stops-by : (a b : Bool) {met own : List Pair} {p : Pair} {on : Walked} → member p met ≡ a → member p own ≡ b → Leads next own p → (b ≡ false → Stops next met (p ∷ own) (next p) on) → Stops next met own p (cond a (record { own = own; found = [] }) (cond b (record { own = own; found = p ∷ [] }) on))
+  stops-by true b {met} {own} {p} {on} i j l g =
+      let m = member-in p met i in
+      record { last = p; leads = l; keeps = λ q k. k; from = Memᴰ·append-right own m; how = earlier m refl }
+  stops-by false true {met} {own} {p} {on} i j l g =
+      let m = member-in p own j in
+      record { last = p; leads = l; keeps = λ q k. k; from = Memᴰ·append-left met m; how = again (λ k. false≢true (sym i ∙ in-member k)) m refl }
+  stops-by false false {met} {own} {p} {on} i j l g =
+      let t = g refl in
+      record { last = t .last; leads = t .leads; keeps = λ q k. t .keeps q (List·Memᴰ·tail k); from = Memᴰ·append-left met (t .keeps p (List·Memᴰ·head refl)); how = t .how }
 
 -- ---- walks that stay in a set of pairs
 
@@ -84,21 +172,25 @@ module _ (P : Pair → Type 0) (next : Pair → Pair) (onward : (p : Pair) → P
         go (inl h) = h
         go (inr same) = absurd (false≢true (sym e ∙ same _ (within p s .1) ∙ member-own p own))
 
-    comes-back-by : (b : Bool) (own : List Pair) (on : Walked) (p : Pair) → (b ≡ false → on .found ≡ [] → ⊥) → cond b (record { own = own; found = p ∷ [] }) on .found ≡ [] → ⊥
-    comes-back-by true own on p g e = cons-ne-nil _ _ e
-    comes-back-by false own on p g e = g refl e
+    -- a walk longer than the list stops
+    stops : (n : ℕ) (met own : List Pair) (p : Pair) → P p → length us < n + count (metBy own) us → Leads next own p → Stops next met own p (walk next n met own p)
+    unfolding walk
+    stops zero met own p s h l = absurd (omega (arith, count-all (metBy own) us))
+    stops (suc n) met own p s h l = stops-by next (member p met) (member p own) refl refl l (λ i. stops n met (p ∷ own) (next p) (onward p s) (omega (arith, counts own p s i)) (leads-on next l))
 
-    -- a walk longer than the list, which meets nothing of earlier walks, meets a pair of its own again
-    comes-back : (n : ℕ) (own : List Pair) (p : Pair) → P p → length us < n + count (metBy own) us → walk next n [] own p .found ≡ [] → ⊥
-    unfolding walk member
-    comes-back zero own p s h e = omega (arith, count-all (metBy own) us)
-    comes-back (suc n) own p s h e = comes-back-by (member p own) own (walk next n [] (p ∷ own) (next p)) p (λ i. comes-back n (p ∷ own) (next p) (onward p s) (omega (arith, counts own p s i))) e
+    -- from its first pair, with a step for each pair of the list and one more
+    pub stops-first : (met : List Pair) (p : Pair) → P p → Stops next met [] p (walk next (suc (length us)) met [] p)
+    stops-first met p s = stops (suc (length us)) met [] p s (omega arith) (leads-none next p)
 
   -- where the set is not empty and all of it is in the list, the first walk finds a pair
   some-found : (us : List Ruled) → ((u : Ruled) → List·Memᴰ u us → P (u .pair)) → ((p : Pair) → P p → (i : ℕ) × List·Memᴰ (record { pair = p; index = i }) us) → (p : Pair) → P p → walks next (suc (length us)) [] us ≡ [] → ⊥
   unfolding walks
   some-found [] g within p s e = List·Memᴰ·not-nil (within p s .1)
-  some-found (u ∷ us) g within p s e = comes-back (u ∷ us) within (suc (suc (length us))) [] (u .pair) (g u (List·Memᴰ·head refl)) (omega arith) (none-found _ _ e)
+  some-found (u ∷ us) g within p s e = nowhere (none-found _ _ e) (stops-first (u ∷ us) within [] (u .pair) (g u (List·Memᴰ·head refl)) .how)
+    where
+      nowhere : {last : Pair} {w : Walked} → w .found ≡ [] → StopsAt [] w last → ⊥
+      nowhere e (earlier m i) = List·Memᴰ·not-nil m
+      nowhere e (again k m i) = cons-ne-nil _ _ (sym i ∙ e)
 
 -- ---- the pairs walked from are those of the list that have not finished
 
@@ -151,7 +243,7 @@ ordered-only v (u ∷ us) m = onto (ordered-only v us) (insert-only v u (ordered
 
 module _ (f : Finished) where
   -- a pair that has not finished
-  abbrev Open : Pair → Type 0
+  abbrev pub Open : Pair → Type 0
   Open p = f (p .left) (p .right) ≡ none
 
   keeps-by : (v p : Ruled) {ps us : List Ruled} (o : Option Res) → f (p .pair .left) (p .pair .right) ≡ o → Open (v .pair) → (List·Memᴰ v ps → List·Memᴰ v us) → (v ≡ p) ⊎ List·Memᴰ v ps → List·Memᴰ v (cond (isFinished o) us (p ∷ us))
@@ -178,19 +270,19 @@ module _ (f : Finished) where
 
 module _ (rule : Rules) (ps : List Ruled) (c : Covers rule ps) where
   -- the pairs walked from
-  abbrev us : List Ruled
+  abbrev pub us : List Ruled
   us = unfinished (finished rule ps) (ordered ps)
 
   -- each of them has not finished, waits for a pair that has not, and all that have not are among them
-  all-open : (u : Ruled) → List·Memᴰ u us → Open (finished rule ps) (u .pair)
+  pub all-open : (u : Ruled) → List·Memᴰ u us → Open (finished rule ps) (u .pair)
   all-open u m = unfinished-only (finished rule ps) u (ordered ps) m
 
-  open-on : (p : Pair) → Open (finished rule ps) p → Open (finished rule ps) (waits rule (finished rule ps) p)
+  pub open-on : (p : Pair) → Open (finished rule ps) p → Open (finished rule ps) (waits rule (finished rule ps) p)
   open-on p s =
       let w = unfinished-waits rule ps c p s in
       rw (w .waits) (w .open-still)
 
-  within-us : (p : Pair) → Open (finished rule ps) p → (i : ℕ) × List·Memᴰ (record { pair = p; index = i }) us
+  pub within-us : (p : Pair) → Open (finished rule ps) p → (i : ℕ) × List·Memᴰ (record { pair = p; index = i }) us
   within-us p s =
       let w = unfinished-waits rule ps c p s in
       let t = c .covers (p .left) (p .right) (λ e. Option·none-ne-some (w .for) (rw e at (w .waits))) in

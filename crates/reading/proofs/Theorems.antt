@@ -12,6 +12,7 @@ use Rattle.reading.specs.Items.{Left, Rule, free, Rules, Item, item, cod
 use Rattle.reading.specs.Reading.{read, Read, done, more, reading, Reading, ended, NeverEnds, Ends}
 use Rattle.reading.specs.Depth.{Res, Finished, Pair, comp, raised, waitsBy}
 use Rattle.reading.specs.Loops.{Ruled, finished, loopList}
+use Rattle.reading.specs.Cycles.{OnePerCycle}
 use Rattle.reading.specs.Run.{headFlag, answers, begin, inOrder}
 use Rattle.reading.specs.Form.{formed}
 pub use Rattle.reading.proofs.Covers.{Covers}
@@ -24,6 +25,7 @@ use Rattle.reading.proofs.Enough
 use Rattle.reading.proofs.Never
 use Rattle.reading.proofs.Complete
 use Rattle.reading.proofs.LoopList
+use Rattle.reading.proofs.Cycles
 use Rattle.reading.proofs.RunAll
 use Rattle.reading.proofs.RunRight
 
@@ -91,6 +93,10 @@ loops-some rule ps c e = LoopList.loops-some rule ps c e
 
 pub loops-never : (rule : Rules) (ps : List Ruled) → Covers rule ps → (p : Pair) → List·Memᴰ p (loopList rule ps) → NeverEnds rule (p .left) (p .right)
 loops-never rule ps c p m = LoopList.loops-never rule ps c p m
+
+-- One pair per cycle: each listed pair is on a cycle of waiting, no two are on one, and from every pair that never ends and is on a cycle a listed pair is met.
+pub one-per-cycle : (rule : Rules) (ps : List Ruled) → Covers rule ps → OnePerCycle rule ps
+one-per-cycle rule ps c = Cycles.one-per-cycle rule ps c
 
 -- ---- runs
 
