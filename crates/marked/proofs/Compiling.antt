@@ -22,8 +22,9 @@ use Rattle.reading.specs.Depth.{comp}
 use Rattle.reading.specs.Loops.{Ruled, loopList, insert, ordered, unfinished, walk, walks, member}
 use Rattle.fonts.specs.Fonts.{Font, leftOf, leftEntry, rowPairs, leftPairs, pairsOf, tableOf}
 use Rattle.fonts.specs.Numbers.{loopNumbers, opsBefore, opNumbers, opsTable, pairTable}
-use Rattle.fonts.specs.Compiled.{allScale, roomOf, compileRefusal, compiledBy}
-use Rattle.marked.specs.Rows.{oneRule, exampleFont, compiledNumbers, loopRow, acceptedRow, tableRow, opsRow, wordRow}
+use Rattle.fonts.specs.Compiled.{allScale, roomOf, compileRefusal, fontCounts}
+use Rattle.lang.specs.Answers.{replyOf}
+use Rattle.marked.specs.Rows.{oneRule, exampleFont, replyNumbers, loopRow, acceptedRow, tableRow, opsRow, wordRow}
 
 abbrev isAbsent : ℤ → Bool
 isAbsent (pos e) = false
@@ -104,7 +105,7 @@ example-accepted = rw (example-scales, example-pairs) refl
 
 pub accepted : acceptedRow .given ≡ acceptedRow .said
 unfolding loopList entered entriesTable chainFrom firstFor toScaled fromBytes ligature comp insert ordered unfinished walks opsBefore pairTable
-accepted = ap (λ (n : ℕ). compiledNumbers (compiledBy n exampleFont)) example-accepted ∙ rw example-pairs refl
+accepted = ap (λ (n : ℕ). replyNumbers (replyOf n (fontCounts exampleFont))) example-accepted ∙ rw example-pairs refl
 
 pub table : tableRow .given ≡ tableRow .said
 unfolding entered entriesTable chainFrom firstFor toScaled fromBytes ligature comp opsBefore pairTable

@@ -8,12 +8,13 @@ use Rattle.labels.specs.Labels.{insertLabel, labels, redirectsFrom}
 use Rattle.pack.specs.Packing.{placeAmong, redirectsTo}
 use Rattle.reading.specs.Depth.{comp, raiseLeft}
 use Rattle.reading.specs.Loops.{loopList, insert, ordered, unfinished, walk, walks, member}
-use Rattle.marked.specs.Rows.{Row, otherRows, rows, rulesBy, pairsFrom, pairNumbers}
+use Rattle.fonts.specs.Numbers.{loopNumbers}
+use Rattle.marked.specs.Rows.{MarkedRow, otherRows, rows, rulesBy, pairsFrom}
 use Rattle.marked.proofs.Compiling.{one-loop, accepted, table, ops, word}
 
-others : map (λ (row : Row). row .given) otherRows ≡ map (λ (row : Row). row .said) otherRows
-unfolding otherRows rulesBy pairsFrom pairNumbers toScaled halve fromBytes ligature comp raiseLeft loopList insert ordered unfinished walk walks member insertLabel labels redirectsFrom placeAmong redirectsTo
+others : map (λ (row : MarkedRow). row .given) otherRows ≡ map (λ (row : MarkedRow). row .said) otherRows
+unfolding otherRows rulesBy pairsFrom loopNumbers toScaled halve fromBytes ligature comp raiseLeft loopList insert ordered unfinished walk walks member insertLabel labels redirectsFrom placeAmong redirectsTo
 others = refl
 
-pub marked : map (λ (row : Row). row .given) rows ≡ map (λ (row : Row). row .said) rows
+pub marked : map (λ (row : MarkedRow). row .given) rows ≡ map (λ (row : MarkedRow). row .said) rows
 marked = rw (one-loop, accepted, table, ops, word, others) refl

@@ -9,44 +9,35 @@ use lib.IntN.{ℤ, pos, negsuc}
 use lib.Dec.{eqb}
 use Rattle.tfm.specs.declared.ToScaled.{ToScaled}
 use Rattle.tfm.specs.Scaled.{scaledReply, toScaled}
-use Rattle.lang.specs.declared.operation.PostLigOperation.{PostLigOperation}
-use Rattle.lang.specs.declared.operation.PostLigOperation.the-variants.{RetainBothMoveNowhere, RetainBothMoveToInserted, RetainBothMoveToRight, RetainRightMoveToInserted, RetainRightMoveToRight, RetainLeftMoveNowhere, RetainLeftMoveToInserted, RetainNeitherMoveToInserted}
+use Rattle.lang.specs.declared.operation.PostLigOperation.the-variants.{RetainBothMoveNowhere, RetainBothMoveToInserted, RetainRightMoveToInserted, RetainLeftMoveNowhere, RetainNeitherMoveToInserted}
 use Rattle.lang.specs.declared.operation.Operation.{Operation}
 use Rattle.lang.specs.declared.operation.Operation.the-variants.{Kern, KernAtIndex, Ligature, EntrypointRedirect}
 use Rattle.lang.specs.Operations.{fromBytes}
+use Rattle.lang.specs.Answers.{Reply, replyOf}
 use Rattle.labels.specs.Labels.{labelsOf}
 use Rattle.pack.specs.Packing.{Packable, packable, packedEntryNumber, fontOffset, fontRedirects, front}
 use Rattle.reading.specs.Items.{Left, bnd, chr, Rule, free, lig, Rules}
 use Rattle.reading.specs.Reading.{Reading, ended, going, reading}
 use Rattle.reading.specs.Depth.{Pair}
 use Rattle.reading.specs.Loops.{Ruled, loopList}
-use Rattle.fonts.specs.declared.Compiled.{Compiled}
-use Rattle.fonts.specs.declared.Compiled.the-variants.{Tables, Refused}
-use Rattle.fonts.specs.Fonts.{Font as LentFont, fontOf, rulesOf}
-use Rattle.fonts.specs.Numbers.{opNumbers}
-use Rattle.fonts.specs.Compiled.{roomOf, compileRefusal, compiledBy, fontTable, fontOps, fontLoops}
+use Rattle.pairs.specs.RowNumbers.{byteOfOperation}
+use Rattle.fonts.specs.Fonts.{Font, fontOf, rulesOf}
+use Rattle.fonts.specs.Numbers.{opNumbers, loopNumbers}
+use Rattle.fonts.specs.Compiled.{roomOf, compileRefusal, fontCounts, fontTable, fontOps, fontLoops}
 
 -- what the definitions give, and what document 01 says
-pub record Row : Type 0 where
+pub record MarkedRow : Type 0 where
   pub given : List ℤ
   pub said : List ℤ
 
 -- ---- answers as numbers
 
 -- the number of a reply, and its values
-abbrev pub scaledNumbers : ToScaled → List ℤ
-scaledNumbers x = pos (scaledReply x .number) ∷ scaledReply x .values
+abbrev pub replyNumbers : Reply → List ℤ
+replyNumbers r = pos (r .number) ∷ r .values
 
--- the standard op byte of an operation
-abbrev pub opByte : PostLigOperation → ℕ
-opByte RetainNeitherMoveToInserted = 0
-opByte RetainRightMoveToInserted = 1
-opByte RetainLeftMoveNowhere = 2
-opByte RetainBothMoveNowhere = 3
-opByte RetainRightMoveToRight = 5
-opByte RetainLeftMoveToInserted = 6
-opByte RetainBothMoveToInserted = 7
-opByte RetainBothMoveToRight = 11
+abbrev pub scaledNumbers : ToScaled → List ℤ
+scaledNumbers x = replyNumbers (scaledReply x)
 
 abbrev pub invalidMark : Bool → ℤ
 invalidMark true = pos 1
@@ -56,21 +47,8 @@ invalidMark false = pos 0
 abbrev pub operationNumbers : Operation → List ℤ
 operationNumbers (Kern k) = k .0 ∷ []
 operationNumbers (KernAtIndex i) = pos i ∷ []
-operationNumbers (Ligature c p t) = pos (opByte p) ∷ pos (c .0) ∷ invalidMark t ∷ []
+operationNumbers (Ligature c p t) = pos (byteOfOperation p) ∷ pos (c .0) ∷ invalidMark t ∷ []
 operationNumbers (EntrypointRedirect t f) = pos t ∷ []
-
-abbrev pub leftNumber : Left → ℤ
-leftNumber bnd = negsuc 0
-leftNumber (chr c) = pos c
-
-unfoldable pub pairNumbers : List Pair → List ℤ
-pairNumbers [] = []
-pairNumbers (p ∷ ps) = leftNumber (p .left) ∷ pos (p .right) ∷ pairNumbers ps
-
--- the number of a refusal, or 0 and how many pairs, ops and loops there are
-abbrev pub compiledNumbers : Compiled → List ℤ
-compiledNumbers (Tables p o l) = pos 0 ∷ pos p ∷ pos o ∷ pos l ∷ []
-compiledNumbers (Refused n) = pos n ∷ []
 
 -- the items of a reading that has ended, or -1
 abbrev pub readingNumbers : Reading → List ℤ
@@ -89,17 +67,17 @@ unfoldable pub rulesBy : List Entry → ℕ → ℕ → Rule
 rulesBy [] l r = free
 rulesBy (e ∷ es) l r = cond (eqb (e .left) l) (cond (eqb (e .right) r) (e .rule) (rulesBy es l r)) (rulesBy es l r)
 
-abbrev pub rules : List Entry → Rules
-rules es bnd r = free
-rules es (chr l) r = rulesBy es l r
+abbrev pub rulesOfEntries : List Entry → Rules
+rulesOfEntries es bnd r = free
+rulesOfEntries es (chr l) r = rulesBy es l r
 
 -- their pairs, with the entry's place as the rule's index
 unfoldable pub pairsFrom : ℕ → List Entry → List Ruled
 pairsFrom i [] = []
 pairsFrom i (e ∷ es) = record { pair = record { left = chr (e .left); right = e .right }; index = i } ∷ pairsFrom (suc i) es
 
-abbrev pub loopsOf : List Entry → List ℤ
-loopsOf es = pairNumbers (loopList (rules es) (pairsFrom 0 es))
+abbrev pub loopsOfEntries : List Entry → List ℤ
+loopsOfEntries es = loopNumbers (loopList (rulesOfEntries es) (pairsFrom 0 es))
 
 -- ---- packing
 
@@ -114,11 +92,11 @@ packedNumbers f = packedEntryNumber f 1 ∷ pos (fontOffset f) ∷ pos (fontRedi
 -- ---- compiling
 
 -- a font of one entry, that of character 65, and one instruction: right 66, op 3 inserting 66
-abbrev pub oneRule : LentFont
+abbrev pub oneRule : Font
 oneRule = fontOf (negsuc 0 ∷ pos 66 ∷ pos 2 ∷ pos 834 ∷ []) [] (pos 65 ∷ pos 0 ∷ []) (negsuc 0) (negsuc 0) (pos 10485760)
 
 -- the font of document 01's example, 'The column text': character 102 before 105 becomes the ligature 200, and before 33 has a kern
-abbrev pub exampleFont : LentFont
+abbrev pub exampleFont : Font
 exampleFont =
     fontOf (pos 0 ∷ pos 105 ∷ pos 2 ∷ pos 200 ∷ negsuc 0 ∷ pos 33 ∷ pos 1 ∷ pos 0 ∷ []) (pos 131072 ∷ []) (pos 102 ∷ pos 0 ∷ [])
     (negsuc 0) (negsuc 0) (pos 10485760)
@@ -126,19 +104,19 @@ exampleFont =
 -- ---- the table
 
 -- entry 65 to one instruction, right 66, op 3 inserting 66: loop (65, 66), of the loop list that compiling writes
-abbrev pub loopRow : Row
+abbrev pub loopRow : MarkedRow
 loopRow = record { given = fontLoops oneRule; said = pos 65 ∷ pos 66 ∷ [] }
 
 -- the example is accepted in room for two pairs, four ops and no loop: two pairs, two ops and no loop
-abbrev pub acceptedRow : Row
+abbrev pub acceptedRow : MarkedRow
 acceptedRow =
     record {
-      given = compiledNumbers (compiledBy (compileRefusal exampleFont (roomOf 12 8 0 32)) exampleFont);
+      given = replyNumbers (replyOf (compileRefusal exampleFont (roomOf 12 8 0 32)) (fontCounts exampleFont));
       said = pos 0 ∷ pos 2 ∷ pos 2 ∷ pos 0 ∷ [];
     }
 
 -- its pair table, as the lines P have it, with the first op before the op count: (102, 33), then (102, 105)
-abbrev pub tableRow : Row
+abbrev pub tableRow : MarkedRow
 tableRow =
     record {
       given = fontTable exampleFont;
@@ -146,11 +124,11 @@ tableRow =
     }
 
 -- its ops, as the lines O have them: character 102, then the kern
-abbrev pub opsRow : Row
+abbrev pub opsRow : MarkedRow
 opsRow = record { given = fontOps exampleFont; said = pos 0 ∷ pos 102 ∷ pos 2 ∷ pos 81920 ∷ [] }
 
 -- its word with the left boundary and no right item, after three steps, as the lines T have it: the ligature 200, then the character 33
-abbrev pub wordRow : Row
+abbrev pub wordRow : MarkedRow
 wordRow =
     record {
       given = readingNumbers (reading (rulesOf exampleFont) 3 true (102 ∷ 105 ∷ 33 ∷ []) none);
@@ -158,7 +136,7 @@ wordRow =
     }
 
 -- the others
-unfoldable pub otherRows : List Row
+unfoldable pub otherRows : List MarkedRow
 otherRows =
     -- op 4: as 0, invalid
     record { given = operationNumbers (fromBytes 4 97); said = pos 0 ∷ pos 97 ∷ pos 1 ∷ [] }
@@ -170,21 +148,21 @@ otherRows =
     ∷ record { given = scaledNumbers (toScaled (pos 16777215) (pos 10485760)); said = pos 0 ∷ pos 10485759 ∷ [] }
     ∷ record { given = scaledNumbers (toScaled (pos 16777216) (pos 10485760)); said = pos 13 ∷ [] }
     -- the same rule alone, not in a font
-    ∷ record { given = loopsOf (record { left = 65; right = 66; rule = lig RetainBothMoveNowhere 66 } ∷ []); said = pos 65 ∷ pos 66 ∷ [] }
+    ∷ record { given = loopsOfEntries (record { left = 65; right = 66; rule = lig RetainBothMoveNowhere 66 } ∷ []); said = pos 65 ∷ pos 66 ∷ [] }
     -- TFtoPL 88, first example, after a character 97: (/LIG 120 121) and (/LIG 121 120) replace x by y and y by x
     ∷ record {
-      given = loopsOf (record { left = 97; right = 120; rule = lig RetainLeftMoveNowhere 121 } ∷ record { left = 97; right = 121; rule = lig RetainLeftMoveNowhere 120 } ∷ []);
+      given = loopsOfEntries (record { left = 97; right = 120; rule = lig RetainLeftMoveNowhere 121 } ∷ record { left = 97; right = 121; rule = lig RetainLeftMoveNowhere 120 } ∷ []);
       said = pos 97 ∷ pos 120 ∷ [];
     }
     -- TFtoPL 88, second example: (LIG/ 122 121) in the program of 120, and (LIG/ 122 120) in that of 121
     ∷ record {
-      given = loopsOf (record { left = 120; right = 122; rule = lig RetainRightMoveToInserted 121 } ∷ record { left = 121; right = 122; rule = lig RetainRightMoveToInserted 120 } ∷ []);
+      given = loopsOfEntries (record { left = 120; right = 122; rule = lig RetainRightMoveToInserted 121 } ∷ record { left = 121; right = 122; rule = lig RetainRightMoveToInserted 120 } ∷ []);
       said = pos 120 ∷ pos 122 ∷ [];
     }
     -- TFtoPL 88, third example: 120 has (/LIG/ 122 119)(/LIG/> 119 121), and 121 has (LIG 119 120)
     ∷ record {
       given =
-          loopsOf
+          loopsOfEntries
           (record { left = 120; right = 122; rule = lig RetainBothMoveNowhere 119 } ∷ record { left = 120; right = 119; rule = lig RetainBothMoveToInserted 121 }
           ∷ record { left = 121; right = 119; rule = lig RetainNeitherMoveToInserted 120 } ∷ []);
       said = pos 120 ∷ pos 122 ∷ [];
@@ -196,5 +174,5 @@ otherRows =
     ∷ record { given = front (pos 65) (fontRedirects (oneEntry 255 (pos 65))) (fontOffset (oneEntry 255 (pos 65))) (labelsOf (oneEntry 255 (pos 65) .entries)); said = negsuc 0 ∷ pos 65 ∷ pos 3 ∷ pos 65792 ∷ [] }
     ∷ []
 
-abbrev pub rows : List Row
+abbrev pub rows : List MarkedRow
 rows = loopRow ∷ acceptedRow ∷ tableRow ∷ opsRow ∷ wordRow ∷ otherRows
