@@ -17,7 +17,7 @@ use Rattle.reading.specs.Depth.{Res, Finished, Pair}
 use Rattle.reading.specs.Loops.{Ruled}
 use Rattle.fonts.specs.Numbers.{nth, entryOf, opsOf, opsBefore, outNumbers, opNumbers, opsTable, leftNumber, flagNumber, pairNumbers, pairTable}
 use Rattle.pairs.proofs.OpLaws.{numbers-append}
-use Rattle.captions.specs.Tables.{number, opKind, opValue, opOf, opAt, opsFrom, entryAt}
+use Rattle.captions.specs.Tables.{number, opKind, opValue, opOf, opAt, opsFrom, entryOfPair}
 
 -- ---- finished pairs, in order
 
@@ -241,7 +241,7 @@ module _ (xs : List Entry) (m : ℕ) (h : m < length xs) where
   ops-are : opsFrom (opNumbers (opsAll xs)) (opsUpTo xs m) (length (entry xs m .res .outs)) ≡ entry xs m .res .outs
   ops-are = rw split (ops-within (opsAll (take m xs)) (entry xs m .res .outs) (opsAll (drop (suc m) xs)))
 
-  pub entry-is : entryAt table (opNumbers (opsAll xs)) m ≡ entry xs m .res
+  pub entry-is : entryOfPair table (opNumbers (opsAll xs)) m ≡ entry xs m .res
   entry-is =
       let x = entry xs m .res in
       rw (last-is, flag-number-is, first-is, count-is)

@@ -24,7 +24,7 @@ use Rattle.captions.specs.declared.Step.{Step}
 use Rattle.captions.specs.declared.Turned.{Turned}
 use Rattle.captions.specs.declared.Turned.the-variants.{Gives, Goes}
 use Rattle.captions.specs.Tables.{opKind, opValue, keyBy, find, countOf, lastCode, lastFlag, recordFits}
-use Rattle.captions.specs.Steps.{refused, taken, takesBoundary, giveCharacter, giveLigature, endsWord, giveOp, opsFit, readOp, longer, afterRight, readOn, withNext, entered, entryFits, givesNothing, turnBy, turnWith, turnAtEnd, turnAtLetter, turn, onward, byNext, runOn, afterOp, withNothingNext, placed, rightItem, ranFrom, stepRefusal, handBack, steppedBy, stepOf}
+use Rattle.captions.specs.Steps.{refused, taken, takesBoundary, giveCharacter, giveLigature, endsWord, giveOp, opsFit, readOp, longer, afterRight, readOn, withNext, enteredAt, entryReads, givesNothing, turnBy, turnWith, turnAtEnd, turnAtLetter, turn, goesOn, byNext, runOn, afterOp, withNothingNext, placed, rightItem, ranFrom, stepRefusal, handBack, steppedBy, stepOf}
 use Rattle.captions.specs.Runs.{answers}
 use Rattle.captions.specs.Ending.{EndStays}
 
@@ -101,26 +101,26 @@ kept-next false true false c h z = no h
 kept-next false false false c h z = no z
 
 module _ (pairs ops : List ℤ) where
-  by-entry : (x : NextLeft) (letter : Bool) (s : State) (k : ℕ) (b : Bool) → (b ≡ true → Later (entered pairs x letter s k)) →
-      Quiet (cond b (Goes (entered pairs x letter s k)) (Gives (refused 7 s)))
+  by-entry : (x : NextLeft) (letter : Bool) (s : State) (k : ℕ) (b : Bool) → (b ≡ true → Later (enteredAt pairs x letter s k)) →
+      Quiet (cond b (Goes (enteredAt pairs x letter s k)) (Gives (refused 7 s)))
   by-entry x letter s k true l = goes (l refl)
   by-entry x letter s k false l = gives (refusal 7)
 
-  kept : (x : NextLeft) (letter : Bool) (s : State) (k : ℕ) → both (recordFits pairs ops k) (not (givesNothing pairs k)) ≡ true → Later (entered pairs x letter s k)
+  kept : (x : NextLeft) (letter : Bool) (s : State) (k : ℕ) → both (recordFits pairs ops k) (not (givesNothing pairs k)) ≡ true → Later (enteredAt pairs x letter s k)
   kept x letter s k h z = kept-next letter (eqb (countOf pairs k) 0) (lastFlag pairs k) (lastCode pairs k) (both-right (recordFits pairs ops k) (not (givesNothing pairs k)) h) z
 
   -- a left character
   character-quiet : (c : ℕ) (letter : Bool) (y : ℕ) (s : State) (o : Option ℕ) → Quiet (turnBy pairs ops (next.Char c) letter y s o)
   character-quiet c letter y s none = gives (character-given c (withNext (afterRight letter (plain y)) (readOn letter (s .read)) s))
-  character-quiet c letter y s (some k) = by-entry (next.Char c) letter s k (entryFits pairs ops (next.Char c) k) (kept (next.Char c) letter s k)
+  character-quiet c letter y s (some k) = by-entry (next.Char c) letter s k (entryReads pairs ops (next.Char c) k) (kept (next.Char c) letter s k)
 
   ligature-quiet : (c : ℕ) (letter : Bool) (y : ℕ) (s : State) (o : Option ℕ) → Quiet (turnBy pairs ops (next.Lig c) letter y s o)
   ligature-quiet c letter y s none = gives (character-given c (withNext (afterRight letter (plain y)) (readOn letter (s .read)) s))
-  ligature-quiet c letter y s (some k) = by-entry (next.Lig c) letter s k (entryFits pairs ops (next.Lig c) k) (kept (next.Lig c) letter s k)
+  ligature-quiet c letter y s (some k) = by-entry (next.Lig c) letter s k (entryReads pairs ops (next.Lig c) k) (kept (next.Lig c) letter s k)
 
   boundary-quiet : (y : ℕ) (s : State) (o : Option ℕ) → Quiet (turnBy pairs ops next.Boundary true y s o)
   boundary-quiet y s none = goes (λ _. refl)
-  boundary-quiet y s (some k) = by-entry next.Boundary true s k (entryFits pairs ops next.Boundary k) (λ _ _. letter-next (item (lastFlag pairs k) (lastCode pairs k)))
+  boundary-quiet y s (some k) = by-entry next.Boundary true s k (entryReads pairs ops next.Boundary k) (λ _ _. letter-next (item (lastFlag pairs k) (lastCode pairs k)))
 
   letter-quiet : (x : NextLeft) (y : ℕ) (s : State) → Quiet (turnWith pairs ops x true y s) → Quiet (turnAtLetter pairs ops x y s)
   letter-quiet x y s q = quiet-either (leb y 255) q (gives (refusal 4))
@@ -158,7 +158,7 @@ module _ (pairs ops : List ℤ) (right : Option ℕ) (word : List ℕ) where
       quiet-either (ltb (s .read) (length word)) (letter-quiet pairs ops (next.Lig c) y g (ligature-quiet pairs ops c true y g (find pairs (keyBy (suc c) y)))) (end-ligature pairs ops c g right)
 
   module _ (go : State → Step) (later : (t : State) → Later t → Tells (go t)) where
-    onward-quiet : {t : Turned} → Quiet t → Tells (onward go t)
+    onward-quiet : {t : Turned} → Quiet t → Tells (goesOn go t)
     onward-quiet (gives h) = h
     onward-quiet (goes {t = t} l) = later t l
 
@@ -171,7 +171,7 @@ module _ (pairs ops : List ℤ) (right : Option ℕ) (word : List ℕ) where
     next-later s true next.None l = no (l refl)
 
     boundary-unmoved : (s : State) (b : Bool) →
-        Unmoved s (onward go (cond b (turnAtLetter pairs ops next.Boundary (getD word (s .read) 0) s) (turnAtEnd pairs ops right next.Boundary s)))
+        Unmoved s (goesOn go (cond b (turnAtLetter pairs ops next.Boundary (getD word (s .read) 0) s) (turnAtEnd pairs ops right next.Boundary s)))
     boundary-unmoved s true =
         let y = getD word (s .read) 0 in
         tells (onward-quiet (letter-quiet pairs ops next.Boundary y s (boundary-quiet pairs ops y s (find pairs (keyBy 0 y)))))

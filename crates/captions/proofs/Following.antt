@@ -27,7 +27,7 @@ use Rattle.captions.specs.declared.State.{State}
 use Rattle.captions.specs.declared.Answer.the-variants.{Char}
 use Rattle.captions.specs.declared.Step.{Step}
 use Rattle.captions.specs.declared.Turned.{Turned}
-use Rattle.captions.specs.Tables.{pairCount, opCount, number, leftPlace, keyBy, find, firstOp, countOf, lastCode, lastFlag, entryAt, opsFrom, opFits, recordFits}
+use Rattle.captions.specs.Tables.{pairCount, opCount, number, leftPlace, keyBy, find, firstOp, countOf, lastCode, lastFlag, entryOfPair, opsFrom, opFits, recordFits}
 use Rattle.captions.specs.Form.{pairForm, tableForm, keyForm, opsEnd, comesAfter, sizesForm}
 use Rattle.captions.specs.Steps.{stepBy}
 use Rattle.captions.proofs.Finding.{find-inside}
@@ -42,7 +42,7 @@ pub record Formed (pairs ops : List ℤ) (left k : ℕ) : Type 0 where
   pub fits : recordFits pairs ops k ≡ true
   pub code : lastCode pairs k ≤ 255
   pub among : firstOp pairs k + countOf pairs k ≤ opCount ops
-  pub form : formed (leftOf left) (wordOf (number pairs k 1)) (entryAt pairs ops k) ≡ true
+  pub form : formed (leftOf left) (wordOf (number pairs k 1)) (entryOfPair pairs ops k) ≡ true
 
 four : (a b c d : Bool) → both a (both b (both c d)) ≡ true → (a ≡ true) × (b ≡ true) × (c ≡ true) × (d ≡ true)
 four a b c d h =
@@ -70,7 +70,7 @@ module _ (pairs ops : List ℤ) (table : tableForm pairs ops ≡ true) where
   found-formed left y k small e =
       let i = find-inside pairs (keyBy left y) k e in
       let right-fits : Bool = within 255 (number pairs k 1) in
-      let form = formed (leftOf (leftPlace (number pairs k 0))) (wordOf (number pairs k 1)) (entryAt pairs ops k) in
+      let form = formed (leftOf (leftPlace (number pairs k 0))) (wordOf (number pairs k 1)) (entryOfPair pairs ops k) in
       let h = four (keyForm pairs k) (recordFits pairs ops k) (eqb (firstOp pairs k) (opsEnd pairs k)) form (every-at (pairCount pairs) k (pairForm pairs ops) all-pairs (i .0)) in
       let keyed = three (absentOr 255 (number pairs k 0)) right-fits (comesAfter pairs k) (h .0) in
       let right : wordOf (number pairs k 1) ≤ 255 = within-bound 255 (number pairs k 1) (keyed .1) in
@@ -80,13 +80,13 @@ module _ (pairs ops : List ℤ) (table : tableForm pairs ops ≡ true) where
         fits = h .1;
         code = within-bound 255 (number pairs k 2) (fits .0);
         among = leb-true (firstOp pairs k + countOf pairs k) (opCount ops) (fits .3);
-        form = subst (λ (l : ℕ). formed (leftOf l) (wordOf (number pairs k 1)) (entryAt pairs ops k) ≡ true) at-left (h .3);
+        form = subst (λ (l : ℕ). formed (leftOf l) (wordOf (number pairs k 1)) (entryOfPair pairs ops k) ≡ true) at-left (h .3);
       }
 
 -- ---- steps that look nothing up
 
 -- ops are given whatever follows
-pub given-first : (t : Finished) (right : Option ℕ) (rest : List ℕ) (b : Bool) (x : Out) (os : List Out) (n : plainly.Next) → plainly.stepFrom t right rest (raiseFirst b (x ∷ os)) n ≡ plainly.given (raiseFirst b (x ∷ os)) n rest
+pub given-first : (t : Finished) (right : Option ℕ) (rest : List ℕ) (b : Bool) (x : Out) (os : List Out) (n : plainly.PlainNext) → plainly.stepFrom t right rest (raiseFirst b (x ∷ os)) n ≡ plainly.given (raiseFirst b (x ∷ os)) n rest
 unfolding plainly.stepFrom raiseFirst
 given-first t right [] b (glyph y) os n = refl
 given-first t right [] b (kern k) os n = refl

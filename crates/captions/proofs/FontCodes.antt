@@ -18,8 +18,7 @@ use Rattle.lang.specs.Records.{field, operationOf}
 use Rattle.chain.specs.Chains.{redirected, kernOf, actsAs}
 use Rattle.reading.specs.Items.{Left}
 use Rattle.reading.specs.Depth.{Res, comp}
-use Rattle.fonts.specs.Fonts.{numberOfLeft}
-use Rattle.fonts.specs.Fonts.{Font, indexOf, tableOf, scaledKern, ruleOfOperation, ruleOfIndex, rulesOf}
+use Rattle.fonts.specs.Fonts.{numberOfLeft, Font, indexOf, tableOf, scaledKern, ruleOfOperation, ruleOfIndex, rulesOf}
 use Rattle.fonts.specs.Compiled.{fontTable, fontOps}
 use Rattle.captions.specs.Tables.{opCount}
 use Rattle.captions.specs.Form.{tableForm}

@@ -16,14 +16,13 @@ use Rattle.reading.specs.Depth.{Res, Finished, Pair, comp}
 use Rattle.reading.specs.Form.{formed}
 use Rattle.reading.proofs.Holds.{Holds}
 use Rattle.reading.proofs.Theorems as Reading
-use Rattle.fonts.specs.Fonts.{leftOf, numberOfLeft}
-use Rattle.fonts.specs.Fonts.{Font, pairsOf, rulesOf}
+use Rattle.fonts.specs.Fonts.{leftOf, numberOfLeft, Font, pairsOf, rulesOf}
 use Rattle.fonts.specs.Compiled.{finishedOf, fontTable, fontOps}
 use Rattle.pairs.proofs.RowLaws.{left-number}
 use Rattle.fonts.proofs.FontLaws.{covers-font, ruled-in-range}
 use Rattle.pairs.proofs.Sorted.{Pairwise}
 use Rattle.fonts.proofs.Theorems.{entry-formed}
-use Rattle.captions.specs.Tables.{opCount, keyOf, keyAt, find, entryAt, entries}
+use Rattle.captions.specs.Tables.{opCount, keyOf, keyAt, find, entryOfPair, entries}
 use Rattle.captions.specs.Form.{tableForm}
 use Rattle.captions.proofs.Finding.{find-inside}
 use Rattle.captions.proofs.Bisecting.{finds}
@@ -58,7 +57,7 @@ module _ (xs : List Entry) (ranged : (x : Entry) → List·Memᴰ x xs → InRan
   -- a pair that has an entry is one of them
   pub entered : (l : Left) (r : ℕ) (q : Res) → r < 4294967296 → entries (pairs xs) (ops xs) l r ≡ some q → (x : Entry) × List·Memᴰ x xs × (x .pair .left ≡ l) × (x .pair .right ≡ r) × (x .res ≡ q)
   entered l r q h e =
-      let m = map-eq-some-iff (entryAt (pairs xs) (ops xs)) (find (pairs xs) (keyOf l r)) .0 e in
+      let m = map-eq-some-iff (entryOfPair (pairs xs) (ops xs)) (find (pairs xs) (keyOf l r)) .0 e in
       let k = m .0 in
       let i = find-inside (pairs xs) (keyOf l r) k (m .1) in
       let n : k < length xs = omega (arith, i .0, pair-count xs) in
@@ -72,8 +71,8 @@ module _ (xs : List Entry) (ranged : (x : Entry) → List·Memᴰ x xs → InRan
       let k = p .0 in
       let key : keyAt (pairs xs) k ≡ placeOf (x .pair) = key-is xs ranged k (p .1) ∙ ap (λ (y : Entry). placeOf (y .pair)) (p .2) in
       let at : find (pairs xs) (keyAt (pairs xs) k) ≡ some k = finds (pairs xs) (keys-form xs ranged sorted) k (omega (arith, p .1, pair-count xs)) in
-      let is : entryAt (pairs xs) (ops xs) k ≡ x .res = entry-is xs k (p .1) ∙ ap (λ (y : Entry). y .res) (p .2) in
-      ap (λ (n : ℕ). Option·map (entryAt (pairs xs) (ops xs)) (find (pairs xs) n)) (sym key) ∙ ap (Option·map (entryAt (pairs xs) (ops xs))) at ∙ ap some is
+      let is : entryOfPair (pairs xs) (ops xs) k ≡ x .res = entry-is xs k (p .1) ∙ ap (λ (y : Entry). y .res) (p .2) in
+      ap (λ (n : ℕ). Option·map (entryOfPair (pairs xs) (ops xs)) (find (pairs xs) n)) (sym key) ∙ ap (Option·map (entryOfPair (pairs xs) (ops xs))) at ∙ ap some is
 
 -- ---- the table of a font
 

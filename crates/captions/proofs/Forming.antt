@@ -23,7 +23,7 @@ use Rattle.fonts.specs.Numbers.{outNumbers, opNumbers, leftNumber, flagNumber}
 use Rattle.pairs.proofs.RowLaws.{left-number}
 use Rattle.pairs.proofs.OpLaws.{length-numbers}
 use Rattle.pairs.proofs.Sorted.{Pairwise, alone, first}
-use Rattle.captions.specs.Tables.{pairCount, opCount, number, keyBy, keyOf, leftPlace, keyAt, firstOp, entryAt, opHolds, opFits, recordFits}
+use Rattle.captions.specs.Tables.{pairCount, opCount, number, keyBy, keyOf, leftPlace, keyAt, firstOp, entryOfPair, opHolds, opFits, recordFits}
 use Rattle.captions.specs.Form.{opsEnd, comesAfter, keyForm, pairForm, tableForm}
 use Rattle.captions.proofs.Codes.{Small, nothing, character, skip, small-both, Coded}
 use Rattle.captions.proofs.Decoding.{Entry, opsAll, ops-append, tableFrom, nowhere, entry, opsUpTo, length-table, kind-on, value-on, left-is, right-is, last-is, flag-number-is, first-is, count-is, split, entry-is}
@@ -191,7 +191,7 @@ module _ (xs : List Entry) (good : (x : Entry) → List·Memᴰ x xs → Good x)
         (both-of (last-of (x .pair .left) (x .pair .right) (x .res) (good-at .form))
         (le-leb (opsUpTo xs m + length (x .res .outs)) (length (opsAll xs)) ops-inside))))
 
-    form-is : formed (leftOf (leftPlace (number (pairs xs) m 0))) (wordOf (number (pairs xs) m 1)) (entryAt (pairs xs) (ops xs) m) ≡ true
+    form-is : formed (leftOf (leftPlace (number (pairs xs) m 0))) (wordOf (number (pairs xs) m 1)) (entryOfPair (pairs xs) (ops xs) m) ≡ true
     form-is =
         let x = entry xs m in
         let l : leftOf (leftPlace (number (pairs xs) m 0)) ≡ x .pair .left = ap leftOf (place-is xs ranged m h) ∙ left-number (x .pair .left) in

@@ -21,7 +21,7 @@ use Rattle.captions.specs.declared.Answer.{Answer}
 use Rattle.captions.specs.declared.Answer.the-variants.{Char, Ligature, Kern, End, Refused}
 use Rattle.captions.specs.declared.Told.{Told}
 use Rattle.captions.specs.declared.Told.the-variants as told
-use Rattle.captions.specs.Replies.{bit, nextKind, nextCode, consumesNumber, stateNumbers, begunReply, answerReply, isEnd, toldReply}
+use Rattle.captions.specs.Replies.{bitNumber, nextKind, nextCode, consumesNumber, stateNumbers, begunReply, answerReply, isEnd, toldReply}
 use Rattle.captions.specs.Begin.{beginRefusal, freshState, begunBy, beginOf, beginReply}
 use Rattle.captions.specs.Steps.{stepOf, Stepped}
 
@@ -54,7 +54,7 @@ abbrev stateBack : List ℤ → State
 stateBack vs =
     record { «next_left» = nextBack (place vs 0) (place vs 1); op = place vs 2; ops = place vs 3; read = place vs 4; given = place vs 5; pending = place vs 6; «pending_boundary» = bitBack (place vs 7); «consumes_left» = consumesBack (place vs 8) }
 
-bit-back : (b : Bool) → bitBack (natural (bit b)) ≡ b
+bit-back : (b : Bool) → bitBack (natural (bitNumber b)) ≡ b
 bit-back true = refl
 bit-back false = refl
 

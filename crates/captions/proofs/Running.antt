@@ -96,8 +96,8 @@ module _ (pairs ops : List ℤ) (table : tableForm pairs ops ≡ true) (boundary
       rw (not-refused, is-placed s h, handed s (t .state) (t .answer) (plainly.step held right (runOf ops word s) .gives) (f .answers)) f
 
   -- any number of steps
-  steps-follow : (n : ℕ) (s : State) → Sound ops word s (opsOf ops word s) → map shown (answers pairs ops boundary word options n s) ≡ map shownOf (plainly.answers held right n (runOf ops word s))
-  unfolding answers plainly.answers
+  steps-follow : (n : ℕ) (s : State) → Sound ops word s (opsOf ops word s) → map shown (answers pairs ops boundary word options n s) ≡ map shownOf (plainly.plainAnswers held right n (runOf ops word s))
+  unfolding answers plainly.plainAnswers
   steps-follow zero s h = refl
   steps-follow (suc n) s h =
       let f = step-follows s h in
@@ -125,7 +125,7 @@ module _ (pairs ops : List ℤ) (table : tableForm pairs ops ≡ true) (boundary
   starts = starts-by word refl (options .«disable_left_boundary»)
 
   -- Begin is taken, and whatever list the plain run's answers are, the steps from it answer that list, and then the end for ever.
-  pub runs : (os : List Out) → ((n : ℕ) → plainly.answers held right n (plainly.begin (not (options .«disable_left_boundary»)) word) ≡ plainly.inOrder n os) →
+  pub runs : (os : List Out) → ((n : ℕ) → plainly.plainAnswers held right n (plainly.begin (not (options .«disable_left_boundary»)) word) ≡ plainly.inOrder n os) →
       (s : State) × (beginOf pairs ops boundary word options ≡ Run s) × ((n : ℕ) → map shown (answers pairs ops boundary word options n s) ≡ thenEnds n os)
   runs os h =
-      (freshState word options, begin-taken, λ n. steps-follow n (freshState word options) (starts .0) ∙ ap (λ (r : plainly.Run). map shownOf (plainly.answers held right n r)) (starts .1) ∙ ap (λ (a : List (Option Out)). map shownOf a) (h n) ∙ in-order n os)
+      (freshState word options, begin-taken, λ n. steps-follow n (freshState word options) (starts .0) ∙ ap (λ (r : plainly.Run). map shownOf (plainly.plainAnswers held right n r)) (starts .1) ∙ ap (λ (a : List (Option Out)). map shownOf a) (h n) ∙ in-order n os)

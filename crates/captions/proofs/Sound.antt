@@ -60,7 +60,7 @@ mode (suc p) consumes.Boundary os n = false
 
 -- ---- the plain run
 
-abbrev pub nextOf : NextLeft → plainly.Next
+abbrev pub nextOf : NextLeft → plainly.PlainNext
 nextOf next.Boundary = plainly.left edge
 nextOf (next.Char c) = plainly.left (at (plain c))
 nextOf (next.Lig c) = plainly.left (at (inserted c))
@@ -87,7 +87,7 @@ module _ (ops : List ℤ) (word : List ℕ) where
       record { ops = raiseFirst (isPending (s .pending)) (opsOf s); next = nextOf (s .«next_left»); rest = drop (s .read) word }
 
   -- a step answers as the plain run does, and leaves a state that stands for the plain run's
-  pub record Follows (t : Step) (a : plainly.Answer) : Type 0 where
+  pub record Follows (t : Step) (a : plainly.PlainAnswer) : Type 0 where
     pub answers : shown (t .answer) ≡ shownOf (a .gives)
     pub leaves : runOf (t .state) ≡ a .run
     pub sound : Sound (t .state) (opsOf (t .state))

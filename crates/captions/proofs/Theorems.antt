@@ -111,7 +111,7 @@ module _ (f : Font) (few : opCount (fontOps f) ≤ 2147483647) (fits : absentOr 
   fit : Fit (f .boundary) word options
   fit = record { boundary-fits = fits; override-fits = caption .override-fits; letters-fit = caption .letters-fit; word-fits = caption .word-fits }
 
-  answer-all : (items : List Out) → ((n : ℕ) → plainly.answers (below 256 (entries (fontTable f) (fontOps f))) (rightItem (f .boundary) (options .«right_boundary_override»)) n (plainly.begin (not (options .«disable_left_boundary»)) word) ≡ plainly.inOrder n items) → Answered f (fontTable f) (fontOps f) word options items
+  answer-all : (items : List Out) → ((n : ℕ) → plainly.plainAnswers (below 256 (entries (fontTable f) (fontOps f))) (rightItem (f .boundary) (options .«right_boundary_override»)) n (plainly.begin (not (options .«disable_left_boundary»)) word) ≡ plainly.inOrder n items) → Answered f (fontTable f) (fontOps f) word options items
   answer-all items h =
       let d = runs (fontTable f) (fontOps f) (font-form f few) (f .boundary) word options fit items h in
       record { start = d .0; begins = d .1; answered = d .2 }

@@ -25,9 +25,9 @@ use Rattle.captions.specs.declared.Consumes.{Consumes}
 use Rattle.captions.specs.declared.Consumes.the-variants as consumes
 use Rattle.captions.specs.declared.State.{State}
 use Rattle.captions.specs.declared.Turned.{Turned}
-use Rattle.captions.specs.Tables.{opCount, number, keyBy, find, firstOp, countOf, lastCode, lastFlag, entryAt, entries, opAt, opsFrom, recordFits}
+use Rattle.captions.specs.Tables.{opCount, number, keyBy, find, firstOp, countOf, lastCode, lastFlag, entryOfPair, entries, opAt, opsFrom, recordFits}
 use Rattle.captions.specs.Form.{tableForm}
-use Rattle.captions.specs.Steps.{refused, leftLetters, takesBoundary, leftPlaceOf, leftConsumed, afterRight, readOn, entered, turnBy, turnWith, turnAtEnd, turnAtLetter, givesNothing, entryFits, turn, onward, runOn, nextFits}
+use Rattle.captions.specs.Steps.{refused, leftLetters, takesBoundary, leftPlaceOf, leftConsumed, afterRight, readOn, enteredAt, turnBy, turnWith, turnAtEnd, turnAtLetter, givesNothing, entryReads, turn, goesOn, runOn, nextFits}
 use Rattle.captions.proofs.FontTable.{below}
 use Rattle.captions.proofs.Raising.{raiseFirst, raise-outs, raise-last, raise-last-none, hasGlyph, plainFirst, form-ops, left-plain-first, left-carried, boundary-no-plain}
 use Rattle.captions.proofs.Sound.{state, isPending, waiting, isLigature, mode, nextOf, Sound, Follows}
@@ -86,7 +86,7 @@ entry-looked (character a) y f c os h = res-is (raiseLeft false os (item f c)) (
 entry-looked (ligature a p) y f c os h = res-is (raiseLeft true os (item f c)) (raiseFirst true os) (item f c) (raise-outs true os (item f c)) (raise-last true os (item f c) (left-carried a os (item f c) h))
 
 -- a character given with nothing after it
-given-one : (t : Finished) (right : Option ℕ) (rest : List ℕ) (o : Out) (n : plainly.Next) → plainly.stepFrom t right rest (o ∷ []) n ≡ plainly.given (o ∷ []) n rest
+given-one : (t : Finished) (right : Option ℕ) (rest : List ℕ) (o : Out) (n : plainly.PlainNext) → plainly.stepFrom t right rest (o ∷ []) n ≡ plainly.given (o ∷ []) n rest
 unfolding plainly.stepFrom
 given-one t right [] o n = refl
 given-one t right (y ∷ ys) o n = refl
@@ -95,7 +95,7 @@ next-flagged : (f : Bool) (c : ℕ) → nextOf (afterRight true (item f c)) ≡ 
 next-flagged true c = refl
 next-flagged false c = refl
 
-next-final : (f : Bool) (c : ℕ) → nextOf (afterRight false (item f c)) ≡ plainly.afterRight (item f c)
+next-final : (f : Bool) (c : ℕ) → nextOf (afterRight false (item f c)) ≡ plainly.plainAfterRight (item f c)
 next-final true c = refl
 next-final false c = refl
 
@@ -128,23 +128,23 @@ module _ (pairs ops : List ℤ) (table : tableForm pairs ops ≡ true) (word : L
   keeps-left : (a k : ℕ) → Formed pairs ops (suc a) k → both (recordFits pairs ops k) (not (givesNothing pairs k)) ≡ true
   keeps-left a k f =
       let os = opsFrom ops (firstOp pairs k) (countOf pairs k) in
-      let carried = left-carried a os (entryAt pairs ops k .last) (form-ops (chr a) (wordOf (number pairs k 1)) (entryAt pairs ops k) (f .form)) in
+      let carried = left-carried a os (entryOfPair pairs ops k .last) (form-ops (chr a) (wordOf (number pairs k 1)) (entryOfPair pairs ops k) (f .form)) in
       rw (f .fits, keeps (firstOp pairs k) (countOf pairs k) (lastFlag pairs k) carried) refl
 
-  follows-entry : {x : NextLeft} {p k : ℕ} → Lefts x p → Formed pairs ops (leftPlaceOf x) k → entryFits pairs ops x k ≡ true
+  follows-entry : {x : NextLeft} {p k : ℕ} → Lefts x p → Formed pairs ops (leftPlaceOf x) k → entryReads pairs ops x k ≡ true
   follows-entry boundary f = rw (f .fits) refl
   follows-entry {k = k} (character a) f = keeps-left a k f
   follows-entry {k = k} (ligature a p) f = keeps-left a k f
 
   entered-sound : {x : NextLeft} {p : ℕ} → Lefts x p → (letter : Bool) (o m r g k : ℕ) (b : Bool) (c : Consumes) → Formed pairs ops (leftPlaceOf x) k → readOn letter r ≤ length word → g + (p + leftLetters (leftConsumed x)) ≤ r →
-      Sound ops word (entered pairs x letter (state x o m r g p b c) k) (opsFrom ops (firstOp pairs k) (countOf pairs k))
+      Sound ops word (enteredAt pairs x letter (state x o m r g p b c) k) (opsFrom ops (firstOp pairs k) (countOf pairs k))
   entered-sound {x} {p} s letter o m r g k b c f i h =
       record {
         inside = i;
         counted = one-waits letter (lastFlag pairs k) (lastCode pairs k) g (p + leftLetters (leftConsumed x)) r h;
         among = f .among;
         fits = code-fits letter (lastFlag pairs k) (lastCode pairs k) (f .code);
-        holds = entry-mode s letter (lastFlag pairs k) (lastCode pairs k) (opsFrom ops (firstOp pairs k) (countOf pairs k)) (form-ops (leftOf (leftPlaceOf x)) (wordOf (number pairs k 1)) (entryAt pairs ops k) (f .form));
+        holds = entry-mode s letter (lastFlag pairs k) (lastCode pairs k) (opsFrom ops (firstOp pairs k) (countOf pairs k)) (form-ops (leftOf (leftPlaceOf x)) (wordOf (number pairs k 1)) (entryOfPair pairs ops k) (f .form));
       }
 
   -- from every sound state with fuel enough
@@ -156,8 +156,8 @@ module _ (pairs ops : List ℤ) (table : tableForm pairs ops ≡ true) (word : L
   -- a letter
   at-letter : (F : ℕ) → Goal F → {x : NextLeft} {p : ℕ} → Lefts x p → (o r g y : ℕ) (b : Bool) (k : Consumes) → suc r ≤ length word → y ≤ 255 → length word - r < suc F → o ≤ opCount ops → g + (p + leftLetters (leftConsumed x)) ≤ r →
       (e : Option ℕ) → find pairs (keyBy (leftPlaceOf x) y) ≡ e →
-      Follows ops word (onward (runOn ops look F) (turnBy pairs ops x true y (state x o 0 r g p b k) e))
-      (plainly.stepFrom held right (drop (suc r) word) (plainly.entryOr (Option·map (entryAt pairs ops) e) (headOf x) y .outs) (plainly.left (at (plainly.entryOr (Option·map (entryAt pairs ops) e) (headOf x) y .last))))
+      Follows ops word (goesOn (runOn ops look F) (turnBy pairs ops x true y (state x o 0 r g p b k) e))
+      (plainly.stepFrom held right (drop (suc r) word) (plainly.entryOr (Option·map (entryOfPair pairs ops) e) (headOf x) y .outs) (plainly.left (at (plainly.entryOr (Option·map (entryOfPair pairs ops) e) (headOf x) y .last))))
   unfolding opsFrom raiseFirst noPlain
   at-letter F ih boundary o r g y b k i small enough u h none e =
       ih (next.Char y) o 0 (suc r) g 0 b consumes.Nothing (λ _. omega arith)
@@ -171,7 +171,7 @@ module _ (pairs ops : List ℤ) (table : tableForm pairs ops ≡ true) (word : L
   at-letter F ih {x} {p} s o r g y b k i small enough u h (some j) e =
       let f = found-formed pairs ops table (leftPlaceOf x) y j small e in
       let os = opsFrom ops (firstOp pairs j) (countOf pairs j) in
-      let q = entry-looked s y (lastFlag pairs j) (lastCode pairs j) os (form-ops (leftOf (leftPlaceOf x)) (wordOf (number pairs j 1)) (entryAt pairs ops j) (f .form)) in
+      let q = entry-looked s y (lastFlag pairs j) (lastCode pairs j) os (form-ops (leftOf (leftPlaceOf x)) (wordOf (number pairs j 1)) (entryOfPair pairs ops j) (f .form)) in
       rw (follows-entry s f, q, ← next-flagged (lastFlag pairs j) (lastCode pairs j))
       (ih (afterRight true (item (lastFlag pairs j) (lastCode pairs j))) (firstOp pairs j) (countOf pairs j) (suc r) g p b (leftConsumed x) (λ _. omega arith) (entered-sound s true o 0 r g j b k f i h))
 
@@ -185,8 +185,8 @@ module _ (pairs ops : List ℤ) (table : tableForm pairs ops ≡ true) (word : L
   -- the word's end, with a right item
   at-right : (F : ℕ) {x : NextLeft} {p : ℕ} → Lefts x p → (x ≡ next.Boundary → ⊥) → (o r g y : ℕ) (b : Bool) (k : Consumes) → r ≤ length word → drop r word ≡ [] → y ≤ 255 → o ≤ opCount ops → g + (p + leftLetters (leftConsumed x)) ≤ r →
       (e : Option ℕ) → find pairs (keyBy (leftPlaceOf x) y) ≡ e →
-      Follows ops word (onward (runOn ops look F) (turnBy pairs ops x false y (state x o 0 r g p b k) e))
-      (plainly.given (plainly.entryOr (Option·map (entryAt pairs ops) e) (headOf x) y .outs) (plainly.afterRight (plainly.entryOr (Option·map (entryAt pairs ops) e) (headOf x) y .last)) [])
+      Follows ops word (goesOn (runOn ops look F) (turnBy pairs ops x false y (state x o 0 r g p b k) e))
+      (plainly.given (plainly.entryOr (Option·map (entryOfPair pairs ops) e) (headOf x) y .outs) (plainly.plainAfterRight (plainly.entryOr (Option·map (entryOfPair pairs ops) e) (headOf x) y .last)) [])
   unfolding opsFrom noPlain
   at-right F boundary z o r g y b k i d small u h none e = absurd (z refl)
   at-right F (character c) z o r g y b k i d small u h none e =
@@ -196,7 +196,7 @@ module _ (pairs ops : List ℤ) (table : tableForm pairs ops ≡ true) (word : L
   at-right F {x} {p} s z o r g y b k i d small u h (some j) e =
       let f = found-formed pairs ops table (leftPlaceOf x) y j small e in
       let os = opsFrom ops (firstOp pairs j) (countOf pairs j) in
-      let q = entry-looked s y (lastFlag pairs j) (lastCode pairs j) os (form-ops (leftOf (leftPlaceOf x)) (wordOf (number pairs j 1)) (entryAt pairs ops j) (f .form)) in
+      let q = entry-looked s y (lastFlag pairs j) (lastCode pairs j) os (form-ops (leftOf (leftPlaceOf x)) (wordOf (number pairs j 1)) (entryOfPair pairs ops j) (f .form)) in
       let sound = entered-sound s false o 0 r g j b k f i h in
       let t = afterRight false (item (lastFlag pairs j) (lastCode pairs j)) in
       rw (follows-entry s f, q, ← next-final (lastFlag pairs j) (lastCode pairs j), ← d)
@@ -205,7 +205,7 @@ module _ (pairs ops : List ℤ) (table : tableForm pairs ops ≡ true) (word : L
   -- .. or without
   at-end : (F : ℕ) {x : NextLeft} {p : ℕ} → Lefts x p → (e : Option ℕ) → right ≡ e → (o r g : ℕ) (b : Bool) (k : Consumes) → r ≤ length word → drop r word ≡ [] → o ≤ opCount ops → g + (p + leftLetters (leftConsumed x)) ≤ r →
       Sound ops word (state x o 0 r g p b k) (opsFrom ops o 0) ⊎ (x ≡ next.Boundary → ⊥) →
-      Follows ops word (onward (runOn ops look F) (turnAtEnd pairs ops e x (state x o 0 r g p b k))) (plainly.atEnd held e (headOf x))
+      Follows ops word (goesOn (runOn ops look F) (turnAtEnd pairs ops e x (state x o 0 r g p b k))) (plainly.atEnd held e (headOf x))
   unfolding opsFrom noPlain raiseFirst
   at-end F boundary e q o r g b k i d u h (inl s) = record { answers = refl; leaves = rw d refl; sound = s }
   at-end F boundary e q o r g b k i d u h (inr z) = absurd (z refl)
@@ -226,7 +226,7 @@ module _ (pairs ops : List ℤ) (table : tableForm pairs ops ≡ true) (word : L
 
   -- a left with a letter
   by-letter : (F : ℕ) → Goal F → {x : NextLeft} {p : ℕ} → Lefts x p → (o r g y : ℕ) (b : Bool) (k : Consumes) → suc r ≤ length word → y ≤ 255 → length word - r < suc F → o ≤ opCount ops → g + (p + leftLetters (leftConsumed x)) ≤ r →
-      Follows ops word (onward (runOn ops look F) (turnWith pairs ops x true y (state x o 0 r g p b k))) (plainly.stepFrom held right (y ∷ drop (suc r) word) [] (plainly.left (headOf x)))
+      Follows ops word (goesOn (runOn ops look F) (turnWith pairs ops x true y (state x o 0 r g p b k))) (plainly.stepFrom held right (y ∷ drop (suc r) word) [] (plainly.left (headOf x)))
   unfolding plainly.stepFrom
   by-letter F ih boundary o r g y b k i small enough u h = let t : ltb y 256 ≡ true = lt-ltb y 256 (omega arith) in rw t (at-letter F ih boundary o r g y b k i small enough u h (find pairs (keyBy 0 y)) refl)
   by-letter F ih (character c) o r g y b k i small enough u h = let t : ltb y 256 ≡ true = lt-ltb y 256 (omega arith) in rw t (at-letter F ih (character c) o r g y b k i small enough u h (find pairs (keyBy (suc c) y)) refl)
@@ -235,7 +235,7 @@ module _ (pairs ops : List ℤ) (table : tableForm pairs ops ≡ true) (word : L
   -- a left with what is next in the word
   at-left : (F : ℕ) → Goal F → {x : NextLeft} {p : ℕ} → Lefts x p → (o r g : ℕ) (b : Bool) (k : Consumes) → r ≤ length word → length word - r < suc F → o ≤ opCount ops → g + (p + leftLetters (leftConsumed x)) ≤ r →
       Sound ops word (state x o 0 r g p b k) (opsFrom ops o 0) ⊎ (x ≡ next.Boundary → ⊥) → (t : Bool) → ltb r (length word) ≡ t →
-      Follows ops word (onward (runOn ops look F) (cond t (turnAtLetter pairs ops x (getD word r 0) (state x o 0 r g p b k)) (turnAtEnd pairs ops right x (state x o 0 r g p b k))))
+      Follows ops word (goesOn (runOn ops look F) (cond t (turnAtLetter pairs ops x (getD word r 0) (state x o 0 r g p b k)) (turnAtEnd pairs ops right x (state x o 0 r g p b k))))
       (plainly.stepFrom held right (drop r word) [] (plainly.left (headOf x)))
   unfolding plainly.stepFrom
   at-left F ih {x} {p} s o r g b k i enough u h z true e =
@@ -264,19 +264,19 @@ module _ (pairs ops : List ℤ) (table : tableForm pairs ops ≡ true) (word : L
 
   -- a left that is no ligature
   from-boundary : (F : ℕ) → Goal F → (o r g p : ℕ) (b : Bool) (k : Consumes) → length word - r < suc F → Sound ops word (state next.Boundary o 0 r g p b k) (opsFrom ops o 0) → p ≡ 0 →
-      Follows ops word (onward (runOn ops look F) (look next.Boundary (state next.Boundary o 0 r g p b k))) (plainly.stepFrom held right (drop r word) [] (plainly.left edge))
+      Follows ops word (goesOn (runOn ops look F) (look next.Boundary (state next.Boundary o 0 r g p b k))) (plainly.stepFrom held right (drop r word) [] (plainly.left edge))
   from-boundary F ih o r g zero b k enough s e =
       at-left F ih boundary o r g b k (s .inside) enough (omega (arith, s .among)) (omega (arith, s .counted)) (inl s) (ltb r (length word)) refl
   from-boundary F ih o r g (suc p) b k enough s e = absurd (omega (arith, e))
 
   from-character : (F : ℕ) → Goal F → (c o r g p : ℕ) (b : Bool) (k : Consumes) → length word - r < suc F → Sound ops word (state (next.Char c) o 0 r g p b k) (opsFrom ops o 0) → p ≡ 0 →
-      Follows ops word (onward (runOn ops look F) (look (next.Char c) (state (next.Char c) o 0 r g p b k))) (plainly.stepFrom held right (drop r word) [] (plainly.left (at (plain c))))
+      Follows ops word (goesOn (runOn ops look F) (look (next.Char c) (state (next.Char c) o 0 r g p b k))) (plainly.stepFrom held right (drop r word) [] (plainly.left (at (plain c))))
   from-character F ih c o r g zero b k enough s e =
       at-left F ih (character c) o r g b k (s .inside) enough (omega (arith, s .among)) (omega (arith, s .counted)) (inr (λ z. no-char z)) (ltb r (length word)) refl
   from-character F ih c o r g (suc p) b k enough s e = absurd (omega (arith, e))
 
   from-ligature : (F : ℕ) → Goal F → (c o r g p : ℕ) (b : Bool) (k : Consumes) → length word - r < suc F → Sound ops word (state (next.Lig c) o 0 r g p b k) (opsFrom ops o 0) →
-      Follows ops word (onward (runOn ops look F) (look (next.Lig c) (state (next.Lig c) o 0 r g p b k))) (plainly.stepFrom held right (drop r word) [] (plainly.left (at (inserted c))))
+      Follows ops word (goesOn (runOn ops look F) (look (next.Lig c) (state (next.Lig c) o 0 r g p b k))) (plainly.stepFrom held right (drop r word) [] (plainly.left (at (inserted c))))
   from-ligature F ih c o r g p b k enough s =
       at-left F ih (ligature c (p + leftLetters k)) o r g (takesBoundary (state (next.Lig c) o 0 r g p b k)) consumes.Nothing (s .inside) enough (omega (arith, s .among)) (omega (arith, s .counted)) (inr (λ z. no-lig z)) (ltb r (length word)) refl
 

@@ -15,11 +15,10 @@ use Rattle.lang.specs.Records.{absentOr}
 use Rattle.reading.specs.Items.{Left, Out}
 use Rattle.reading.specs.Reading.{reading, ended, NeverEnds, Ends}
 use Rattle.reading.specs.Depth.{Pair}
-use Rattle.fonts.specs.Fonts.{numberOfLeft}
+use Rattle.fonts.specs.Fonts.{numberOfLeft, Font, rulesOf}
 use Rattle.fonts.specs.declared.Compiled.the-variants.{Tables}
 use Rattle.fonts.specs.Numbers.{loopNumbers}
 use Rattle.fonts.specs.Compiled.{Compiles}
-use Rattle.fonts.specs.Fonts.{Font, rulesOf}
 use Rattle.captions.specs.declared.RunOptions.{RunOptions}
 use Rattle.captions.specs.declared.State.{State}
 use Rattle.captions.specs.declared.Begun.the-variants.{Run}

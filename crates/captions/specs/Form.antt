@@ -11,7 +11,7 @@ use Rattle.lang.specs.Records.{within, absentOr}
 use Rattle.lang.specs.Checks.{unless}
 use Rattle.reading.specs.Form.{formed}
 use Rattle.fonts.specs.Fonts.{leftOf}
-use Rattle.captions.specs.Tables.{pairCount, opCount, number, leftPlace, keyAt, firstOp, countOf, entryAt, opFits, recordFits}
+use Rattle.captions.specs.Tables.{pairCount, opCount, number, leftPlace, keyAt, firstOp, countOf, entryOfPair, opFits, recordFits}
 
 -- where the ops of the first k pairs end, which is where those of the next begin
 abbrev pub opsEnd : List ℤ → ℕ → ℕ
@@ -33,7 +33,7 @@ pairForm pairs ops k =
     both (keyForm pairs k)
     (both (recordFits pairs ops k)
     (both (eqb (firstOp pairs k) (opsEnd pairs k))
-    (formed (leftOf (leftPlace (number pairs k 0))) (wordOf (number pairs k 1)) (entryAt pairs ops k))))
+    (formed (leftOf (leftPlace (number pairs k 0))) (wordOf (number pairs k 1)) (entryOfPair pairs ops k))))
 
 -- whole pairs, whole ops, and no more ops than an i32 counts
 abbrev pub sizesForm : List ℤ → List ℤ → Bool

@@ -19,7 +19,7 @@ use Rattle.captions.specs.declared.NextLeft.the-variants as next
 use Rattle.captions.specs.declared.State.{State}
 use Rattle.captions.specs.Tables.{pairCount, number, opKind, opValue, keyBy, leftPlace, find, firstOp, countOf, lastCode}
 use Rattle.captions.specs.Form.{keyForm, tableRefusal}
-use Rattle.captions.specs.Replies.{bit}
+use Rattle.captions.specs.Replies.{bitNumber}
 use Rattle.captions.specs.Steps.{rightItem}
 
 -- ---- a word can be parted here: no op is to be given, and the next left is no ligature
@@ -56,7 +56,7 @@ hasRefusal pairs boundary left right =
 -- THE contract of has_replacement: its answer, as document 01 has it
 abbrev pub hasReply : List ℤ → ℤ → ℤ → ℤ → Reply
 hasReply pairs boundary left right =
-    replyOf (hasRefusal pairs boundary left right) (bit (hasEntry pairs left (rightItem boundary right)) ∷ [])
+    replyOf (hasRefusal pairs boundary left right) (bitNumber (hasEntry pairs left (rightItem boundary right)) ∷ [])
 
 -- ---- all_pairs_with_replacements: left and right of every pair, in order
 
@@ -88,4 +88,4 @@ pairIsSafe pairs ops k =
 
 -- THE contract of is_seven_bit_safe: its answer, as document 01 has it
 abbrev pub safeReply : List ℤ → List ℤ → Reply
-safeReply pairs ops = replyOf (tableRefusal pairs ops) (bit (every (pairCount pairs) (pairIsSafe pairs ops)) ∷ [])
+safeReply pairs ops = replyOf (tableRefusal pairs ops) (bitNumber (every (pairCount pairs) (pairIsSafe pairs ops)) ∷ [])

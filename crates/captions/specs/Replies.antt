@@ -17,9 +17,9 @@ use Rattle.captions.specs.declared.Answer.the-variants.{Char, Ligature, 
 use Rattle.captions.specs.declared.Told.{Told}
 use Rattle.captions.specs.declared.Told.the-variants as told
 
-abbrev pub bit : Bool → ℤ
-bit false = pos 0
-bit true = pos 1
+abbrev pub bitNumber : Bool → ℤ
+bitNumber false = pos 0
+bitNumber true = pos 1
 
 -- ---- begin: the state
 
@@ -47,7 +47,7 @@ abbrev pub stateNumbers : State → List ℤ
 stateNumbers s =
     pos (nextKind (s .«next_left»)) ∷ pos (nextCode (s .«next_left»))
     ∷ pos (s .op) ∷ pos (s .ops) ∷ pos (s .read) ∷ pos (s .given)
-    ∷ pos (s .pending) ∷ bit (s .«pending_boundary») ∷ pos (consumesNumber (s .«consumes_left»)) ∷ []
+    ∷ pos (s .pending) ∷ bitNumber (s .«pending_boundary») ∷ pos (consumesNumber (s .«consumes_left»)) ∷ []
 
 abbrev pub begunReply : Begun → Reply
 begunReply (begun.Run s) = record { number = 0; values = stateNumbers s }
@@ -58,7 +58,7 @@ begunReply (begun.Refused n) = record { number = n; values = [] }
 abbrev pub answerReply : Answer → Reply
 answerReply (Char c start) = record { number = 0; values = pos 0 ∷ pos c ∷ pos start ∷ pos 1 ∷ pos 0 ∷ pos 0 ∷ [] }
 answerReply (Ligature c start n left right) =
-    record { number = 0; values = pos 1 ∷ pos c ∷ pos start ∷ pos n ∷ bit left ∷ bit right ∷ [] }
+    record { number = 0; values = pos 1 ∷ pos c ∷ pos start ∷ pos n ∷ bitNumber left ∷ bitNumber right ∷ [] }
 answerReply (Kern k) = record { number = 0; values = pos 2 ∷ k ∷ pos 0 ∷ pos 0 ∷ pos 0 ∷ pos 0 ∷ [] }
 answerReply End = record { number = 0; values = [] }
 answerReply (Refused n) = record { number = n; values = [] }
@@ -74,5 +74,5 @@ isEnd (Refused n) = false
 -- ---- a question about a table: 1 or 0
 
 abbrev pub toldReply : Told → Reply
-toldReply (told.Is b) = record { number = 0; values = bit b ∷ [] }
+toldReply (told.Is b) = record { number = 0; values = bitNumber b ∷ [] }
 toldReply (told.Refused n) = record { number = n; values = [] }

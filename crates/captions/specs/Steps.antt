@@ -199,8 +199,8 @@ giveLeft (next.FinalLig c) s = Goes s
 giveLeft next.None s = Goes s
 
 -- the ops of an entry are to be given, and its last is next
-abbrev pub entered : List ℤ → NextLeft → Bool → State → ℕ → State
-entered pairs x letter s k =
+abbrev pub enteredAt : List ℤ → NextLeft → Bool → State → ℕ → State
+enteredAt pairs x letter s k =
     record {
       «next_left» = afterRight letter (item (lastFlag pairs k) (lastCode pairs k));
       op = firstOp pairs k;
@@ -229,12 +229,12 @@ abbrev pub swallows : List ℤ → NextLeft → ℕ → Bool
 swallows pairs x k = both (isCharacter x) (givesNothing pairs k)
 
 -- what an entry must be for a step to follow it from a left
-abbrev pub entryFits : List ℤ → List ℤ → NextLeft → ℕ → Bool
-entryFits pairs ops x k = both (recordFits pairs ops k) (not (swallows pairs x k))
+abbrev pub entryReads : List ℤ → List ℤ → NextLeft → ℕ → Bool
+entryReads pairs ops x k = both (recordFits pairs ops k) (not (swallows pairs x k))
 
 abbrev pub turnBy : List ℤ → List ℤ → NextLeft → Bool → ℕ → State → Option ℕ → Turned
 turnBy pairs ops x letter y s none = giveLeft x (withNext (afterRight letter (plain y)) (readOn letter (s .read)) s)
-turnBy pairs ops x letter y s (some k) = cond (entryFits pairs ops x k) (Goes (entered pairs x letter s k)) (Gives (refused 7 s))
+turnBy pairs ops x letter y s (some k) = cond (entryReads pairs ops x k) (Goes (enteredAt pairs x letter s k)) (Gives (refused 7 s))
 
 abbrev pub turnWith : List ℤ → List ℤ → NextLeft → Bool → ℕ → State → Turned
 turnWith pairs ops x letter y s = turnBy pairs ops x letter y s (find pairs (keyBy (leftPlaceOf x) y))
@@ -271,9 +271,9 @@ turn pairs ops right word x s =
 
 -- ---- the step
 
-abbrev pub onward : (State → Step) → Turned → Step
-onward go (Gives t) = t
-onward go (Goes s) = go s
+abbrev pub goesOn : (State → Step) → Turned → Step
+goesOn go (Gives t) = t
+goesOn go (Goes s) = go s
 
 -- the state with nothing next
 abbrev pub withNothingNext : State → State
@@ -291,9 +291,9 @@ withNothingNext s =
 
 -- no ops are to be given: a last ligature is given as it stands, and a left is looked up
 abbrev pub byNext : (NextLeft → State → Turned) → (State → Step) → State → NextLeft → Step
-byNext look go s next.Boundary = onward go (look next.Boundary s)
-byNext look go s (next.Char c) = onward go (look (next.Char c) s)
-byNext look go s (next.Lig c) = onward go (look (next.Lig c) s)
+byNext look go s next.Boundary = goesOn go (look next.Boundary s)
+byNext look go s (next.Char c) = goesOn go (look (next.Char c) s)
+byNext look go s (next.Lig c) = goesOn go (look (next.Lig c) s)
 byNext look go s (next.FinalLig c) = giveLigature c true (withNothingNext s)
 byNext look go s next.None = ended s
 

@@ -102,13 +102,13 @@ lastCode pairs k = wordOf (number pairs k 2)
 abbrev pub lastFlag : List ℤ → ℕ → Bool
 lastFlag pairs k = eqb (wordOf (number pairs k 3)) 1
 
-abbrev pub entryAt : List ℤ → List ℤ → ℕ → Res
-entryAt pairs ops k =
+abbrev pub entryOfPair : List ℤ → List ℤ → ℕ → Res
+entryOfPair pairs ops k =
     record { outs = opsFrom ops (firstOp pairs k) (countOf pairs k); last = item (lastFlag pairs k) (lastCode pairs k) }
 
 -- the table as a function of a left and a right
 abbrev pub entries : List ℤ → List ℤ → Finished
-entries pairs ops l r = Option·map (entryAt pairs ops) (find pairs (keyOf l r))
+entries pairs ops l r = Option·map (entryOfPair pairs ops) (find pairs (keyOf l r))
 
 -- ---- what one pair and one op must be for a step to read them
 

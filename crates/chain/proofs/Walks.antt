@@ -14,14 +14,14 @@ use borrow.Author.Tests.{lt-ltb, le-ltb, ltb-true, ltb-false, eq-eqb, ne-eqb}
 use Rattle.lang.specs.declared.instruction.NextInstruction.{NextInstruction}
 use Rattle.lang.specs.declared.instruction.NextInstruction.the-variants.{Stop, Skip}
 use Rattle.chain.specs.declared.Next.the-variants.{At, End}
-use Rattle.chain.specs.declared.Found.the-variants.{Rule, Nothing}
+use Rattle.chain.specs.declared.FoundRule.the-variants.{Rule, Nothing}
 use Rattle.words.specs.Lists.{Appending}
 use Rattle.words.proofs.Lists.{appending-none, appending-length, appending-one}
 use Rattle.lang.specs.Records.{count, instructionAt}
-use Rattle.chain.specs.Chains.{Program, onward, stepAt, chainFrom, chain, firstFor, ruleIndex, found, chainOf}
+use Rattle.chain.specs.Chains.{Program, onwardFrom, stepAt, chainFrom, chain, firstFor, ruleIndex, found, chainOf}
 
 -- a chain goes on past its index
-pub onward-ascends : (n : ℕ) (x : NextInstruction) (i : ℕ) → i < n → i < onward n x i
+pub onward-ascends : (n : ℕ) (x : NextInstruction) (i : ℕ) → i < n → i < onwardFrom n x i
 onward-ascends n Stop i h = h
 onward-ascends n (Skip k) i h = omega arith
 
@@ -45,20 +45,20 @@ enough (suc a) (suc b) n program i h k =
     under (ltb i n) _ _ []
     (λ e.
     let o = onward-ascends n (program i .«next_instruction») i (ltb-true i n e) in
-    ap (λ (is : List ℕ). i ∷ is) (enough a b n program (onward n (program i .«next_instruction») i) (omega arith) (omega arith)))
+    ap (λ (is : List ℕ). i ∷ is) (enough a b n program (onwardFrom n (program i .«next_instruction») i) (omega arith) (omega arith)))
 
 -- any bound that reaches the end gives the whole chain
 pub chain-whole : (n : ℕ) (program : Program) (i : ℕ) (most : ℕ) → n ≤ i + most → chainFrom most n program i ≡ chain n program i
 chain-whole n program i most h = enough most n n program i h (omega arith)
 
 -- inside, a chain is its index and the chain from where it goes on
-pub chain-step : (n : ℕ) (program : Program) (i : ℕ) → i < n → chain n program i ≡ i ∷ chain n program (onward n (program i .«next_instruction») i)
+pub chain-step : (n : ℕ) (program : Program) (i : ℕ) → i < n → chain n program i ≡ i ∷ chain n program (onwardFrom n (program i .«next_instruction») i)
 unfolding chainFrom
 chain-step zero program i h = absurd (omega arith)
 chain-step (suc n) program i h =
     let o = onward-ascends (suc n) (program i .«next_instruction») i h in
     rw (lt-ltb i (suc n) h)
-    (ap (λ (is : List ℕ). i ∷ is) (chain-whole (suc n) program (onward (suc n) (program i .«next_instruction») i) n (omega arith)))
+    (ap (λ (is : List ℕ). i ∷ is) (chain-whole (suc n) program (onwardFrom (suc n) (program i .«next_instruction») i) n (omega arith)))
 
 pub chain-end : (n : ℕ) (program : Program) (i : ℕ) → n ≤ i → chain n program i ≡ []
 chain-end n program i h = chain-past n n program i h
@@ -71,12 +71,12 @@ bounded false i m is h = omega arith
 pub length-chain : (most n : ℕ) (program : Program) (i : ℕ) → length (chainFrom most n program i) ≤ most
 unfolding chainFrom
 length-chain zero n program i = omega arith
-length-chain (suc most) n program i = bounded (ltb i n) i most _ (length-chain most n program (onward n (program i .«next_instruction») i))
+length-chain (suc most) n program i = bounded (ltb i n) i most _ (length-chain most n program (onwardFrom n (program i .«next_instruction») i))
 
 -- ---- a step of a walk
 
 -- inside, a step goes where the instruction says
-pub step-to : (n : ℕ) (program : Program) (at : ℕ) (x : NextInstruction) → at < n → program at .«next_instruction» ≡ x → At at (onward n x at) ≡ stepAt n program at
+pub step-to : (n : ℕ) (program : Program) (at : ℕ) (x : NextInstruction) → at < n → program at .«next_instruction» ≡ x → At at (onwardFrom n x at) ≡ stepAt n program at
 step-to n program at x h e = rw (lt-ltb at n h, e)
 
 -- a step from index `at` that goes on: it is at that index, moves ahead, and the chain is the index and what is left
@@ -86,10 +86,10 @@ pub record Stepped (n : ℕ) (program : Program) (at i on : ℕ) : Type 0 where
   pub ahead : at < on
   pub rest : chain n program at ≡ at ∷ chain n program on
 
-stepped-by : (t : Bool) (n : ℕ) (program : Program) (at i on : ℕ) → ltb at n ≡ t → cond t (At at (onward n (program at .«next_instruction») at)) End ≡ At i on → Stepped n program at i on
+stepped-by : (t : Bool) (n : ℕ) (program : Program) (at i on : ℕ) → ltb at n ≡ t → cond t (At at (onwardFrom n (program at .«next_instruction») at)) End ≡ At i on → Stepped n program at i on
 stepped-by true n program at i on e h =
     let l = ltb-true at n e in
-    let o : onward n (program at .«next_instruction») at ≡ on = cc in
+    let o : onwardFrom n (program at .«next_instruction») at ≡ on = cc in
     record {
       here = cc;
       inside = l;
@@ -101,7 +101,7 @@ stepped-by false n program at i on e h = absurd (let z : _≡_ {A = ℕ} 0 1 = c
 pub step-on : (n : ℕ) (program : Program) (at i on : ℕ) → stepAt n program at ≡ At i on → Stepped n program at i on
 step-on n program at i on h = stepped-by (ltb at n) n program at i on refl h
 
-ended-by : (t : Bool) (n : ℕ) (program : Program) (at : ℕ) → ltb at n ≡ t → cond t (At at (onward n (program at .«next_instruction») at)) End ≡ End → chain n program at ≡ []
+ended-by : (t : Bool) (n : ℕ) (program : Program) (at : ℕ) → ltb at n ≡ t → cond t (At at (onwardFrom n (program at .«next_instruction») at)) End ≡ End → chain n program at ≡ []
 ended-by true n program at e h = absurd (let z : _≡_ {A = ℕ} 0 1 = cc in omega arith)
 ended-by false n program at e h = chain-end n program at (ltb-false at n e)
 

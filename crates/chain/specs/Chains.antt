@@ -18,8 +18,8 @@ use Rattle.lang.specs.declared.instruction.NextInstruction.the-variants.{Stop, 
 use Rattle.lang.specs.declared.instruction.Instruction.{Instruction}
 use Rattle.chain.specs.declared.Next.{Next}
 use Rattle.chain.specs.declared.Next.the-variants.{At, End}
-use Rattle.chain.specs.declared.Found.{Found}
-use Rattle.chain.specs.declared.Found.the-variants.{Rule, Nothing}
+use Rattle.chain.specs.declared.FoundRule.{FoundRule}
+use Rattle.chain.specs.declared.FoundRule.the-variants.{Rule, Nothing}
 use Rattle.lang.specs.Operations.{fromBytes}
 use Rattle.lang.specs.Records.{count, field, instructionAt}
 use Rattle.lang.specs.Checks.{programRefusal, rangeRefusal, orElse}
@@ -31,19 +31,19 @@ abbrev pub Program : Type 0
 Program = ℕ → Instruction
 
 -- where a chain goes on after index i of n instructions: past the end where it stops
-abbrev pub onward : ℕ → NextInstruction → ℕ → ℕ
-onward n Stop i = n
-onward n (Skip k) i = i + 1 + k
+abbrev pub onwardFrom : ℕ → NextInstruction → ℕ → ℕ
+onwardFrom n Stop i = n
+onwardFrom n (Skip k) i = i + 1 + k
 
 -- one step of a walk: the index and where the walk goes on, or the end
 abbrev pub stepAt : ℕ → Program → ℕ → Next
-stepAt n program i = cond (ltb i n) (At i (onward n (program i .«next_instruction») i)) End
+stepAt n program i = cond (ltb i n) (At i (onwardFrom n (program i .«next_instruction») i)) End
 
 -- the indices of the chain from i, at most as many as the first number says. Indices ascend, so n is enough (theorem `chain-whole`).
 unfoldable pub chainFrom : ℕ → ℕ → Program → ℕ → List ℕ
 chainFrom zero n program i = []
 chainFrom (suc most) n program i =
-    let rest = chainFrom most n program (onward n (program i .«next_instruction») i) in
+    let rest = chainFrom most n program (onwardFrom n (program i .«next_instruction») i) in
     cond (ltb i n) (i ∷ rest) []
 
 abbrev pub chain : ℕ → Program → ℕ → List ℕ
@@ -58,7 +58,7 @@ firstFor program right (i ∷ is) = cond (eqb (program i .«right_char» .0) rig
 abbrev pub ruleIndex : ℕ → Program → ℕ → ℕ → Option ℕ
 ruleIndex n program entry right = firstFor program right (chain n program entry)
 
-abbrev pub found : Option ℕ → Found
+abbrev pub found : Option ℕ → FoundRule
 found none = Nothing
 found (some i) = Rule i
 
@@ -93,6 +93,6 @@ walkRefusal s entry room =
     orElse (programRefusal s) (orElse (rangeRefusal 65535 entry) (roomRefusal (length (chainOf s (wordOf entry))) room))
 
 -- the contract of instructions_for_entrypoint: `out` is the list as it was lent, out′ as it comes back
-pub record Walked (s : List ℤ) (entry : ℤ) (out : List ℕ) (r : Written) (out′ : List ℕ) : Type 0 where
+pub record WalksChain (s : List ℤ) (entry : ℤ) (out : List ℕ) (r : Written) (out′ : List ℕ) : Type 0 where
   pub answer : writtenReply r ≡ replyOf (walkRefusal s entry (length out)) (pos (length (chainOf s (wordOf entry))) ∷ [])
   pub list : out′ ≡ listOf (walkRefusal s entry (length out)) 0 (length out) (chainOf s (wordOf entry))

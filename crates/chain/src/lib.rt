@@ -1,11 +1,11 @@
-// Chains: which instruction is a pair's rule, and what it does. After `build_node_to_program_start_map` of ligkern/compiler.rs (lines 111 to
-// 148), and `instructions_for_entrypoint` of ligkern/lang.rs (lines 650 to 662 and 1007 to 1027).
+// Chains: which instruction is a pair's rule, and what it does. After `build_node_to_program_start_map` of ligkern/compiler.rs (lines 113 to
+// 148), and `instructions_for_entrypoint` of ligkern/lang.rs (lines 667 to 676 and 1005 to 1026).
 ghost use mathlib.Core.Path.{_≡_};
 ghost use Rattle.lang.specs.Records.{count, instructionAt};
 ghost use Prim.Native.Nat.{_≤_};
 ghost use lib.ListN.{length};
 ghost use Rattle.words.specs.Lists.{Appending};
-ghost use Rattle.chain.specs.Chains.{stepAt, ruleIndexOf, found, redirected, kernOf, actsAs, chainOf, walkRefusal, Walked};
+ghost use Rattle.chain.specs.Chains.{stepAt, ruleIndexOf, found, redirected, kernOf, actsAs, chainOf, walkRefusal, WalksChain};
 use checks::program_refusal;
 use checks::range_refusal;
 use lang::Written;
@@ -22,7 +22,7 @@ pub enum Next {
 }
 
 // The rule of a pair: the index of an instruction, or nothing.
-pub enum Found {
+pub enum FoundRule {
     Rule(usize),
     Nothing,
 }
@@ -44,16 +44,16 @@ pub fn next_instruction(instructions: &[i32], at: usize) -> Next
 }
 
 // The first instruction for a right character on the chain from an entry.
-pub fn rule_index(instructions: &[i32], entry: usize, right: u8) -> Found
+pub fn rule_index(instructions: &[i32], entry: usize, right: u8) -> FoundRule
     ensures { λ r. ⌜ r ≡ found (ruleIndexOf (now (instructions .entry)) entry right) ⌝ }
 {
     let mut at = entry;
     loop {
         let Next::At(i, on) = next_instruction(instructions, at) else {
-            return Found::Nothing;
+            return FoundRule::Nothing;
         };
         if field_at(instructions, i, 1) % 256 == (right as u32) {
-            return Found::Rule(i);
+            return FoundRule::Rule(i);
         }
         at = on;
     }
@@ -153,7 +153,7 @@ fn write_chain(instructions: &[i32], entry: usize, out: &mut [u32]) -> usize
 
 // The indices of the whole chain from an entry, in order, then zeros.
 pub fn instructions_for_entrypoint(instructions: &[i32], entry: i32, out: &mut [u32]) -> Written
-    ensures { λ r. ⌜ Walked (now (instructions .entry)) entry (now (out .entry)) r (now (out .exit)) ⌝ }
+    ensures { λ r. ⌜ WalksChain (now (instructions .entry)) entry (now (out .entry)) r (now (out .exit)) ⌝ }
 {
     words::zero::zero_u32(out);
     let refused = walk_refusal(instructions, entry, out.len());

@@ -2,7 +2,7 @@
 // program at most 4,096 instructions.
 ghost use mathlib.Core.Path.{_≡_};
 ghost use lib.ListN.{length};
-ghost use Rattle.requests.specs.Answers.{Within};
+ghost use Rattle.requests.specs.Answers.{CountWithin};
 use crate::instructions::put_instructions;
 use lang::Written;
 use pack::Packed;
@@ -98,7 +98,7 @@ fn answer_by(letter: u8, font: &[i32], out: &mut [i32]) -> Written {
 
 // The numbers of the answer to a request, or the number of its refusal: 15 where the list is too short, 16 for another letter.
 pub fn answer(letter: u8, font: &[i32], out: &mut [i32]) -> Written
-    ensures { λ r. ⌜ Within r (length (now (out .exit))) ⌝ }
+    ensures { λ r. ⌜ CountWithin r (length (now (out .exit))) ⌝ }
 {
     let answer = answer_by(letter, font, out);
     fitting(answer, out.len())

@@ -1,13 +1,12 @@
 // The first half of compiling's first stage: the pairs that have a rule, a row each in the work buffer, in ascending order with the boundary first, after
-// `build_node_to_program_start_map` of ligkern/compiler.rs (lines 111 to 148). Each left's chain is walked once. specs/Rows.antt of crate `pairs` says what a
+// `build_node_to_program_start_map` of ligkern/compiler.rs (lines 113 to 148). Each left's chain is walked once. specs/Rows.antt of crate `pairs` says what a
 // row holds.
 ghost use mathlib.Core.Path.{_≡_};
 ghost use Prim.Native.Nat.{_+_, _*_, _<_, _≤_, _/_, min};
 ghost use lib.ListN.{length, getD, replicate};
 ghost use Rattle.words.specs.Words.{Word};
 ghost use Rattle.lang.specs.Records.{count};
-ghost use Rattle.fonts.specs.Fonts.{leftOf};
-ghost use Rattle.fonts.specs.Fonts.{leftEntry};
+ghost use Rattle.fonts.specs.Fonts.{leftOf, leftEntry};
 ghost use Rattle.pairs.specs.PairRows.{CollectsBy};
 ghost use Rattle.lang.specs.Entries.{entriesTable};
 ghost use Rattle.collect.specs.Collecting.{CollectsFont};

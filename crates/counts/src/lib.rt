@@ -180,8 +180,6 @@ pub fn count(
         pair_room / 6,
     ) {
         WalkedFont::Refused(number) => CountedFont::Refused(number),
-        WalkedFont::Rows(n, m, r, scaled) => {
-            measure(work, n, m, r, scaled, op_room, loop_room)
-        }
+        WalkedFont::Rows(n, m, r, scaled) => { measure(work, n, m, r, scaled, op_room, loop_room) }
     }
 }

@@ -1,7 +1,7 @@
 // A font compiled, and the answer of the port to the request C of tools/oracle from what was compiled.
 ghost use mathlib.Core.Path.{_≡_};
 ghost use lib.ListN.{length};
-ghost use Rattle.requests.specs.Answers.{Within};
+ghost use Rattle.requests.specs.Answers.{CountWithin};
 ghost use Rattle.font_answers.specs.Fonts.{Numbered};
 use fonts::Compiled;
 use lang::Written;
@@ -79,7 +79,7 @@ pub fn compile_font(
 
 // The numbers of the answer, or 15 where the list is too short.
 pub fn answer(pairs: &[i32], ops: &[i32], loops: &[i32], out: &mut [i32]) -> Written
-    ensures { λ r. ⌜ Within r (length (now (out .exit))) ⌝ }
+    ensures { λ r. ⌜ CountWithin r (length (now (out .exit))) ⌝ }
 {
     let n = put_compiled(out, pairs, ops, loops);
     fitting(Written::Count(n), out.len())

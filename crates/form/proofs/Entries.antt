@@ -16,7 +16,7 @@ use Rattle.lang.proofs.Every.{both-left, both-right}
 use Rattle.reading.specs.Items.{item}
 use Rattle.reading.specs.Form.{noPlain, lastForm, opsForm, formed}
 use Rattle.fonts.specs.Fonts.{leftOf}
-use Rattle.captions.specs.Tables.{opCount, number, opKind, opValue, leftPlace, firstOp, countOf, lastCode, lastFlag, entryAt, recordFits}
+use Rattle.captions.specs.Tables.{opCount, number, opKind, opValue, leftPlace, firstOp, countOf, lastCode, lastFlag, entryOfPair, recordFits}
 use Rattle.captions.specs.Form.{opsEnd, keyForm, pairForm}
 use Rattle.tables.specs.Parts.{lastFits}
 use Rattle.form.specs.Parts.{opsTo, Leads, leftBy, firstFits, entryForm}
@@ -42,7 +42,7 @@ module _ (pairs ops : List ℤ) (k : ℕ) (t : recordFits pairs ops k ≡ true) 
           let v = both-right (within 255 (number pairs k 2)) (both (within 1 (number pairs k 3)) (cond (lastFlag pairs k) true (eqb (lastCode pairs k) (wordOf (number pairs k 1))))) u in
           rw e at (both-right (within 1 (number pairs k 3)) (cond (lastFlag pairs k) true (eqb (lastCode pairs k) (wordOf (number pairs k 1)))) v)
 
-  pub entry-formed : entryForm pairs ops k ≡ formed (leftOf (leftPlace (number pairs k 0))) (wordOf (number pairs k 1)) (entryAt pairs ops k)
+  pub entry-formed : entryForm pairs ops k ≡ formed (leftOf (leftPlace (number pairs k 0))) (wordOf (number pairs k 1)) (entryOfPair pairs ops k)
   entry-formed = rw last-form
 
 -- ---- by the first character op

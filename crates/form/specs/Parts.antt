@@ -10,7 +10,7 @@ use Rattle.lang.specs.Records.{within}
 use Rattle.reading.specs.Items.{Left, Item, Out}
 use Rattle.reading.specs.Form.{isLeft, opsForm}
 use Rattle.fonts.specs.Fonts.{leftOf}
-use Rattle.captions.specs.Tables.{number, opKind, opsFrom, leftPlace, entryAt}
+use Rattle.captions.specs.Tables.{number, opKind, opsFrom, leftPlace, entryOfPair}
 
 -- ---- of `formed`: a pair's ops from the front
 
@@ -35,4 +35,4 @@ firstFits l kind c = cond (eqb kind 0) (isLeft l c) true
 -- a pair's ops and last, where the last fits
 abbrev pub entryForm : List ℤ → List ℤ → ℕ → Bool
 entryForm pairs ops k =
-    opsForm (leftOf (leftPlace (number pairs k 0))) (entryAt pairs ops k .outs) (entryAt pairs ops k .last)
+    opsForm (leftOf (leftPlace (number pairs k 0))) (entryOfPair pairs ops k .outs) (entryOfPair pairs ops k .last)

@@ -12,45 +12,45 @@ use lib.ListN.{length, getD, length-append, List·getD-append}
 use lib.Seq.{getD-at}
 use borrow.Author.Tests.{eq-eqb, ne-eqb}
 use Rattle.words.specs.Words.{wordOf}
-use Rattle.kerns.specs.Kerns.{placeOf}
+use Rattle.kerns.specs.Kerns.{kernPlace}
 
-pub place-word : (u v : ℤ) (ks : List ℤ) → wordOf u ≡ wordOf v → placeOf u ks ≡ placeOf v ks
-unfolding placeOf
+pub place-word : (u v : ℤ) (ks : List ℤ) → wordOf u ≡ wordOf v → kernPlace u ks ≡ kernPlace v ks
+unfolding kernPlace
 place-word u v [] e = refl
 place-word u v (k ∷ ks) e = rw (e, place-word u v ks e)
 
-pub place-le : (v : ℤ) (ks : List ℤ) → placeOf v ks ≤ length ks
-unfolding placeOf
+pub place-le : (v : ℤ) (ks : List ℤ) → kernPlace v ks ≤ length ks
+unfolding kernPlace
 place-le v [] = omega arith
 place-le v (k ∷ ks) = by (eqb (wordOf k) (wordOf v)) (place-le v ks)
   where
-    by : (t : Bool) → placeOf v ks ≤ length ks → cond t 0 (suc (placeOf v ks)) ≤ suc (length ks)
+    by : (t : Bool) → kernPlace v ks ≤ length ks → cond t 0 (suc (kernPlace v ks)) ≤ suc (length ks)
     by true h = omega arith
     by false h = omega arith
 
 -- a value that stands nowhere
-pub place-absent : (v : ℤ) (ks : List ℤ) → ((j : ℕ) → j < length ks → wordOf (getD ks j (pos 0)) ≡ wordOf v → ⊥) → placeOf v ks ≡ length ks
-unfolding placeOf
+pub place-absent : (v : ℤ) (ks : List ℤ) → ((j : ℕ) → j < length ks → wordOf (getD ks j (pos 0)) ≡ wordOf v → ⊥) → kernPlace v ks ≡ length ks
+unfolding kernPlace
 place-absent v [] h = refl
 place-absent v (k ∷ ks) h = rw (ne-eqb (wordOf k) (wordOf v) (h 0 (omega arith)), place-absent v ks (λ j l. h (suc j) (omega arith)))
 
 -- a place stays the same when the list grows at its end
-pub place-grows : (v : ℤ) (ks xs : List ℤ) → placeOf v ks < length ks → placeOf v (ks ++ xs) ≡ placeOf v ks
-unfolding placeOf
+pub place-grows : (v : ℤ) (ks xs : List ℤ) → kernPlace v ks < length ks → kernPlace v (ks ++ xs) ≡ kernPlace v ks
+unfolding kernPlace
 place-grows v [] xs h = absurd (omega arith)
 place-grows v (k ∷ ks) xs h = by (eqb (wordOf k) (wordOf v)) (place-grows v ks xs) h
   where
-    by : (t : Bool) → (placeOf v ks < length ks → placeOf v (ks ++ xs) ≡ placeOf v ks) → cond t 0 (suc (placeOf v ks)) < suc (length ks) → cond t 0 (suc (placeOf v (ks ++ xs))) ≡ cond t 0 (suc (placeOf v ks))
+    by : (t : Bool) → (kernPlace v ks < length ks → kernPlace v (ks ++ xs) ≡ kernPlace v ks) → cond t 0 (suc (kernPlace v ks)) < suc (length ks) → cond t 0 (suc (kernPlace v (ks ++ xs))) ≡ cond t 0 (suc (kernPlace v ks))
     by true e l = refl
     by false e l = ap suc (e (omega arith))
 
 -- a value that is added at the end
-pub place-new : (v : ℤ) (ks : List ℤ) → placeOf v ks ≡ length ks → placeOf v (ks ++ (v ∷ [])) ≡ length ks
-unfolding placeOf
+pub place-new : (v : ℤ) (ks : List ℤ) → kernPlace v ks ≡ length ks → kernPlace v (ks ++ (v ∷ [])) ≡ length ks
+unfolding kernPlace
 place-new v [] h = rw (eq-eqb (wordOf v) (wordOf v) refl)
 place-new v (k ∷ ks) h = by (eqb (wordOf k) (wordOf v)) (place-new v ks) h
   where
-    by : (t : Bool) → (placeOf v ks ≡ length ks → placeOf v (ks ++ (v ∷ [])) ≡ length ks) → cond t 0 (suc (placeOf v ks)) ≡ suc (length ks) → cond t 0 (suc (placeOf v (ks ++ (v ∷ [])))) ≡ suc (length ks)
+    by : (t : Bool) → (kernPlace v ks ≡ length ks → kernPlace v (ks ++ (v ∷ [])) ≡ length ks) → cond t 0 (suc (kernPlace v ks)) ≡ suc (length ks) → cond t 0 (suc (kernPlace v (ks ++ (v ∷ [])))) ≡ suc (length ks)
     by true e l = l
     by false e l = ap suc (e (omega arith))
 

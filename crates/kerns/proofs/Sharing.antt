@@ -16,8 +16,8 @@ use Rattle.words.specs.Words.{Word, wordOf, numberOf}
 use Rattle.words.proofs.Bits.{number-is, read-lt}
 use Rattle.words.proofs.Lists.{appending-none, appending-one, appending-length}
 use Rattle.lang.specs.Records.{field, isKind}
-use Rattle.kerns.specs.Kerns.{placeOf, values}
-use Rattle.kerns.specs.Sharing.{Ends, Gathered, Counted}
+use Rattle.kerns.specs.Kerns.{kernPlace, values}
+use Rattle.kerns.specs.Sharing.{SearchEnds, Gathered, Counted}
 use Rattle.kerns.proofs.Places.{snoc-length}
 use Rattle.kerns.proofs.Tree.{ends-found, ends-absent, linked-none, linked-more}
 
@@ -30,19 +30,19 @@ module _ (s : List ℤ) where
   values-other i k = rw (add-one i, k)
 
   -- a value that is there
-  pub values-there : (i : ℕ) → isKind 0 s i ≡ true → (placeOf (field s i 3) (values s i) ≡ length (values s i) → ⊥) → values s (i + 1) ≡ values s i
+  pub values-there : (i : ℕ) → isKind 0 s i ≡ true → (kernPlace (field s i 3) (values s i) ≡ length (values s i) → ⊥) → values s (i + 1) ≡ values s i
   unfolding values
-  values-there i k h = rw (add-one i, k, ne-eqb (placeOf (field s i 3) (values s i)) (length (values s i)) h)
+  values-there i k h = rw (add-one i, k, ne-eqb (kernPlace (field s i 3) (values s i)) (length (values s i)) h)
 
   -- a value that is new
-  pub values-new : (i : ℕ) → isKind 0 s i ≡ true → placeOf (field s i 3) (values s i) ≡ length (values s i) → values s (i + 1) ≡ values s i ++ (field s i 3 ∷ [])
+  pub values-new : (i : ℕ) → isKind 0 s i ≡ true → kernPlace (field s i 3) (values s i) ≡ length (values s i) → values s (i + 1) ≡ values s i ++ (field s i 3 ∷ [])
   unfolding values
-  values-new i k h = rw (add-one i, k, eq-eqb (placeOf (field s i 3) (values s i)) (length (values s i)) h)
+  values-new i k h = rw (add-one i, k, eq-eqb (kernPlace (field s i 3) (values s i)) (length (values s i)) h)
 
   -- each instruction adds one value or none
   values-step : (i : ℕ) → (length (values s i) ≤ length (values s (suc i))) × (length (values s (suc i)) ≤ suc (length (values s i)))
   unfolding values
-  values-step i = by (isKind 0 s i) (eqb (placeOf (field s i 3) (values s i)) (length (values s i)))
+  values-step i = by (isKind 0 s i) (eqb (kernPlace (field s i 3) (values s i)) (length (values s i)))
     where
       by : (t u : Bool) → (length (values s i) ≤ length (cond t (cond u (values s i ++ (field s i 3 ∷ [])) (values s i)) (values s i))) × (length (cond t (cond u (values s i ++ (field s i 3 ∷ [])) (values s i)) (values s i)) ≤ suc (length (values s i)))
       by true true = rw (snoc-length (values s i) (field s i 3)) (omega arith)
@@ -77,8 +77,8 @@ module _ {s : List ℤ} {i n : ℕ} {kerns : List ℤ} {links : List ℕ} {m : �
   counted-same e = record { short = λ h. absurd (omega (arith, gathered-room)); whole = λ h. record { counted = rw e (g .counted); stands = rw e (g .stands); linked = rw e (g .linked) } }
 
   -- it adds one, whose link goes into the slot at which the search for it ended
-  module _ {w slot : ℕ} (word : Word (field s i 3) w) (kind : isKind 0 s i ≡ true) (h : Ends (values s i) links w slot) where
-    at-value : Ends (values s i) links (wordOf (field s i 3)) slot
+  module _ {w slot : ℕ} (word : Word (field s i 3) w) (kind : isKind 0 s i ≡ true) (h : SearchEnds (values s i) links w slot) where
+    at-value : SearchEnds (values s i) links (wordOf (field s i 3)) slot
     at-value = rw (← word .is) h
 
     -- it is there
@@ -89,7 +89,7 @@ module _ {s : List ℤ} {i n : ℕ} {kerns : List ℤ} {links : List ℕ} {m : �
         counted-same (values-there s i kind (λ d. omega (arith, rw (number-is word) at found)))
 
     module _ (none : getD links slot 0 ≡ 0) (fits : m < 32767) where
-      absent : placeOf (field s i 3) (values s i) ≡ length (values s i)
+      absent : kernPlace (field s i 3) (values s i) ≡ length (values s i)
       absent = rw (number-is word) at (ends-absent (g .linked) h (read-lt word) none)
 
       more-counted : m + 1 ≡ length (values s (i + 1))

@@ -14,8 +14,8 @@ use lib.ListN.{length, getD, set, replicate, length-set, length-replicate}
 use lib.Seq.{getD-set-same, getD-set-other}
 use Rattle.words.specs.Words.{wordOf, numberOf}
 use Rattle.words.proofs.Bits.{word-number}
-use Rattle.kerns.specs.Kerns.{placeOf}
-use Rattle.kerns.specs.Sharing.{wordAt, slotAfter, linkAfter, Descends, Ends, Reaches, Linked}
+use Rattle.kerns.specs.Kerns.{kernPlace}
+use Rattle.kerns.specs.Sharing.{wordAt, slotAfter, linkAfter, Descends, SearchEnds, SearchReaches, Linked}
 use Rattle.kerns.proofs.Places.{place-word, place-absent, place-grows, place-new, snoc-at, snoc-end, snoc-length}
 
 -- ---- words that agree in all bits are the same
@@ -111,18 +111,18 @@ module _ {ks : List ℤ} {links : List ℕ} (c : Linked ks links) where
 
   -- ---- where a search ends
 
-  module _ {w slot : ℕ} (h : Ends ks links w slot) where
+  module _ {w slot : ℕ} (h : SearchEnds ks links w slot) where
     pub ends-lt : slot < 65535
     ends-lt = rw (h .slot-is) (slot-lt w (h .depth) (h .descends))
 
     -- at a link: the value's place
-    pub ends-found : w < 2 ^ 32 → (getD links slot 0 ≡ 0 → ⊥) → getD links slot 0 - 1 ≡ placeOf (numberOf w) ks
+    pub ends-found : w < 2 ^ 32 → (getD links slot 0 ≡ 0 → ⊥) → getD links slot 0 - 1 ≡ kernPlace (numberOf w) ks
     ends-found l some =
         sym (c .once (getD links slot 0 - 1) (omega (arith, c .places slot)))
         ∙ place-word (getD ks (getD links slot 0 - 1) (pos 0)) (numberOf w) ks (h .stops some ∙ sym (word-number w l))
 
     -- at no link: the value is nowhere
-    nowhere : (j : ℕ) → getD links slot 0 ≡ 0 → wordAt ks j ≡ w → Reaches ks links w j → ⊥
+    nowhere : (j : ℕ) → getD links slot 0 ≡ 0 → wordAt ks j ≡ w → SearchReaches ks links w j → ⊥
     nowhere j none e r = by (decLe (r .depth) (h .depth)) (decLe (h .depth) (r .depth))
       where
         empty : linkAfter links w (h .depth) ≡ 0
@@ -133,7 +133,7 @@ module _ {ks : List ℤ} {links : List ℕ} (c : Linked ks links) where
         by (yes a) (no b) = h .descends .others (r .depth) (omega arith) (let d : linkAfter links w (r .depth) - 1 ≡ j = omega (arith, r .link-is) in rw d e)
         by (no a) b = r .descends .linked (h .depth) (omega arith) empty
 
-    pub ends-absent : w < 2 ^ 32 → getD links slot 0 ≡ 0 → placeOf (numberOf w) ks ≡ length ks
+    pub ends-absent : w < 2 ^ 32 → getD links slot 0 ≡ 0 → kernPlace (numberOf w) ks ≡ length ks
     ends-absent l none = place-absent (numberOf w) ks (λ j i d. let e : wordAt ks j ≡ w = d ∙ word-number w l in nowhere j none e (rw e at (c .reached j i)))
 
 -- ---- no value
@@ -164,7 +164,7 @@ linked-none links e =
 abbrev LinkCase : List ℕ → ℕ → ℕ → ℕ → Type 0
 LinkCase links slot m s = ((s ≡ slot) × (getD (set links slot m) s 0 ≡ m)) ⊎ (getD (set links slot m) s 0 ≡ getD links s 0)
 
-module _ {ks : List ℤ} {links : List ℕ} (c : Linked ks links) (v : ℤ) {slot : ℕ} (h : Ends ks links (wordOf v) slot) (none : getD links slot 0 ≡ 0) where
+module _ {ks : List ℤ} {links : List ℕ} (c : Linked ks links) (v : ℤ) {slot : ℕ} (h : SearchEnds ks links (wordOf v) slot) (none : getD links slot 0 ≡ 0) where
   -- the other links stay as they are
   link-kept : (s : ℕ) → (getD links s 0 ≡ 0 → ⊥) → getD (set links slot (length ks + 1)) s 0 ≡ getD links s 0
   link-kept s some = getD-set-other links slot s (length ks + 1) 0 (λ e. some (rw e none))
@@ -192,7 +192,7 @@ module _ {ks : List ℤ} {links : List ℕ} (c : Linked ks links) (v : ℤ) {slo
   link-new : getD (set links slot (length ks + 1)) slot 0 ≡ length ks + 1
   link-new = getD-set-same links slot (length ks + 1) 0 (omega (arith, c .slots, ends-lt c h))
 
-  reached-more : (p : ℕ) → (p ≡ length ks) ⊎ (p < length ks) → Reaches (ks ++ (v ∷ [])) (set links slot (length ks + 1)) (wordAt (ks ++ (v ∷ [])) p) p
+  reached-more : (p : ℕ) → (p ≡ length ks) ⊎ (p < length ks) → SearchReaches (ks ++ (v ∷ [])) (set links slot (length ks + 1)) (wordAt (ks ++ (v ∷ [])) p) p
   reached-more p (inl e) =
       rw (e, snoc-end ks v)
       record {
@@ -232,7 +232,7 @@ module _ {ks : List ℤ} {links : List ℕ} (c : Linked ks links) (v : ℤ) {slo
       by (inr e) (inl f) = absurd (omega (arith, c .places s))
       by (inr e) (inr f) = c .single s t (rw e at some) (sym e ∙ d ∙ f)
 
-  once-more : placeOf v ks ≡ length ks → (j : ℕ) → (j ≡ length ks) ⊎ (j < length ks) → placeOf (getD (ks ++ (v ∷ [])) j (pos 0)) (ks ++ (v ∷ [])) ≡ j
+  once-more : kernPlace v ks ≡ length ks → (j : ℕ) → (j ≡ length ks) ⊎ (j < length ks) → kernPlace (getD (ks ++ (v ∷ [])) j (pos 0)) (ks ++ (v ∷ [])) ≡ j
   once-more absent j (inl e) = rw (e, snoc-end ks v) (place-new v ks absent)
   once-more absent j (inr l) = rw (snoc-at ks v j l) (place-grows (getD ks j (pos 0)) ks (v ∷ []) (rw (c .once j l) l) ∙ c .once j l)
 
@@ -240,7 +240,7 @@ module _ {ks : List ℤ} {links : List ℕ} (c : Linked ks links) (v : ℤ) {slo
   words-more fits j (inl e) = rw (e, snoc-end ks v) fits
   words-more fits j (inr l) = rw (snoc-at ks v j l) (c .words j l)
 
-  pub linked-more : placeOf v ks ≡ length ks → wordOf v < 2 ^ 32 → length ks < 32767 → Linked (ks ++ (v ∷ [])) (set links slot (length ks + 1))
+  pub linked-more : kernPlace v ks ≡ length ks → wordOf v < 2 ^ 32 → length ks < 32767 → Linked (ks ++ (v ∷ [])) (set links slot (length ks + 1))
   linked-more absent fits room =
       record {
         few = rw (snoc-length ks v) room;

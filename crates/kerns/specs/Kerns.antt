@@ -31,13 +31,13 @@ abbrev pub packRefusal : List ℤ → List ℤ → ℕ → ℕ
 packRefusal s kerns room = orElse (programRefusal s) (orElse (kernsRefusal kerns) (roomRefusal (length s) room))
 
 -- the place of a value in a list; its length where the value is not there
-unfoldable pub placeOf : ℤ → List ℤ → ℕ
-placeOf v [] = 0
-placeOf v (k ∷ ks) = cond (eqb (wordOf k) (wordOf v)) 0 (suc (placeOf v ks))
+unfoldable pub kernPlace : ℤ → List ℤ → ℕ
+kernPlace v [] = 0
+kernPlace v (k ∷ ks) = cond (eqb (wordOf k) (wordOf v)) 0 (suc (kernPlace v ks))
 
 -- a value is added to a list that has it not yet
 abbrev pub shared : List ℤ → ℤ → List ℤ
-shared ks v = cond (eqb (placeOf v ks) (length ks)) (ks ++ (v ∷ [])) ks
+shared ks v = cond (eqb (kernPlace v ks) (length ks)) (ks ++ (v ∷ [])) ks
 
 -- the kern values of the first n instructions, each once, in the order in which they first appear
 unfoldable pub values : List ℤ → ℕ → List ℤ
@@ -49,11 +49,11 @@ kernsOf s = values s (count s)
 
 -- unpack_kerns: each kern value becomes its index in that list
 abbrev pub unpacked : List ℤ → List ℤ
-unpacked s = tabulate (length s) (changed s (isKind 0 s) (pos 1) (λ i. pos (placeOf (field s i 3) (kernsOf s))))
+unpacked s = tabulate (length s) (changed s (isKind 0 s) (pos 1) (λ i. pos (kernPlace (field s i 3) (kernsOf s))))
 
 -- 15 where either list is too short
-abbrev pub unpackRefusal : List ℤ → ℕ → ℕ → ℕ
-unpackRefusal s room kernRoom =
+abbrev pub unpackKernsRefusal : List ℤ → ℕ → ℕ → ℕ
+unpackKernsRefusal s room kernRoom =
     orElse (programRefusal s) (orElse (roomRefusal (length s) room) (roomRefusal (length (kernsOf s)) kernRoom))
 
 -- the contract of pack_kerns
@@ -63,6 +63,6 @@ pub record PacksKerns (s kerns out : List ℤ) (r : Written) (out′ : List ℤ)
 
 -- the contract of unpack_kerns
 pub record UnpacksKerns (s out kerns : List ℤ) (r : Written) (out′ kerns′ : List ℤ) : Type 0 where
-  pub answer : writtenReply r ≡ replyOf (unpackRefusal s (length out) (length kerns)) (pos (length (kernsOf s)) ∷ [])
-  pub list : out′ ≡ listOf (unpackRefusal s (length out) (length kerns)) (pos 0) (length out) (unpacked s)
-  pub shares : kerns′ ≡ listOf (unpackRefusal s (length out) (length kerns)) (pos 0) (length kerns) (kernsOf s)
+  pub answer : writtenReply r ≡ replyOf (unpackKernsRefusal s (length out) (length kerns)) (pos (length (kernsOf s)) ∷ [])
+  pub list : out′ ≡ listOf (unpackKernsRefusal s (length out) (length kerns)) (pos 0) (length out) (unpacked s)
+  pub shares : kerns′ ≡ listOf (unpackKernsRefusal s (length out) (length kerns)) (pos 0) (length kerns) (kernsOf s)

@@ -9,7 +9,7 @@ use lib.IntN.{ℤ, pos}
 use lib.ListN.{length, getD, replicate}
 use Rattle.words.specs.Words.{wordOf}
 use Rattle.words.specs.Lists.{Appending}
-use Rattle.kerns.specs.Kerns.{placeOf, values}
+use Rattle.kerns.specs.Kerns.{kernPlace, values}
 
 -- the 32 bits of the value at place p
 abbrev pub wordAt : List ℤ → ℕ → ℕ
@@ -30,7 +30,7 @@ pub record Descends (ks : List ℤ) (links : List ℕ) (w n : ℕ) : Type 0 wher
   pub others : (j : ℕ) → j < n → wordAt ks (linkAfter links w j - 1) ≡ w → ⊥
 
 -- it goes down by at most 32 values and ends at a slot that has no link, or w's
-pub record Ends (ks : List ℤ) (links : List ℕ) (w slot : ℕ) : Type 0 where
+pub record SearchEnds (ks : List ℤ) (links : List ℕ) (w slot : ℕ) : Type 0 where
   pub depth : ℕ
   pub near : depth ≤ 32
   pub descends : Descends ks links w depth
@@ -38,7 +38,7 @@ pub record Ends (ks : List ℤ) (links : List ℕ) (w slot : ℕ) : Type 0 where
   pub stops : (getD links slot 0 ≡ 0 → ⊥) → wordAt ks (getD links slot 0 - 1) ≡ w
 
 -- it comes to the link of place p
-pub record Reaches (ks : List ℤ) (links : List ℕ) (w p : ℕ) : Type 0 where
+pub record SearchReaches (ks : List ℤ) (links : List ℕ) (w p : ℕ) : Type 0 where
   pub depth : ℕ
   pub descends : Descends ks links w depth
   pub link-is : linkAfter links w depth ≡ p + 1
@@ -47,11 +47,11 @@ pub record Reaches (ks : List ℤ) (links : List ℕ) (w p : ℕ) : Type 0 where
 pub record Linked (ks : List ℤ) (links : List ℕ) : Type 0 where
   pub few : length ks ≤ 32767
   pub slots : length links ≡ 65536
-  pub once : (j : ℕ) → j < length ks → placeOf (getD ks j (pos 0)) ks ≡ j
+  pub once : (j : ℕ) → j < length ks → kernPlace (getD ks j (pos 0)) ks ≡ j
   pub words : (p : ℕ) → p < length ks → wordAt ks p < 2 ^ 32
   pub places : (s : ℕ) → getD links s 0 ≤ length ks
   pub single : (s t : ℕ) → (getD links s 0 ≡ 0 → ⊥) → getD links s 0 ≡ getD links t 0 → s ≡ t
-  pub reached : (p : ℕ) → p < length ks → Reaches ks links (wordAt ks p) p
+  pub reached : (p : ℕ) → p < length ks → SearchReaches ks links (wordAt ks p) p
 
 -- the m kern values of the first i instructions stand in a list of n places, with zeros after them
 pub record Gathered (s : List ℤ) (i n : ℕ) (kerns : List ℤ) (links : List ℕ) (m : ℕ) : Type 0 where

@@ -1,4 +1,4 @@
-// Kern values and kern indices, one for the other, after `pack_kerns` and `unpack_kerns` of ligkern/lang.rs (lines 607 to 640). What the Rust
+// Kern values and kern indices, one for the other, after `pack_kerns` and `unpack_kerns` of ligkern/lang.rs (lines 624 to 654). What the Rust
 // changes in place becomes a second lent list.
 ghost use mathlib.Core.Path.{_≡_};
 ghost use mathlib.Core.List.{_++_};
@@ -7,11 +7,10 @@ ghost use lib.ListN.{length, drop};
 ghost use lib.IntN.{pos};
 ghost use Rattle.words.specs.Words.{Word};
 ghost use Rattle.words.specs.Lists.{tabulate};
-ghost use Rattle.lang.specs.Records.{field};
+ghost use Rattle.lang.specs.Records.{field, isKind};
 ghost use Rattle.lang.specs.Checks.{programRefusal, orElse};
 ghost use Rattle.lang.specs.Answers.{roomRefusal};
-ghost use Rattle.lang.specs.Records.{isKind};
-ghost use Rattle.kerns.specs.Kerns.{changed, kernAt, packed, packRefusal, placeOf, PacksKerns, UnpacksKerns};
+ghost use Rattle.kerns.specs.Kerns.{changed, kernAt, packed, packRefusal, kernPlace, PacksKerns, UnpacksKerns};
 ghost use Rattle.kerns.specs.Sharing.{Linked};
 
 mod share;
@@ -93,7 +92,7 @@ fn unpack_refusal(instructions: &[i32], room: usize) -> u32
 // Number j of the program in which each kern value is its place in `kerns`, as its 32 bits.
 fn unpacked_word(instructions: &[i32], kerns: &[i32], links: &[u16; 65536], j: usize) -> u32
     requires { ⌜ Linked (now kerns) (now links) ⌝ }
-    ensures { λ r. ⌜ Word (changed (now (instructions .entry)) (isKind 0 (now (instructions .entry))) (pos 1) (λ i. pos (placeOf (field (now (instructions .entry)) i 3) (now (kerns .entry)))) j) r ⌝ }
+    ensures { λ r. ⌜ Word (changed (now (instructions .entry)) (isKind 0 (now (instructions .entry))) (pos 1) (λ i. pos (kernPlace (field (now (instructions .entry)) i 3) (now (kerns .entry)))) j) r ⌝ }
 {
     if field_at(instructions, j / 4, 2) != 0 {
         return words::word_at(instructions, j);
@@ -110,7 +109,7 @@ fn unpacked_word(instructions: &[i32], kerns: &[i32], links: &[u16; 65536], j: u
 fn write_unpacked(instructions: &[i32], kerns: &[i32], links: &[u16; 65536], out: &mut [i32])
     requires { ⌜ Linked (now kerns) (now links) ⌝ }
     requires { ⌜ length (now instructions) ≤ length (now out) ⌝ }
-    ensures { λ _. ⌜ now (out .exit) ≡ tabulate (length (now (instructions .entry))) (changed (now (instructions .entry)) (isKind 0 (now (instructions .entry))) (pos 1) (λ i. pos (placeOf (field (now (instructions .entry)) i 3) (now (kerns .entry))))) ++ drop (length (now (instructions .entry))) (now (out .entry)) ⌝ }
+    ensures { λ _. ⌜ now (out .exit) ≡ tabulate (length (now (instructions .entry))) (changed (now (instructions .entry)) (isKind 0 (now (instructions .entry))) (pos 1) (λ i. pos (kernPlace (field (now (instructions .entry)) i 3) (now (kerns .entry))))) ++ drop (length (now (instructions .entry))) (now (out .entry)) ⌝ }
 {
     let mut j = 0;
     while j < instructions.len() {

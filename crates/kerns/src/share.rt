@@ -6,14 +6,14 @@ ghost use Prim.Native.Nat.{_+_, _<_, _≤_};
 ghost use lib.ListN.{length};
 ghost use Rattle.words.specs.Words.{numberOf};
 ghost use Rattle.lang.specs.Records.{count};
-ghost use Rattle.kerns.specs.Kerns.{placeOf};
-ghost use Rattle.kerns.specs.Sharing.{Linked, Ends, Gathered, Counted};
+ghost use Rattle.kerns.specs.Kerns.{kernPlace};
+ghost use Rattle.kerns.specs.Sharing.{Linked, SearchEnds, Gathered, Counted};
 use lang::instruction::field_at;
 
 // The slot at which the search for the value with these 32 bits ends: its link is that of the value, or 0 where the value is not there.
 fn slot_of(kerns: &[i32], links: &[u16; 65536], word: u32) -> usize
     requires { ⌜ Linked (now kerns) (now links) ⌝ }
-    ensures { λ r. ⌜ Ends (now (kerns .entry)) (now (links .entry)) word r ⌝ }
+    ensures { λ r. ⌜ SearchEnds (now (kerns .entry)) (now (links .entry)) word r ⌝ }
 {
     let mut slot = 0;
     let mut bit = 0u32;
@@ -31,7 +31,7 @@ fn slot_of(kerns: &[i32], links: &[u16; 65536], word: u32) -> usize
 // The place of the value with these 32 bits; the list's length where it is not there.
 pub(crate) fn place_of(kerns: &[i32], links: &[u16; 65536], word: u32) -> usize
     requires { ⌜ Linked (now kerns) (now links) ⌝ }
-    ensures { λ r. ⌜ r ≡ placeOf (numberOf word) (now (kerns .entry)) ⌝ }
+    ensures { λ r. ⌜ r ≡ kernPlace (numberOf word) (now (kerns .entry)) ⌝ }
 {
     let slot = slot_of(kerns, links, word);
     let link = links[slot] as usize;

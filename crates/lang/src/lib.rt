@@ -1,6 +1,6 @@
 // The lig/kern programming language, after ligkern/lang.rs. Files by concern:
-//   operation    op bytes and what they mean (lang.rs lines 342 to 434)
-//   instruction  the record at an index of a lent list, as a struct (lines 29 to 92)
+//   operation    op bytes and what they mean (lang.rs lines 364 to 440)
+//   instruction  the record at an index of a lent list, as a struct (lines 28 to 93)
 //   entries      the table of 257 places
 // The refusals 1 to 5 of what is lent are crate checks, and what else lang.rs has stands in crates of their own above it: chain, kerns, unpack, reach, pack.
 pub mod entries;

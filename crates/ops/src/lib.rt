@@ -1,5 +1,5 @@
 // The fifth stage of compiling: the ops as numbers, in a pass over the rows in the order in which they finished, each copied from rows written before.
-// After lines 214 to 389 of ligkern/compiler.rs. specs/Rows.antt of crate `pairs` says what a row holds.
+// After lines 171 to 398 of ligkern/compiler.rs. specs/Rows.antt of crate `pairs` says what a row holds.
 ghost use mathlib.Core.Path.{_≡_};
 ghost use mathlib.Core.List.{List, [], _∷_};
 ghost use Prim.Native.Nat.{_+_, _*_, _≤_};

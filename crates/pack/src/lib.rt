@@ -1,4 +1,4 @@
-// Packing of entries into one byte each, after `pack_entrypoints` of ligkern/lang.rs (lines 555 to 605). What the Rust changes in place becomes two
+// Packing of entries into one byte each, after `pack_entrypoints` of ligkern/lang.rs (lines 553 to 622). What the Rust changes in place becomes two
 // more lent lists.
 ghost use mathlib.Core.Path.{_≡_};
 ghost use mathlib.Core.List.{_++_};

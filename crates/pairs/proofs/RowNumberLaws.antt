@@ -20,7 +20,7 @@ use Rattle.fonts.specs.Fonts.{numberOfLeft, pairsBy}
 use Rattle.fonts.specs.Numbers.{nth}
 use Rattle.pairs.specs.Rows.{at, pairAt, ruledAt, Ascending}
 use Rattle.pairs.specs.LoopRows.{walkPlace, walkRow, WalkOrder}
-use Rattle.pairs.specs.RowNumbers.{boundaryMore, boundaryPairs, placeOf, walkOf, turnOf, rowNumbers, inRows, pairRowNumbers}
+use Rattle.pairs.specs.RowNumbers.{boundaryMore, boundaryPairs, placeOfPair, walkOf, turnOf, sixteenNumbers, inRows, pairRowNumbers}
 use Rattle.pairs.specs.PairRows.{Collects}
 use Rattle.pairs.proofs.RowLaws.{less-or-not, number-left}
 use Rattle.pairs.proofs.PairRowLaws.{zero-at}
@@ -78,8 +78,8 @@ module _ (row : ℕ → List ℕ) (sixteen : (k : ℕ) → length (row k) ≡ 16
 -- ---- the order of a left's rows
 
 -- the first place of a pair
-place-first : (p : Pair) (ps : List Ruled) (j : ℕ) → j < length ps → samePair p (nth ps j .pair) ≡ true → ((i : ℕ) → i < j → samePair p (nth ps i .pair) ≡ false) → placeOf p ps ≡ j
-unfolding placeOf
+place-first : (p : Pair) (ps : List Ruled) (j : ℕ) → j < length ps → samePair p (nth ps j .pair) ≡ true → ((i : ℕ) → i < j → samePair p (nth ps i .pair) ≡ false) → placeOfPair p ps ≡ j
+unfolding placeOfPair
 place-first p [] j l e g = absurd (omega arith)
 place-first p (q ∷ qs) zero l e g = rw e
 place-first p (q ∷ qs) (suc j) l e g =
@@ -134,7 +134,7 @@ module _ (ps : List Ruled) (n e : ℕ) (w : List ℕ) (a : Ascending n w) (all :
       ∙ getD-tabulate n (λ i. ruledAt w (walkRow n e w i)) s _ h
 
   -- the place of a row's pair is the row
-  place-is : (j : ℕ) → j < n → placeOf (pairAt w j) ps ≡ j
+  place-is : (j : ℕ) → j < n → placeOfPair (pairAt w j) ps ≡ j
   place-is j h =
       place-first (pairAt w j) ps j (omega (arith, all))
       (ap (λ (x : Ruled). samePair (pairAt w j) (x .pair)) (sym (pair j h)) ∙ pair-itself (pairAt w j))
@@ -146,8 +146,8 @@ module _ (ps : List Ruled) (n e : ℕ) (w : List ℕ) (a : Ascending n w) (all :
       let b = walk-back n e k (t .few) h in
       let s = walkOf n e k in
       sym
-      (ap₂ (λ (m d : ℕ). placeOf (nth (ordered ps) (walkOf m d k) .pair) ps) (sym all) boundary-is
-      ∙ ap (λ (x : Ruled). placeOf (x .pair) ps) (walk-is s (b .0))
+      (ap₂ (λ (m d : ℕ). placeOfPair (nth (ordered ps) (walkOf m d k) .pair) ps) (sym all) boundary-is
+      ∙ ap (λ (x : Ruled). placeOfPair (x .pair) ps) (walk-is s (b .0))
       ∙ place-is (walkRow n e w s) (t .row s (b .0))
       ∙ ap (λ (x : ℕ). at w x 15) (b .1))
 
@@ -159,7 +159,7 @@ module _ (ps : List Ruled) (n e : ℕ) (w : List ℕ) (a : Ascending n w) (all :
         ∙ sym (List·getD-append (replicate 10 0) (turnOf ps k ∷ []) 0 f i ∙ zero-at 10 f)
     later-number f l (inr i) = let e : f ≡ 10 = omega arith in rw e (turn-is k h)
 
-    number-is : (f : ℕ) → f < 16 → at w k f ≡ getD (rowNumbers ps k op value) f 0
+    number-is : (f : ℕ) → f < 16 → at w k f ≡ getD (sixteenNumbers ps k op value) f 0
     number-is zero l = sym (left-is k h)
     number-is (suc zero) l = ap (λ (x : Ruled). x .pair .right) (pair k h)
     number-is (suc (suc zero)) l = ap (λ (x : Ruled). x .index) (pair k h)
@@ -168,12 +168,12 @@ module _ (ps : List Ruled) (n e : ℕ) (w : List ℕ) (a : Ascending n w) (all :
     number-is (suc (suc (suc (suc (suc f))))) l = let e : suc (suc (suc (suc (suc f)))) ≡ 5 + f = omega arith in ap (at w k) e ∙ later-number f (omega arith) (less-or-not f 10)
 
   -- the whole list
-  pub rows-are : (op value : ℕ → ℕ) → ((k : ℕ) → k < n → at w k 3 ≡ op k) → ((k : ℕ) → k < n → at w k 4 ≡ value k) → ((k f : ℕ) → k < n → 4 < f → f < 15 → at w k f ≡ 0) → ((k f : ℕ) → n ≤ k → f < 16 → at w k f ≡ 0) → w ≡ padded 0 (length w) (inRows (λ k. rowNumbers ps k (op k) (value k)) (length ps))
+  pub rows-are : (op value : ℕ → ℕ) → ((k : ℕ) → k < n → at w k 3 ≡ op k) → ((k : ℕ) → k < n → at w k 4 ≡ value k) → ((k f : ℕ) → k < n → 4 < f → f < 15 → at w k f ≡ 0) → ((k f : ℕ) → n ≤ k → f < 16 → at w k f ≡ 0) → w ≡ padded 0 (length w) (inRows (λ k. sixteenNumbers ps k (op k) (value k)) (length ps))
   rows-are op value o v rest after =
-      rows-padded (λ k. rowNumbers ps k (op k) (value k)) (λ k. refl) n w (a .room)
+      rows-padded (λ k. sixteenNumbers ps k (op k) (value k)) (λ k. refl) n w (a .room)
       (λ k f h l. number-is k (op k) (value k) h (o k h) (v k h) (λ g. rest k g h) f l)
       after
-      ∙ ap (λ (m : ℕ). padded 0 (length w) (inRows (λ k. rowNumbers ps k (op k) (value k)) m)) all
+      ∙ ap (λ (m : ℕ). padded 0 (length w) (inRows (λ k. sixteenNumbers ps k (op k) (value k)) m)) all
 
 -- the pairs of a font as they are collected
 pub collected-rows : (s table : List ℤ) (w w′ : List ℕ) (n e : ℕ) → Collects s table w w′ n e → w′ ≡ padded 0 (length w) (pairRowNumbers (pairsBy s table))

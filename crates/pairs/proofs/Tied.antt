@@ -17,9 +17,8 @@ use Rattle.reading.specs.Items.{Left, bnd, chr, Rule, free, Rules}
 use Rattle.reading.specs.Depth.{Pair}
 use Rattle.reading.specs.Loops.{Ruled}
 use Rattle.pairs.specs.Rows.{at, pairAt, ruledAt, ruleAt, ruleBy, rowOf, rules, pairs, Ascending}
-use Rattle.fonts.specs.Fonts.{leftOf, numberOfLeft}
+use Rattle.fonts.specs.Fonts.{leftOf, numberOfLeft, Font, indexOf, ruledBy, rowPairs, leftPairs, pairsBy, pairsOf, tableOf, rulesOf, ruleOfIndex}
 use Rattle.fonts.specs.Numbers.{nth}
-use Rattle.fonts.specs.Fonts.{Font, indexOf, ruledBy, rowPairs, leftPairs, pairsBy, pairsOf, tableOf, rulesOf, ruleOfIndex}
 use Rattle.pairs.specs.PairRows.{Collects, Writes}
 use Rattle.pairs.proofs.RowLaws.{row-found, row-is, no-row, number-left, left-number}
 use Rattle.fonts.proofs.FontLaws.{has-pair}

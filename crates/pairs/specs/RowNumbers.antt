@@ -64,9 +64,9 @@ boundaryPairs [] = 0
 boundaryPairs (p ∷ ps) = boundaryMore (p .pair .left) (boundaryPairs ps)
 
 -- the first place of a pair
-unfoldable pub placeOf : Pair → List Ruled → ℕ
-placeOf p [] = 0
-placeOf p (q ∷ qs) = cond (samePair p (q .pair)) 0 (suc (placeOf p qs))
+unfoldable pub placeOfPair : Pair → List Ruled → ℕ
+placeOfPair p [] = 0
+placeOfPair p (q ∷ qs) = cond (samePair p (q .pair)) 0 (suc (placeOfPair p qs))
 
 -- which walk row k gives the start of, of n rows of which the first e are the boundary's: those come last (walkPlace of LoopRows.antt goes back)
 abbrev pub walkOf : ℕ → ℕ → ℕ → ℕ
@@ -74,13 +74,13 @@ walkOf n e k = cond (ltb k e) (n - e + k) (k - e)
 
 -- the row of the pair that this walk starts from: the walks go by left, then by rule index, and the rows by left too
 unfoldable pub turnOf : List Ruled → ℕ → ℕ
-turnOf ps k = placeOf (nth (ordered ps) (walkOf (length ps) (boundaryPairs ps) k) .pair) ps
+turnOf ps k = placeOfPair (nth (ordered ps) (walkOf (length ps) (boundaryPairs ps) k) .pair) ps
 
 -- ---- rows
 
 -- row k of these pairs, with numbers 3 and 4
-abbrev pub rowNumbers : List Ruled → ℕ → ℕ → ℕ → List ℕ
-rowNumbers ps k op value =
+abbrev pub sixteenNumbers : List Ruled → ℕ → ℕ → ℕ → List ℕ
+sixteenNumbers ps k op value =
     numberOfLeft (nth ps k .pair .left) ∷ nth ps k .pair .right ∷ nth ps k .index ∷ op ∷ value ∷ (replicate 10 0 ++ (turnOf ps k ∷ []))
 
 -- the first n rows, one after the other
@@ -90,7 +90,7 @@ inRows row (suc n) = inRows row n ++ row n
 
 -- the pairs as they are collected
 abbrev pub pairRowNumbers : List Ruled → List ℕ
-pairRowNumbers ps = inRows (λ k. rowNumbers ps k 0 0) (length ps)
+pairRowNumbers ps = inRows (λ k. sixteenNumbers ps k 0 0) (length ps)
 
 -- what the rule of a font's pair k does
 abbrev pub pairEffect : Font → ℕ → Effect
@@ -98,4 +98,4 @@ pairEffect f k = effectOf (f .design) (actsAs (f .kerns) (instructionAt (f .inst
 
 -- the pairs of a font with what their rules do
 abbrev pub fontRowNumbers : Font → List ℕ
-fontRowNumbers f = inRows (λ k. rowNumbers (pairsOf f) k (pairEffect f k .op) (pairEffect f k .value)) (length (pairsOf f))
+fontRowNumbers f = inRows (λ k. sixteenNumbers (pairsOf f) k (pairEffect f k .op) (pairEffect f k .value)) (length (pairsOf f))

@@ -1,4 +1,4 @@
-// What each row's rule does: its op byte and inserted character, or 128 and its scaled kern. After lines 167 to 212 of ligkern/compiler.rs.
+// What each row's rule does: its op byte and inserted character, or 128 and its scaled kern. After lines 171 to 224 of ligkern/compiler.rs.
 ghost use mathlib.Core.Path.{_≡_};
 ghost use Rattle.lang.specs.Every.{both};
 ghost use Rattle.pairs.specs.Rows.{Ascending};

@@ -21,9 +21,9 @@ use Rattle.fonts.specs.Fonts.{leftOf}
 use Rattle.captions.specs.declared.State.{State}
 use Rattle.captions.specs.declared.Found.the-variants.{At, Nothing}
 use Rattle.captions.specs.declared.Told.the-variants.{Is, Refused}
-use Rattle.captions.specs.Tables.{pairCount, opCount, opFits, keyBy, leftPlace, find, foundAt, number, opKind, opValue, firstOp, lastCode, entryAt, recordFits}
+use Rattle.captions.specs.Tables.{pairCount, opCount, opFits, keyBy, leftPlace, find, foundAt, number, opKind, opValue, firstOp, lastCode, entryOfPair, recordFits}
 use Rattle.captions.specs.Form.{opsEnd, keyForm, pairForm, sizesForm, tableForm, tableRefusal}
-use Rattle.captions.specs.Replies.{bit, toldReply}
+use Rattle.captions.specs.Replies.{bitNumber, toldReply}
 use Rattle.captions.specs.Steps.{rightItem}
 use Rattle.captions.specs.Queries.{notLigature, isSeparationPoint, originalOf, isFound, hasEntry, opIsSevenBit, becomesSevenBit, pairIsSafe}
 
@@ -49,7 +49,7 @@ pub told-refused : (n r : ℕ) (vs : List ℤ) → n ≡ r → (n ≡ 0 → ⊥)
 told-refused zero r vs e h = absurd (h refl)
 told-refused (suc n) r vs e h = rw (← e)
 
-pub told-is : (n r : ℕ) (a b : Bool) → n ≡ r → n ≡ 0 → a ≡ b → toldReply (Is a) ≡ replyOf r (bit b ∷ [])
+pub told-is : (n r : ℕ) (a b : Bool) → n ≡ r → n ≡ 0 → a ≡ b → toldReply (Is a) ≡ replyOf r (bitNumber b ∷ [])
 told-is n r a b e z q = rw (← e, z, q)
 
 -- ---- a pair that is found
@@ -86,7 +86,7 @@ table-fits pairs ops k e h =
     let a = both-right (sizesForm pairs ops) (both (every (opCount ops) (opFits ops)) (both (every (pairCount pairs) (pairForm pairs ops)) (eqb (opsEnd pairs (pairCount pairs)) (opCount ops)))) t in
     let b = both-right (every (opCount ops) (opFits ops)) (both (every (pairCount pairs) (pairForm pairs ops)) (eqb (opsEnd pairs (pairCount pairs)) (opCount ops))) a in
     let f = every-at (pairCount pairs) k (pairForm pairs ops) (both-left (every (pairCount pairs) (pairForm pairs ops)) (eqb (opsEnd pairs (pairCount pairs)) (opCount ops)) b) h in
-    fits (keyForm pairs k) (recordFits pairs ops k) (both (eqb (firstOp pairs k) (opsEnd pairs k)) (formed (leftOf (leftPlace (number pairs k 0))) (wordOf (number pairs k 1)) (entryAt pairs ops k))) f
+    fits (keyForm pairs k) (recordFits pairs ops k) (both (eqb (firstOp pairs k) (opsEnd pairs k)) (formed (leftOf (leftPlace (number pairs k 0))) (wordOf (number pairs k 1)) (entryOfPair pairs ops k))) f
   where
     fits : (x y z : Bool) → both x (both y z) ≡ true → y ≡ true
     fits true true z e = refl

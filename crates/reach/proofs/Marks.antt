@@ -21,7 +21,7 @@ use Rattle.chain.specs.declared.Next.the-variants.{At, End}
 use Rattle.lang.specs.Records.{count, instructionAt}
 use Rattle.lang.specs.Checks.{entryAt}
 use Rattle.lang.proofs.Filled.{filling-put}
-use Rattle.chain.specs.Chains.{Program, onward, stepAt}
+use Rattle.chain.specs.Chains.{Program, onwardFrom, stepAt}
 use Rattle.reach.specs.Reach.{entriesMarked, leftMarked, onwardMarked, marksAfter, marksFrom, adjustedSkip, stateOf, skipOf, reachNumber}
 
 -- ---- the entries are marked (TFtoPL 68)
@@ -58,7 +58,7 @@ length-either false m i = length-set m i 1
 
 -- ---- the pass (TFtoPL 70)
 
-step-at : (n : ℕ) (program : Program) (i : ℕ) → i < n → stepAt n program i ≡ At i (onward n (program i .«next_instruction») i)
+step-at : (n : ℕ) (program : Program) (i : ℕ) → i < n → stepAt n program i ≡ At i (onwardFrom n (program i .«next_instruction») i)
 step-at n program i h = rw (lt-ltb i n h)
 
 -- below the count a step is no end, and goes where the definition says
@@ -67,13 +67,13 @@ step-ends n program i r h e g =
     let z : _≡_ {A = ℕ} 0 1 = cc (step-at n program i h) in
     omega arith
 
-pub step-onward : (n : ℕ) (program : Program) (i j on : ℕ) (r : Next) → i < n → r ≡ stepAt n program i → r ≡ At j on → on ≡ onward n (program i .«next_instruction») i
+pub step-onward : (n : ℕ) (program : Program) (i j on : ℕ) (r : Next) → i < n → r ≡ stepAt n program i → r ≡ At j on → on ≡ onwardFrom n (program i .«next_instruction») i
 step-onward n program i j on r h e g = cc (step-at n program i h)
 
 pub pass-bare : (s : List ℤ) (m : List ℕ) (i : ℕ) → getD m i 0 ≡ 0 → m ≡ onwardMarked s m i
 pass-bare s m i e = rw (eq-eqb (getD m i 0) 0 e)
 
-pub pass-marked : (s : List ℤ) (m m′ : List ℕ) (i on : ℕ) → (getD m i 0 ≡ 0 → ⊥) → on ≡ onward (count s) (instructionAt s i .«next_instruction») i → m′ ≡ set m on 1 → m′ ≡ onwardMarked s m i
+pub pass-marked : (s : List ℤ) (m m′ : List ℕ) (i on : ℕ) → (getD m i 0 ≡ 0 → ⊥) → on ≡ onwardFrom (count s) (instructionAt s i .«next_instruction») i → m′ ≡ set m on 1 → m′ ≡ onwardMarked s m i
 pass-marked s m m′ i on h e g = rw (ne-eqb (getD m i 0) 0 h) (g ∙ ap (λ (k : ℕ). set m k 1) e)
 
 module _ (s es : List ℤ) (left : ℤ) where
@@ -94,7 +94,7 @@ module _ (s es : List ℤ) (left : ℤ) where
       length-either (eqb (wordOf left + 1) (count s)) (entriesMarked (count s) es (length es / 2)) (wordOf left)
       ∙ length-entries (count s) es (length es / 2)
   length-marks (suc i) =
-      length-either (eqb (getD (marksAfter s es left i) i 0) 0) (marksAfter s es left i) (onward (count s) (instructionAt s i .«next_instruction») i)
+      length-either (eqb (getD (marksAfter s es left i) i 0) 0) (marksAfter s es left i) (onwardFrom (count s) (instructionAt s i .«next_instruction») i)
       ∙ length-marks i
 
 -- ---- the adjusted skip (TFtoPL 75)

@@ -15,7 +15,7 @@ use borrow.Author.Tests.{ltb-true, eqb-true, eqb-false}
 use Rattle.words.specs.Words.{wordOf}
 use Rattle.lang.specs.Records.{count, instructionAt}
 use Rattle.lang.specs.Checks.{entryAt}
-use Rattle.chain.specs.Chains.{Program, onward, chainFrom, chain, chainOf}
+use Rattle.chain.specs.Chains.{Program, onwardFrom, chainFrom, chain, chainOf}
 use Rattle.chain.proofs.Walks.{onward-ascends, chain-whole, chain-step}
 use Rattle.reach.specs.Reach.{entriesMarked, marksAfter, reachable}
 use Rattle.reach.specs.Reached.{Starts, entry, boundary, OnChain, ReachedExactly}
@@ -68,7 +68,7 @@ zeros-bare (suc n) (suc i) = zeros-bare n i
 
 module _ (n : ℕ) (program : Program) where
   abbrev next : ℕ → ℕ
-  next i = onward n (program i .«next_instruction») i
+  next i = onwardFrom n (program i .«next_instruction») i
 
   chain-has : (i : ℕ) → i < n → List·Memᴰ i (chain n program i)
   chain-has i h = rw (chain-step n program i h) (List·Memᴰ·head refl)
@@ -95,7 +95,7 @@ module _ (n : ℕ) (program : Program) where
 
 module _ (s es : List ℤ) (left : ℤ) where
   abbrev on : ℕ → ℕ
-  on i = onward (count s) (instructionAt s i .«next_instruction») i
+  on i = onwardFrom (count s) (instructionAt s i .«next_instruction») i
 
   -- ---- what is marked at first
 

@@ -1,5 +1,6 @@
 -- Reach: which instructions a font's entries lead to, after `reachable_array` and `reachable_iter` of ligkern/lang.rs. TFtoPL 66 to 70
--- compute the activity of each step, and TFtoPL 75 counts skips over reachable steps alone.
+-- compute the activity of each step, and TFtoPL 75 counts skips over reachable steps alone. A skip that lands exactly at the end is not made
+-- to stop, as TFtoPL 70 does; it has an adjusted skip: docs/DIFFERENCES.md.
 use mathlib.Core.Path.{_≡_}
 use mathlib.Core.Bool.{Bool, true, false, cond}
 use mathlib.Core.List.{List, [], _∷_}
@@ -15,7 +16,7 @@ use Rattle.lang.specs.declared.instruction.NextInstruction.the-variants.{Stop, 
 use Rattle.lang.specs.Records.{count, field, instructionAt}
 use Rattle.lang.specs.Checks.{programRefusal, entriesRefusal, absentRefusal, passthroughRefusal, orElse, entryAt}
 use Rattle.lang.specs.Answers.{roomRefusal, writtenReply, replyOf, listOf}
-use Rattle.chain.specs.Chains.{onward}
+use Rattle.chain.specs.Chains.{onwardFrom}
 
 -- a mark at a place; past the end there is none to set
 abbrev pub mark : List ℕ → ℕ → List ℕ
@@ -26,14 +27,14 @@ unfoldable pub entriesMarked : ℕ → List ℤ → ℕ → List ℕ
 entriesMarked n es zero = replicate n 0
 entriesMarked n es (suc k) = mark (entriesMarked n es k) (wordOf (entryAt es k))
 
--- TFtoPL 69: the left boundary's entry is marked too, unless it is the last instruction, which the Rust leaves out
+-- TFtoPL 69: the left boundary's entry is marked too, unless it is the last instruction, which is pass-through then
 abbrev pub leftMarked : ℕ → ℤ → List ℕ → List ℕ
 leftMarked n left marks = cond (eqb (wordOf left + 1) n) marks (mark marks (wordOf left))
 
 -- TFtoPL 70, of instruction i: where it is marked, so is the one it goes on to
 abbrev pub onwardMarked : List ℤ → List ℕ → ℕ → List ℕ
 onwardMarked s marks i =
-    cond (eqb (getD marks i 0) 0) marks (mark marks (onward (count s) (instructionAt s i .«next_instruction») i))
+    cond (eqb (getD marks i 0) 0) marks (mark marks (onwardFrom (count s) (instructionAt s i .«next_instruction») i))
 
 -- of the first k instructions, in order
 unfoldable pub marksAfter : List ℤ → List ℤ → ℤ → ℕ → List ℕ

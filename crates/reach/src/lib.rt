@@ -1,5 +1,5 @@
-// Reach: which instructions a font's entries lead to, after `reachable_iter` and `reachable_array` of ligkern/lang.rs (lines 642 to 648, 796 to 831,
-// 945 to 1001). The marks are a byte an instruction, 1 where it is reached, in a local array of as many as a program can have.
+// Reach: which instructions a font's entries lead to, after `reachable_iter` and `reachable_array` of ligkern/lang.rs (lines 656 to 665, 821 to 853,
+// 955 to 1003). The marks are a byte an instruction, 1 where it is reached, in a local array of as many as a program can have.
 ghost use mathlib.Core.Path.{_≡_};
 ghost use mathlib.Core.List.{_++_};
 ghost use Prim.Native.Nat.{_+_, _*_, _/_, _<_, _≤_};

@@ -9,7 +9,7 @@ use native.Mathlib.Omega.{arith}
 use Rattle.reading.specs.Items.{Left, bnd, chr, Rule, free, kerned, lig, Rules, Item, code, flag, plain, Head, edge, at, key, head, Out, fin}
 use Rattle.reading.specs.Reading.{read, Read, done, more, reading, ended, close, remains, rightItems, Ends}
 use Rattle.reading.specs.Depth.{Res, Finished, raised}
-use Rattle.reading.specs.Run.{headFlag, entryOr, lookUp, answers, begin, inOrder}
+use Rattle.reading.specs.Run.{headFlag, entryOr, lookUp, plainAnswers, begin, inOrder}
 use Rattle.reading.proofs.Steps.{key-head, nothing-right as read-none, one-end, in-sequence}
 use Rattle.reading.proofs.Right.{flags}
 use Rattle.reading.proofs.Holds.{Holds}
@@ -97,7 +97,7 @@ module _ (rule : Rules) (table : Finished) (h : Holds rule table) where
       sym (item-right n (plain c) cs right (r .2)) ∙ r .3
 
   -- Whatever the reading of a word gives once it ends, the run gives, one item a step, and then the end for ever.
-  pub run-right : (n : ℕ) (b : Bool) (word : List ℕ) (right : Option ℕ) {os : List Out} → reading rule n b word right ≡ ended os → (m : ℕ) → answers table right m (begin b word) ≡ inOrder m os
+  pub run-right : (n : ℕ) (b : Bool) (word : List ℕ) (right : Option ℕ) {os : List Out} → reading rule n b word right ≡ ended os → (m : ℕ) → plainAnswers table right m (begin b word) ≡ inOrder m os
   run-right n b word right e m = rw (← (word-gives n b word right e)) (answers-give table right m (begin b word))
 
 -- where every pair ends, so does every text
@@ -118,7 +118,7 @@ word-ends rule e true (c ∷ cs) right = let t = list-ends rule e edge (text (c 
 word-ends rule e false (c ∷ cs) right = let t = list-ends rule e (at (plain c)) (text cs right) in (t .0, t .1 ++ remains right (t .2), ap (close right) (t .3))
 
 -- Where every pair ends, every word's reading ends and its run gives what it gives.
-pub ends-answers : (rule : Rules) (table : Finished) → Holds rule table → ((l : Left) (r : ℕ) → Ends rule l r) → (b : Bool) (word : List ℕ) (right : Option ℕ) → (os : List Out) × ((n : ℕ) × (reading rule n b word right ≡ ended os)) × ((m : ℕ) → answers table right m (begin b word) ≡ inOrder m os)
+pub ends-answers : (rule : Rules) (table : Finished) → Holds rule table → ((l : Left) (r : ℕ) → Ends rule l r) → (b : Bool) (word : List ℕ) (right : Option ℕ) → (os : List Out) × ((n : ℕ) × (reading rule n b word right ≡ ended os)) × ((m : ℕ) → plainAnswers table right m (begin b word) ≡ inOrder m os)
 ends-answers rule table h e b word right =
     let w = word-ends rule e b word right in
     (w .1, (w .0, w .2), run-right rule table h (w .0) b word right (w .2))

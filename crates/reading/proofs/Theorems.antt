@@ -13,7 +13,7 @@ use Rattle.reading.specs.Reading.{read, Read, done, more, reading, Readi
 use Rattle.reading.specs.Depth.{Res, Finished, Pair, comp, raised, waitsBy}
 use Rattle.reading.specs.Loops.{Ruled, finished, loopList}
 use Rattle.reading.specs.Cycles.{OnePerCycle}
-use Rattle.reading.specs.Run.{headFlag, answers, begin, inOrder}
+use Rattle.reading.specs.Run.{headFlag, plainAnswers, begin, inOrder}
 use Rattle.reading.specs.Form.{formed}
 pub use Rattle.reading.proofs.Covers.{Covers}
 pub use Rattle.reading.proofs.Holds.{Holds}
@@ -101,11 +101,11 @@ one-per-cycle rule ps c = Cycles.one-per-cycle rule ps c
 -- ---- runs
 
 -- Whatever the reading of a word gives once it ends, the run gives, one item a step, and then the end for ever. Loops or not.
-pub run-right : (rule : Rules) (table : Finished) → Holds rule table → (n : ℕ) (b : Bool) (word : List ℕ) (right : Option ℕ) {os : List Out} → reading rule n b word right ≡ ended os → (m : ℕ) → answers table right m (begin b word) ≡ inOrder m os
+pub run-right : (rule : Rules) (table : Finished) → Holds rule table → (n : ℕ) (b : Bool) (word : List ℕ) (right : Option ℕ) {os : List Out} → reading rule n b word right ≡ ended os → (m : ℕ) → plainAnswers table right m (begin b word) ≡ inOrder m os
 run-right rule table h n b word right e m = RunRight.run-right rule table h n b word right e m
 
 -- Every run ends, over any table.
-pub run-ends : (table : Finished) (b : Bool) (word : List ℕ) (right : Option ℕ) → (os : List Out) × ((m : ℕ) → answers table right m (begin b word) ≡ inOrder m os)
+pub run-ends : (table : Finished) (b : Bool) (word : List ℕ) (right : Option ℕ) → (os : List Out) × ((m : ℕ) → plainAnswers table right m (begin b word) ≡ inOrder m os)
 run-ends table b word right = RunAll.run-ends table b word right
 
 -- Where every pair ends, every word's reading ends.
@@ -117,7 +117,7 @@ pub last-plain : (rule : Rules) (n : ℕ) (x : Head) (ys : List Item) (r : ℕ) 
 last-plain rule n x ys r e = Steps.last-plain rule n x ys r e
 
 -- Demand 3 over an abstract rule.
-pub all-answers : (rule : Rules) (ps : List Ruled) (table : Finished) → Covers rule ps → Holds rule table → loopList rule ps ≡ [] → (b : Bool) (word : List ℕ) (right : Option ℕ) → (os : List Out) × ((n : ℕ) × (reading rule n b word right ≡ ended os)) × ((m : ℕ) → answers table right m (begin b word) ≡ inOrder m os)
+pub all-answers : (rule : Rules) (ps : List Ruled) (table : Finished) → Covers rule ps → Holds rule table → loopList rule ps ≡ [] → (b : Bool) (word : List ℕ) (right : Option ℕ) → (os : List Out) × ((n : ℕ) × (reading rule n b word right ≡ ended os)) × ((m : ℕ) → plainAnswers table right m (begin b word) ≡ inOrder m os)
 all-answers rule ps table c h e b word right = RunRight.ends-answers rule table h (loops-none rule ps c .0 e) b word right
 
 -- ---- the form of the table

@@ -9,18 +9,18 @@ use Rattle.reading.specs.Items.{Left, bnd, chr, Item, item, flag, code, 
 use Rattle.reading.specs.Depth.{Finished, Res, raised}
 
 -- the next left: something to look up, a ligature that took the right item in, or nothing more
-pub data Next : Type 0 where
-  left : Head → Next
-  final : ℕ → Next
-  stop : Next
+pub data PlainNext : Type 0 where
+  left : Head → PlainNext
+  final : ℕ → PlainNext
+  stop : PlainNext
 
 pub record Run : Type 0 where
   pub ops : List Out
-  pub next : Next
+  pub next : PlainNext
   pub rest : List ℕ
 
 -- what a step answers, and the state that it leaves
-pub record Answer : Type 0 where
+pub record PlainAnswer : Type 0 where
   pub gives : Option Out
   pub run : Run
 
@@ -37,38 +37,38 @@ abbrev pub lookUp : Finished → Head → ℕ → Res
 lookUp table x r = entryOr (table (key x) r) x r
 
 -- at the word's end a right item that is left as it came gives nothing
-abbrev pub afterRight : Item → Next
-afterRight (item true c) = final c
-afterRight (item false c) = stop
+abbrev pub plainAfterRight : Item → PlainNext
+plainAfterRight (item true c) = final c
+plainAfterRight (item false c) = stop
 
 -- a step that looks nothing up: an op, a last ligature, or the end
-abbrev pub given : List Out → Next → List ℕ → Answer
+abbrev pub given : List Out → PlainNext → List ℕ → PlainAnswer
 given (o ∷ os) next rest = record { gives = some o; run = record { ops = os; next = next; rest = rest } }
 given [] (final c) rest = record { gives = some (glyph (inserted c)); run = record { ops = []; next = stop; rest = rest } }
 given [] stop rest = record { gives = none; run = record { ops = []; next = stop; rest = rest } }
 given [] (left x) rest = record { gives = none; run = record { ops = []; next = left x; rest = rest } }
 
 -- the word's end: the last left is looked up with the right item, where there is one
-abbrev pub atEnd : Finished → Option ℕ → Head → Answer
+abbrev pub atEnd : Finished → Option ℕ → Head → PlainAnswer
 atEnd table right edge = given [] (left edge) []
 atEnd table none (at x) = given (fin (at x)) stop []
-atEnd table (some r) (at x) = given (lookUp table (at x) r .outs) (afterRight (lookUp table (at x) r .last)) []
+atEnd table (some r) (at x) = given (lookUp table (at x) r .outs) (plainAfterRight (lookUp table (at x) r .last)) []
 
 -- pending ops and a last ligature are given as they stand; only a left is looked up
-abbrev pub orLook : List Out → Next → List ℕ → (Head → Answer) → Answer
+abbrev pub orLook : List Out → PlainNext → List ℕ → (Head → PlainAnswer) → PlainAnswer
 orLook (o ∷ os) next rest look = given (o ∷ os) next rest
 orLook [] (final c) rest look = given [] (final c) rest
 orLook [] stop rest look = given [] stop rest
 orLook [] (left x) rest look = look x
 
 -- one letter a turn, until an item can be given
-unfoldable pub stepFrom : Finished → Option ℕ → List ℕ → List Out → Next → Answer
+unfoldable pub stepFrom : Finished → Option ℕ → List ℕ → List Out → PlainNext → PlainAnswer
 stepFrom table right [] ops next = orLook ops next [] (atEnd table right)
 stepFrom table right (y ∷ ys) ops next =
     orLook ops next (y ∷ ys)
     (λ x. stepFrom table right ys (lookUp table x y .outs) (left (at (lookUp table x y .last))))
 
-abbrev pub step : Finished → Option ℕ → Run → Answer
+abbrev pub step : Finished → Option ℕ → Run → PlainAnswer
 step table right s = stepFrom table right (s .rest) (s .ops) (s .next)
 
 -- a fresh run over a word, with the left boundary or without
@@ -78,9 +78,9 @@ begin false [] = record { ops = []; next = stop; rest = [] }
 begin false (c ∷ cs) = record { ops = []; next = left (at (plain c)); rest = cs }
 
 -- the answers of n steps, each from the state that the last one left
-unfoldable pub answers : Finished → Option ℕ → ℕ → Run → List (Option Out)
-answers table right zero s = []
-answers table right (suc n) s = step table right s .gives ∷ answers table right n (step table right s .run)
+unfoldable pub plainAnswers : Finished → Option ℕ → ℕ → Run → List (Option Out)
+plainAnswers table right zero s = []
+plainAnswers table right (suc n) s = step table right s .gives ∷ plainAnswers table right n (step table right s .run)
 
 -- the first n of a list's items, and then the end for ever
 unfoldable pub inOrder : ℕ → List Out → List (Option Out)

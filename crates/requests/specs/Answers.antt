@@ -19,6 +19,6 @@ pub record Put (d₀ : List ℤ) (i w r : ℕ) (d : List ℤ) : Type 0 where
   pub next : r ≡ cond (ltb i (length d₀)) (i + 1) i
 
 -- so many numbers are fewer than there is room for, so none is missing
-abbrev pub Within : Written → ℕ → Type 0
-Within (Count n) room = n < room
-Within (Refused n) room = Unit
+abbrev pub CountWithin : Written → ℕ → Type 0
+CountWithin (Count n) room = n < room
+CountWithin (Refused n) room = Unit

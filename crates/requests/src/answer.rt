@@ -3,7 +3,7 @@ ghost use mathlib.Core.Path.{_≡_};
 ghost use Prim.Native.Nat.{_≤_, _%_};
 ghost use lib.ListN.{length, set};
 ghost use Rattle.words.specs.Words.{numberOf};
-ghost use Rattle.requests.specs.Answers.{Put, Within, bitOf};
+ghost use Rattle.requests.specs.Answers.{Put, CountWithin, bitOf};
 use lang::Written;
 
 // 1 where a thing is so.
@@ -56,7 +56,7 @@ pub fn put_words(out: &mut [i32], at: usize, list: &[u32], n: usize) -> usize
 
 // An answer that there was room for, else 15.
 pub fn fitting(answer: Written, room: usize) -> Written
-    ensures { λ r. ⌜ Within r room ⌝ }
+    ensures { λ r. ⌜ CountWithin r room ⌝ }
 {
     match answer {
         Written::Count(n) => if n < room {

@@ -1,15 +1,14 @@
 // The second stage of compiling: which pairs finish, with which last, and what the others wait for: a depth-first search, after TFtoPL 94 and 95 and
-// `calculate_replacements` of ligkern/compiler.rs (lines 158 to 389). Linear in the rows, times a bisection. The path, from the row that the search began
+// `calculate_replacements` of ligkern/compiler.rs (lines 162 to 398). Linear in the rows, times a bisection. The path, from the row that the search began
 // with to the one that it looks at, stands in numbers 8 of the first rows; specs/Rows.antt of crate `pairs` says what a row holds.
 ghost use mathlib.Core.Path.{_≡_};
 ghost use Prim.Native.Nat.{ℕ, _/_, _<_, min};
 ghost use lib.ListN.{length};
 ghost use lib.IntN.{ℤ};
 ghost use Rattle.pairs.specs.Rows.{at, Ascending, Encoded};
-ghost use Rattle.fonts.specs.Fonts.{leftOf};
+ghost use Rattle.fonts.specs.Fonts.{leftOf, fontOf};
 ghost use Rattle.pairs.specs.SettledRows.{Settled};
 ghost use Rattle.pairs.specs.SettleSteps.{LastsStored, PairSays, RuleSays, SecondSays, flagged, codeOf, Searching, Opened, Stuck, opening, finishing, GivenUp, Advanced, Searched};
-ghost use Rattle.fonts.specs.Fonts.{fontOf};
 ghost use Rattle.settle.specs.Settles.{SettlesBy};
 use pairs::Last;
 use pairs::Prepared;
@@ -196,7 +195,15 @@ pub fn settle(
 ) -> SettledFont
     ensures { λ r. ⌜ ((b : ℤ) → SettlesBy (fontOf (now (instructions .entry)) (now (kerns .entry)) (now (entries .entry)) b «left_entry» «design_size») (min room (length (now (work .entry)) / 16)) (now (work .entry)) (now (work .exit)) r) ⌝ }
 {
-    match prepare(instructions, kerns, entries, left_entry, design_size, work, room) {
+    match prepare(
+        instructions,
+        kerns,
+        entries,
+        left_entry,
+        design_size,
+        work,
+        room,
+    ) {
         Prepared::Refused(number) => SettledFont::Refused(number),
         Prepared::Rows(n, e, scaled) => {
             let m = settle_rows(work, n);

@@ -22,7 +22,7 @@ use Rattle.captions.specs.declared.Turned.the-variants.{Gives, Goes}
 use Rattle.captions.specs.declared.Found.the-variants.{At, Nothing}
 use Rattle.captions.specs.Tables.{number, keyBy, find, foundAt, recordFits}
 use Rattle.captions.specs.Replies.{nextCode}
-use Rattle.captions.specs.Steps.{refused, ended, giveCharacter, isCharacter, leftLetters, withPending, longer, opsPlaced, gathered, leftPlaceOf, afterRight, readOn, withNext, giveLeft, entered, swallows, entryFits, turnBy, turnWith, orBoundary, turnAtEnd, turnAtLetter, turn, nextFits, placed}
+use Rattle.captions.specs.Steps.{refused, ended, giveCharacter, isCharacter, leftLetters, withPending, longer, opsPlaced, gathered, leftPlaceOf, afterRight, readOn, withNext, giveLeft, enteredAt, swallows, entryReads, turnBy, turnWith, orBoundary, turnAtEnd, turnAtLetter, turn, nextFits, placed}
 use Rattle.turns.specs.Turns.{turnNext, lefts}
 
 no : {A : Type 0} → _≡_ {A = Bool} false true → A
@@ -100,7 +100,7 @@ module _ (pairs ops : List ℤ) (s : State) where
   turn-none x letter y h = ap (turnBy pairs ops x letter y s) h
 
   pub turn-some : (x : NextLeft) (letter : Bool) (y k : ℕ) → find pairs (keyBy (leftPlaceOf x) y) ≡ some k →
-      turnWith pairs ops x letter y s ≡ cond (entryFits pairs ops x k) (Goes (entered pairs x letter s k)) (Gives (refused 7 s))
+      turnWith pairs ops x letter y s ≡ cond (entryReads pairs ops x k) (Goes (enteredAt pairs x letter s k)) (Gives (refused 7 s))
   turn-some x letter y k h = ap (turnBy pairs ops x letter y s) h
 
   -- the word's end
@@ -159,13 +159,13 @@ module _ (pairs : List ℤ) (x : NextLeft) (k : ℕ) where
     last-keeps e q = rw (h, ← p .is, ← q .is, eq-eqb count 0 e)
 
 module _ (pairs ops : List ℤ) (x : NextLeft) (k : ℕ) where
-  pub unread : recordFits pairs ops k ≡ false → entryFits pairs ops x k ≡ false
+  pub unread : recordFits pairs ops k ≡ false → entryReads pairs ops x k ≡ false
   unread h = rw h
 
-  pub swallowed : recordFits pairs ops k ≡ true → swallows pairs x k ≡ true → entryFits pairs ops x k ≡ false
+  pub swallowed : recordFits pairs ops k ≡ true → swallows pairs x k ≡ true → entryReads pairs ops x k ≡ false
   swallowed h e = rw (h, e)
 
-  pub followed : recordFits pairs ops k ≡ true → swallows pairs x k ≡ false → entryFits pairs ops x k ≡ true
+  pub followed : recordFits pairs ops k ≡ true → swallows pairs x k ≡ false → entryReads pairs ops x k ≡ true
   followed h e = rw (h, e)
 
 -- ---- what is checked first

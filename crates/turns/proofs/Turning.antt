@@ -22,7 +22,7 @@ use Rattle.captions.specs.declared.Step.{Step}
 use Rattle.captions.specs.declared.Turned.{Turned}
 use Rattle.captions.specs.declared.Turned.the-variants.{Gives, Goes}
 use Rattle.captions.specs.Tables.{opCount, number, keyBy, find, firstOp, countOf, lastCode, lastFlag, recordFits}
-use Rattle.captions.specs.Steps.{refused, readOp, gathered, leftPlaceOf, afterRight, readOn, giveLeft, entered, entryFits, turnBy, turnWith, turnAtEnd, turnAtLetter, turn, onward, byNext, stepBy, runOn, nextFits, opsPlaced, placed}
+use Rattle.captions.specs.Steps.{refused, readOp, gathered, leftPlaceOf, afterRight, readOn, giveLeft, enteredAt, entryReads, turnBy, turnWith, turnAtEnd, turnAtLetter, turn, goesOn, byNext, stepBy, runOn, nextFits, opsPlaced, placed}
 use Rattle.turns.specs.Turns.{lefts, turnsLeft, turnNext, turnOnce, Within}
 use Rattle.turns.proofs.Laws.{letters-few}
 
@@ -74,8 +74,8 @@ module _ (pairs ops : List ℤ) (g t : State) where
       (both-right (cond (lastFlag pairs k) true (eqb (lastCode pairs k) (wordOf (number pairs k 1)))) _
       (both-right (within 1 (number pairs k 3)) _ (both-right (within 255 (number pairs k 2)) _ h)))
 
-  entered-goes : (x : NextLeft) (letter : Bool) (k : ℕ) (b : Bool) → entryFits pairs ops x k ≡ b →
-      cond b (Goes (entered pairs x letter g k)) (Gives (refused 7 g)) ≡ Goes t → Reached (opCount ops) letter g t
+  entered-goes : (x : NextLeft) (letter : Bool) (k : ℕ) (b : Bool) → entryReads pairs ops x k ≡ b →
+      cond b (Goes (enteredAt pairs x letter g k)) (Gives (refused 7 g)) ≡ Goes t → Reached (opCount ops) letter g t
   entered-goes x letter k true e h =
       let r = both-left (recordFits pairs ops k) _ e in
       subst (λ (u : State). Reached (opCount ops) letter g u) (goes-is h)
@@ -87,7 +87,7 @@ module _ (pairs ops : List ℤ) (g t : State) where
   with-goes x letter y l p none h =
       subst (λ (u : State). Reached (opCount ops) letter g u) (free-goes x h)
       (record { read = refl; pending = refl; ops = p; next = after-plain letter y l; left = after-left letter (plain y) })
-  with-goes x letter y l p (some k) h = entered-goes x letter k (entryFits pairs ops x k) refl h
+  with-goes x letter y l p (some k) h = entered-goes x letter k (entryReads pairs ops x k) refl h
 
   end-goes : (x : NextLeft) (o : Option ℕ) → g .op + g .ops ≤ opCount ops → turnAtEnd pairs ops o x g ≡ Goes t → Reached (opCount ops) false g t
   end-goes next.Boundary o p h = absurd (never h)
@@ -161,7 +161,7 @@ module _ (pairs ops : List ℤ) (o : Option ℕ) (word : List ℕ) (s t : State)
 
 module _ (ops : List ℤ) (look : NextLeft → State → Turned) where
   step-by : (go : State → Step) (s : State) (b : Bool) (x : NextLeft) →
-      cond b (byNext look go s x) (readOp ops s) ≡ onward go (cond b (turnNext look s x) (Gives (readOp ops s)))
+      cond b (byNext look go s x) (readOp ops s) ≡ goesOn go (cond b (turnNext look s x) (Gives (readOp ops s)))
   step-by go s true next.Boundary = refl
   step-by go s true (next.Char c) = refl
   step-by go s true (next.Lig c) = refl
@@ -169,8 +169,8 @@ module _ (ops : List ℤ) (look : NextLeft → State → Turned) where
   step-by go s true next.None = refl
   step-by go s false x = refl
 
-  step-once : (go : State → Step) (s : State) (r : Turned) → turnOnce ops look s ≡ r → stepBy ops look go s ≡ onward go r
-  step-once go s r h = step-by go s (eqb (s .ops) 0) (s .«next_left») ∙ ap (onward go) h
+  step-once : (go : State → Step) (s : State) (r : Turned) → turnOnce ops look s ≡ r → stepBy ops look go s ≡ goesOn go r
+  step-once go s r h = step-by go s (eqb (s .ops) 0) (s .«next_left») ∙ ap (goesOn go) h
 
   run-gives : (n : ℕ) (s : State) (a : Step) → turnOnce ops look s ≡ Gives a → runOn ops look n s ≡ a
   unfolding runOn

@@ -4,7 +4,7 @@ ghost use mathlib.Core.Bool.{true, cond};
 ghost use Prim.Native.Nat.{_<_};
 ghost use Rattle.words.specs.Words.{numberOf};
 ghost use Rattle.reading.specs.Items.{plain};
-ghost use Rattle.captions.specs.Steps.{refused, ended, afterRight, readOn, withNext, giveLeft, entered, swallows, entryFits, turnWith, orBoundary, turnAtEnd, turnAtLetter, turn, nextFits};
+ghost use Rattle.captions.specs.Steps.{refused, ended, afterRight, readOn, withNext, giveLeft, enteredAt, swallows, entryReads, turnWith, orBoundary, turnAtEnd, turnAtLetter, turn, nextFits};
 use super::left::after_right;
 use super::left::gathered;
 use super::left::give_left;
@@ -46,7 +46,7 @@ fn refuses(number: u32, s: State) -> Turned
 // The ops of entry k are to be given, and its last is next.
 fn entered(pairs: &[i32], x: NextLeft, letter: bool, s: State, k: usize) -> State
     requires { ⌜ s .read < 9223372036854775808 ⌝ }
-    ensures { λ r. ⌜ r ≡ entered (now (pairs .entry)) x letter s k ⌝ }
+    ensures { λ r. ⌜ r ≡ enteredAt (now (pairs .entry)) x letter s k ⌝ }
 {
     let code = number_at(pairs, k, 2);
     let flag = number_at(pairs, k, 3) == 1;
@@ -94,7 +94,7 @@ fn swallows(pairs: &[i32], x: NextLeft, k: usize) -> bool
 // A pair with entry k.
 fn turn_entered(pairs: &[i32], ops: &[i32], x: NextLeft, letter: bool, s: State, k: usize) -> Turned
     requires { ⌜ s .read < 9223372036854775808 ⌝ }
-    ensures { λ r. ⌜ r ≡ cond (entryFits (now (pairs .entry)) (now (ops .entry)) x k) (Turned.Goes (entered (now (pairs .entry)) x letter s k)) (Turned.Gives (refused 7 s)) ⌝ }
+    ensures { λ r. ⌜ r ≡ cond (entryReads (now (pairs .entry)) (now (ops .entry)) x k) (Turned.Goes (enteredAt (now (pairs .entry)) x letter s k)) (Turned.Gives (refused 7 s)) ⌝ }
 {
     if !record_fits(pairs, ops, k) {
         return refuses(7, s);

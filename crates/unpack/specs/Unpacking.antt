@@ -16,11 +16,10 @@ use Rattle.unpack.specs.declared.Unpacked.the-variants.{Entry, Direct, I
 use Rattle.unpack.specs.declared.SevenBit.{SevenBit}
 use Rattle.unpack.specs.declared.SevenBit.the-variants.{Safe, Refused as RefusedFont}
 use Rattle.lang.specs.Every.{both, every}
-use Rattle.lang.specs.Records.{count, field, rightOf, instructionAt}
+use Rattle.lang.specs.Records.{count, field, rightOf, instructionAt, isKind}
 use Rattle.lang.specs.Checks.{programRefusal, rangeRefusal, entriesRefusal, passthroughRefusal, orElse, unless, charAt, entryAt}
 use Rattle.lang.specs.Answers.{Reply, replyOf, listOf, roomRefusal}
 use Rattle.chain.specs.Chains.{chainOf}
-use Rattle.lang.specs.Records.{isKind}
 
 -- ---- what an entry stands for
 

@@ -1,5 +1,5 @@
-// The entry of a character from the packed one, after `unpack_entrypoint` (ligkern/lang.rs lines 533 to 553); the program's seven-bit test, after
-// `is_seven_bit_safe` (lines 664 to 675).
+// The entry of a character from the packed one, after `unpack_entrypoint` (ligkern/lang.rs lines 533 to 551); the program's seven-bit test, after
+// `is_seven_bit_safe` (lines 678 to 689).
 ghost use mathlib.Core.Path.{_≡_};
 ghost use mathlib.Core.Bool.{true};
 ghost use mathlib.Core.List.{[], _++_};

@@ -2,8 +2,8 @@
 // It is what compiling is timed on (docs/PROOFS.md): the search goes as deep as a font of characters allows.
 ghost use mathlib.Core.Path.{_≡_};
 ghost use lib.ListN.{length};
-use fonts::Compiled;
 use compiler::compile;
+use fonts::Compiled;
 
 mod font;
 

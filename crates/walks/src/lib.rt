@@ -1,4 +1,4 @@
-// The third stage of compiling: the loop list, a walk from each row that never finishes, in the order of TFtoPL 90, after lines 391 to 461 of
+// The third stage of compiling: the loop list, a walk from each row that never finishes, in the order of TFtoPL 90, after lines 400 to 460 of
 // ligkern/compiler.rs. specs/Rows.antt of crate `pairs` says what a row holds.
 ghost use mathlib.Core.Path.{_≡_};
 ghost use Prim.Native.Nat.{ℕ, _/_, _<_, _≤_, min};
@@ -84,7 +84,15 @@ pub fn find_loops(
 ) -> WalkedFont
     ensures { λ r. ⌜ ((b : ℤ) → FindsLoopsBy (fontOf (now (instructions .entry)) (now (kerns .entry)) (now (entries .entry)) b «left_entry» «design_size») (min room (length (now (work .entry)) / 16)) (now (work .entry)) (now (work .exit)) r) ⌝ }
 {
-    match settle(instructions, kerns, entries, left_entry, design_size, work, room) {
+    match settle(
+        instructions,
+        kerns,
+        entries,
+        left_entry,
+        design_size,
+        work,
+        room,
+    ) {
         SettledFont::Refused(number) => WalkedFont::Refused(number),
         SettledFont::Rows(n, e, m, scaled) => {
             let r = walk_rows(work, n, e);

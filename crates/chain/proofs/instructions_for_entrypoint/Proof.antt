@@ -19,7 +19,7 @@ use Rattle.lang.specs.Checks.{orElse, programRefusal, rangeRefusal}
 use Rattle.lang.specs.Answers.{roomRefusal}
 use Rattle.lang.proofs.Refusals.{orElse-none, program-size, room-fits, refused-answer, taken-answer}
 use Rattle.lang.proofs.Filled.{refused-list}
-use Rattle.chain.specs.Chains.{chainOf, walkRefusal, Walked}
+use Rattle.chain.specs.Chains.{chainOf, walkRefusal, WalksChain}
 use Rattle.chain.proofs.instructions_for_entrypoint.Statement.{statement}
 use Rattle.chain.proofs.instructions_for_entrypoint.Tie as tie
 
@@ -28,7 +28,7 @@ module _ (s : List ℤ) (entry : ℤ) (out zeroed : List ℕ) (f : SFits w32 ent
   refusal-is : r ≡ walkRefusal s entry (length out)
   refusal-is = asked ∙ rw (toZ-ofZ w32 entry f, z, length-replicate)
 
-  refused : (r ≡ 0 → ⊥) → Walked s entry out (Refused r) zeroed
+  refused : (r ≡ 0 → ⊥) → WalksChain s entry out (Refused r) zeroed
   refused h =
       record {
         answer = refused-answer (length (chainOf s (wordOf entry))) refusal-is h;
@@ -55,7 +55,7 @@ module _ (s : List ℤ) (entry : ℤ) (out zeroed : List ℕ) (f : SFits w32 ent
     ready : (count s ≤ 32767) × (length (chainOf s w) ≤ length zeroed)
     ready = (few, room)
 
-    written : (m : ℕ) (out′ : List ℕ) → m ≡ length (chainOf s w) → Appending (chainOf s w) zeroed out′ → Walked s entry out (Count m) out′
+    written : (m : ℕ) (out′ : List ℕ) → m ≡ length (chainOf s w) → Appending (chainOf s w) zeroed out′ → WalksChain s entry out (Count m) out′
     written m out′ e h =
         record {
           answer = rw (rw word-is at e) (taken-answer (length (chainOf s (wordOf entry))) nothing-refused);

@@ -13,7 +13,6 @@ returns-2 c =
     let a = c .before .before .args in
     rw (not-false (a .scaled) (c .before .if1 .left)) (too-many (a .total) (a .loops) (a .«op-room») (a .«loop-room») (c .if2 .taken))
 
-
 returns-3 : tie.Need-returns-3
 returns-3 c =
     let a = c .before .before .before .args in

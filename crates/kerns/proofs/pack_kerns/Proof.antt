@@ -6,10 +6,9 @@ use Prim.Native.Nat.{ℕ, _≤_}
 use lib.IntN.{ℤ, pos}
 use lib.ListN.{length, drop, replicate}
 use denote.Ref.{now}
-use Rattle.lang.specs.Records.{count}
+use Rattle.lang.specs.Records.{count, isKind}
 use Rattle.lang.specs.Checks.{programRefusal, kernsRefusal, orElse}
 use Rattle.lang.specs.Answers.{roomRefusal}
-use Rattle.lang.specs.Records.{isKind}
 use Rattle.kerns.specs.Kerns.{changed, kernAt, packed, packRefusal, PacksKerns}
 use Rattle.lang.specs.declared.Written.the-variants.{Count, Refused}
 use Rattle.lang.proofs.Refusals.{orElse-none, room-fits, refused-answer, taken-answer}

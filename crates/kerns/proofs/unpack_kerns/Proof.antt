@@ -10,11 +10,10 @@ use lib.Seq.{length-take-le}
 use denote.Ref.{now}
 use Rattle.words.specs.Lists.{tabulate}
 use Rattle.words.proofs.Lists.{appending-rest}
-use Rattle.lang.specs.Records.{count, field}
+use Rattle.lang.specs.Records.{count, field, isKind}
 use Rattle.lang.specs.Checks.{programRefusal, orElse}
 use Rattle.lang.specs.Answers.{roomRefusal}
-use Rattle.lang.specs.Records.{isKind}
-use Rattle.kerns.specs.Kerns.{changed, placeOf, kernsOf, unpacked, unpackRefusal, UnpacksKerns}
+use Rattle.kerns.specs.Kerns.{changed, kernPlace, kernsOf, unpacked, unpackKernsRefusal, UnpacksKerns}
 use Rattle.kerns.specs.Sharing.{Linked, Gathered, Counted}
 use Rattle.lang.specs.declared.Written.the-variants.{Count, Refused}
 use Rattle.lang.proofs.Refusals.{orElse-assoc, orElse-none, first-refusal, room-fits, room-short, room-is, program-size, refused-answer}
@@ -25,7 +24,7 @@ use Rattle.kerns.proofs.unpack_kerns.Statement.{statement}
 use Rattle.kerns.proofs.unpack_kerns.Tie as tie
 
 -- zeros for both lists, whatever the refusal
-refused : {s out kerns out′ kerns′ : List ℤ} {r : ℕ} → out′ ≡ replicate (length out) (pos 0) → kerns′ ≡ replicate (length kerns) (pos 0) → r ≡ unpackRefusal s (length out) (length kerns) → (r ≡ 0 → ⊥) → UnpacksKerns s out kerns (Refused r) out′ kerns′
+refused : {s out kerns out′ kerns′ : List ℤ} {r : ℕ} → out′ ≡ replicate (length out) (pos 0) → kerns′ ≡ replicate (length kerns) (pos 0) → r ≡ unpackKernsRefusal s (length out) (length kerns) → (r ≡ 0 → ⊥) → UnpacksKerns s out kerns (Refused r) out′ kerns′
 refused {s} {out} {kerns} e f n h =
     record {
       answer = refused-answer (length (kernsOf s)) n h;
@@ -47,7 +46,7 @@ record Ended (s y kerns′ : List ℤ) (links : List ℕ) (m : ℕ) : Type 0 whe
   kept : length kerns′ ≡ length y
 
 module _ {s out kerns z y : List ℤ} {r : ℕ} (b : Begun s out kerns z y r) where
-  number : unpackRefusal s (length out) (length kerns) ≡ orElse r (roomRefusal (length (kernsOf s)) (length kerns))
+  number : unpackKernsRefusal s (length out) (length kerns) ≡ orElse r (roomRefusal (length (kernsOf s)) (length kerns))
   number =
       orElse-assoc (programRefusal s) (roomRefusal (length s) (length out)) (roomRefusal (length (kernsOf s)) (length kerns))
       ∙ rw (b .early, b .out-same)
@@ -57,7 +56,7 @@ module _ {s out kerns z y : List ℤ} {r : ℕ} (b : Begun s out kerns z y r) wh
 
   module _ (passed : r ≡ 0) where
     -- what is left to refuse is the room for the kerns
-    late : unpackRefusal s (length out) (length kerns) ≡ roomRefusal (length (kernsOf s)) (length kerns)
+    late : unpackKernsRefusal s (length out) (length kerns) ≡ roomRefusal (length (kernsOf s)) (length kerns)
     late = number ∙ rw passed
 
     size : count s ≤ 32767
@@ -82,12 +81,12 @@ module _ {s out kerns z y : List ℤ} {r : ℕ} (b : Begun s out kerns z y r) wh
         linked : Linked (take m kerns′) links
         linked = rw (gathered-front all) (all .linked)
 
-        done : {out′ : List ℤ} → out′ ≡ tabulate (length s) (changed s (isKind 0 s) (pos 1) (λ i. pos (placeOf (field s i 3) (take m kerns′)))) ++ drop (length s) z → UnpacksKerns s out kerns (Count m) out′ kerns′
+        done : {out′ : List ℤ} → out′ ≡ tabulate (length s) (changed s (isKind 0 s) (pos 1) (λ i. pos (kernPlace (field s i 3) (take m kerns′)))) ++ drop (length s) z → UnpacksKerns s out kerns (Count m) out′ kerns′
         done w =
-            let none : unpackRefusal s (length out) (length kerns) ≡ 0 = late ∙ room-is (length (kernsOf s)) (length kerns) (omega (arith, all .counted, e .kept, b .kerns-same)) in
+            let none : unpackKernsRefusal s (length out) (length kerns) ≡ 0 = late ∙ room-is (length (kernsOf s)) (length kerns) (omega (arith, all .counted, e .kept, b .kerns-same)) in
             record {
               answer = rw (none, all .counted);
-              list = written-list (pos 0) (length out) (length s) (changed s (isKind 0 s) (pos 1) (λ i. pos (placeOf (field s i 3) (kernsOf s)))) none (b .out-zeros) (rw (gathered-front all) at w);
+              list = written-list (pos 0) (length out) (length s) (changed s (isKind 0 s) (pos 1) (λ i. pos (kernPlace (field s i 3) (kernsOf s)))) none (b .out-zeros) (rw (gathered-front all) at w);
               shares = rw (none, ← b .kerns-same) (appending-rest (replicate (length y) (pos 0)) (pos 0) (length y) refl (all .stands));
             }
 

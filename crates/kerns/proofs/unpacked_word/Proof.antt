@@ -10,9 +10,8 @@ use lib.ListN.{length}
 use denote.Ref.{now}
 use Rattle.words.specs.Words.{Word, numberOf}
 use Rattle.words.proofs.Bits.{number-is}
-use Rattle.lang.specs.Records.{field}
-use Rattle.lang.specs.Records.{isKind}
-use Rattle.kerns.specs.Kerns.{placeOf}
+use Rattle.lang.specs.Records.{field, isKind}
+use Rattle.kerns.specs.Kerns.{kernPlace}
 use Rattle.kerns.proofs.Changes.{kind-is, kind-not, small-word, word-not, word-kind, word-operand, word-other}
 use Rattle.kerns.proofs.Places.{place-le}
 use borrow.Author.Needs.{needs}
@@ -20,8 +19,8 @@ use Rattle.kerns.proofs.unpacked_word.Statement.{statement}
 use Rattle.kerns.proofs.unpacked_word.Tie as tie
 
 -- the place of a value that was read, as its word
-place-is : (v : ℤ) (ks : List ℤ) (w r : ℕ) → length ks ≤ 32767 → Word v w → r ≡ placeOf (numberOf w) ks → Word (pos (placeOf v ks)) r
-place-is v ks w r l h e = rw (e, number-is h) (small-word (placeOf v ks) (omega (arith, place-le v ks)))
+place-is : (v : ℤ) (ks : List ℤ) (w r : ℕ) → length ks ≤ 32767 → Word v w → r ≡ kernPlace (numberOf w) ks → Word (pos (kernPlace v ks)) r
+place-is v ks w r l h e = rw (e, number-is h) (small-word (kernPlace v ks) (omega (arith, place-le v ks)))
 
 field-at-requires : tie.Need-field-at-requires
 field-at-requires c κs = search needs
@@ -32,14 +31,14 @@ word-at-requires c κs = search needs
 returns : tie.Need-returns
 returns c =
     let a = c .before .before .before in
-    word-not (now (a .args .instructions)) (isKind 0 (now (a .args .instructions))) (pos 1) (λ i. pos (placeOf (field (now (a .args .instructions)) i 3) (now (a .args .kerns)))) (a .args .j)
+    word-not (now (a .args .instructions)) (isKind 0 (now (a .args .instructions))) (pos 1) (λ i. pos (kernPlace (field (now (a .args .instructions)) i 3) (now (a .args .kerns)))) (a .args .j)
     (kind-not 0 (now (a .args .instructions)) (a .args .j / 4) (c .before .before .field-at .ensures) (c .before .if1 .taken))
     (c .word-at .ensures)
 
 returns-2 : tie.Need-returns-2
 returns-2 c =
     let a = c .before .before .before in
-    word-kind (now (a .args .instructions)) (isKind 0 (now (a .args .instructions))) (pos 1) (λ i. pos (placeOf (field (now (a .args .instructions)) i 3) (now (a .args .kerns)))) (a .args .j)
+    word-kind (now (a .args .instructions)) (isKind 0 (now (a .args .instructions))) (pos 1) (λ i. pos (kernPlace (field (now (a .args .instructions)) i 3) (now (a .args .kerns)))) (a .args .j)
     (kind-is 0 (now (a .args .instructions)) (a .args .j / 4) (c .before .before .field-at .ensures) (c .before .if1 .left))
     (c .if2 .taken) (small-word 1 (lit< tt))
 
@@ -57,7 +56,7 @@ cast-result c =
 returns-3 : tie.Need-returns-3
 returns-3 c =
     let a = c .before .before .before .before .before .before in
-    word-operand (now (a .args .instructions)) (isKind 0 (now (a .args .instructions))) (pos 1) (λ i. pos (placeOf (field (now (a .args .instructions)) i 3) (now (a .args .kerns)))) (a .args .j)
+    word-operand (now (a .args .instructions)) (isKind 0 (now (a .args .instructions))) (pos 1) (λ i. pos (kernPlace (field (now (a .args .instructions)) i 3) (now (a .args .kerns)))) (a .args .j)
     (kind-is 0 (now (a .args .instructions)) (a .args .j / 4) (c .before .before .before .before .before .field-at .ensures) (c .before .before .before .before .if1 .left))
     (c .before .before .if3 .taken)
     (place-is (field (now (a .args .instructions)) (a .args .j / 4) 3) (now (a .args .kerns)) (c .before .field-at2 .result) (c .place-of .result) (a .pre .few) (c .before .field-at2 .ensures) (c .place-of .ensures))
@@ -68,7 +67,7 @@ word-at-requires-2 c κs = search needs
 returns-4 : tie.Need-returns-4
 returns-4 c =
     let a = c .before .before .before .before .before in
-    word-other (now (a .args .instructions)) (isKind 0 (now (a .args .instructions))) (pos 1) (λ i. pos (placeOf (field (now (a .args .instructions)) i 3) (now (a .args .kerns)))) (a .args .j)
+    word-other (now (a .args .instructions)) (isKind 0 (now (a .args .instructions))) (pos 1) (λ i. pos (kernPlace (field (now (a .args .instructions)) i 3) (now (a .args .kerns)))) (a .args .j)
     (kind-is 0 (now (a .args .instructions)) (a .args .j / 4) (c .before .before .before .before .field-at .ensures) (c .before .before .before .if1 .left))
     (c .before .before .if2 .left) (c .before .if3 .left) (c .word-at2 .ensures)
 

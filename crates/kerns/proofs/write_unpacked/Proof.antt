@@ -9,16 +9,15 @@ use denote.Ref.{now}
 use Rattle.words.specs.Lists.{Filling}
 use Rattle.words.proofs.Bits.{number-is}
 use Rattle.words.proofs.Lists.{filling-none, filling-length}
-use Rattle.lang.specs.Records.{field}
-use Rattle.lang.specs.Records.{isKind}
+use Rattle.lang.specs.Records.{field, isKind}
 use Rattle.lang.proofs.Filled.{filling-put, filling-to}
-use Rattle.kerns.specs.Kerns.{changed, placeOf}
+use Rattle.kerns.specs.Kerns.{changed, kernPlace}
 use borrow.Author.Needs.{needs}
 use Rattle.kerns.proofs.write_unpacked.Statement.{statement}
 use Rattle.kerns.proofs.write_unpacked.Tie as tie
 
 abbrev unpackedAt : List ℤ → List ℤ → ℕ → ℤ
-unpackedAt s kerns = changed s (isKind 0 s) (pos 1) (λ i. pos (placeOf (field s i 3) kerns))
+unpackedAt s kerns = changed s (isKind 0 s) (pos 1) (λ i. pos (kernPlace (field s i 3) kerns))
 
 abbrev Inv-loop : tie.InvT-loop
 Inv-loop instructions kerns links out₀ j₀ out j = (j ≤ length instructions) × Filling (unpackedAt instructions kerns) out₀ out j

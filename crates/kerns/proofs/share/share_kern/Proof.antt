@@ -9,7 +9,7 @@ use lib.ListN.{take}
 use lib.Seq.{length-take-le}
 use denote.Ref.{now}
 use Rattle.kerns.specs.Kerns.{values}
-use Rattle.kerns.specs.Sharing.{Ends, Gathered}
+use Rattle.kerns.specs.Sharing.{SearchEnds, Gathered}
 use Rattle.kerns.proofs.Changes.{kind-is, kind-not}
 use Rattle.kerns.proofs.Tree.{ends-lt}
 use Rattle.kerns.proofs.Sharing.{values-other, values-le, gathered-room, gathered-front, counted-same, counted-there, counted-more}
@@ -23,10 +23,10 @@ module _ {s : List ℤ} {i n : ℕ} {kerns : List ℤ} {links : List ℕ} {m : �
   few h = omega (arith, g .counted, values-le s i)
 
   -- the search was among the values
-  among : {w slot : ℕ} → Ends (take m kerns) links w slot → Ends (values s i) links w slot
+  among : {w slot : ℕ} → SearchEnds (take m kerns) links w slot → SearchEnds (values s i) links w slot
   among h = rw (gathered-front g) at h
 
-  slot-lt : {w slot : ℕ} → Ends (take m kerns) links w slot → slot < 65535
+  slot-lt : {w slot : ℕ} → SearchEnds (take m kerns) links w slot → slot < 65535
   slot-lt h = ends-lt (g .linked) (among h)
 
 field-at-requires : tie.Need-field-at-requires

@@ -9,7 +9,7 @@ use lib.IntN.{ℤ}
 use lib.ListN.{getD}
 use lib.Pow.{shr-le}
 use denote.Ref.{now}
-use Rattle.kerns.specs.Sharing.{wordAt, slotAfter, Descends, Ends, Linked}
+use Rattle.kerns.specs.Sharing.{wordAt, slotAfter, Descends, SearchEnds, Linked}
 use Rattle.kerns.proofs.Tree.{descends-none, descends-more, descends-few, slot-lt, link-lt}
 use borrow.Author.Needs.{needs}
 use Rattle.kerns.proofs.share.slot_of.Statement.{statement}
@@ -24,7 +24,7 @@ module _ {ks : List ℤ} {links : List ℕ} {w slot bit : ℕ} (c : Linked ks li
   comes-lt : slot < 65535
   comes-lt = rw (s .slot-is) (slot-lt c w bit (s .descends))
 
-  ends : w < 2 ^ 32 → ((getD links slot 0 ≡ 0 → ⊥) → wordAt ks (getD links slot 0 - 1) ≡ w) → Ends ks links w slot
+  ends : w < 2 ^ 32 → ((getD links slot 0 ≡ 0 → ⊥) → wordAt ks (getD links slot 0 - 1) ≡ w) → SearchEnds ks links w slot
   ends l h = record { depth = bit; near = descends-few c w bit l (s .descends); descends = s .descends; slot-is = s .slot-is; stops = h }
 
   -- it goes on past another value
