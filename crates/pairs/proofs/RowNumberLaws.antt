@@ -20,7 +20,7 @@ use Rattle.fonts.specs.Fonts.{numberOfLeft, pairsBy}
 use Rattle.fonts.specs.Numbers.{nth}
 use Rattle.pairs.specs.Rows.{at, pairAt, ruledAt, Ascending}
 use Rattle.pairs.specs.LoopRows.{walkPlace, walkRow, WalkOrder}
-use Rattle.pairs.specs.RowNumbers.{boundaryMore, boundaryPairs, placeOfPair, walkOf, turnOf, sixteenNumbers, inRows, pairRowNumbers}
+use Rattle.pairs.specs.RowNumbers.{boundaryMore, boundaryPairs, pairPlace, walkOf, turnOf, sixteenNumbers, inRows, pairRowNumbers}
 use Rattle.pairs.specs.PairRows.{Collects}
 use Rattle.pairs.proofs.RowLaws.{less-or-not, number-left}
 use Rattle.pairs.proofs.PairRowLaws.{zero-at}
@@ -78,8 +78,8 @@ module _ (row : ℕ → List ℕ) (sixteen : (k : ℕ) → length (row k) ≡ 16
 -- ---- the order of a left's rows
 
 -- the first place of a pair
-place-first : (p : Pair) (ps : List Ruled) (j : ℕ) → j < length ps → samePair p (nth ps j .pair) ≡ true → ((i : ℕ) → i < j → samePair p (nth ps i .pair) ≡ false) → placeOfPair p ps ≡ j
-unfolding placeOfPair
+place-first : (p : Pair) (ps : List Ruled) (j : ℕ) → j < length ps → samePair p (nth ps j .pair) ≡ true → ((i : ℕ) → i < j → samePair p (nth ps i .pair) ≡ false) → pairPlace p ps ≡ j
+unfolding pairPlace
 place-first p [] j l e g = absurd (omega arith)
 place-first p (q ∷ qs) zero l e g = rw e
 place-first p (q ∷ qs) (suc j) l e g =
@@ -134,7 +134,7 @@ module _ (ps : List Ruled) (n e : ℕ) (w : List ℕ) (a : Ascending n w) (all :
       ∙ getD-tabulate n (λ i. ruledAt w (walkRow n e w i)) s _ h
 
   -- the place of a row's pair is the row
-  place-is : (j : ℕ) → j < n → placeOfPair (pairAt w j) ps ≡ j
+  place-is : (j : ℕ) → j < n → pairPlace (pairAt w j) ps ≡ j
   place-is j h =
       place-first (pairAt w j) ps j (omega (arith, all))
       (ap (λ (x : Ruled). samePair (pairAt w j) (x .pair)) (sym (pair j h)) ∙ pair-itself (pairAt w j))
@@ -146,8 +146,8 @@ module _ (ps : List Ruled) (n e : ℕ) (w : List ℕ) (a : Ascending n w) (all :
       let b = walk-back n e k (t .few) h in
       let s = walkOf n e k in
       sym
-      (ap₂ (λ (m d : ℕ). placeOfPair (nth (ordered ps) (walkOf m d k) .pair) ps) (sym all) boundary-is
-      ∙ ap (λ (x : Ruled). placeOfPair (x .pair) ps) (walk-is s (b .0))
+      (ap₂ (λ (m d : ℕ). pairPlace (nth (ordered ps) (walkOf m d k) .pair) ps) (sym all) boundary-is
+      ∙ ap (λ (x : Ruled). pairPlace (x .pair) ps) (walk-is s (b .0))
       ∙ place-is (walkRow n e w s) (t .row s (b .0))
       ∙ ap (λ (x : ℕ). at w x 15) (b .1))
 

@@ -1,5 +1,5 @@
--- The sixteen numbers of every row as the first stage of compiling leaves them, row after row: a pair, its rule's index, what its rule does, and the order of
--- its left's rows. Rows.antt says what each number is for; those that later passes write are 0.
+-- The sixteen numbers of every row as the first stage of compiling leaves them, row after row: a pair, its rule's index, what its rule does,
+-- and the order of its left's rows. Rows.antt says what each number is for; those that later passes write are 0.
 use mathlib.Core.Bool.{Bool, true, false, cond}
 use mathlib.Core.List.{List, [], _∷_, _++_}
 use Prim.Native.Nat.{ℕ, zero, suc, _+_, _-_}
@@ -64,17 +64,17 @@ boundaryPairs [] = 0
 boundaryPairs (p ∷ ps) = boundaryMore (p .pair .left) (boundaryPairs ps)
 
 -- the first place of a pair
-unfoldable pub placeOfPair : Pair → List Ruled → ℕ
-placeOfPair p [] = 0
-placeOfPair p (q ∷ qs) = cond (samePair p (q .pair)) 0 (suc (placeOfPair p qs))
+unfoldable pub pairPlace : Pair → List Ruled → ℕ
+pairPlace p [] = 0
+pairPlace p (q ∷ qs) = cond (samePair p (q .pair)) 0 (suc (pairPlace p qs))
 
--- which walk row k gives the start of, of n rows of which the first e are the boundary's: those come last (walkPlace of LoopRows.antt goes back)
+-- the walk whose start row k gives, of n rows of which the first e are the boundary's: those come last (LoopRows.walkPlace goes back)
 abbrev pub walkOf : ℕ → ℕ → ℕ → ℕ
 walkOf n e k = cond (ltb k e) (n - e + k) (k - e)
 
--- the row of the pair that this walk starts from: the walks go by left, then by rule index, and the rows by left too
+-- the row of the pair that this walk starts from: walks go by left, then by rule index; rows by left, then by right character
 unfoldable pub turnOf : List Ruled → ℕ → ℕ
-turnOf ps k = placeOfPair (nth (ordered ps) (walkOf (length ps) (boundaryPairs ps) k) .pair) ps
+turnOf ps k = pairPlace (nth (ordered ps) (walkOf (length ps) (boundaryPairs ps) k) .pair) ps
 
 -- ---- rows
 

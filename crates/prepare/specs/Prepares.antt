@@ -27,8 +27,10 @@ pub record FontRows (f : Font) (w : List ℕ) (n e : ℕ) : Type 0 where
   pub unmet : (k : ℕ) → k < n → at w k 14 ≡ 0
   pub count-is : n ≡ length (pairsOf f)
 
--- by the answer: the rows, whether every kern that is a rule scales, every number of the rows, and zeros after them; or the number, with the work all zeros
+-- by the answer: the rows, whether every kern that is a rule scales, every number of the rows, and zeros after them; or the number, with
+-- the work all zeros
 abbrev pub PreparesBy : Font → ℕ → List ℕ → List ℕ → Prepared → Type 0
 PreparesBy f cap w w′ (Rows n e b) =
-    (prepareRefusal f cap ≡ 0) × (length w′ ≡ length w) × (b ≡ allScale f) × (n ≤ cap) × FontRows f w′ n e × (w′ ≡ padded 0 (length w) (fontRowNumbers f))
+    (prepareRefusal f cap ≡ 0) × (length w′ ≡ length w) × (b ≡ allScale f) × (n ≤ cap) × FontRows f w′ n e
+    × (w′ ≡ padded 0 (length w) (fontRowNumbers f))
 PreparesBy f cap w w′ (Refused k) = (prepareRefusal f cap ≡ k) × (0 < k) × (w′ ≡ replicate (length w) 0)

@@ -1,9 +1,9 @@
 // What each row's rule does: its op byte and inserted character, or 128 and its scaled kern. After lines 171 to 224 of ligkern/compiler.rs.
 ghost use mathlib.Core.Path.{_≡_};
+ghost use Rattle.tfm.specs.Scaled.{toScaled};
 ghost use Rattle.lang.specs.Every.{both};
 ghost use Rattle.pairs.specs.Rows.{Ascending};
 ghost use Rattle.pairs.specs.PairRows.{Encodes};
-ghost use Rattle.tfm.specs.Scaled.{toScaled};
 ghost use Rattle.pairs.specs.RowNumbers.{byteOfOperation, kernEffect, effectOf};
 use chain::operation_at;
 use lang::operation::Operation;
