@@ -121,7 +121,7 @@ module _ (ps : List Ruled) (n e : ℕ) (w : List ℕ) (a : Ascending n w) (all :
   left-is : (k : ℕ) → k < n → numberOfLeft (nth ps k .pair .left) ≡ at w k 0
   left-is k h = ap (λ (x : Ruled). numberOfLeft (x .pair .left)) (sym (pair k h)) ∙ number-left (at w k 0)
 
-  boundary-is : boundaryPairs ps ≡ e
+  pub boundary-is : boundaryPairs ps ≡ e
   boundary-is =
       boundary-count ps e (omega (arith, all, t .few))
       (λ k h. left-is k (omega (arith, t .few)) ∙ t .boundary k h)

@@ -2,32 +2,35 @@
 -- Assumes nothing.
 use mathlib.Core.Path.{_≡_, sym, ap, _∙_, subst}
 use mathlib.Core.Bool.{Bool}
-use mathlib.Core.List.{List}
-use Prim.Native.Nat.{ℕ, _<_, _≤_}
+use mathlib.Core.List.{List, [], _∷_}
+use Prim.Native.Nat.{ℕ, zero, suc, _<_, _≤_}
 use native.Mathlib.Omega.{arith}
-use lib.IntN.{ℤ}
+use lib.IntN.{ℤ, pos}
 use lib.ListN.{length, replicate}
-use Rattle.lang.specs.Answers.{padded}
+use Rattle.words.proofs.Lists.{getD-tabulate}
+use Rattle.lang.specs.Answers.{replyOf, padded, listOf}
 use Rattle.lang.specs.Every.{every}
 use Rattle.lang.specs.Records.{instructionAt}
 use Rattle.lang.proofs.Every.{every-ext}
 use Rattle.chain.specs.Chains.{actsAs}
 use Rattle.reading.specs.Loops.{Ruled}
 use Rattle.fonts.specs.Fonts.{Font, tableOf, pairsOf}
+use Rattle.fonts.specs.Numbers.{nth, flagNumber}
 use Rattle.fonts.specs.Compiled.{scales, pairScales, allScale}
 use Rattle.pairs.specs.declared.Collected.{Collected}
 use Rattle.pairs.specs.declared.Collected.the-variants as collected
+use Rattle.pairs.specs.declared.Prepared.{Prepared}
 use Rattle.pairs.specs.declared.Prepared.the-variants.{Rows, Refused}
 use Rattle.pairs.specs.declared.Effect.{Effect}
-use Rattle.pairs.specs.Rows.{at}
+use Rattle.pairs.specs.Rows.{at, ruledAt}
 use Rattle.pairs.specs.LoopRows.{WalkOrder}
-use Rattle.pairs.specs.RowNumbers.{effectOf, pairEffect, fontRowNumbers}
+use Rattle.pairs.specs.RowNumbers.{boundaryPairs, effectOf, pairEffect, fontRowNumbers}
 use Rattle.pairs.specs.PairRows.{Collects, operationAt, effectAt, rowsScale, Encodes}
 use Rattle.pairs.proofs.Tied.{ruled-tied, pairs-tied, rules-tied, ascending}
-use Rattle.pairs.proofs.RowNumberLaws.{rows-are}
+use Rattle.pairs.proofs.RowNumberLaws.{boundary-is, rows-are}
 use Rattle.pairs.proofs.LoopLaws.{turns-same}
 use Rattle.collect.specs.Collecting.{collectRefusal, CollectsFont}
-use Rattle.prepare.specs.Prepares.{prepareRefusal, PreparesBy}
+use Rattle.prepare.specs.Prepares.{prepareRefusal, PreparesBy, preparedReply, Prepares}
 
 -- what encoding answers, at the design size as it was lent
 pub encodes-as : (s kerns : List ℤ) (d d′ : ℤ) (n : ℕ) (w w′ : List ℕ) (r : Bool) → Encodes s kerns d n w w′ r → d ≡ d′ → Encodes s kerns d′ n w w′ r
@@ -92,3 +95,24 @@ module _ (f : Font) (cap : ℕ) (w : List ℕ) where
           },
           numbers,
         )
+
+-- ---- the contract, from what the answer says
+
+reply-by : (f : Font) (cap : ℕ) (w w′ : List ℕ) (r : Prepared) → PreparesBy f cap w w′ r →
+    preparedReply r ≡ replyOf (prepareRefusal f cap) (pos (length (pairsOf f)) ∷ pos (boundaryPairs (pairsOf f)) ∷ flagNumber (allScale f) ∷ [])
+reply-by f cap w w′ (Rows n e b) d =
+    let g = d .4 in
+    let p : (k : ℕ) → k < n → ruledAt w′ k ≡ nth (pairsOf f) k = λ k h. sym (getD-tabulate n (ruledAt w′) k _ h) ∙ ap (λ (ps : List Ruled). nth ps k) (g .pairs-are) in
+    let x = boundary-is (pairsOf f) n e w′ (g .encoded .ascending) (g .count-is) p (g .turns) in
+    let z : replyOf 0 (pos n ∷ pos e ∷ flagNumber b ∷ []) ≡ replyOf 0 (pos (length (pairsOf f)) ∷ pos (boundaryPairs (pairsOf f)) ∷ flagNumber (allScale f) ∷ []) = (let u = g .count-is in let v = d .2 in λ i. replyOf 0 (pos (u i) ∷ pos (sym x i) ∷ flagNumber (v i) ∷ [])) in
+    z ∙ ap (λ (k : ℕ). replyOf k (pos (length (pairsOf f)) ∷ pos (boundaryPairs (pairsOf f)) ∷ flagNumber (allScale f) ∷ [])) (sym (d .0))
+reply-by f cap w w′ (Refused zero) d = absurd (omega (arith, d .1))
+reply-by f cap w w′ (Refused (suc k)) d = ap (λ (j : ℕ). replyOf j (pos (length (pairsOf f)) ∷ pos (boundaryPairs (pairsOf f)) ∷ flagNumber (allScale f) ∷ [])) (sym (d .0))
+
+work-by : (f : Font) (cap : ℕ) (w w′ : List ℕ) (r : Prepared) → PreparesBy f cap w w′ r → w′ ≡ listOf (prepareRefusal f cap) 0 (length w) (fontRowNumbers f)
+work-by f cap w w′ (Rows n e b) d = d .5 ∙ ap (λ (k : ℕ). listOf k 0 (length w) (fontRowNumbers f)) (sym (d .0))
+work-by f cap w w′ (Refused zero) d = absurd (omega (arith, d .1))
+work-by f cap w w′ (Refused (suc k)) d = d .2 ∙ ap (λ (j : ℕ). listOf j 0 (length w) (fontRowNumbers f)) (sym (d .0))
+
+pub prepares : (f : Font) (cap : ℕ) (w w′ : List ℕ) (r : Prepared) → PreparesBy f cap w w′ r → Prepares f cap w w′ r
+prepares f cap w w′ r d = record { reply = reply-by f cap w w′ r d; work = work-by f cap w w′ r d; rows = d }

@@ -4,7 +4,7 @@ ghost use Prim.Native.Nat.{_/_, min};
 ghost use lib.ListN.{length};
 ghost use lib.IntN.{ℤ};
 ghost use Rattle.fonts.specs.Fonts.{fontOf};
-ghost use Rattle.prepare.specs.Prepares.{PreparesBy};
+ghost use Rattle.prepare.specs.Prepares.{Prepares};
 
 mod encode;
 
@@ -23,7 +23,7 @@ pub fn prepare(
     work: &mut [u32],
     room: usize,
 ) -> Prepared
-    ensures { λ r. ⌜ ((b : ℤ) → PreparesBy (fontOf (now (instructions .entry)) (now (kerns .entry)) (now (entries .entry)) b «left_entry» «design_size») (min room (length (now (work .entry)) / 16)) (now (work .entry)) (now (work .exit)) r) ⌝ }
+    ensures { λ r. ⌜ ((b : ℤ) → Prepares (fontOf (now (instructions .entry)) (now (kerns .entry)) (now (entries .entry)) b «left_entry» «design_size») (min room (length (now (work .entry)) / 16)) (now (work .entry)) (now (work .exit)) r) ⌝ }
 {
     match collect::collect(instructions, entries, left_entry, work, room) {
         Collected::Refused(number) => Prepared::Refused(number),

@@ -5,7 +5,7 @@ use lib.ListN.{length}
 use Rattle.words.proofs.Bits.{number-word}
 use Rattle.lang.specs.Entries.{entriesTable}
 use Rattle.fonts.specs.Fonts.{fontOf}
-use Rattle.prepare.proofs.Preparing.{encodes-as, collects-as, unfit, prepared}
+use Rattle.prepare.proofs.Preparing.{encodes-as, collects-as, unfit, prepared, prepares}
 use borrow.Author.Needs.{needs}
 use Rattle.prepare.proofs.prepare.Statement.{statement}
 use Rattle.prepare.proofs.prepare.Tie as tie
@@ -37,7 +37,7 @@ returns c = λ b.
     let a = o .args in
     let cap = min (a .room) (length (a .work .now) / 16) in
     let q = collects-as (a .instructions .now) (entriesTable (a .entries .now)) _ (a .«left-entry») cap (a .work .now) (k .collect .last .1 .1 .1 .0) (k .collect .result) _ (k .collect .ensures) (c .before .number .given .1) (number-word (a .«left-entry») (o .fits .«left-entry»)) in
-    unfit (fontOf (a .instructions .now) (a .kerns .now) (a .entries .now) b (a .«left-entry») (a .«design-size»)) cap (a .work .now) (c .before .number .given .0 .0) (k .collect .last .1 .1 .1 .0) q
+    prepares _ _ _ _ _ (unfit (fontOf (a .instructions .now) (a .kerns .now) (a .entries .now) b (a .«left-entry») (a .«design-size»)) cap (a .work .now) (c .before .number .given .0 .0) (k .collect .last .1 .1 .1 .0) q)
 
 same-length-2 : tie.Need-same-length-2
 same-length-2 c = search needs
@@ -52,7 +52,7 @@ returns-2 c = λ b.
     let cap = min (a .room) (length (a .work .now) / 16) in
     let q = collects-as (a .instructions .now) (entriesTable (a .entries .now)) _ (a .«left-entry») cap (a .work .now) (k .collect .last .1 .1 .1 .0) (k .collect .result) _ (k .collect .ensures) (g .1) (number-word (a .«left-entry») (o .fits .«left-entry»)) in
     let e = encodes-as (a .instructions .now) (a .kerns .now) _ (a .«design-size») (g .0 .0) (k .collect .last .1 .1 .1 .0) (d .encode .last .1 .1 .1 .0) (d .encode .result) (d .encode .ensures) (number-word (a .«design-size») (o .fits .«design-size»)) in
-    prepared (fontOf (a .instructions .now) (a .kerns .now) (a .entries .now) b (a .«left-entry») (a .«design-size»)) cap (a .work .now) (g .0 .0) (g .0 .1 .0) (k .collect .last .1 .1 .1 .0) (d .encode .last .1 .1 .1 .0) q (d .encode .result) e
+    prepares _ _ _ _ _ (prepared (fontOf (a .instructions .now) (a .kerns .now) (a .entries .now) b (a .«left-entry») (a .«design-size»)) cap (a .work .now) (g .0 .0) (g .0 .1 .0) (k .collect .last .1 .1 .1 .0) (d .encode .last .1 .1 .1 .0) q (d .encode .result) e)
 
 pub prepare-spec : {M : Type 1} → statement M
 prepare-spec =
