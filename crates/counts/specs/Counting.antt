@@ -23,7 +23,8 @@ sizesRefusal scaled total loops opRoom loopRoom =
     orElse (cond scaled 0 13)
     (orElse (cond (both (leb total 2147483647) (leb (2 * total) opRoom)) 0 14) (roomRefusal (2 * loops) loopRoom))
 
--- n rows are the font's, of which m finish; op counts and first ops stand in them, and numbers 8 of the first r name the rows of the loop list
+-- n rows are the font's, of which m finish; op counts and first ops stand in them, and numbers 8 of the first r name the rows of the loop
+-- list
 pub record FontCounted (f : Font) (w : List ℕ) (n m r : ℕ) : Type 0 where
   pub ready : Ready n m w
   pub pairs-are : pairs n w ≡ pairsOf f
@@ -36,7 +37,8 @@ pub record FontCounted (f : Font) (w : List ℕ) (n m r : ℕ) : Type 0 where
 -- what counting the rows of a font leaves, by the answer
 abbrev pub MeasuresBy : Font → Bool → ℕ → ℕ → ℕ → ℕ → ℕ → List ℕ → List ℕ → CountedFont → Type 0
 MeasuresBy f scaled opRoom loopRoom n m r w w′ (Sizes n′ m′ total r′) =
-    (sizesRefusal scaled (totalOps f) (length (loopsOfFont f)) opRoom loopRoom ≡ 0) × (length w′ ≡ length w) × (total ≡ totalOps f) × (n′ ≡ n) × FontCounted f w′ n′ m′ r′
+    (sizesRefusal scaled (totalOps f) (length (loopsOfFont f)) opRoom loopRoom ≡ 0) × (length w′ ≡ length w)
+    × (total ≡ totalOps f) × (n′ ≡ n) × FontCounted f w′ n′ m′ r′
 MeasuresBy f scaled opRoom loopRoom n m r w w′ (Refused k) =
     (sizesRefusal scaled (totalOps f) (length (loopsOfFont f)) opRoom loopRoom ≡ k) × (0 < k) × (w′ ≡ replicate (length w) 0)
 

@@ -1,4 +1,5 @@
--- What compiling answers, and what it leaves in every list: the contract of `compile`. Document 01, 'The pair table' and the table of numbers.
+-- What compiling answers, and what it leaves in every list: the contract of `compile`. Document 01, 'The pair table' and the table of
+-- numbers.
 use mathlib.Core.Path.{_≡_}
 use mathlib.Core.Bool.{Bool, true, false, cond}
 use mathlib.Core.List.{List, [], _∷_}

@@ -1,5 +1,6 @@
--- The pair table, the ops and the loop list of finished pairs, as numbers. Document 01, 'The pair table': six i32 a pair: left (-1 is the boundary), right,
--- last code, last flag, first op, op count; two an op: kind (0 character, 1 ligature, 2 scaled kern) and value; two a loop.
+-- The pair table, the ops and the loop list of finished pairs, as numbers. Document 01, 'The pair table': six i32 a pair: left (-1 is the
+-- boundary), right, last code, last flag, first op, op count; two an op: kind (0 character, 1 ligature, 2 scaled kern) and value; two a
+-- loop.
 use mathlib.Core.Bool.{Bool, true, false}
 use mathlib.Core.List.{List, [], _∷_, _++_}
 use mathlib.Core.Option.{Option, none, some}

@@ -1,5 +1,5 @@
--- The definitions that compiling's passes go by, in the order in which they build on each other. A reader of the contract of `compile` needs Fonts and Ops; the others
--- say what the passes leave in the rows.
+-- The definitions that compiling's passes go by, in the order in which they build on each other. A reader of the contract of `compile`
+-- needs Fonts and Ops; the others say what the passes leave in the rows.
 --   Rows        the work buffer, a row a pair
 --   SettledRows       which rows finish, with which last
 --   SettleSteps      the search that finds them

@@ -1,4 +1,5 @@
--- What the passes over settled rows go by: the parts that a row's ops are made of, what each pass has done so far, and ops as they stand in a list.
+-- What the passes over settled rows go by: the parts that a row's ops are made of, what each pass has done so far, and ops as they stand
+-- in a list.
 use mathlib.Core.Path.{_≡_}
 use mathlib.Core.Bool.{Bool, true, false, cond}
 use mathlib.Core.List.{List, [], _∷_}
@@ -51,7 +52,8 @@ anyOf x (y ∷ ys) = cond (eqb x y) true (anyOf x ys)
 unfoldable pub firstOf : ℕ → List ℕ → ℕ → ℕ → ℕ → Part
 firstOf n w op t v = cond (leb 6 op) (leftPart t) (cond (anyOf op (2 ∷ 3 ∷ [])) (pairPart n w t v) Nothing)
 
--- what follows it, with its first character a ligature: the kern, the inserted character, or the ops of that, or of the last of (t, v), with the right r
+-- what follows it, with its first character a ligature: the kern, the inserted character, or the ops of that, or of the last of (t, v),
+-- with the right r
 unfoldable pub secondOf : ℕ → List ℕ → ℕ → ℕ → ℕ → ℕ → Part
 secondOf n w op t v r =
     cond (eqb op 128) (Kern v)
@@ -124,7 +126,8 @@ pub record OpsCounted (n : ℕ) (w u : List ℕ) : Type 0 where
 -- the six numbers of row k
 abbrev pub rowNumbers : List ℕ → ℕ → List ℤ
 rowNumbers w k =
-    leftNumber (leftOf (at w k 0)) ∷ numberOf (at w k 1) ∷ numberOf (at w k 6) ∷ numberOf (at w k 7) ∷ numberOf (at w k 13) ∷ numberOf (at w k 12) ∷ []
+    leftNumber (leftOf (at w k 0)) ∷ numberOf (at w k 1) ∷ numberOf (at w k 6) ∷ numberOf (at w k 7)
+    ∷ numberOf (at w k 13) ∷ numberOf (at w k 12) ∷ []
 
 -- vs stands in d from place p on
 abbrev pub Segment : List ℤ → ℕ → List ℤ → Type 0

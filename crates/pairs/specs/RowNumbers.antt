@@ -1,5 +1,5 @@
--- The sixteen numbers of every row as the first stage of compiling leaves them, row after row: a pair, its rule's index, what its rule does,
--- and the order of its left's rows. Rows.antt says what each number is for; those that later passes write are 0.
+-- The sixteen numbers of every row as the first stage of compiling leaves them, row after row: a pair, its rule's index, what its rule
+-- does, and the order of its left's rows. Rows.antt says what each number is for; those that later passes write are 0.
 use mathlib.Core.Bool.{Bool, true, false, cond}
 use mathlib.Core.List.{List, [], _∷_, _++_}
 use Prim.Native.Nat.{ℕ, zero, suc, _+_, _-_}

@@ -1,5 +1,6 @@
--- The search of the second pass while it runs: which pairs have finished so far, the rows that are open, and what one turn does. A row that is open
--- waits for the next one of the path; numbers 8 of the first h rows are the path, the row that was opened first at its front.
+-- The search of the second pass while it runs: which pairs have finished so far, the rows that are open, and what one turn does. A row
+-- that is open waits for the next one of the path; numbers 8 of the first h rows are the path, the row that was opened first at its
+-- front.
 use mathlib.Core.Path.{_≡_}
 use mathlib.Core.Bool.{cond}
 use mathlib.Core.List.{List, List·Memᴰ}
@@ -88,7 +89,8 @@ pub record Done (n : ℕ) (w : List ℕ) (m : ℕ) : Type 0 where
   pub rows : (k : ℕ) → k < n → status w k ≡ 2 → DoneRow n w m k
   pub order : (i : ℕ) → i < m → (at w i 10 < n) × (status w (at w i 10) ≡ 2) × (at w (at w i 10) 11 ≡ i)
   pub earlier : (k j : ℕ) → k < n → j < n → status w k ≡ 2 →
-      List·Memᴰ (pairAt w j) (consults (ruleAt w k) (finishedRows n w) (pairAt w k .left) (pairAt w k .right)) → (status w j ≡ 2) × (at w j 11 < at w k 11)
+      List·Memᴰ (pairAt w j) (consults (ruleAt w k) (finishedRows n w) (pairAt w k .left) (pairAt w k .right)) →
+      (status w j ≡ 2) × (at w j 11 < at w k 11)
   pub count : m ≡ tally (status w) 2 n
 
 -- the path: open rows, each once, each but the last waiting for the next

@@ -1,6 +1,6 @@
 -- Reach: which instructions a font's entries lead to, after `reachable_array` and `reachable_iter` of ligkern/lang.rs. TFtoPL 66 to 70
--- compute the activity of each step, and TFtoPL 75 counts skips over reachable steps alone. A skip that lands exactly at the end is not made
--- to stop, as TFtoPL 70 does; it has an adjusted skip: docs/DIFFERENCES.md.
+-- compute the activity of each step, and TFtoPL 75 counts skips over reachable steps alone. A skip that lands exactly at the end is not
+-- made to stop, as TFtoPL 70 does; it has an adjusted skip: docs/DIFFERENCES.md.
 use mathlib.Core.Path.{_≡_}
 use mathlib.Core.Bool.{Bool, true, false, cond}
 use mathlib.Core.List.{List, [], _∷_}

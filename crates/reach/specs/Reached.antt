@@ -10,7 +10,7 @@ use Rattle.lang.specs.Checks.{entryAt}
 use Rattle.chain.specs.Chains.{chainOf}
 use Rattle.reach.specs.Reach.{reachable}
 
--- an index at which a chain starts: an entry, or the left entry unless that is the last index
+-- an index at which a chain starts: an entry, or the left entry unless that is the last index (an absent one, -1, is past every index)
 pub data Starts (s es : List ℤ) (left : ℤ) (start : ℕ) : Type 0 where
   entry : (k : ℕ) → k < length es / 2 → start ≡ wordOf (entryAt es k) → Starts s es left start
   boundary : (start + 1 ≡ count s → ⊥) → start ≡ wordOf left → Starts s es left start

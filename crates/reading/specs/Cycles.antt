@@ -1,4 +1,5 @@
--- 'One pair per cycle' (document 01, 'The pair table'): what the loop list is, said of cycles. Each pair that never ends is followed to the one that it waits for.
+-- 'One pair per cycle' (document 01, 'The pair table'): what the loop list is, said of cycles. Each pair that never ends is followed to
+-- the one that it waits for.
 use mathlib.Core.Path.{_≡_}
 use mathlib.Core.List.{List, [], _∷_, List·Memᴰ}
 use Prim.Native.Nat.{ℕ, zero, suc}
@@ -25,10 +26,12 @@ pub record OnCycle (next : Pair → Pair) (p : Pair) : Type 0 where
 -- no pair of a list is met from one before it: no two of them that are on cycles are on one cycle
 pub data OnCyclesApart (next : Pair → Pair) : List Pair → Type 0 where
   none : OnCyclesApart next []
-  one : {p : Pair} {ps : List Pair} → ((q : Pair) → List·Memᴰ q ps → Meets next p q → ⊥) → OnCyclesApart next ps → OnCyclesApart next (p ∷ ps)
+  one : {p : Pair} {ps : List Pair} → ((q : Pair) → List·Memᴰ q ps → Meets next p q → ⊥) → OnCyclesApart next ps →
+      OnCyclesApart next (p ∷ ps)
 
 -- The loop list has one pair of each cycle of pairs that never end, and nothing else.
 pub record OnePerCycle (rule : Rules) (ps : List Ruled) : Type 0 where
   pub comes-back : (p : Pair) → List·Memᴰ p (loopList rule ps) → OnCycle (waits rule (finished rule ps)) p
   pub one-each : OnCyclesApart (waits rule (finished rule ps)) (loopList rule ps)
-  pub all-listed : (p : Pair) → NeverEnds rule (p .left) (p .right) → OnCycle (waits rule (finished rule ps)) p → (q : Pair) × List·Memᴰ q (loopList rule ps) × Meets (waits rule (finished rule ps)) p q
+  pub all-listed : (p : Pair) → NeverEnds rule (p .left) (p .right) → OnCycle (waits rule (finished rule ps)) p →
+      (q : Pair) × List·Memᴰ q (loopList rule ps) × Meets (waits rule (finished rule ps)) p q

@@ -1,7 +1,7 @@
 -- The loop list of document 01, 'The pair table' (TFtoPL 90): pairs that never end are walked by left character, the boundary last, then by
--- their rule's index; each walk follows the pair that is waited for and stops at a pair that an earlier walk met; the first pair met again in
--- its own walk is listed. TFtoPL 95 and PLtoTF 124 go on with a value for the pair met again, and so can find that a pair which only waits for
--- a loop (both_z) loops too: docs/DIFFERENCES.md.
+-- their rule's index; each walk follows the pair that is waited for and stops at a pair that an earlier walk met; the first pair met
+-- again in its own walk is listed. TFtoPL 95 and PLtoTF 124 go on with a value for the pair met again, and so can find that a pair which
+-- only waits for a loop (both_z) loops too: docs/DIFFERENCES.md.
 use mathlib.Core.Bool.{Bool, true, false, cond}
 use mathlib.Core.List.{List, [], _∷_, _++_, map}
 use mathlib.Core.Option.{Option, none, some}

@@ -24,5 +24,6 @@ pub record FontSettled (f : Font) (w : List ℕ) (n e m : ℕ) : Type 0 where
 
 -- by the answer: the rows, and whether every kern that is a rule scales; or the number, with the work all zeros
 abbrev pub SettlesBy : Font → ℕ → List ℕ → List ℕ → SettledFont → Type 0
-SettlesBy f cap w w′ (Rows n e m b) = (prepareRefusal f cap ≡ 0) × (length w′ ≡ length w) × (b ≡ allScale f) × (n ≤ cap) × FontSettled f w′ n e m
+SettlesBy f cap w w′ (Rows n e m b) =
+    (prepareRefusal f cap ≡ 0) × (length w′ ≡ length w) × (b ≡ allScale f) × (n ≤ cap) × FontSettled f w′ n e m
 SettlesBy f cap w w′ (Refused k) = (prepareRefusal f cap ≡ k) × (0 < k) × (w′ ≡ replicate (length w) 0)

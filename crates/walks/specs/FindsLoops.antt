@@ -13,8 +13,8 @@ use Rattle.pairs.specs.SettledRows.{Settled}
 use Rattle.pairs.specs.LoopSteps.{Listing}
 use Rattle.prepare.specs.Prepares.{prepareRefusal}
 
--- n rows are the font's, of which m finish, and numbers 8 of the first r name the rows of the loop list; numbers 9 of the rows that finish and numbers 14
--- are left free, and so are numbers 8 past the first r
+-- n rows are the font's, of which m finish, and numbers 8 of the first r name the rows of the loop list; numbers 9 of the rows that
+-- finish and numbers 14 are left free, and so are numbers 8 past the first r
 pub record FontWalked (f : Font) (w : List ℕ) (n m r : ℕ) : Type 0 where
   pub encoded : Encoded n w
   pub pairs-are : pairs n w ≡ pairsOf f
@@ -28,5 +28,6 @@ pub record FontWalked (f : Font) (w : List ℕ) (n m r : ℕ) : Type 0 where
 
 -- by the answer: the rows, and whether every kern that is a rule scales; or the number, with the work all zeros
 abbrev pub FindsLoopsBy : Font → ℕ → List ℕ → List ℕ → WalkedFont → Type 0
-FindsLoopsBy f cap w w′ (Rows n m r b) = (prepareRefusal f cap ≡ 0) × (length w′ ≡ length w) × (b ≡ allScale f) × (n ≤ cap) × FontWalked f w′ n m r
+FindsLoopsBy f cap w w′ (Rows n m r b) =
+    (prepareRefusal f cap ≡ 0) × (length w′ ≡ length w) × (b ≡ allScale f) × (n ≤ cap) × FontWalked f w′ n m r
 FindsLoopsBy f cap w w′ (Refused k) = (prepareRefusal f cap ≡ k) × (0 < k) × (w′ ≡ replicate (length w) 0)
