@@ -1,7 +1,7 @@
 // The run over a word: W. A word has at most 1,024 letters, and a run at most 1,024 calls.
 ghost use Prim.Native.Nat.{_<_};
 use crate::room;
-use begin::begin;
+use ligkern::begin::begin;
 use captions::Answer;
 use captions::Begun;
 use captions::RunOptions;
@@ -66,7 +66,7 @@ fn run(
     let mut s = state;
     let mut n = 0;
     while n < 1024 {
-        let step = steps::step(pairs, ops, boundary, word, options, s);
+        let step = ligkern::steps::step(pairs, ops, boundary, word, options, s);
         let answer = step.answer;
         let item = item_of(word, answer);
         put_call(calls, n, item, bit(is_separation_point(s)));

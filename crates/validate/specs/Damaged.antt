@@ -1,0 +1,74 @@
+-- A font as it is lent to be repaired: document 01, 'Repair, packing, reach'; TFtoPL 66 to 70. Its entries are packed ones.
+use mathlib.Core.Bool.{Bool, true, false, cond}
+use mathlib.Core.List.{List, [], _∷_, _++_}
+use Prim.Native.Nat.{ℕ, zero, suc, _+_, _/_, _%_, _^_}
+use lib.IntN.{ℤ, pos, negsuc}
+use lib.Dec.{leb, eqb}
+use lib.ListN.{length, getD}
+use lib.Signed.{nonNeg}
+use Rattle.words.specs.Words.{wordOf}
+use Rattle.lang.specs.Every.{both}
+use Rattle.lang.specs.Records.{count, isKind}
+use Rattle.lang.specs.Checks.{charAt, entryAt}
+use Rattle.unpack.specs.Unpacking.{standsFor, entryRefusal}
+use Rattle.reach.specs.Reach.{reachable}
+
+-- The replacement is what a character that does not exist becomes (the Rust's smallest_char); it need not exist. The existing characters are
+-- a set of 256 bits, in four words of 64. Passthrough is one byte an instruction.
+pub record Damaged : Type 0 where
+  pub instructions : List ℤ
+  pub kerns : List ℤ
+  pub entries : List ℤ
+  pub boundary : ℤ
+  pub left : ℤ
+  pub replacement : ℕ
+  pub existing : List ℕ
+  pub passthrough : List ℕ
+
+-- character c exists
+abbrev pub exists : Damaged → ℕ → Bool
+exists d c = eqb (getD (d .existing) (c / 64) 0 / 2 ^ (c % 64) % 2) 1
+
+-- ---- TFtoPL 67: entries that unpack
+
+abbrev pub packedEntryOf : Damaged → ℕ → ℕ
+packedEntryOf d k = wordOf (entryAt (d .entries) k)
+
+-- entry k unpacks: neither 8 nor 9
+abbrev pub unpacks : Damaged → ℕ → Bool
+unpacks d k = eqb (entryRefusal (d .instructions) (packedEntryOf d k)) 0
+
+-- the first k entries unpacked, without those that do not
+unfoldable pub unpackedUpto : Damaged → ℕ → List ℤ
+unpackedUpto d zero = []
+unpackedUpto d (suc k) =
+    unpackedUpto d k
+    ++ cond (unpacks d k) (charAt (d .entries) k ∷ pos (standsFor (d .instructions) (packedEntryOf d k)) ∷ []) []
+
+abbrev pub unpackedEntries : Damaged → List ℤ
+unpackedEntries d = unpackedUpto d (length (d .entries) / 2)
+
+-- one of the first k entries unpacks by a redirect at i
+unfoldable pub redirectsAt : Damaged → ℕ → ℕ → Bool
+redirectsAt d i zero = false
+redirectsAt d i (suc k) =
+    cond (both (unpacks d k) (both (isKind 3 (d .instructions) (packedEntryOf d k)) (eqb (packedEntryOf d k) i)))
+    true (redirectsAt d i k)
+
+-- instruction i is passed over: it came so, or an entry unpacks by it
+abbrev pub passedOver : Damaged → ℕ → Bool
+passedOver d i = cond (eqb (getD (d .passthrough) i 0) 0) (redirectsAt d i (length (d .entries) / 2)) true
+
+-- ---- TFtoPL 69: the left boundary's entry
+
+-- it is past the end
+abbrev pub leftGoes : Damaged → Bool
+leftGoes d = both (nonNeg (d .left)) (leb (count (d .instructions)) (wordOf (d .left)))
+
+abbrev pub repairedLeft : Damaged → ℤ
+repairedLeft d = cond (leftGoes d) (negsuc 0) (d .left)
+
+-- ---- TFtoPL 68 to 70: what is reachable, of the font as lent with the entries that unpack
+
+abbrev pub isReachable : Damaged → ℕ → Bool
+isReachable d i = cond (eqb (getD (reachable (d .instructions) (unpackedEntries d) (repairedLeft d)) i 0) 0) false true

@@ -1,0 +1,9 @@
+-- What repair is held to. In the order in which to read:
+--   Damaged   a font as it is lent to be repaired; its entries unpacked, and what is reachable
+--   Repaired  the font repaired: left entry, instructions, passthrough
+--   Warnings  the warnings, in their order
+--   Purpose   what is proved of them
+pub mod Damaged
+pub mod Repaired
+pub mod Warnings
+pub mod Purpose
