@@ -2,7 +2,7 @@
 -- Assumes nothing.
 use mathlib.Core.Path.{_≡_, refl, sym, ap, _∙_}
 use mathlib.Core.Bool.{Bool, true, false, cond}
-use mathlib.Core.List.{List, [], _∷_, _++_, List·Memᴰ}
+use mathlib.Core.List.{List, [], _∷_, _++_}
 use Prim.Native.Nat.{ℕ, zero, suc, _+_, _*_, _-_, _/_, _%_, _<_, _≤_}
 use native.Mathlib.Nat.{zero-add}
 use native.Mathlib.Omega.{arith}
@@ -18,17 +18,17 @@ use Rattle.words.specs.Words.{wordOf, numberOf}
 use Rattle.words.specs.Lists.{tabulate, Filling, Appending}
 use Rattle.words.proofs.Bits.{number-pos, number-neg, number-word}
 use Rattle.words.proofs.Lists.{length-tabulate, getD-tabulate, appending-rest}
-use Rattle.lang.specs.Checks.{programRefusal, entriesRefusal, absentRefusal, orElse, charAt, entryAt}
+use Rattle.lang.specs.Checks.{programRefusal, entriesRefusal, absentRefusal, orElse}
 use Rattle.pack.specs.declared.Packed.{Packed}
 use Rattle.pack.specs.declared.Packed.the-variants.{Sizes, Refused}
 use Rattle.lang.specs.Answers.{Reply, replyOf, roomRefusal}
 use Rattle.lang.proofs.Refusals.{first-refusal, second-is, orElse-none, unless-none, room-fits, refused-reply}
-use Rattle.lang.proofs.Filled.{filling-put, refused-list}
+use Rattle.lang.proofs.Filled.{refused-list}
 use Rattle.labels.specs.Labels.{labelsOf, redirectsOf, offsetBy, largest}
-use Rattle.labels.proofs.Redirects.{Under, labels-under, largest-le, first-largest, redirects-le, offset-some, labels-has, unredirected}
-use Rattle.pack.specs.Packing.{Packable, packable, redirectsTo, redirect, presentOr, leftOr, front, back, fontRedirects, fontOffset, packableRefusal, redirectRefusal, fitsShifted, shiftRefusal, packingRefusal, packedInstructions, packedEntry, entryNumber, packedEntryNumber, packedEntries, packedSizes, packedReply, placeAmong, Packs}
+use Rattle.labels.proofs.Redirects.{Under, labels-under, largest-le, redirects-le}
+use Rattle.pack.specs.Packing.{Packable, packable, redirectsTo, redirect, presentOr, leftOr, front, back, fontRedirects, fontOffset, packableRefusal, redirectRefusal, fitsShifted, shiftRefusal, packingRefusal, packedInstructions, packedEntry, entryNumber, packedEntries, packedSizes, packedReply, placeAmong, Packs}
 use Rattle.pack.proofs.Entered.{entry-le}
-use Rattle.pack.proofs.Places.{present-test, present-is, place-is, place-lt}
+use Rattle.pack.proofs.Places.{present-test, present-is}
 
 -- ---- refusals in their order
 

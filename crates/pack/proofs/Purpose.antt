@@ -9,14 +9,14 @@ use lib.IntN.{ℤ, pos, negsuc}
 use lib.Dec.{leb, ltb, eqb}
 use lib.ListN.{length, getD}
 use lib.Signed.{nonNeg}
-use borrow.Author.Tests.{lt-ltb, le-leb, eq-eqb, ne-eqb, ltb-true, ltb-false, leb-true, eqb-true}
+use borrow.Author.Tests.{lt-ltb, le-leb, eq-eqb, ne-eqb, ltb-true, ltb-false, eqb-true}
 use Rattle.words.specs.Words.{wordOf}
 use Rattle.words.proofs.Lists.{getD-tabulate}
 use Rattle.lang.specs.declared.instruction.Instruction.{Instruction}
 use Rattle.lang.specs.Every.{both, every}
 use Rattle.lang.specs.Records.{count, field, within, absentOr, operandFits, nextOf, operationOf, instructionAt, isInstruction, isKind}
-use Rattle.lang.specs.Checks.{sizeRefusal, recordRefusal, programRefusal, entriesRefusal, absentRefusal, rangeRefusal, passthroughRefusal, unless, orElse, charAt, entryAt}
-use Rattle.lang.specs.Answers.{replyOf, roomRefusal}
+use Rattle.lang.specs.Checks.{sizeRefusal, recordRefusal, programRefusal, entriesRefusal, absentRefusal, rangeRefusal, passthroughRefusal, unless, orElse, entryAt}
+use Rattle.lang.specs.Answers.{replyOf}
 use Rattle.lang.proofs.Every.{both-left, every-at, every-all}
 use Rattle.lang.proofs.Refusals.{orElse-none, unless-none, room-is, taken-reply}
 use Rattle.unpack.specs.Unpacking.{targetAt, standsFor, entryRefusal, unpackRefusal, unpackEntry}

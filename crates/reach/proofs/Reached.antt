@@ -15,7 +15,7 @@ use borrow.Author.Tests.{ltb-true, eqb-true, eqb-false}
 use Rattle.words.specs.Words.{wordOf}
 use Rattle.lang.specs.Records.{count, instructionAt}
 use Rattle.lang.specs.Checks.{entryAt}
-use Rattle.chain.specs.Chains.{Program, onwardFrom, chainFrom, chain, chainOf}
+use Rattle.chain.specs.Chains.{Program, onwardFrom, chainFrom, chain}
 use Rattle.chain.proofs.Walks.{onward-ascends, chain-whole, chain-step}
 use Rattle.reach.specs.Reach.{entriesMarked, marksAfter, reachable}
 use Rattle.reach.specs.Reached.{Starts, entry, boundary, OnChain, ReachedExactly}

@@ -9,16 +9,15 @@ use native.Mathlib.Omega.{arith}
 use lib.IntN.{ℤ, pos}
 use lib.Dec.{leb, ltb, eqb}
 use lib.ListN.{length, getD, drop, replicate, length-replicate}
-use borrow.Author.Tests.{lt-ltb, le-ltb, le-leb, lt-leb, eq-eqb, ne-eqb, eqb-true}
+use borrow.Author.Tests.{lt-ltb, le-ltb, le-leb, lt-leb, eq-eqb, ne-eqb}
 use Rattle.words.specs.Words.{wordOf}
 use Rattle.unpack.specs.declared.Unpacked.{Unpacked}
 use Rattle.unpack.specs.declared.Unpacked.the-variants.{Entry, Direct, Indirect, Refused}
 use Rattle.unpack.specs.declared.SevenBit.{SevenBit}
 use Rattle.unpack.specs.declared.SevenBit.the-variants.{Safe, Refused as RefusedFont}
-use Rattle.lang.specs.Every.{both}
 use Rattle.lang.specs.Records.{count, field, instructionAt, isKind}
 use Rattle.lang.specs.Checks.{programRefusal, rangeRefusal, passthroughRefusal, orElse, charAt, entryAt}
-use Rattle.lang.specs.Answers.{Reply, replyOf, roomRefusal}
+use Rattle.lang.specs.Answers.{Reply, roomRefusal}
 use Rattle.lang.proofs.Refusals.{orElse-none, room-fits, refused-reply, taken-reply}
 use Rattle.lang.proofs.Filled.{refused-list, written-list}
 use Rattle.chain.specs.Chains.{chainOf}

@@ -1,7 +1,7 @@
 -- The entry of a character from the packed one, with what it passes through, after `unpack_entrypoint`; the program's seven-bit test, after
 -- `is_seven_bit_safe` of ligkern/lang.rs. TeX 545: an entry at a redirect stands for the redirect's target.
 use mathlib.Core.Path.{_≡_}
-use mathlib.Core.Bool.{Bool, true, false, cond, not}
+use mathlib.Core.Bool.{Bool, true, cond, not}
 use mathlib.Core.List.{List, [], _∷_}
 use Prim.Native.Nat.{ℕ, _/_, _%_}
 use lib.IntN.{ℤ, pos}
@@ -9,14 +9,12 @@ use lib.Dec.{leb, ltb, eqb}
 use lib.ListN.{length, getD}
 use Rattle.words.specs.Words.{wordOf}
 use Rattle.words.specs.Lists.{tabulate}
-use Rattle.lang.specs.declared.operation.Operation.{Operation}
-use Rattle.lang.specs.declared.operation.Operation.the-variants.{Kern, KernAtIndex, Ligature, EntrypointRedirect}
 use Rattle.unpack.specs.declared.Unpacked.{Unpacked}
 use Rattle.unpack.specs.declared.Unpacked.the-variants.{Entry, Direct, Indirect, Refused}
 use Rattle.unpack.specs.declared.SevenBit.{SevenBit}
 use Rattle.unpack.specs.declared.SevenBit.the-variants.{Safe, Refused as RefusedFont}
 use Rattle.lang.specs.Every.{both, every}
-use Rattle.lang.specs.Records.{count, field, rightOf, instructionAt, isKind}
+use Rattle.lang.specs.Records.{count, field, rightOf, isKind}
 use Rattle.lang.specs.Checks.{programRefusal, rangeRefusal, entriesRefusal, passthroughRefusal, orElse, unless, charAt, entryAt}
 use Rattle.lang.specs.Answers.{Reply, replyOf, listOf, roomRefusal}
 use Rattle.chain.specs.Chains.{chainOf}

@@ -4,7 +4,7 @@ use mathlib.Core.Path.{_≡_, ap, _∙_}
 use Prim.Native.Nat.{ℕ}
 use Rattle.words.specs.Words.{wordOf}
 use Rattle.words.proofs.Bits.{number-word}
-use Rattle.lang.specs.Checks.{programRefusal, rangeRefusal, passthroughRefusal, orElse}
+use Rattle.lang.specs.Checks.{programRefusal, rangeRefusal, orElse}
 use Rattle.lang.proofs.Refusals.{first-refusal, later-refusal}
 use Rattle.unpack.specs.Unpacking.{entryRefusal}
 use borrow.Author.Needs.{needs}
