@@ -3,14 +3,14 @@ ghost use mathlib.Core.Path.{_≡_};
 ghost use Rattle.captions.specs.Replies.{begunReply};
 ghost use Rattle.captions.specs.Begin.{lettersRefusal, beginRefusal, freshState, beginReply};
 ghost use Rattle.captions.specs.Begin as begun;
+use crate::edges::edges_refusal;
+use crate::edges::word_refusal;
 use captions::Begun;
 use captions::Consumes;
 use captions::NextLeft;
 use captions::RunOptions;
 use captions::State;
 use form::table_refusal;
-use tables::edges::edges_refusal;
-use tables::edges::word_refusal;
 
 // 4: a letter out of range.
 fn letters_refusal(word: &[u32]) -> u32

@@ -2,5 +2,7 @@
 // asks is crate queries.
 //   begin  `begin`
 //   steps  `step`, over crate turns
+//   edges  what goes with a word besides its letters
 pub mod begin;
+mod edges;
 pub mod steps;

@@ -3,12 +3,12 @@
 ghost use mathlib.Core.Path.{_≡_};
 ghost use Rattle.words.specs.Words.{numberOf};
 ghost use Rattle.captions.specs.Steps.{orBoundary, rightItem, handBack, Stepped};
+use crate::edges::edges_refusal;
+use crate::edges::word_refusal;
 use captions::Answer;
 use captions::RunOptions;
 use captions::State;
 use captions::Step;
-use tables::edges::edges_refusal;
-use tables::edges::word_refusal;
 use words::word_of;
 
 // The right item of a word, as its bits: the override, else the boundary character.

@@ -2,8 +2,6 @@
 --   Bisection   the search of `find`: however many halvings there is room for, and turn by turn
 --   Records     what fits, from the words that were read
 --   Past        a number past the end
---   Passed      a number that is passed to a check of another crate
 pub mod Past
-pub mod Passed
 pub mod Bisection
 pub mod Records

@@ -5,9 +5,6 @@ ghost use Rattle.words.specs.Words.{Word};
 ghost use Rattle.captions.specs.Tables.{number, opKind, opValue, keyBy, keyAt, opFits, recordFits, foundAt};
 ghost use Rattle.captions.specs.Tables as tables;
 ghost use Rattle.tables.specs.Parts.{lastFits};
-
-pub mod edges;
-
 use captions::Found;
 
 // Number j of pair k; 0 past the numbers.

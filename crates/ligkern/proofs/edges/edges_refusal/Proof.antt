@@ -1,14 +1,14 @@
--- `tables::edges::edges_refusal` meets its contract: the first of two numbers that is not 0.
+-- `ligkern::edges::edges_refusal` meets its contract: the first of two numbers that is not 0.
 -- Assumes nothing.
 use mathlib.Core.Path.{_≡_, sym, _∙_}
 use mir.Syntax.{w32}
 use mir.Val.{SFits}
 use Rattle.lang.specs.Checks.{absentRefusal}
 use Rattle.lang.proofs.Checks.{first-is, second-is}
-use Rattle.tables.proofs.Passed.{absent-passed}
+use Rattle.ligkern.proofs.EdgeLaws.{absent-passed}
 use borrow.Author.Needs.{needs}
-use Rattle.tables.proofs.edges.edges_refusal.Statement.{statement}
-use Rattle.tables.proofs.edges.edges_refusal.Tie as tie
+use Rattle.ligkern.proofs.edges.edges_refusal.Statement.{statement}
+use Rattle.ligkern.proofs.edges.edges_refusal.Tie as tie
 
 edge : (c : tie.After-absent-refusal) → c .absent-refusal .result ≡ absentRefusal 255 (c .before .args .boundary)
 edge c = absent-passed (c .before .fits .boundary) (c .absent-refusal .ensures)

@@ -5,7 +5,7 @@ use captions::RunOptions;
 use checks::absent_refusal;
 
 // 4: the boundary character or the override out of range.
-pub fn edges_refusal(boundary: i32, options: RunOptions) -> u32
+pub(crate) fn edges_refusal(boundary: i32, options: RunOptions) -> u32
     ensures { λ r. ⌜ r ≡ edgesRefusal boundary options ⌝ }
 {
     let edge = absent_refusal(255, boundary);
@@ -16,7 +16,7 @@ pub fn edges_refusal(boundary: i32, options: RunOptions) -> u32
 }
 
 // 6: a word over 65,535.
-pub fn word_refusal(word: &[u32]) -> u32
+pub(crate) fn word_refusal(word: &[u32]) -> u32
     ensures { λ r. ⌜ r ≡ wordRefusal (now (word .entry)) ⌝ }
 {
     if word.len() <= 65535 { 0 } else { 6 }

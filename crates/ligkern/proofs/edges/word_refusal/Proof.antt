@@ -1,10 +1,10 @@
--- `tables::edges::word_refusal` meets its contract: each return by the test that leads to it.
+-- `ligkern::edges::word_refusal` meets its contract: each return by the test that leads to it.
 -- Assumes nothing.
 use lib.ListN.{length}
 use denote.Ref.{now}
 use borrow.Author.Tests.{le-leb, lt-leb}
-use Rattle.tables.proofs.edges.word_refusal.Statement.{statement}
-use Rattle.tables.proofs.edges.word_refusal.Tie as tie
+use Rattle.ligkern.proofs.edges.word_refusal.Statement.{statement}
+use Rattle.ligkern.proofs.edges.word_refusal.Tie as tie
 
 returns : tie.Need-returns
 returns c = rw (le-leb (length (now (c .before .args .word))) 65535 (c .if1 .taken))
