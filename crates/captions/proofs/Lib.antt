@@ -12,6 +12,7 @@
 --   Running    any number of steps from a fresh state
 --   Replies    each reply determines its answer
 --   Ending     after the end comes only the end, for any table and state: specs/Ending
+--   Passed     a number that is passed to a check of another crate
 pub mod Finding
 pub mod Bisecting
 pub mod Codes
@@ -29,3 +30,4 @@ pub mod Running
 pub mod Ending
 pub mod Replies
 pub mod Theorems
+pub mod Passed

@@ -1,8 +1,8 @@
 // The answers about a font as a whole, which is compiled first: C, W and A. The lists have room for 1,024 pairs, 1,024 ops and 1,024 loops.
 ghost use mathlib.Core.Path.{_≡_};
 ghost use lib.ListN.{length};
-use fonts::Compiled;
 use font_answers::compile_font;
+use fonts::Compiled;
 use lang::Written;
 use requests::request::after;
 use requests::request::part;

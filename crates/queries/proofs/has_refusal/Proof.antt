@@ -9,7 +9,7 @@ use borrow.Author.Tests.{eq-eqb, ne-eqb}
 use Rattle.lang.specs.Checks.{unless, absentRefusal}
 use Rattle.lang.proofs.Refusals.{first-refusal, later-refusal}
 use Rattle.captions.specs.Queries.{hasRefusal}
-use Rattle.tables.proofs.Passed.{absent-passed}
+use Rattle.captions.proofs.Passed.{absent-passed}
 use borrow.Author.Needs.{needs}
 use Rattle.queries.proofs.has_refusal.Statement.{statement}
 use Rattle.queries.proofs.has_refusal.Tie as tie

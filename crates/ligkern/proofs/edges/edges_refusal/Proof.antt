@@ -5,7 +5,7 @@ use mir.Syntax.{w32}
 use mir.Val.{SFits}
 use Rattle.lang.specs.Checks.{absentRefusal}
 use Rattle.lang.proofs.Checks.{first-is, second-is}
-use Rattle.ligkern.proofs.EdgeLaws.{absent-passed}
+use Rattle.captions.proofs.Passed.{absent-passed}
 use borrow.Author.Needs.{needs}
 use Rattle.ligkern.proofs.edges.edges_refusal.Statement.{statement}
 use Rattle.ligkern.proofs.edges.edges_refusal.Tie as tie
