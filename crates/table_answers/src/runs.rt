@@ -1,12 +1,12 @@
 // The run over a word: W. A word has at most 1,024 letters, and a run at most 1,024 calls.
 ghost use Prim.Native.Nat.{_<_};
 use crate::room;
+use ligkern::begin::begin;
 use captions::Answer;
 use captions::Begun;
 use captions::RunOptions;
 use captions::State;
 use lang::Written;
-use ligkern::begin::begin;
 use queries::is_separation_point;
 use queries::original;
 use requests::answer::bit;
