@@ -34,7 +34,7 @@ program-record s e i h =
     (unless-none 1 (every (count s) (isInstruction s)) (orElse-none (sizeRefusal s) (recordRefusal s) e .1)) h
 
 -- the next of an instruction, and a ligature's operand
-next-fits : (s : List ℤ) (i : ℕ) → isInstruction s i ≡ true → absentOr 255 (field s i 0) ≡ true
+pub next-fits : (s : List ℤ) (i : ℕ) → isInstruction s i ≡ true → absentOr 255 (field s i 0) ≡ true
 next-fits s i t =
     both-left (absentOr 255 (field s i 0)) (both (within 255 (field s i 1)) (operandFits (wordOf (field s i 2)) (field s i 3))) t
 
