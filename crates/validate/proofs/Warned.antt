@@ -2,7 +2,7 @@
 -- Assumes nothing.
 use mathlib.Core.Path.{_≡_, refl}
 use mathlib.Core.Bool.{Bool, true, false, cond}
-use mathlib.Core.List.{List, [], _∷_, _++_}
+use mathlib.Core.List.{List, [], _∷_, _++_, append-eq-nil-iff}
 use Prim.Native.Nat.{ℕ, zero, suc, _/_, _<_}
 use native.Mathlib.Omega.{arith}
 use lib.IntN.{ℤ, pos}
@@ -14,8 +14,7 @@ use Rattle.validate.specs.Repaired.{skipGoes, isLigature, rightGoes, ker
 use Rattle.validate.specs.Warnings.{warnIf, warning, leftWarning, entryWarnings, skipWarnings, redirectWarns, stepWarnings, stepsWarnings, repairWarnings}
 
 append-none : (x y : List ℤ) → x ++ y ≡ [] → (x ≡ []) × (y ≡ [])
-append-none [] y e = (refl, e)
-append-none (a ∷ x) y e = absurd (let z : _≡_ {A = ℕ} 0 1 = cc in omega arith)
+append-none x y e = append-eq-nil-iff {p = x} {q = y} .0 e
 
 warn-none : (t : Bool) (kind : ℕ) (at old new : ℤ) → warnIf t (warning kind at old new) ≡ [] → t ≡ false
 warn-none true kind at old new e = absurd (let z : _≡_ {A = ℕ} 0 1 = cc in omega arith)
