@@ -9,11 +9,15 @@ use Rattle.pack.specs.Packing.{placeAmong, redirectsTo}
 use Rattle.reading.specs.Depth.{comp, raiseLeft}
 use Rattle.reading.specs.Loops.{loopList, insert, ordered, unfinished, walk, walks, member}
 use Rattle.fonts.specs.Numbers.{loopNumbers}
+use Rattle.reach.specs.Reach.{entriesMarked, marksAfter}
+use Rattle.validate.specs.Damaged.{unpackedUpto}
+use Rattle.validate.specs.Repaired.{repairedUpto}
+use Rattle.validate.specs.Warnings.{entryWarnings, skipWarnings, stepsWarnings}
 use Rattle.marked.specs.Rows.{MarkedRow, otherRows, rows, rulesBy, pairsFrom}
 use Rattle.marked.proofs.Compiling.{one-loop, accepted, table, ops, word}
 
 others : map (λ (row : MarkedRow). row .given) otherRows ≡ map (λ (row : MarkedRow). row .said) otherRows
-unfolding otherRows rulesBy pairsFrom loopNumbers toScaled halve fromBytes ligature comp raiseLeft loopList insert ordered unfinished walk walks member insertLabel labels redirectsFrom placeAmong redirectsTo
+unfolding otherRows rulesBy pairsFrom loopNumbers toScaled halve fromBytes ligature comp raiseLeft loopList insert ordered unfinished walk walks member insertLabel labels redirectsFrom placeAmong redirectsTo unpackedUpto entriesMarked marksAfter repairedUpto entryWarnings skipWarnings stepsWarnings
 others = refl
 
 pub marked : map (λ (row : MarkedRow). row .given) rows ≡ map (λ (row : MarkedRow). row .said) rows

@@ -24,6 +24,9 @@ use Rattle.pairs.specs.RowNumbers.{byteOfOperation}
 use Rattle.fonts.specs.Fonts.{Font, fontOf, rulesOf}
 use Rattle.fonts.specs.Numbers.{opNumbers, loopNumbers}
 use Rattle.fonts.specs.Compiled.{roomOf, compileRefusal, fontCounts, fontTable, fontOps, fontLoops}
+use Rattle.validate.specs.Damaged.{Damaged}
+use Rattle.validate.specs.Repaired.{repairedInstructions}
+use Rattle.validate.specs.Warnings.{repairWarnings}
 
 -- what the definitions give, and what document 01 says
 pub record MarkedRow : Type 0 where
@@ -101,6 +104,22 @@ exampleFont =
     fontOf (pos 0 ∷ pos 105 ∷ pos 2 ∷ pos 200 ∷ negsuc 0 ∷ pos 33 ∷ pos 1 ∷ pos 0 ∷ []) (pos 131072 ∷ []) (pos 102 ∷ pos 0 ∷ [])
     (negsuc 0) (negsuc 0) (pos 10485760)
 
+-- ---- repair
+
+-- entry 65 to one instruction, which skips past the end: next 0, right 66, a kern of 5. Character 66 alone exists, and is the replacement.
+abbrev pub oneSkip : Damaged
+oneSkip =
+    record {
+      instructions = pos 0 ∷ pos 66 ∷ pos 0 ∷ pos 5 ∷ [];
+      kerns = [];
+      entries = pos 65 ∷ pos 0 ∷ [];
+      boundary = negsuc 0;
+      left = negsuc 0;
+      replacement = 66;
+      existing = 0 ∷ 4 ∷ 0 ∷ 0 ∷ [];
+      passthrough = 0 ∷ [];
+    }
+
 -- ---- the table
 
 -- entry 65 to one instruction, right 66, op 3 inserting 66: loop (65, 66), of the loop list that compiling writes
@@ -172,6 +191,9 @@ otherRows =
     -- 255 packs to 0, with a redirect to 256
     ∷ record { given = packedNumbers (oneEntry 255 (pos 65)); said = pos 0 ∷ pos 1 ∷ pos 1 ∷ [] }
     ∷ record { given = front (pos 65) (fontRedirects (oneEntry 255 (pos 65))) (fontOffset (oneEntry 255 (pos 65))) (labelsOf (oneEntry 255 (pos 65) .entries)); said = negsuc 0 ∷ pos 65 ∷ pos 3 ∷ pos 65792 ∷ [] }
+    -- one reachable instruction, next 0: skip warning, and it stops instead
+    ∷ record { given = repairWarnings oneSkip; said = pos 3 ∷ pos 0 ∷ pos 0 ∷ pos 0 ∷ [] }
+    ∷ record { given = repairedInstructions oneSkip; said = negsuc 0 ∷ pos 66 ∷ pos 0 ∷ pos 5 ∷ [] }
     ∷ []
 
 abbrev pub rows : List MarkedRow

@@ -1,0 +1,40 @@
+-- What is proved of repair: the statements of specs/Purpose.
+-- Assumes nothing.
+use Prim.Native.Nat.{ℕ, _<_}
+use native.Mathlib.Omega.{arith}
+use lib.IntN.{negsuc}
+use Rattle.lang.specs.Records.{count}
+use Rattle.fonts.proofs.Theorems.{no-loops, reported-never}
+use Rattle.validate.specs.Damaged.{Damaged, leftGoes}
+use Rattle.validate.specs.Repaired.{repairedFont}
+use Rattle.validate.specs.Purpose.{Untouched, RepairedOnce, again, LoopsTrue}
+use Rattle.validate.proofs.Steps.{same-count}
+use Rattle.validate.proofs.Warned.{none-warned}
+use Rattle.validate.proofs.Kept.{cond-false, program-kept}
+use Rattle.validate.proofs.SameReach.{left-sound}
+use Rattle.validate.proofs.Once.{skip-sound, right-sound, kern-sound, product-sound, tag-sound}
+
+-- A program without a warning of kinds 1 to 9 is left as it is.
+pub untouched : Untouched
+untouched d e w =
+    let g = none-warned d w in
+    record { left = cond-false (leftGoes d) (negsuc 0) (d .left) (g .left); instructions = program-kept d e g }
+
+-- The repaired program lent again, with a replacement that exists, is not warned of with kinds 1, 3, 4, 5, 6, 7, 8.
+pub repaired-once : RepairedOnce
+repaired-once d taken small exist =
+    record {
+      left = left-sound d;
+      skips = λ i h. skip-sound d i (below h) taken;
+      rights = λ i h. right-sound d i (below h) exist;
+      kern-indices = λ i h. kern-sound d i (below h);
+      products = λ i h. product-sound d i (below h) exist small;
+      tags = λ i h. tag-sound d i (below h) exist small;
+    }
+  where
+    below : {i : ℕ} → i < count (again d .instructions) → i < count (d .instructions)
+    below h = omega (arith, h, same-count d)
+
+-- The loops warned of never end in the repaired font, and there are none exactly when every pair of it ends.
+pub loops-true : (d : Damaged) → LoopsTrue d
+loops-true d = record { never = reported-never (repairedFont d); none = no-loops (repairedFont d) }
