@@ -11,7 +11,7 @@ use requests::request::front;
 use requests::request::part;
 use requests::write::put_line;
 
-mod fonts;
+mod of_fonts;
 
 // Room for the requests.
 fn room() -> [u8; 786432]
@@ -23,7 +23,7 @@ fn room() -> [u8; 786432]
 // The answer to a request, by its letter.
 fn answer_by(letter: u8, numbers: &[i32], out: &mut [i32]) -> Written {
     match letter {
-        b'C' | b'W' | b'A' => fonts::compiled(letter, numbers, out),
+        b'C' | b'W' | b'A' => of_fonts::compiled(letter, numbers, out),
         b'K' | b'J' | b'P' => change_answers::answer(letter, numbers, out),
         _ => program_answers::answer(letter, numbers, out),
     }
