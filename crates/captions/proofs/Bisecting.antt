@@ -12,10 +12,10 @@ use native.Mathlib.Omega.{arith}
 use lib.IntN.{ℤ}
 use lib.Dec.{ltb}
 use borrow.Author.Tests.{ltb-true, ltb-false, lt-ltb, eq-eqb}
+use Rattle.words.proofs.Tests.{less-or-not}
 use Rattle.lang.specs.Every.{both, every}
 use Rattle.lang.specs.Records.{within, absentOr}
 use Rattle.lang.proofs.Every.{both-right, every-at}
-use Rattle.pairs.proofs.RowLaws.{less-or-not}
 use Rattle.captions.specs.Tables.{pairCount, number, keyAt, bisect, placeFor, find}
 use Rattle.captions.specs.Form.{comesAfter, keyForm}
 

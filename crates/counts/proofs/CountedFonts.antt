@@ -24,11 +24,12 @@ use Rattle.pairs.specs.Rows.{at, pairAt, Encoded}
 use Rattle.pairs.specs.SettledRows.{Settled}
 use Rattle.pairs.specs.OpRows.{capped, opTotal, Counts, Exact, Firsts}
 use Rattle.pairs.proofs.RowLaws.{SameRules, Keeps, keeps-rules, only-keeps, settled-kept, encoded-same, rules-same, pairs-same, pair-same}
+use Rattle.pairs.proofs.FieldLaws.{total-same}
 use Rattle.pairs.proofs.LoopLaws.{listedPair}
 use Rattle.prepare.specs.Prepares.{prepareRefusal}
 use Rattle.walks.specs.FindsLoops.{FontWalked, FindsLoopsBy}
 use Rattle.counts.specs.Counting.{sizesRefusal, FontCounted, MeasuresBy, CountsBy}
-use Rattle.counts.proofs.Totals.{total-same, count-same, capped-small, row-of-total, capped-refusal}
+use Rattle.counts.proofs.Totals.{count-same, capped-small, row-of-total, capped-refusal}
 
 -- ---- one pass after the other
 

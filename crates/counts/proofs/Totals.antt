@@ -7,10 +7,10 @@ use mathlib.Core.Logic.{_⊎_, inl, inr}
 use Prim.Native.Nat.{ℕ, zero, suc, _+_, _*_, _/_, _<_, _≤_}
 use native.Mathlib.Nat.{eq-or-lt-of-le, le-of-suc-le-suc}
 use native.Mathlib.Omega.{arith}
-use lib.Dec.{leb}
 use lib.ListN.{length}
 use borrow.Author.Tests.{le-leb, lt-leb}
 use Rattle.words.proofs.Lists.{getD-tabulate}
+use Rattle.words.proofs.Tests.{less-or-not}
 use Rattle.reading.specs.Items.{bnd}
 use Rattle.reading.specs.Depth.{Finished}
 use Rattle.reading.specs.Loops.{Ruled}
@@ -18,16 +18,10 @@ use Rattle.fonts.specs.Numbers.{opsOf, entryOf, opsBefore}
 use Rattle.pairs.specs.Rows.{ruledAt, pairs}
 use Rattle.pairs.specs.SettledRows.{outcome, finishedRows}
 use Rattle.pairs.specs.OpRows.{capped, rowOps, opTotal}
-use Rattle.pairs.proofs.RowLaws.{less-or-not, SameRules, pairs-same, finished-same, outcome-same}
+use Rattle.pairs.proofs.RowLaws.{SameRules, outcome-same}
 use Rattle.counts.specs.Counting.{sizesRefusal}
 
--- over rows that say the same, everything that is defined by their pairs and rules is the same
-pub total-same : (n : ℕ) (w u : List ℕ) → SameRules n w u → (k : ℕ) → opsBefore (finishedRows n u) (pairs n u) k ≡ opsBefore (finishedRows n w) (pairs n w) k
-total-same n w u s k =
-    let f = finished-same n w u s in
-    let p = pairs-same n w u s in
-    λ i. opsBefore (f i) (p i) k
-
+-- over rows that say the same, a row has as many ops
 pub count-same : (n : ℕ) (w u : List ℕ) → SameRules n w u → (k : ℕ) → k < n → rowOps n u k ≡ rowOps n w k
 count-same n w u s k h = ap (λ o. length (opsOf o)) (outcome-same n w u s k h)
 

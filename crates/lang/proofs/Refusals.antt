@@ -3,20 +3,20 @@
 use mathlib.Core.Path.{_≡_, refl, sym, ap, _∙_}
 use mathlib.Core.Bool.{Bool, true, false}
 use mathlib.Core.List.{List, [], _∷_}
-use Prim.Native.Nat.{ℕ, zero, suc, _%_, _<_, _≤_}
+use Prim.Native.Nat.{ℕ, zero, suc, _*_, _%_, _<_, _≤_}
 use native.Mathlib.Omega.{arith}
 use lib.IntN.{ℤ, pos}
 use lib.Dec.{leb, eqb}
 use lib.ListN.{length}
-use borrow.Author.Tests.{leb-true, le-leb, lt-leb}
+use borrow.Author.Tests.{eqb-true, leb-true, le-leb, lt-leb}
 use Rattle.words.specs.Replies.{Reply, replyOf}
 use Rattle.lang.specs.declared.Written.{Written}
 use Rattle.lang.specs.declared.Written.the-variants.{Count, Refused}
-use Rattle.lang.specs.Every.{both}
-use Rattle.lang.specs.Records.{count}
+use Rattle.lang.specs.Every.{both, every}
+use Rattle.lang.specs.Records.{count, isInstruction}
 use Rattle.lang.specs.Checks.{unless, orElse, sizeRefusal, recordRefusal, programRefusal}
 use Rattle.lang.specs.Answers.{roomRefusal, writtenReply}
-use Rattle.lang.proofs.Every.{both-right}
+use Rattle.lang.proofs.Every.{both-left, both-right, every-at}
 
 -- ---- the first of two numbers that is not 0
 
@@ -55,6 +55,17 @@ program-size s e =
     leb-true (count s) 32767
     (both-right (eqb (length s % 4) 0) (leb (count s) 32767)
     (unless-none 0 (both (eqb (length s % 4) 0) (leb (count s) 32767)) (orElse-none (sizeRefusal s) (recordRefusal s) e .0)))
+
+-- its numbers are in fours, and each four is an instruction
+pub program-fours : (s : List ℤ) → programRefusal s ≡ 0 → length s ≡ 4 * count s
+program-fours s e =
+    let h : length s % 4 ≡ 0 = eqb-true (length s % 4) 0 (both-left (eqb (length s % 4) 0) (leb (count s) 32767) (unless-none 0 (both (eqb (length s % 4) 0) (leb (count s) 32767)) (orElse-none (sizeRefusal s) (recordRefusal s) e .0))) in
+    omega arith
+
+pub program-record : (s : List ℤ) → programRefusal s ≡ 0 → (i : ℕ) → i < count s → isInstruction s i ≡ true
+program-record s e i h =
+    every-at (count s) i (isInstruction s)
+    (unless-none 1 (every (count s) (isInstruction s)) (orElse-none (sizeRefusal s) (recordRefusal s) e .1)) h
 
 -- ---- the room is enough, or it is not
 

@@ -6,19 +6,19 @@ use mathlib.Core.List.{List, [], _∷_, List·Memᴰ}
 use Prim.Native.Nat.{ℕ, _+_, _*_, _-_, _/_, _%_, _<_, _≤_}
 use native.Mathlib.Omega.{arith}
 use lib.IntN.{ℤ, pos, negsuc}
-use lib.Dec.{leb, ltb, eqb}
+use lib.Dec.{ltb, eqb}
 use lib.ListN.{length, getD}
 use lib.Signed.{nonNeg}
-use borrow.Author.Tests.{lt-ltb, le-leb, eq-eqb, ne-eqb, ltb-true, ltb-false, eqb-true}
+use borrow.Author.Tests.{lt-ltb, le-leb, eq-eqb, ne-eqb, ltb-true, ltb-false}
 use Rattle.words.specs.Words.{wordOf}
 use Rattle.words.proofs.Lists.{getD-tabulate}
 use Rattle.lang.specs.declared.instruction.Instruction.{Instruction}
-use Rattle.lang.specs.Every.{both, every}
+use Rattle.lang.specs.Every.{both}
 use Rattle.lang.specs.Records.{count, field, within, absentOr, operandFits, nextOf, operationOf, instructionAt, isInstruction, isKind}
-use Rattle.lang.specs.Checks.{sizeRefusal, recordRefusal, programRefusal, entriesRefusal, absentRefusal, rangeRefusal, passthroughRefusal, unless, orElse, entryAt}
+use Rattle.lang.specs.Checks.{programRefusal, entriesRefusal, absentRefusal, rangeRefusal, passthroughRefusal, orElse, entryAt}
 use Rattle.lang.specs.Answers.{replyOf}
-use Rattle.lang.proofs.Every.{both-left, every-at, every-all}
-use Rattle.lang.proofs.Refusals.{orElse-none, unless-none, room-is, taken-reply}
+use Rattle.lang.proofs.Every.{every-all}
+use Rattle.lang.proofs.Refusals.{orElse-none, unless-none, program-fours, program-record, room-is, taken-reply}
 use Rattle.unpack.specs.Unpacking.{targetAt, standsFor, entryRefusal, unpackRefusal, unpackEntry}
 use Rattle.unpack.proofs.Unpacking.{stands-target, stands-itself, entry-plain, entry-followed}
 use Rattle.labels.specs.Labels.{labelsOf}
@@ -116,16 +116,10 @@ module _ (f : Packable) where
     old-program = orElse-none (programRefusal (f .instructions)) (orElse (entriesRefusal 65535 (f .entries)) (orElse (absentRefusal 255 (f .boundary)) (absentRefusal 65535 (f .left)))) lent .0
 
     old-fours : length (f .instructions) % 4 ≡ 0
-    old-fours =
-        eqb-true (length (f .instructions) % 4) 0
-        (both-left (eqb (length (f .instructions) % 4) 0) (leb (count (f .instructions)) 32767)
-        (unless-none 0 (both (eqb (length (f .instructions) % 4) 0) (leb (count (f .instructions)) 32767)) (orElse-none (sizeRefusal (f .instructions)) (recordRefusal (f .instructions)) old-program .0)))
+    old-fours = omega (arith, program-fours (f .instructions) old-program)
 
     old-fits : (e : ℕ) → e < count (f .instructions) → isInstruction (f .instructions) e ≡ true
-    old-fits e h =
-        every-at (count (f .instructions)) e (isInstruction (f .instructions))
-        (unless-none 1 (every (count (f .instructions)) (isInstruction (f .instructions))) (orElse-none (sizeRefusal (f .instructions)) (recordRefusal (f .instructions)) old-program .1))
-        h
+    old-fits = program-record (f .instructions) old-program
 
     front-fits : (i : ℕ) → i < fontOffset f → isInstruction (packedInstructions f) i ≡ true
     unfolding fitsFields

@@ -1,4 +1,4 @@
--- What packing is for: theorem `packed-unpacks` of proofs/Packing. No contract cites this.
+-- What packing is for: theorem `packed-unpacks` of proofs/Purpose. No contract cites this.
 use mathlib.Core.Path.{_≡_}
 use mathlib.Core.Bool.{true, false}
 use mathlib.Core.List.{List, [], _∷_}

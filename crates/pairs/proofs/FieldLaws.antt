@@ -7,6 +7,7 @@ use Prim.Native.Nat.{ℕ, zero, suc, _+_, _*_, _<_, _≤_}
 use native.Mathlib.Numerals.{add-one}
 use native.Mathlib.Omega.{arith}
 use lib.ListN.{length, set, length-set}
+use Rattle.words.proofs.Tests.{same-or-not, less-or-not}
 use Rattle.pairs.specs.declared.Part.{Part}
 use Rattle.pairs.specs.declared.Part.the-variants.{Nothing, Character, Ligature, Kern, OfRow}
 use Rattle.pairs.specs.Rows.{at, Encoded}
@@ -14,7 +15,7 @@ use Rattle.pairs.specs.SettledRows.{Settled}
 use Rattle.fonts.specs.Numbers.{opsOf, opsBefore}
 use Rattle.pairs.specs.OpRows.{capped, OnlyField, rowOps, opTotal, Exact}
 use Rattle.pairs.specs.OpSteps.{LastFits, firstPart, secondPart, partOuts, partCount, rowCount, countsBefore, FieldStored, OpsCounted}
-use Rattle.pairs.proofs.RowLaws.{same-or-not, less-or-not, at-stored, at-other, at-row, keeps-rules, only-keeps, settled-kept, encoded-same, outcome-same, finished-same, pairs-same}
+use Rattle.pairs.proofs.RowLaws.{SameRules, at-stored, at-other, at-row, keeps-rules, only-keeps, settled-kept, encoded-same, outcome-same, finished-same, pairs-same}
 use Rattle.pairs.proofs.OpLaws.{opsUpTo, before-more, ends-within, Sound, finished-row, row-finished, unfinished-row, parts-of, last-of, count-parts}
 
 -- ---- a number of each row
@@ -188,11 +189,12 @@ pub counts-none : (u : List ℕ) → 0 ≡ capped (countsBefore u 0)
 unfolding countsBefore
 counts-none u = refl
 
--- the total of rows that say the same
-pub total-same : (n : ℕ) (w u : List ℕ) → OnlyField 12 n w u → opTotal n u ≡ opTotal n w
-total-same n w u o =
-    let r = keeps-rules w u (only-keeps w u not-state o) in
-    λ i. opsBefore (finished-same n w u r i) (pairs-same n w u r i) n
+-- over rows that say the same, the ops before a row are as many; and so are all of them
+pub total-same : (n : ℕ) (w u : List ℕ) → SameRules n w u → (k : ℕ) → opsUpTo n u k ≡ opsUpTo n w k
+total-same n w u r k = λ i. opsBefore (finished-same n w u r i) (pairs-same n w u r i) k
+
+pub total-still : (n : ℕ) (w u : List ℕ) → OnlyField 12 n w u → opTotal n u ≡ opTotal n w
+total-still n w u o = total-same n w u (keeps-rules w u (only-keeps w u not-state o)) n
 
 pub before-none : (n : ℕ) (w : List ℕ) → 0 ≡ opsUpTo n w 0
 unfolding opsBefore

@@ -22,13 +22,14 @@ use Rattle.reading.proofs.Flags.{code-raised, flag-raised}
 use Rattle.reading.proofs.Right.{both-finished, deeper-by}
 use Rattle.reading.proofs.Enough.{once-more}
 use Rattle.words.specs.Words.{numberOf}
+use Rattle.words.proofs.Tests.{same-or-not}
 use Rattle.pairs.specs.declared.Last.{Last}
 use Rattle.pairs.specs.declared.Last.the-variants.{Known, Waits}
 use Rattle.pairs.specs.Rows.{at, pairAt, ruleOf, ruleAt, rowOf, pairs, rules, ruleFits, Ascending}
 use Rattle.fonts.specs.Fonts.{leftOf, numberOfLeft}
 use Rattle.pairs.specs.SettledRows.{bit, finishedRows, outcome, second, consults}
 use Rattle.pairs.specs.SettleSteps.{status, knownBy, known, LastIs, LastsStored, Waiting, PairSays, RuleSays, SecondSays, flagged, codeOf}
-use Rattle.pairs.proofs.RowLaws.{same-or-not, fits-eight, number-left, SameRules, row-same, row-found, row-at, rule-at, covers-rows, finished-same}
+use Rattle.pairs.proofs.RowLaws.{fits-eight, number-left, SameRules, row-same, row-found, row-at, rule-at, covers-rows, finished-same}
 
 -- ---- one rule over pairs that finish
 

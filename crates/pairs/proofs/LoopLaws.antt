@@ -19,6 +19,7 @@ use Rattle.words.specs.Words.{numberOf}
 use Rattle.words.specs.Lists.{tabulate, Appending}
 use Rattle.words.proofs.Lists.{length-tabulate, getD-tabulate, tabulate-ext, appending-none, appending-length, appending-more, appending-rest}
 use Rattle.words.proofs.Bits.{number-pos}
+use Rattle.words.proofs.Tests.{same-or-not}
 use Rattle.lang.specs.Answers.{padded}
 use Rattle.reading.specs.Items.{Left, bnd, chr}
 use Rattle.reading.specs.Depth.{Res, Finished, Pair}
@@ -31,7 +32,7 @@ use Rattle.pairs.specs.SettledRows.{finishedRows, outcome, NeverRow, Row
 use Rattle.fonts.specs.Numbers.{leftNumber, loopNumbers}
 use Rattle.pairs.specs.LoopRows.{walkPlace, walkRow, WalkOrder, loopsOf, nthPair, Listed}
 use Rattle.pairs.specs.LoopSteps.{Walkable, Walk, stops, goes, WalkTaken, finishes, meets-own, meets-earlier, Listing}
-use Rattle.pairs.proofs.RowLaws.{same-or-not, at-stored, at-other, at-row, one-row, number-left, pair-same, mem-tabulate, covers-rows}
+use Rattle.pairs.proofs.RowLaws.{at-stored, at-other, at-row, one-row, number-left, pair-same, mem-tabulate, covers-rows}
 use Rattle.pairs.proofs.Sorted.{ordered-keeps, places-sort}
 
 -- ---- the pairs of a list as numbers

@@ -16,6 +16,7 @@ use Rattle.words.specs.Words.{numberOf, Word}
 use Rattle.words.specs.Lists.{Appending}
 use Rattle.words.proofs.Bits.{number-pos, number-is, read-is}
 use Rattle.words.proofs.Lists.{drop-replicate, appending-none, appending-length, appending-more, appending-rest}
+use Rattle.words.proofs.Tests.{same-or-not, less-or-not}
 use Rattle.lang.specs.Answers.{padded}
 use Rattle.reading.specs.Items.{item, code, flag, Out, glyph, kern}
 use Rattle.reading.specs.Depth.{Res}
@@ -27,7 +28,6 @@ use Rattle.pairs.specs.SettledRows.{bit, finishedRows, outcome}
 use Rattle.fonts.specs.Numbers.{opsOf, opsBefore, outNumbers, opNumbers, opsTable, leftNumber, flagNumber, pairNumbers, pairTable}
 use Rattle.pairs.specs.OpRows.{rowOps, opTotal, Ready, opsWritten, pairsWritten}
 use Rattle.pairs.specs.OpSteps.{firstPart, secondPart, partOuts, raisedOuts, rowNumbers, Segment, OpsAt, Apart, opsPlace, opsSize, Copies, PartFits, partNumbers, PartWritten, RowWritten, WrittenBefore, ToWrite}
-use Rattle.pairs.proofs.RowLaws.{same-or-not, less-or-not}
 use Rattle.pairs.proofs.Segments.{getD-apart, part-apart, drop-after, part-stored, part-at, sets-append, sets-over, sets-same, set-within}
 use Rattle.pairs.proofs.OpLaws.{length-numbers, numbers-append, length-raised, opsUpTo, before-more, ops-more, pairs-more, ends-before, ends-within, last-small, Sound, RowParts, finished-row, row-finished, unfinished-row, parts-of, count-parts}
 

@@ -5,13 +5,13 @@ use mathlib.Core.Bool.{Bool, true, false, cond, false≢true}
 use mathlib.Core.List.{List, [], _∷_, _++_, List·Memᴰ, List·Memᴰ·head, Memᴰ·cast, Memᴰ·append-left, Memᴰ·append-right}
 use mathlib.Core.Logic.{_⊎_, inl, inr, _↔_}
 use mathlib.Core.Option.{Option, none, some, Option·some-injective, Option·none-ne-some, Option·some-ne-none}
-use Prim.Native.Nat.{ℕ, zero, suc, _+_, _*_, _<_, _≤_}
+use Prim.Native.Nat.{ℕ, zero, suc, _+_, _*_, _<_}
 use native.Mathlib.Nat.{eq-or-lt-of-le, le-of-suc-le-suc}
 use native.Mathlib.Omega.{arith}
 use lib.Dec.{eqb, ltb}
 use lib.ListN.{length, set}
 use lib.Seq.{getD-set-same, getD-set-other}
-use borrow.Author.Tests.{eqb-true, eqb-false, eq-eqb, ltb-true, ltb-false}
+use borrow.Author.Tests.{eqb-true, eq-eqb, ltb-true, ltb-false}
 use Rattle.lang.specs.Operations.{isStandard}
 use Rattle.lang.proofs.Arms.{oneOf}
 use Rattle.lang.proofs.Standard.{eight, standard-eight}
@@ -25,21 +25,6 @@ use Rattle.pairs.specs.Rows.{at, pairAt, ruledAt, ruleOf, ruleAt, pairs,
 use Rattle.fonts.specs.Fonts.{leftOf, numberOfLeft}
 use Rattle.pairs.specs.SettledRows.{finishedRows, outcome, consults, FinishedRow, NeverRow, RowSays, Settled}
 use Rattle.pairs.specs.OpRows.{OnlyField}
-
--- two numbers are the same or not
-pub same-or-not : (a b : ℕ) → (a ≡ b) ⊎ (a ≡ b → ⊥)
-same-or-not a b = go (eqb a b) refl
-  where
-    go : (t : Bool) → eqb a b ≡ t → (a ≡ b) ⊎ (a ≡ b → ⊥)
-    go true e = inl (eqb-true a b e)
-    go false e = inr (eqb-false a b e)
-
-pub less-or-not : (a b : ℕ) → (a < b) ⊎ (b ≤ a)
-less-or-not a b = go (ltb a b) refl
-  where
-    go : (t : Bool) → ltb a b ≡ t → (a < b) ⊎ (b ≤ a)
-    go true e = inl (ltb-true a b e)
-    go false e = inr (ltb-false a b e)
 
 -- ---- a number that is read after a store
 

@@ -12,6 +12,7 @@ use lib.ListN.{length, getD, replicate, length-append, length-replicate, List·g
 use lib.Seq.{ext-getD, getD-append-add}
 use borrow.Author.Tests.{lt-ltb, le-ltb}
 use Rattle.words.proofs.Lists.{getD-tabulate}
+use Rattle.words.proofs.Tests.{less-or-not}
 use Rattle.lang.specs.Answers.{padded}
 use Rattle.reading.specs.Items.{Left, bnd, chr}
 use Rattle.reading.specs.Depth.{Pair}
@@ -22,7 +23,7 @@ use Rattle.pairs.specs.Rows.{at, pairAt, ruledAt, Ascending}
 use Rattle.pairs.specs.LoopRows.{walkPlace, walkRow, WalkOrder}
 use Rattle.pairs.specs.RowNumbers.{boundaryMore, boundaryPairs, pairPlace, walkOf, turnOf, sixteenNumbers, inRows, pairRowNumbers}
 use Rattle.pairs.specs.PairRows.{Collects}
-use Rattle.pairs.proofs.RowLaws.{less-or-not, number-left}
+use Rattle.pairs.proofs.RowLaws.{number-left}
 use Rattle.pairs.proofs.PairRowLaws.{zero-at}
 use Rattle.pairs.proofs.Sorted.{places-sort}
 use Rattle.pairs.proofs.LoopLaws.{pair-itself, same-row, not-so}

@@ -7,10 +7,11 @@ use mathlib.Core.Option.{Option, none, some}
 use Prim.Native.Nat.{ℕ, _+_, _*_, _<_, _≤_}
 use native.Mathlib.Nat.{eq-or-lt-of-le}
 use native.Mathlib.Omega.{arith}
+use Rattle.words.proofs.Tests.{less-or-not}
 use Rattle.pairs.specs.declared.Row.{Row}
 use Rattle.pairs.specs.declared.Row.the-variants.{Found, Missing}
 use Rattle.pairs.specs.Rows.{at, rowOf, foundRow, Ascending}
-use Rattle.pairs.proofs.RowLaws.{less-or-not, keyAt, keys-ascend, row-is, no-row}
+use Rattle.pairs.proofs.RowLaws.{keyAt, keys-ascend, row-is, no-row}
 
 pub record Between (n : ℕ) (w : List ℕ) (v lo hi : ℕ) : Type 0 where
   pub ordered : lo ≤ hi

@@ -9,6 +9,7 @@ use native.Mathlib.Nat.{eq-or-lt-of-le, le-of-suc-le-suc}
 use native.Mathlib.Omega.{arith}
 use lib.Dec.{eqb}
 use borrow.Author.Tests.{ne-eqb}
+use Rattle.words.proofs.Tests.{same-or-not}
 use Rattle.reading.specs.Depth.{Res, Pair, waitsBy}
 use Rattle.reading.specs.Loops.{follow}
 use Rattle.reading.proofs.Theorems.{never, right}
@@ -17,7 +18,7 @@ use Rattle.pairs.specs.declared.Last.the-variants.{Known}
 use Rattle.pairs.specs.Rows.{at, pairAt, ruleAt, rules, Ascending, Encoded, SameRows}
 use Rattle.pairs.specs.SettledRows.{finishedRows, outcome, consults, NeverRow, RowSays, Settled}
 use Rattle.pairs.specs.SettleSteps.{status, known, LastsStored, Waiting, RuleSays, DoneRow, Done, Never, Searching, Stuck, GivenUp, remaining, StillSeen}
-use Rattle.pairs.proofs.RowLaws.{same-or-not, SameRules, outcome-same, consults-same, ascending-same, encoded-same, same-rows-none, rule-at}
+use Rattle.pairs.proofs.RowLaws.{SameRules, outcome-same, consults-same, ascending-same, encoded-same, same-rows-none, rule-at}
 use Rattle.pairs.proofs.Tally.{tally-few, tally-less, tally-same, tally-none, tally-up, tally-down, tally-still}
 use Rattle.pairs.proofs.Known.{waits-later, consults-finished, known-sound, known-status, ready-finishes, waiting-later}
 use Rattle.pairs.proofs.Stores.{rows-kept, Opens, Finishes, finishes, next-within, next-last}

@@ -11,9 +11,10 @@ use native.Mathlib.Omega.{arith}
 use lib.Dec.{ltb, eqb}
 use borrow.Author.Tests.{ltb-true, lt-ltb, eqb-true, eq-eqb, ne-eqb}
 use Rattle.words.specs.Lists.{tabulate}
+use Rattle.words.proofs.Tests.{less-or-not}
 use Rattle.reading.specs.Items.{Left, bnd, chr}
 use Rattle.reading.specs.Loops.{Ruled, sameLeft, leftBefore, walkedBefore, insert, ordered}
-use Rattle.pairs.proofs.RowLaws.{less-or-not, mem-tabulate}
+use Rattle.pairs.proofs.RowLaws.{mem-tabulate}
 
 -- ---- the order of walks is strict
 

@@ -8,10 +8,11 @@ use native.Mathlib.Nat.{eq-or-lt-of-le}
 use native.Mathlib.Omega.{arith}
 use lib.ListN.{length, set, length-set}
 use borrow.Author.Tests.{lt-ltb, le-ltb}
+use Rattle.words.proofs.Tests.{same-or-not}
 use Rattle.pairs.specs.Rows.{at, Ascending, SameRows}
 use Rattle.pairs.specs.SettleSteps.{status, opening, finishing, nextOnPath, Opened, GivenUp}
 use Rattle.pairs.proofs.Tally.{tally-few}
-use Rattle.pairs.proofs.RowLaws.{same-or-not, at-stored, at-other, at-row}
+use Rattle.pairs.proofs.RowLaws.{at-stored, at-other, at-row}
 
 -- a step that changes none of the numbers 0 to 4, 14 and 15
 pub rows-kept : {n : ℕ} (w w′ : List ℕ) → length w′ ≡ length w → ((k f : ℕ) → f < 16 → (f < 5) ⊎ (11 < f) → at w′ k f ≡ at w k f) → SameRows n w w′

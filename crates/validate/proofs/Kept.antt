@@ -6,32 +6,22 @@ use mathlib.Core.List.{List}
 use Prim.Native.Nat.{ℕ, zero, suc, _+_, _*_, _/_, _%_, _<_}
 use native.Mathlib.Omega.{arith}
 use lib.IntN.{ℤ, pos, negsuc}
-use lib.Dec.{eqb, leb}
+use lib.Dec.{eqb}
 use lib.ListN.{length, getD}
 use lib.Seq.{ext-getD}
 use borrow.Author.Tests.{eqb-true}
 use Rattle.words.specs.Words.{wordOf}
-use Rattle.lang.specs.Every.{both, every}
+use Rattle.lang.specs.Every.{both}
 use Rattle.lang.specs.Records.{count, field, isInstruction, within, absentOr, operandFits}
-use Rattle.lang.specs.Checks.{sizeRefusal, recordRefusal, programRefusal}
-use Rattle.lang.proofs.Every.{both-left, both-right, every-at}
-use Rattle.lang.proofs.Refusals.{orElse-none, unless-none}
+use Rattle.lang.specs.Checks.{programRefusal}
+use Rattle.lang.proofs.Every.{both-left, both-right}
+use Rattle.lang.proofs.Refusals.{program-fours, program-record}
 use Rattle.validate.specs.Damaged.{Damaged}
 use Rattle.validate.specs.Repaired.{skipGoes, isLigature, rightGoes, kernGoes, productGoes, tagGoes, repairedStep, repairedInstructions}
 use Rattle.validate.proofs.Steps.{length-upto, step-number, field-below}
 use Rattle.validate.proofs.Warned.{StepSound, ProgramSound}
 
--- ---- a program that is not refused
-
-pub program-fours : (s : List ℤ) → programRefusal s ≡ 0 → length s ≡ 4 * count s
-program-fours s e =
-    let h : length s % 4 ≡ 0 = eqb-true (length s % 4) 0 (both-left (eqb (length s % 4) 0) (leb (count s) 32767) (unless-none 0 (both (eqb (length s % 4) 0) (leb (count s) 32767)) (orElse-none (sizeRefusal s) (recordRefusal s) e .0))) in
-    omega arith
-
-pub program-record : (s : List ℤ) → programRefusal s ≡ 0 → (i : ℕ) → i < count s → isInstruction s i ≡ true
-program-record s e i h =
-    every-at (count s) i (isInstruction s)
-    (unless-none 1 (every (count s) (isInstruction s)) (orElse-none (sizeRefusal s) (recordRefusal s) e .1)) h
+-- ---- an instruction
 
 -- the next of an instruction, and a ligature's operand
 pub next-fits : (s : List ℤ) (i : ℕ) → isInstruction s i ≡ true → absentOr 255 (field s i 0) ≡ true

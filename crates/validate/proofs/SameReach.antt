@@ -12,12 +12,14 @@ use lib.Dec.{leb, ltb, eqb}
 use lib.ListN.{length, getD, set}
 use lib.Seq.{set-out}
 use lib.Signed.{nonNeg}
-use borrow.Author.Tests.{ltb-true, ltb-false, le-ltb, leb-true, ne-eqb, eqb-true}
+use borrow.Author.Tests.{le-ltb, leb-true, ne-eqb, eqb-true}
 use Rattle.words.specs.Words.{wordOf}
+use Rattle.words.proofs.Tests.{less-or-not}
 use Rattle.lang.specs.Every.{both}
 use Rattle.lang.specs.Records.{count, field, nextOf, isKind, absentOr}
 use Rattle.lang.specs.Checks.{charAt, programRefusal, unless}
 use Rattle.lang.proofs.Every.{both-left, both-right}
+use Rattle.lang.proofs.Refusals.{program-record}
 use Rattle.chain.specs.Chains.{onwardFrom}
 use Rattle.unpack.specs.Unpacking.{targetAt, standsFor, entryRefusal}
 use Rattle.reach.specs.Reach.{entriesMarked, leftMarked, marksAfter, reachable}
@@ -26,19 +28,12 @@ use Rattle.validate.specs.Damaged.{Damaged, packedEntryOf, unpacks, unpa
 use Rattle.validate.specs.Repaired.{skipGoes, kernGoes, repairedInstructions}
 use Rattle.validate.specs.Purpose.{again}
 use Rattle.validate.proofs.Steps.{same-count, field-repaired}
-use Rattle.validate.proofs.Kept.{program-record, next-fits, cond-false}
+use Rattle.validate.proofs.Kept.{next-fits, cond-false}
 
 -- ---- of plain values
 
 field-past : (s : List ℤ) (i j : ℕ) → count s ≤ i → field s i j ≡ pos 0
 field-past s i j h = rw (le-ltb i (count s) h)
-
-below-or : (i n : ℕ) → (i < n) ⊎ (n ≤ i)
-below-or i n = go (ltb i n) refl
-  where
-    go : (t : Bool) → ltb i n ≡ t → (i < n) ⊎ (n ≤ i)
-    go true e = inl (ltb-true i n e)
-    go false e = inr (ltb-false i n e)
 
 cond-same : {A : Type 0} (t u : Bool) (x y z : A) → t ≡ u → (u ≡ true → x ≡ y) → cond t x z ≡ cond u y z
 cond-same t true x y z e f = rw e (f refl)
@@ -93,7 +88,7 @@ module _ (d : Damaged) where
   kind-at n i p q (inr h) = ap (λ (z : ℤ). eqb (wordOf z) n) (same-past i 2 h)
 
   pub same-kind : (n i : ℕ) → (n ≡ 0 → ⊥) → (n ≡ 1 → ⊥) → isKind n s′ i ≡ isKind n s i
-  same-kind n i p q = kind-at n i p q (below-or i (count s))
+  same-kind n i p q = kind-at n i p q (less-or-not i (count s))
 
   pub same-redirect : (i : ℕ) → isKind 3 s′ i ≡ isKind 3 s i
   same-redirect i = same-kind 3 i (λ e. omega (arith, e)) (λ e. omega (arith, e))
@@ -107,7 +102,7 @@ module _ (d : Damaged) where
   operand-at i e (inr h) = same-past i 3 h
 
   same-target : (i : ℕ) → isKind 3 s i ≡ true → targetAt s′ i ≡ targetAt s i
-  same-target i e = ap (λ (z : ℤ). wordOf z % 65536) (operand-at i e (below-or i (count s)))
+  same-target i e = ap (λ (z : ℤ). wordOf z % 65536) (operand-at i e (less-or-not i (count s)))
 
   same-stands : (e : ℕ) → standsFor s′ e ≡ standsFor s e
   same-stands e = cond-same (isKind 3 s′ e) (isKind 3 s e) (targetAt s′ e) (targetAt s e) e (same-redirect e) (same-target e)

@@ -3,7 +3,7 @@
 use mathlib.Core.Path.{ap, _∙_}
 use native.Mathlib.Omega.{arith}
 use Rattle.pairs.specs.OpRows.{capped}
-use Rattle.pairs.proofs.FieldLaws.{only-more, encoded-still, settled-still, count-still, total-is, total-same}
+use Rattle.pairs.proofs.FieldLaws.{only-more, encoded-still, settled-still, count-still, total-is, total-still}
 use borrow.Author.Needs.{needs}
 use Rattle.counts.proofs.count_ops.Statement.{statement}
 use Rattle.counts.proofs.count_ops.Tie as tie
@@ -35,7 +35,7 @@ returns c =
     record {
       only = only-more w (z .last .0) (x .last .0) o (x .ensures .only);
       counts = λ k h. x .ensures .counts k h ∙ ap capped (count-still n (s .args .m) w (s .pre .0) (s .pre .1) (z .last .0) o k h);
-      total = c .total-count .ensures ∙ total-is n (z .last .0) (x .last .0) (x .ensures .counts) n (omega arith) ∙ ap capped (total-same n w (z .last .0) o);
+      total = c .total-count .ensures ∙ total-is n (z .last .0) (x .last .0) (x .ensures .counts) n (omega arith) ∙ ap capped (total-still n w (z .last .0) o);
     }
 
 pub count-ops-spec : {M : Type 1} → statement M
