@@ -8,6 +8,7 @@
 --   Filled    a list that is filled from the front, and the list by the refusal
 --   Checks    what the refusals 1 to 5 test
 --   Tables    the table of 257 places
+--   Entered   entries that are taken are at most 256
 pub mod Table
 pub mod Arms
 pub mod Standard
@@ -17,3 +18,4 @@ pub mod Refusals
 pub mod Filled
 pub mod Checks
 pub mod Tables
+pub mod Entered

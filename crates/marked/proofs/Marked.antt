@@ -10,9 +10,9 @@ use Rattle.reading.specs.Depth.{comp, raiseLeft}
 use Rattle.reading.specs.Loops.{loopList, insert, ordered, unfinished, walk, walks, member}
 use Rattle.fonts.specs.Numbers.{loopNumbers}
 use Rattle.reach.specs.Reach.{entriesMarked, marksAfter}
-use Rattle.validate.specs.Damaged.{unpackedUpto}
-use Rattle.validate.specs.Repaired.{repairedUpto}
-use Rattle.validate.specs.Warnings.{entryWarnings, skipWarnings, stepsWarnings}
+use Rattle.repairs.specs.Damaged.{unpackedUpto}
+use Rattle.repairs.specs.Repaired.{repairedUpto}
+use Rattle.repairs.specs.Warnings.{entryWarnings, skipWarnings, stepsWarnings}
 use Rattle.marked.specs.Rows.{MarkedRow, otherRows, rows, rulesBy, pairsFrom}
 use Rattle.marked.proofs.Compiling.{one-loop, accepted, table, ops, word}
 

@@ -24,9 +24,9 @@ use Rattle.pairs.specs.RowNumbers.{byteOfOperation}
 use Rattle.fonts.specs.Fonts.{Font, fontOf, rulesOf}
 use Rattle.fonts.specs.Numbers.{opNumbers, loopNumbers}
 use Rattle.fonts.specs.Compiled.{roomOf, compileRefusal, fontCounts, fontTable, fontOps, fontLoops}
-use Rattle.validate.specs.Damaged.{Damaged}
-use Rattle.validate.specs.Repaired.{repairedInstructions}
-use Rattle.validate.specs.Warnings.{repairWarnings}
+use Rattle.repairs.specs.Damaged.{Damaged}
+use Rattle.repairs.specs.Repaired.{repairedInstructions}
+use Rattle.repairs.specs.Warnings.{repairWarnings}
 
 -- what the definitions give, and what document 01 says
 pub record MarkedRow : Type 0 where

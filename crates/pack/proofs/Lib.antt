@@ -1,4 +1,3 @@
-pub mod Entered
 pub mod Places
 pub mod Packing
 pub mod Purpose

@@ -27,7 +27,7 @@ use Rattle.lang.proofs.Filled.{refused-list}
 use Rattle.labels.specs.Labels.{labelsOf, redirectsOf, offsetBy, largest}
 use Rattle.labels.proofs.Redirects.{Under, labels-under, largest-le, redirects-le}
 use Rattle.pack.specs.Packing.{Packable, packable, redirectsTo, redirect, presentOr, leftOr, front, back, fontRedirects, fontOffset, packableRefusal, redirectRefusal, fitsShifted, shiftRefusal, packingRefusal, packedInstructions, packedEntry, entryNumber, packedEntries, packedSizes, packedReply, placeAmong, Packs}
-use Rattle.pack.proofs.Entered.{entry-le}
+use Rattle.lang.proofs.Entered.{entry-le}
 use Rattle.pack.proofs.Places.{present-test, present-is}
 
 -- ---- refusals in their order

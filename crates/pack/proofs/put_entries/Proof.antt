@@ -8,7 +8,7 @@ use Rattle.words.specs.Lists.{Filling}
 use Rattle.words.proofs.Lists.{filling-none, filling-length}
 use Rattle.lang.proofs.Filled.{filling-put}
 use Rattle.pack.specs.Packing.{entryNumber}
-use Rattle.pack.proofs.Entered.{number-le}
+use Rattle.lang.proofs.Entered.{number-le}
 use Rattle.pack.proofs.Packing.{filling-appends}
 use borrow.Author.Needs.{needs}
 use Rattle.pack.proofs.put_entries.Statement.{statement}

@@ -4,18 +4,15 @@ use mathlib.Core.Bool.{Bool, true, false, cond, not}
 use mathlib.Core.List.{List, [], _∷_, _++_}
 use Prim.Native.Nat.{ℕ, zero, suc, _/_}
 use lib.IntN.{ℤ, pos}
-use lib.Dec.{leb}
 use lib.ListN.{length}
 use Rattle.words.specs.Words.{wordOf}
-use Rattle.lang.specs.Every.{both}
 use Rattle.lang.specs.Records.{count, field}
 use Rattle.lang.specs.Checks.{charAt}
 use Rattle.reading.specs.Depth.{Pair}
-use Rattle.unpack.specs.Unpacking.{targetAt}
 use Rattle.fonts.specs.Numbers.{leftNumber}
 use Rattle.fonts.specs.Compiled.{loopsOfFont}
-use Rattle.validate.specs.Damaged.{Damaged, unpacks, passedOver, leftGoes, isReachable}
-use Rattle.validate.specs.Repaired.{skipGoes, isRedirect, isLigature, rightGoes, kernGoes, insertedBy, productGoes, tagGoes, repairedFont}
+use Rattle.repairs.specs.Damaged.{Damaged, Program, programOf, unpacks, leftGoes}
+use Rattle.repairs.specs.Repaired.{skipGoes, redirectWarns, isLigature, rightGoes, kernGoes, insertedBy, productGoes, tagGoes, repairedFont}
 
 abbrev pub warning : ℕ → ℤ → ℤ → ℤ → List ℤ
 warning kind at old new = pos kind ∷ at ∷ old ∷ new ∷ []
@@ -33,29 +30,23 @@ entryWarnings d zero = []
 entryWarnings d (suc k) = entryWarnings d k ++ warnIf (not (unpacks d k)) (warning 2 (charAt (d .entries) k) (pos 0) (pos 0))
 
 -- 3: of the first k steps, those that are reachable and skip past the end
-unfoldable pub skipWarnings : Damaged → ℕ → List ℤ
-skipWarnings d zero = []
-skipWarnings d (suc k) = skipWarnings d k ++ warnIf (skipGoes d k) (warning 3 (pos k) (pos 0) (pos 0))
-
--- 9: a redirect whose target is past the end, unless it is unreachable and passed over
-abbrev pub redirectWarns : Damaged → ℕ → Bool
-redirectWarns d i =
-    both (isRedirect d i)
-    (both (leb (count (d .instructions)) (targetAt (d .instructions) i)) (cond (isReachable d i) true (not (passedOver d i))))
+unfoldable pub skipWarnings : Program → ℕ → List ℤ
+skipWarnings p zero = []
+skipWarnings p (suc k) = skipWarnings p k ++ warnIf (skipGoes p k) (warning 3 (pos k) (pos 0) (pos 0))
 
 -- of step i: 9; or 4 (a ligature step) or 5 (a kern step), then 7, or 6 and 8
-abbrev pub stepWarnings : Damaged → ℕ → List ℤ
-stepWarnings d i =
-    warnIf (redirectWarns d i) (warning 9 (pos i) (pos 0) (pos 0))
-    ++ warnIf (rightGoes d i) (warning (cond (isLigature d i) 4 5) (pos i) (field (d .instructions) i 1) (pos (d .replacement)))
-    ++ warnIf (kernGoes d i) (warning 7 (pos i) (pos 0) (pos 0))
-    ++ warnIf (productGoes d i) (warning 6 (pos i) (pos (insertedBy d i)) (pos (d .replacement)))
-    ++ warnIf (tagGoes d i) (warning 8 (pos i) (pos 0) (pos 0))
+abbrev pub stepWarnings : Program → ℕ → List ℤ
+stepWarnings p i =
+    warnIf (redirectWarns p i) (warning 9 (pos i) (pos 0) (pos 0))
+    ++ warnIf (rightGoes p i) (warning (cond (isLigature p i) 4 5) (pos i) (field (p .instructions) i 1) (pos (p .replacement)))
+    ++ warnIf (kernGoes p i) (warning 7 (pos i) (pos 0) (pos 0))
+    ++ warnIf (productGoes p i) (warning 6 (pos i) (pos (insertedBy p i)) (pos (p .replacement)))
+    ++ warnIf (tagGoes p i) (warning 8 (pos i) (pos 0) (pos 0))
 
 -- of the first k steps, reachable or not
-unfoldable pub stepsWarnings : Damaged → ℕ → List ℤ
-stepsWarnings d zero = []
-stepsWarnings d (suc k) = stepsWarnings d k ++ stepWarnings d k
+unfoldable pub stepsWarnings : Program → ℕ → List ℤ
+stepsWarnings p zero = []
+stepsWarnings p (suc k) = stepsWarnings p k ++ stepWarnings p k
 
 -- 10: the loops of the repaired font
 unfoldable pub loopWarnings : List Pair → List ℤ
@@ -67,8 +58,8 @@ abbrev pub repairWarnings : Damaged → List ℤ
 repairWarnings d =
     leftWarning d
     ++ entryWarnings d (length (d .entries) / 2)
-    ++ skipWarnings d (count (d .instructions))
-    ++ stepsWarnings d (count (d .instructions))
+    ++ skipWarnings (programOf d) (count (d .instructions))
+    ++ stepsWarnings (programOf d) (count (d .instructions))
 
 -- all of them, in their order
 abbrev pub warningsOf : Damaged → List ℤ

@@ -1,12 +1,13 @@
 -- A font as it is lent to be repaired: document 01, 'Repair, packing, reach'; TFtoPL 66 to 70. Its entries are packed ones.
 use mathlib.Core.Bool.{Bool, true, false, cond}
 use mathlib.Core.List.{List, [], _∷_, _++_}
-use Prim.Native.Nat.{ℕ, zero, suc, _+_, _/_, _%_, _^_}
+use Prim.Native.Nat.{ℕ, zero, suc, _/_}
 use lib.IntN.{ℤ, pos, negsuc}
 use lib.Dec.{leb, eqb}
 use lib.ListN.{length, getD}
 use lib.Signed.{nonNeg}
 use Rattle.words.specs.Words.{wordOf}
+use Rattle.words.specs.Lists.{tabulate}
 use Rattle.lang.specs.Every.{both}
 use Rattle.lang.specs.Records.{count, isKind}
 use Rattle.lang.specs.Checks.{charAt, entryAt}
@@ -24,10 +25,6 @@ pub record Damaged : Type 0 where
   pub replacement : ℕ
   pub existing : List ℕ
   pub passthrough : List ℕ
-
--- character c exists
-abbrev pub exists : Damaged → ℕ → Bool
-exists d c = eqb (getD (d .existing) (c / 64) 0 / 2 ^ (c % 64) % 2) 1
 
 -- ---- TFtoPL 67: entries that unpack
 
@@ -68,7 +65,22 @@ leftGoes d = both (nonNeg (d .left)) (leb (count (d .instructions)) (wordOf (d .
 abbrev pub repairedLeft : Damaged → ℤ
 repairedLeft d = cond (leftGoes d) (negsuc 0) (d .left)
 
--- ---- TFtoPL 68 to 70: what is reachable, of the font as lent with the entries that unpack
+-- ---- TFtoPL 68 to 70: the program whose steps are looked at one by one
 
-abbrev pub isReachable : Damaged → ℕ → Bool
-isReachable d i = cond (eqb (getD (reachable (d .instructions) (unpackedEntries d) (repairedLeft d)) i 0) 0) false true
+-- What is reachable and what is passed over: a byte an instruction, nonzero meaning that it is.
+pub record Program : Type 0 where
+  pub instructions : List ℤ
+  pub kerns : List ℤ
+  pub boundary : ℤ
+  pub replacement : ℕ
+  pub existing : List ℕ
+  pub marks : List ℕ
+  pub passthrough : List ℕ
+
+abbrev pub repairedPassthrough : Damaged → List ℕ
+repairedPassthrough d = tabulate (count (d .instructions)) (λ i. cond (passedOver d i) 1 0)
+
+-- reachable is what crate `marks` says of the font as lent, with the entries that unpack
+abbrev pub programOf : Damaged → Program
+programOf d =
+    record { instructions = d .instructions; kerns = d .kerns; boundary = d .boundary; replacement = d .replacement; existing = d .existing; marks = reachable (d .instructions) (unpackedEntries d) (repairedLeft d); passthrough = repairedPassthrough d }

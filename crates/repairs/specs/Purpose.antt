@@ -11,9 +11,9 @@ use Rattle.reading.specs.Reading.{NeverEnds, Ends}
 use Rattle.reading.specs.Depth.{Pair}
 use Rattle.fonts.specs.Fonts.{rulesOf}
 use Rattle.fonts.specs.Compiled.{loopsOfFont}
-use Rattle.validate.specs.Damaged.{Damaged, exists, leftGoes, repairedLeft}
-use Rattle.validate.specs.Repaired.{skipGoes, rightGoes, kernGoes, productGoes, tagGoes, repairedInstructions, repairedPassthrough, repairedFont}
-use Rattle.validate.specs.Warnings.{repairWarnings}
+use Rattle.repairs.specs.Damaged.{Damaged, programOf, repairedPassthrough, leftGoes, repairedLeft}
+use Rattle.repairs.specs.Repaired.{exists, skipGoes, rightGoes, kernGoes, productGoes, tagGoes, repairedInstructions, repairedFont}
+use Rattle.repairs.specs.Warnings.{repairWarnings}
 
 -- a program without a warning of kinds 1 to 9 is left as it is
 pub record LeftAsItIs (d : Damaged) : Type 0 where
@@ -31,16 +31,16 @@ again d =
 -- what it is not warned of: kinds 1, 3, 4, 5, 6, 7, 8
 pub record Sound (d : Damaged) : Type 0 where
   pub left : leftGoes d ≡ false
-  pub skips : (i : ℕ) → i < count (d .instructions) → skipGoes d i ≡ false
-  pub rights : (i : ℕ) → i < count (d .instructions) → rightGoes d i ≡ false
-  pub kern-indices : (i : ℕ) → i < count (d .instructions) → kernGoes d i ≡ false
-  pub products : (i : ℕ) → i < count (d .instructions) → productGoes d i ≡ false
-  pub tags : (i : ℕ) → i < count (d .instructions) → tagGoes d i ≡ false
+  pub skips : (i : ℕ) → i < count (d .instructions) → skipGoes (programOf d) i ≡ false
+  pub rights : (i : ℕ) → i < count (d .instructions) → rightGoes (programOf d) i ≡ false
+  pub kern-indices : (i : ℕ) → i < count (d .instructions) → kernGoes (programOf d) i ≡ false
+  pub products : (i : ℕ) → i < count (d .instructions) → productGoes (programOf d) i ≡ false
+  pub tags : (i : ℕ) → i < count (d .instructions) → tagGoes (programOf d) i ≡ false
 
 -- with a replacement that exists none of them comes back
 abbrev pub RepairedOnce : Type 0
 RepairedOnce =
-    (d : Damaged) → programRefusal (d .instructions) ≡ 0 → d .replacement < 256 → exists d (d .replacement) ≡ true → Sound (again d)
+    (d : Damaged) → programRefusal (d .instructions) ≡ 0 → d .replacement < 256 → exists (programOf d) (d .replacement) ≡ true → Sound (again d)
 
 -- the loops warned of never end in the repaired font, and there are none exactly when every pair of it ends
 pub record LoopsTrue (d : Damaged) : Type 0 where

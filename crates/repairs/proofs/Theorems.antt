@@ -5,14 +5,14 @@ use native.Mathlib.Omega.{arith}
 use lib.IntN.{negsuc}
 use Rattle.lang.specs.Records.{count}
 use Rattle.fonts.proofs.Theorems.{no-loops, reported-never}
-use Rattle.validate.specs.Damaged.{Damaged, leftGoes}
-use Rattle.validate.specs.Repaired.{repairedFont}
-use Rattle.validate.specs.Purpose.{Untouched, RepairedOnce, again, LoopsTrue}
-use Rattle.validate.proofs.Steps.{same-count}
-use Rattle.validate.proofs.Warned.{none-warned}
-use Rattle.validate.proofs.Kept.{cond-false, program-kept}
-use Rattle.validate.proofs.SameReach.{left-sound}
-use Rattle.validate.proofs.Once.{skip-sound, right-sound, kern-sound, product-sound, tag-sound}
+use Rattle.repairs.specs.Damaged.{Damaged, leftGoes}
+use Rattle.repairs.specs.Repaired.{repairedFont}
+use Rattle.repairs.specs.Purpose.{Untouched, RepairedOnce, again, LoopsTrue}
+use Rattle.repairs.proofs.Steps.{same-count}
+use Rattle.repairs.proofs.Warned.{none-warned}
+use Rattle.repairs.proofs.Kept.{cond-false, program-kept}
+use Rattle.repairs.proofs.SameReach.{left-sound}
+use Rattle.repairs.proofs.Once.{skip-sound, right-sound, kern-sound, product-sound, tag-sound}
 
 -- A program without a warning of kinds 1 to 9 is left as it is.
 pub untouched : Untouched

@@ -16,10 +16,10 @@ use Rattle.lang.specs.Records.{count, field, isInstruction, within, absentOr, o
 use Rattle.lang.specs.Checks.{programRefusal}
 use Rattle.lang.proofs.Every.{both-left, both-right}
 use Rattle.lang.proofs.Refusals.{program-fours, program-record}
-use Rattle.validate.specs.Damaged.{Damaged}
-use Rattle.validate.specs.Repaired.{skipGoes, isLigature, rightGoes, kernGoes, productGoes, tagGoes, repairedStep, repairedInstructions}
-use Rattle.validate.proofs.Steps.{length-upto, step-number, field-below}
-use Rattle.validate.proofs.Warned.{StepSound, ProgramSound}
+use Rattle.repairs.specs.Damaged.{Damaged, programOf}
+use Rattle.repairs.specs.Repaired.{skipGoes, isLigature, rightGoes, kernGoes, productGoes, tagGoes, repairedStep, repairedInstructions}
+use Rattle.repairs.proofs.Steps.{length-upto, step-number, field-below}
+use Rattle.repairs.proofs.Warned.{StepSound, ProgramSound}
 
 -- ---- an instruction
 
@@ -51,12 +51,12 @@ operand-kept : (lig tag product kern : Bool) (r : ℕ) (z : ℤ) → tag ≡ fal
 operand-kept true tag product kern r z e f g h = rw (e, f) (bytes-kept z (h refl))
 operand-kept false tag product kern r z e f g h = rw g
 
-step-kept : (d : Damaged) (i : ℕ) → isInstruction (d .instructions) i ≡ true → skipGoes d i ≡ false → StepSound d i → (j : ℕ) → j < 4 → getD (repairedStep d i) j (pos 0) ≡ field (d .instructions) i j
-step-kept d i t e g zero h = cond-false (skipGoes d i) (negsuc 0) (field (d .instructions) i 0) e
-step-kept d i t e g (suc zero) h = cond-false (rightGoes d i) (pos (d .replacement)) (field (d .instructions) i 1) (g .right)
-step-kept d i t e g (suc (suc zero)) h = cond-false (kernGoes d i) (pos 0) (field (d .instructions) i 2) (g .kern-index)
+step-kept : (d : Damaged) (i : ℕ) → isInstruction (d .instructions) i ≡ true → skipGoes (programOf d) i ≡ false → StepSound d i → (j : ℕ) → j < 4 → getD (repairedStep (programOf d) i) j (pos 0) ≡ field (d .instructions) i j
+step-kept d i t e g zero h = cond-false (skipGoes (programOf d) i) (negsuc 0) (field (d .instructions) i 0) e
+step-kept d i t e g (suc zero) h = cond-false (rightGoes (programOf d) i) (pos (d .replacement)) (field (d .instructions) i 1) (g .right)
+step-kept d i t e g (suc (suc zero)) h = cond-false (kernGoes (programOf d) i) (pos 0) (field (d .instructions) i 2) (g .kern-index)
 step-kept d i t e g (suc (suc (suc zero))) h =
-    operand-kept (isLigature d i) (tagGoes d i) (productGoes d i) (kernGoes d i) (d .replacement) (field (d .instructions) i 3) (g .tag)
+    operand-kept (isLigature (programOf d) i) (tagGoes (programOf d) i) (productGoes (programOf d) i) (kernGoes (programOf d) i) (d .replacement) (field (d .instructions) i 3) (g .tag)
     (g .product) (g .kern-index)
     (ligature-fits (wordOf (field (d .instructions) i 2)) (field (d .instructions) i 3) (operand-fits (d .instructions) i t))
 step-kept d i t e g (suc (suc (suc (suc j)))) h = absurd (omega arith)
@@ -67,7 +67,7 @@ pub program-kept : (d : Damaged) → programRefusal (d .instructions) ≡ 0 → 
 program-kept d e g = ext-getD (pos 0) (repairedInstructions d) (d .instructions) (sizes ∙ sym (program-fours (d .instructions) e)) kept
   where
     sizes : length (repairedInstructions d) ≡ 4 * count (d .instructions)
-    sizes = length-upto d (count (d .instructions))
+    sizes = length-upto (programOf d) (count (d .instructions))
 
     kept : (m : ℕ) → m < length (repairedInstructions d) → getD (repairedInstructions d) m (pos 0) ≡ getD (d .instructions) m (pos 0)
     kept m h =
@@ -77,7 +77,7 @@ program-kept d e g = ext-getD (pos 0) (repairedInstructions d) (d .instructions)
         let l : j < 4 = omega arith in
         let p : 4 * i + j ≡ m = omega arith in
         ap (λ (a : ℕ). getD (repairedInstructions d) a (pos 0)) (sym p)
-        ∙ step-number d (count (d .instructions)) i j k l
+        ∙ step-number (programOf d) (count (d .instructions)) i j k l
         ∙ step-kept d i (program-record (d .instructions) e i k) (g .skips i k) (g .steps i k) j l
         ∙ field-below (d .instructions) i j k
         ∙ ap (λ (a : ℕ). getD (d .instructions) a (pos 0)) p

@@ -24,11 +24,11 @@ use Rattle.chain.specs.Chains.{onwardFrom}
 use Rattle.unpack.specs.Unpacking.{targetAt, standsFor, entryRefusal}
 use Rattle.reach.specs.Reach.{entriesMarked, leftMarked, marksAfter, reachable}
 use Rattle.reach.proofs.Marks.{length-marks}
-use Rattle.validate.specs.Damaged.{Damaged, packedEntryOf, unpacks, unpackedUpto, unpackedEntries, leftGoes, repairedLeft, isReachable}
-use Rattle.validate.specs.Repaired.{skipGoes, kernGoes, repairedInstructions}
-use Rattle.validate.specs.Purpose.{again}
-use Rattle.validate.proofs.Steps.{same-count, field-repaired}
-use Rattle.validate.proofs.Kept.{next-fits, cond-false}
+use Rattle.repairs.specs.Damaged.{Damaged, packedEntryOf, unpacks, unpackedUpto, unpackedEntries, leftGoes, repairedLeft, programOf}
+use Rattle.repairs.specs.Repaired.{isReachable, skipGoes, kernGoes, repairedInstructions}
+use Rattle.repairs.specs.Purpose.{again}
+use Rattle.repairs.proofs.Steps.{same-count, field-repaired}
+use Rattle.repairs.proofs.Kept.{next-fits, cond-false}
 
 -- ---- of plain values
 
@@ -84,7 +84,7 @@ module _ (d : Damaged) where
   kind-at : (n i : ℕ) → (n ≡ 0 → ⊥) → (n ≡ 1 → ⊥) → (i < count s) ⊎ (count s ≤ i) → isKind n s′ i ≡ isKind n s i
   kind-at n i p q (inl h) =
       ap (λ (z : ℤ). eqb (wordOf z) n) (field-repaired d i 2 h (omega arith))
-      ∙ kind-by n (wordOf (field s i 2)) (field s i 2) (pastKerns i) (kernGoes d i) p q refl refl
+      ∙ kind-by n (wordOf (field s i 2)) (field s i 2) (pastKerns i) (kernGoes (programOf d) i) p q refl refl
   kind-at n i p q (inr h) = ap (λ (z : ℤ). eqb (wordOf z) n) (same-past i 2 h)
 
   pub same-kind : (n i : ℕ) → (n ≡ 0 → ⊥) → (n ≡ 1 → ⊥) → isKind n s′ i ≡ isKind n s i
@@ -141,7 +141,7 @@ module _ (d : Damaged) where
     same-onward i m h l =
         ap (λ (n : ℕ). set m (onwardFrom n (nextOf (field s′ i 0)) i) 1) (same-count d)
         ∙ ap (λ (z : ℤ). set m (onwardFrom (count s) (nextOf z) i) 1) (field-repaired d i 0 h (omega arith))
-        ∙ onward-by (count s) i (field s i 0) m (isReachable d i) (skipGoes d i) l (next-fits s i (program-record s taken i h)) refl
+        ∙ onward-by (count s) i (field s i 0) m (isReachable (programOf d) i) (skipGoes (programOf d) i) l (next-fits s i (program-record s taken i h)) refl
 
     same-marks : (es : List ℤ) (left : ℤ) (k : ℕ) → k ≤ count s → marksAfter s′ es left k ≡ marksAfter s es left k
     unfolding marksAfter
@@ -154,7 +154,7 @@ module _ (d : Damaged) where
     same-reach : (es : List ℤ) (left : ℤ) → reachable s′ es left ≡ reachable s es left
     same-reach es left = ap (λ (k : ℕ). marksAfter s′ es left k) (same-count d) ∙ same-marks es left (count s) (omega arith)
 
-    pub same-reachable : (i : ℕ) → isReachable (again d) i ≡ isReachable d i
+    pub same-reachable : (i : ℕ) → isReachable (programOf (again d)) i ≡ isReachable (programOf d) i
     same-reachable i =
         ap (λ (m : List ℕ). cond (eqb (getD m i 0) 0) false true)
         (ap (λ (es : List ℤ). reachable s′ es (repairedLeft (again d))) (same-unpacked (length (d .entries) / 2))

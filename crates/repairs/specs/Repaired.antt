@@ -1,0 +1,116 @@
+-- A font repaired: TFtoPL 70 (skips) and 71 to 77 (steps), step by step.
+use mathlib.Core.Bool.{Bool, true, false, cond, not}
+use mathlib.Core.List.{List, [], _∷_, _++_}
+use Prim.Native.Nat.{ℕ, zero, suc, _+_, _*_, _/_, _%_, _^_}
+use lib.IntN.{ℤ, pos, negsuc}
+use lib.Dec.{leb, eqb}
+use lib.ListN.{length, getD}
+use lib.Signed.{nonNeg}
+use Rattle.words.specs.Words.{wordOf}
+use Rattle.lang.specs.Every.{both}
+use Rattle.lang.specs.Operations.{isStandard}
+use Rattle.lang.specs.Records.{count, field, isKind}
+use Rattle.unpack.specs.Unpacking.{targetAt}
+use Rattle.fonts.specs.Fonts.{Font, fontOf}
+use Rattle.repairs.specs.declared.Faults.{Faults}
+use Rattle.repairs.specs.Damaged.{Damaged, Program, programOf, unpackedEntries, repairedLeft}
+
+-- character c exists
+abbrev pub exists : Program → ℕ → Bool
+exists p c = eqb (getD (p .existing) (c / 64) 0 / 2 ^ (c % 64) % 2) 1
+
+abbrev pub isReachable : Program → ℕ → Bool
+isReachable p i = cond (eqb (getD (p .marks) i 0) 0) false true
+
+abbrev pub isPassedOver : Program → ℕ → Bool
+isPassedOver p i = cond (eqb (getD (p .passthrough) i 0) 0) false true
+
+-- ---- TFtoPL 70: skips
+
+-- the skip of step i, which is reachable, passes the end
+abbrev pub skipGoes : Program → ℕ → Bool
+skipGoes p i =
+    both (isReachable p i)
+    (both (nonNeg (field (p .instructions) i 0)) (leb (count (p .instructions)) (i + 1 + wordOf (field (p .instructions) i 0))))
+
+abbrev pub repairedNext : Program → ℕ → ℤ
+repairedNext p i = cond (skipGoes p i) (negsuc 0) (field (p .instructions) i 0)
+
+-- ---- TFtoPL 71 to 77: steps
+
+abbrev pub isRedirect : Program → ℕ → Bool
+isRedirect p i = isKind 3 (p .instructions) i
+
+abbrev pub isLigature : Program → ℕ → Bool
+isLigature p i = isKind 2 (p .instructions) i
+
+-- 9: a redirect whose target is past the end, unless it is unreachable and passed over
+abbrev pub redirectWarns : Program → ℕ → Bool
+redirectWarns p i =
+    both (isRedirect p i)
+    (both (leb (count (p .instructions)) (targetAt (p .instructions) i)) (cond (isReachable p i) true (not (isPassedOver p i))))
+
+-- a step is for a right character that neither exists nor is the boundary character
+abbrev pub isBoundary : Program → ℤ → Bool
+isBoundary p right = both (nonNeg (p .boundary)) (eqb (wordOf (p .boundary)) (wordOf right))
+
+abbrev pub rightGoes : Program → ℕ → Bool
+rightGoes p i =
+    both (not (isRedirect p i))
+    (both (not (exists p (wordOf (field (p .instructions) i 1)))) (not (isBoundary p (field (p .instructions) i 1))))
+
+abbrev pub repairedRight : Program → ℕ → ℤ
+repairedRight p i = cond (rightGoes p i) (pos (p .replacement)) (field (p .instructions) i 1)
+
+-- a kern index is past the list
+abbrev pub kernGoes : Program → ℕ → Bool
+kernGoes p i = both (isKind 1 (p .instructions) i) (leb (length (p .kerns)) (wordOf (field (p .instructions) i 3)))
+
+-- a ligature's op byte and inserted character
+abbrev pub opOf : Program → ℕ → ℕ
+opOf p i = wordOf (field (p .instructions) i 3) / 256
+
+abbrev pub insertedBy : Program → ℕ → ℕ
+insertedBy p i = wordOf (field (p .instructions) i 3) % 256
+
+-- it inserts a character that does not exist
+abbrev pub productGoes : Program → ℕ → Bool
+productGoes p i = both (isLigature p i) (not (exists p (insertedBy p i)))
+
+-- its op byte is not standard
+abbrev pub tagGoes : Program → ℕ → Bool
+tagGoes p i = both (isLigature p i) (not (isStandard (opOf p i)))
+
+abbrev pub repairedOperand : Program → ℕ → ℤ
+repairedOperand p i =
+    cond (isLigature p i)
+    (pos (256 * cond (tagGoes p i) 0 (opOf p i) + cond (productGoes p i) (p .replacement) (insertedBy p i)))
+    (cond (kernGoes p i) (pos 0) (field (p .instructions) i 3))
+
+-- a kern of zero in the place of a kern index past the list
+abbrev pub repairedKind : Program → ℕ → ℤ
+repairedKind p i = cond (kernGoes p i) (pos 0) (field (p .instructions) i 2)
+
+-- all that is wrong with step i
+abbrev pub faultsOf : Program → ℕ → Faults
+faultsOf p i =
+    record { skip = skipGoes p i; redirect = redirectWarns p i; right = rightGoes p i; kern = kernGoes p i; product = productGoes p i; tag = tagGoes p i }
+
+-- the four numbers of step i
+abbrev pub repairedStep : Program → ℕ → List ℤ
+repairedStep p i = repairedNext p i ∷ repairedRight p i ∷ repairedKind p i ∷ repairedOperand p i ∷ []
+
+-- ---- the font repaired
+
+-- the first k steps
+unfoldable pub repairedUpto : Program → ℕ → List ℤ
+repairedUpto p zero = []
+repairedUpto p (suc k) = repairedUpto p k ++ repairedStep p k
+
+abbrev pub repairedInstructions : Damaged → List ℤ
+repairedInstructions d = repairedUpto (programOf d) (count (d .instructions))
+
+-- its loops are looked for at a dummy design size, FixWord::ONE times ten
+abbrev pub repairedFont : Damaged → Font
+repairedFont d =
+    fontOf (repairedInstructions d) (d .kerns) (unpackedEntries d) (d .boundary) (repairedLeft d) (pos (10 * 1048576))

@@ -1,0 +1,72 @@
+-- THE contract of repair: its refusals, its answer, and the final content of every lent list. Document 01, 'Repair, packing, reach' and the
+-- table of numbers.
+use mathlib.Core.Path.{_≡_}
+use mathlib.Core.Bool.{cond}
+use mathlib.Core.List.{List, [], _∷_}
+use Prim.Native.Nat.{ℕ, _*_, _/_}
+use lib.IntN.{ℤ, pos}
+use lib.Dec.{leb}
+use lib.ListN.{length, replicate}
+use Rattle.words.specs.Words.{wordOf}
+use Rattle.lang.specs.Records.{count}
+use Rattle.lang.specs.Checks.{programRefusal, kernsRefusal, entriesRefusal, absentRefusal, passthroughRefusal, orElse, unless}
+use Rattle.lang.specs.Answers.{Reply, replyOf, listOf, roomRefusal}
+use Rattle.fonts.specs.Fonts.{pairsOf}
+use Rattle.repairs.specs.declared.Validated.{Validated}
+use Rattle.repairs.specs.declared.Validated.the-variants.{Fixed, Refused}
+use Rattle.repairs.specs.Damaged.{Damaged, repairedLeft, repairedPassthrough}
+use Rattle.repairs.specs.Repaired.{repairedInstructions, repairedFont}
+use Rattle.repairs.specs.Warnings.{warningsOf}
+
+-- the font from what is lent; the replacement by its 32 bits
+abbrev pub damagedOf : List ℤ → List ℤ → List ℤ → ℤ → ℤ → ℤ → List ℕ → List ℕ → Damaged
+damagedOf instructions kerns entries boundary left replacement existing passthrough =
+    record { instructions = instructions; kerns = kerns; entries = entries; boundary = boundary; left = left; replacement = wordOf replacement; existing = existing; passthrough = passthrough }
+
+-- how long the four lists are that are lent to be written
+pub record RepairRoom : Type 0 where
+  pub instructions : ℕ
+  pub passthrough : ℕ
+  pub warnings : ℕ
+  pub work : ℕ
+
+-- 1 to 4
+abbrev pub damagedRefusal : Damaged → ℕ
+damagedRefusal d =
+    orElse (programRefusal (d .instructions))
+    (orElse (kernsRefusal (d .kerns))
+    (orElse (entriesRefusal 255 (d .entries))
+    (orElse (absentRefusal 255 (d .boundary))
+    (orElse (absentRefusal 65535 (d .left))
+    (orElse (unless 4 (leb (d .replacement) 255)) (passthroughRefusal (d .passthrough) (d .instructions)))))))
+
+-- 12: the repaired font has more pairs with a rule than the work buffer holds at sixteen u32 each
+abbrev pub repairedPairsRefusal : Damaged → RepairRoom → ℕ
+repairedPairsRefusal d room = cond (leb (length (pairsOf (repairedFont d))) (room .work / 16)) 0 12
+
+-- 15: a list is too short for the repaired instructions, for their passthrough, or for the warnings
+abbrev pub repairRoomRefusal : Damaged → RepairRoom → ℕ
+repairRoomRefusal d room =
+    orElse (roomRefusal (4 * count (d .instructions)) (room .instructions))
+    (orElse (roomRefusal (count (d .instructions)) (room .passthrough)) (roomRefusal (length (warningsOf d)) (room .warnings)))
+
+abbrev pub repairRefusal : Damaged → RepairRoom → ℕ
+repairRefusal d room = orElse (damagedRefusal d) (orElse (repairedPairsRefusal d room) (repairRoomRefusal d room))
+
+-- what repair answers, as document 01 has it: the left entry and how many warnings there are, or the number
+abbrev pub validatedReply : Validated → Reply
+validatedReply (Fixed left n) = replyOf 0 (left ∷ pos n ∷ [])
+validatedReply (Refused n) = record { number = n; values = [] }
+
+abbrev pub roomFor : List ℤ → List ℕ → List ℤ → List ℕ → RepairRoom
+roomFor fixed through warnings work =
+    record { instructions = length fixed; passthrough = length through; warnings = length warnings; work = length work }
+
+-- the answer, and every list, taken or refused
+pub record Repairs (d : Damaged) (fixed : List ℤ) (through : List ℕ) (warnings : List ℤ) (work : List ℕ) (r : Validated) (fixed′ : List ℤ) (through′ : List ℕ) (warnings′ : List ℤ) (work′ : List ℕ) : Type 0 where
+  pub answer : validatedReply r ≡
+      replyOf (repairRefusal d (roomFor fixed through warnings work)) (repairedLeft d ∷ pos (length (warningsOf d) / 4) ∷ [])
+  pub instructions : fixed′ ≡ listOf (repairRefusal d (roomFor fixed through warnings work)) (pos 0) (length fixed) (repairedInstructions d)
+  pub passthrough : through′ ≡ listOf (repairRefusal d (roomFor fixed through warnings work)) 0 (length through) (repairedPassthrough d)
+  pub warned : warnings′ ≡ listOf (repairRefusal d (roomFor fixed through warnings work)) (pos 0) (length warnings) (warningsOf d)
+  pub cleared : work′ ≡ replicate (length work) 0

@@ -1,0 +1,25 @@
+// Repair, after `validate_and_fix` of ligkern/lang.rs (lines 691 to 818): what is warned of and the font repaired (specs/), what is proved of them (proofs/), and
+// the types that the passes of repair answer each other with. Crate `validate` repairs.
+
+// What is wrong with a step: its skip passes the end; it is a redirect to be warned of; its right character neither exists nor is the boundary character; its kern
+// index is past the list; the character that it inserts does not exist; its op byte is not standard.
+pub struct Faults {
+    pub skip: bool,
+    pub redirect: bool,
+    pub right: bool,
+    pub kern: bool,
+    pub product: bool,
+    pub tag: bool,
+}
+
+// How many of the entries unpack, and how many warnings there are.
+pub struct Entered {
+    pub entries: usize,
+    pub warnings: usize,
+}
+
+// What repair answers: the repaired left entry and how many warnings there are, or the number of its refusal.
+pub enum Validated {
+    Fixed(i32, usize),
+    Refused(u32),
+}
