@@ -80,7 +80,12 @@ pub record Program : Type 0 where
 abbrev pub repairedPassthrough : Damaged → List ℕ
 repairedPassthrough d = tabulate (count (d .instructions)) (λ i. cond (passedOver d i) 1 0)
 
+abbrev pub programBy : List ℤ → List ℤ → ℤ → ℕ → List ℕ → List ℕ → List ℕ → Program
+programBy instructions kerns boundary replacement existing marks passthrough =
+    record { instructions = instructions; kerns = kerns; boundary = boundary; replacement = replacement; existing = existing; marks = marks; passthrough = passthrough }
+
 -- reachable is what crate `marks` says of the font as lent, with the entries that unpack
 abbrev pub programOf : Damaged → Program
 programOf d =
-    record { instructions = d .instructions; kerns = d .kerns; boundary = d .boundary; replacement = d .replacement; existing = d .existing; marks = reachable (d .instructions) (unpackedEntries d) (repairedLeft d); passthrough = repairedPassthrough d }
+    programBy (d .instructions) (d .kerns) (d .boundary) (d .replacement) (d .existing)
+    (reachable (d .instructions) (unpackedEntries d) (repairedLeft d)) (repairedPassthrough d)

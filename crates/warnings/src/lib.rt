@@ -1,13 +1,9 @@
 // One warning of repair, four numbers, written after those that are there already.
-ghost use mathlib.Core.Path.{_≡_};
-ghost use mathlib.Core.Bool.{cond};
-ghost use mathlib.Core.List.{[], _∷_};
-ghost use Prim.Native.Nat.{suc, _*_};
 ghost use lib.Dec.{ltb};
-ghost use lib.Seq.{sets};
 ghost use Rattle.words.specs.Words.{numberOf};
 ghost use Rattle.lang.specs.Every.{both};
 ghost use Rattle.repairs.specs.Warnings.{warning, warnIf};
+ghost use Rattle.repairs.specs.Pushed.{Pushed};
 
 // Where the test holds, one warning more after n others: its kind, and three numbers by their 32 bits. What passes the end of the list is left off. Answers how
 // many warnings there are then; a count of 2^32 stays.
@@ -20,8 +16,7 @@ pub fn push_if(
     old: u32,
     new: u32,
 ) -> usize
-    ensures { λ r. ⌜ (r ≡ cond (both test (ltb n 4294967296)) (suc n) n)
-        × (now (warnings .exit) ≡ sets (now (warnings .entry)) (4 * n) (warnIf (both test (ltb n 4294967296)) (warning kind (numberOf at) (numberOf old) (numberOf new)))) ⌝ }
+    ensures { λ r. ⌜ Pushed (now (warnings .entry)) n (warnIf (both test (ltb n 4294967296)) (warning kind (numberOf at) (numberOf old) (numberOf new))) (now (warnings .exit)) r ⌝ }
 {
     if !test {
         return n;
