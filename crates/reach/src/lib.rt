@@ -11,13 +11,13 @@ ghost use Rattle.reach.specs.Reach.{entriesMarked, leftMarked, onwardMar
 use chain::Next;
 use chain::next_instruction;
 use checks::absent_refusal;
-use checks::entries_refusal;
-use checks::passthrough_refusal;
 use checks::program_refusal;
-use checks::room_refusal;
 use lang::Written;
 use lang::instruction::NextInstruction;
 use lang::instruction::instruction_at;
+use limits::entries_refusal;
+use limits::passthrough_refusal;
+use limits::room_refusal;
 
 // The bits of -1: no skip.
 const NONE: u32 = 4294967295;

@@ -10,12 +10,12 @@ ghost use Rattle.lang.specs.Records.{isKind};
 ghost use Rattle.unpack.specs.Unpacking.{targetAt, standsFor, entryRefusal, unpackRefusal, unpackedReply, isNamed, passthroughAt, passthroughAfter, UnpacksEntry, insertsSevenBit, allSevenBit, entrySafe, isSevenBitSafe, sevenBitReply, sevenBit};
 use chain::Next;
 use chain::next_instruction;
-use checks::entries_refusal;
-use checks::passthrough_refusal;
 use checks::program_refusal;
 use checks::range_refusal;
-use checks::room_refusal;
 use lang::instruction::field_at;
+use limits::entries_refusal;
+use limits::passthrough_refusal;
+use limits::room_refusal;
 
 // What unpacking an entry answers.
 pub enum Unpacked {
