@@ -33,10 +33,10 @@ leb-both a b c d f g = go (leb a b) refl
 -- ---- kinds
 
 module _ (s : List ℤ) (i k : ℕ) {kind : ℕ} (ks : kind ≡ wordOf (field s i 2)) where
-  not-kind : (kind ≡ k → ⊥) → isKind k s i ≡ false
+  pub not-kind : (kind ≡ k → ⊥) → isKind k s i ≡ false
   not-kind h = ap (λ (w : ℕ). eqb w k) (sym ks) ∙ ne-eqb kind k h
 
-  of-kind : kind ≡ k → isKind k s i ≡ true
+  pub of-kind : kind ≡ k → isKind k s i ≡ true
   of-kind h = ap (λ (w : ℕ). eqb w k) (sym ks) ∙ eq-eqb kind k h
 
 -- ---- skips
