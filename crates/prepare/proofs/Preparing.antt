@@ -7,7 +7,6 @@ use Prim.Native.Nat.{ℕ, _<_, _≤_}
 use native.Mathlib.Omega.{arith}
 use lib.IntN.{ℤ, pos}
 use lib.ListN.{length, replicate}
-use Rattle.words.proofs.Lists.{getD-tabulate}
 use Rattle.lang.specs.Answers.{replyOf, padded, listOf}
 use Rattle.lang.specs.Every.{every}
 use Rattle.lang.specs.Records.{instructionAt}
@@ -17,7 +16,7 @@ use Rattle.lang.proofs.Filled.{refused-list}
 use Rattle.chain.specs.Chains.{actsAs}
 use Rattle.reading.specs.Loops.{Ruled}
 use Rattle.fonts.specs.Fonts.{Font, tableOf, pairsOf}
-use Rattle.fonts.specs.Numbers.{nth, flagNumber}
+use Rattle.fonts.specs.Numbers.{flagNumber}
 use Rattle.fonts.specs.Compiled.{scales, pairScales, allScale}
 use Rattle.fonts.proofs.Replies.{flag-known, values-known, number-known, taken-unlike}
 use Rattle.pairs.specs.declared.Collected.{Collected}
@@ -25,12 +24,12 @@ use Rattle.pairs.specs.declared.Collected.the-variants as collected
 use Rattle.pairs.specs.declared.Prepared.{Prepared}
 use Rattle.pairs.specs.declared.Prepared.the-variants.{Rows, Refused}
 use Rattle.pairs.specs.declared.Effect.{Effect}
-use Rattle.pairs.specs.Rows.{at, ruledAt}
+use Rattle.pairs.specs.Rows.{at}
 use Rattle.pairs.specs.LoopRows.{WalkOrder}
 use Rattle.pairs.specs.RowNumbers.{boundaryPairs, effectOf, pairEffect, fontRowNumbers}
 use Rattle.pairs.specs.PairRows.{Collects, operationAt, effectAt, rowsScale, Encodes}
 use Rattle.pairs.proofs.Tied.{ruled-tied, pairs-tied, rules-tied, ascending}
-use Rattle.pairs.proofs.RowNumberLaws.{boundary-is, rows-are}
+use Rattle.pairs.proofs.RowNumberLaws.{boundary-rows, rows-are}
 use Rattle.pairs.proofs.LoopLaws.{turns-same}
 use Rattle.collect.specs.Collecting.{collectRefusal, CollectsFontBy, CollectsFont}
 use Rattle.prepare.specs.Prepares.{prepareRefusal, PreparesBy, preparedReply, Prepares}
@@ -108,9 +107,10 @@ module _ (f : Font) (cap : ℕ) (w w′ : List ℕ) where
   reply-by : (r : Prepared) → PreparesBy f cap w w′ r → preparedReply r ≡ replyOf (prepareRefusal f cap) counts
   reply-by (Rows n e b) d =
       let g = d .4 in
-      let p : (k : ℕ) → k < n → ruledAt w′ k ≡ nth (pairsOf f) k = λ k h. sym (getD-tabulate n (ruledAt w′) k _ h) ∙ ap (λ (ps : List Ruled). nth ps k) (g .pairs-are) in
-      let x = boundary-is (pairsOf f) n e w′ (g .encoded .ascending) (g .count-is) p (g .turns) in
-      (let u = g .count-is in let v = d .2 in λ i. replyOf 0 (pos (u i) ∷ pos (sym x i) ∷ flagNumber (v i) ∷ [])) ∙ taken-reply counts (d .0)
+      let x = g .count-is in
+      let y = boundary-rows (pairsOf f) n e w′ (g .encoded .ascending) (g .pairs-are) x (g .turns) in
+      let z = d .2 in
+      (λ i. replyOf 0 (pos (x i) ∷ pos (y i) ∷ flagNumber (z i) ∷ [])) ∙ taken-reply counts (d .0)
   reply-by (Refused k) d = refused-reply counts (sym (d .0)) (λ z. omega (arith, d .1))
 
   work-by : (r : Prepared) → PreparesBy f cap w w′ r → w′ ≡ listOf (prepareRefusal f cap) 0 (length w) (fontRowNumbers f)
