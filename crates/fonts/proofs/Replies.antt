@@ -1,11 +1,11 @@
--- What compile answers is known from its reply; and what the replies of its stages take for the same.
+-- What compile answers is known from its reply; with the laws by which what its stages answer each other is known from theirs.
 -- Assumes nothing.
 use mathlib.Core.Path.{_≡_, refl, sym, ap}
 use mathlib.Core.Bool.{Bool, true, false}
 use mathlib.Core.List.{List, [], _∷_}
 use Prim.Native.Nat.{ℕ}
 use native.Mathlib.Omega.{arith}
-use lib.IntN.{ℤ, pos}
+use lib.IntN.{ℤ}
 use Rattle.words.specs.Replies.{Reply}
 use Rattle.fonts.specs.declared.Compiled.{Compiled}
 use Rattle.fonts.specs.declared.Compiled.the-variants.{Tables, Refused}

@@ -3,10 +3,10 @@
 use mathlib.Core.Path.{_≡_, sym, ap, _∙_, subst}
 use mathlib.Core.Bool.{Bool}
 use mathlib.Core.List.{List, [], _∷_}
-use Prim.Native.Nat.{ℕ, _<_, _≤_}
+use Prim.Native.Nat.{ℕ, _<_}
 use native.Mathlib.Omega.{arith}
 use lib.IntN.{ℤ, pos}
-use lib.ListN.{length, replicate}
+use lib.ListN.{length}
 use Rattle.lang.specs.Answers.{replyOf, padded, listOf}
 use Rattle.lang.specs.Every.{every}
 use Rattle.lang.specs.Records.{instructionAt}
@@ -31,7 +31,7 @@ use Rattle.pairs.specs.PairRows.{Collects, operationAt, effectAt, rowsScale, En
 use Rattle.pairs.proofs.Tied.{ruled-tied, pairs-tied, rules-tied, ascending}
 use Rattle.pairs.proofs.RowNumberLaws.{boundary-rows, rows-are}
 use Rattle.pairs.proofs.LoopLaws.{turns-same}
-use Rattle.collect.specs.Collecting.{collectRefusal, CollectsFontBy, CollectsFont}
+use Rattle.collect.specs.Collecting.{CollectsFontBy, CollectsFont}
 use Rattle.prepare.specs.Prepares.{prepareRefusal, PreparesBy, preparedReply, Prepares}
 
 -- what encoding answers, at the design size as it was lent
