@@ -60,16 +60,17 @@ module _ (s table : List ℤ) (room : ℕ) (w w′ : List ℕ) where
 -- ---- the contract, from what the answer says
 
 module _ (s table : List ℤ) (cap : ℕ) (w w′ : List ℕ) where
-  abbrev counts : List ℤ
-  counts = pos (length (pairsBy s table)) ∷ pos (boundaryPairs (pairsBy s table)) ∷ []
+  -- the values of an answer that is taken
+  abbrev replied : List ℤ
+  replied = pos (length (pairsBy s table)) ∷ pos (boundaryPairs (pairsBy s table)) ∷ []
 
-  reply-by : (r : Collected) → CollectsFontBy s table cap w w′ r → collectedReply r ≡ replyOf (collectRefusal s table cap) counts
+  reply-by : (r : Collected) → CollectsFontBy s table cap w w′ r → collectedReply r ≡ replyOf (collectRefusal s table cap) replied
   reply-by (Rows n e) d =
       let c = d .2 in
       let a = c .all in
       let b = boundary-is (pairsBy s table) n e w′ (c .ascending) a (c .pair) (c .turns) in
-      (λ i. replyOf 0 (pos (a i) ∷ pos (sym b i) ∷ [])) ∙ taken-reply counts (d .0)
-  reply-by (Refused k) d = refused-reply counts (sym (d .0)) (λ z. omega (arith, d .1))
+      (λ i. replyOf 0 (pos (a i) ∷ pos (sym b i) ∷ [])) ∙ taken-reply replied (d .0)
+  reply-by (Refused k) d = refused-reply replied (sym (d .0)) (λ z. omega (arith, d .1))
 
   work-by : (r : Collected) → CollectsFontBy s table cap w w′ r → w′ ≡ listOf (collectRefusal s table cap) 0 (length w) (pairRowNumbers (pairsBy s table))
   work-by (Rows n e) d = rw (d .0) (collected-rows s table w w′ n e (d .2))

@@ -182,21 +182,22 @@ module _ (f : Font) (room : Room) (w : List ℕ) (long : room .work ≡ length w
 -- ---- the contract, from what the answer says
 
 module _ (f : Font) (room : Room) (w w′ : List ℕ) where
-  abbrev numbers : List ℤ
-  numbers = pos (length (pairsOf f)) ∷ pos (tablePairs f) ∷ pos (totalOps f) ∷ pos (length (loopsOfFont f)) ∷ []
+  -- the values of an answer that is taken
+  abbrev replied : List ℤ
+  replied = pos (length (pairsOf f)) ∷ pos (tablePairs f) ∷ pos (totalOps f) ∷ pos (length (loopsOfFont f)) ∷ []
 
-  pub reply-by : (c : CountedFont) → CountsBy f room w w′ c → countedReply c ≡ replyOf (buildRefusal f room) numbers
-  reply-by (Sizes n m total r) d =
+  pub counted-reply : (c : CountedFont) → CountsBy f room w w′ c → countedReply c ≡ replyOf (buildRefusal f room) replied
+  counted-reply (Sizes n m total r) d =
       let g = d .4 in
       let x = g .count-is in
       let y = finished-count f n w′ (g .pairs-are) (g .rules-are) x m (g .ready .encoded) (g .ready .settled) in
       let z = d .2 in
       let v = listed-count r w′ (g .loops-are) in
-      (λ i. replyOf 0 (pos (x i) ∷ pos (y i) ∷ pos (z i) ∷ pos (v i) ∷ [])) ∙ taken-reply numbers (d .0)
-  reply-by (Refused k) d = refused-reply numbers (sym (d .0)) (λ z. omega (arith, d .1))
+      (λ i. replyOf 0 (pos (x i) ∷ pos (y i) ∷ pos (z i) ∷ pos (v i) ∷ [])) ∙ taken-reply replied (d .0)
+  counted-reply (Refused k) d = refused-reply replied (sym (d .0)) (λ z. omega (arith, d .1))
 
   pub counts-font : (c : CountedFont) → CountsBy f room w w′ c → CountsFont f room w w′ c
-  counts-font c d = record { reply = reply-by c d; rows = d }
+  counts-font c d = record { reply = counted-reply c d; rows = d }
 
 -- ---- the answer is known from its reply
 

@@ -18,7 +18,7 @@ use Rattle.pairs.specs.declared.CountedFont.the-variants as counted
 use Rattle.pairs.specs.Rows.{at, pairAt}
 use Rattle.pairs.specs.OpRows.{pairsWritten}
 use Rattle.pairs.proofs.LoopLaws.{listed-count}
-use Rattle.pairs.proofs.TableCount.{table-is}
+use Rattle.pairs.proofs.TableCount.{table-written}
 use Rattle.ops.specs.WritesOps.{WritesOps}
 use Rattle.lists.specs.Builds.{Builds}
 
@@ -68,7 +68,7 @@ module _ (f : Font) (ps os ls zp zl : List ℤ) (w w₁ : List ℕ) (bp : zp ≡
     built numbers ps′ ls′ w₂ c a b z =
         let g = p .rows .4 in
         let e : buildRefusal f (roomIn ps os ls w) ≡ 0 = sym (ap (buildRefusal f) room-is) ∙ p .rows .0 in
-        let t = table-is f n w₁ (g .pairs-are) (g .rules-are) (g .count-is) in
+        let t = table-written f n w₁ (g .pairs-are) (g .rules-are) (g .count-is) in
         record {
           answer = rw e (let x = c ∙ ap length t in let y = p .rows .2 in let v = listed-count r w₁ (g .loops-are) in λ i. replyOf 0 (pos (x i / 6) ∷ pos (y i) ∷ pos (v i) ∷ []));
           lists =

@@ -21,7 +21,7 @@ use Rattle.pairs.specs.declared.CountedFont.{CountedFont}
 use Rattle.pairs.specs.declared.CountedFont.the-variants.{Sizes, Refused}
 use Rattle.pairs.specs.OpRows.{opTotal, opsWritten}
 use Rattle.counts.specs.Counting.{FontCounted, CountsBy}
-use Rattle.counts.proofs.CountedFonts.{reply-by}
+use Rattle.counts.proofs.CountedFonts.{counted-reply}
 use Rattle.ops.specs.WritesOps.{OpsBy, WritesOps}
 
 -- a font that is not refused has room for its ops
@@ -59,7 +59,7 @@ module _ (f : Font) (pairRoom loopRoom : ℕ) (ops z : List ℤ) (w w₁ : List 
   writes : (ops′ : List ℤ) (c : CountedFont) → CountsBy f (roomOf pairRoom (length z) loopRoom (length w)) w w₁ c → OpsBy f ops ops′ c → WritesOps f pairRoom loopRoom ops w ops′ w₁ c
   writes ops′ c p o =
       let d = counted c p in
-      record { reply = reply-by f (roomOf pairRoom (length ops) loopRoom (length w)) w w₁ c d; written = o; rows = d }
+      record { reply = counted-reply f (roomOf pairRoom (length ops) loopRoom (length w)) w w₁ c d; written = o; rows = d }
 
   pub unfit : (k : ℕ) → CountsBy f (roomOf pairRoom (length z) loopRoom (length w)) w w₁ (Refused k) → WritesOps f pairRoom loopRoom ops w z w₁ (Refused k)
   unfit k p = writes z (Refused k) p blank

@@ -101,17 +101,18 @@ module _ (f : Font) (cap : ℕ) (w : List ℕ) where
 -- ---- the contract, from what the answer says
 
 module _ (f : Font) (cap : ℕ) (w w′ : List ℕ) where
-  abbrev counts : List ℤ
-  counts = pos (length (pairsOf f)) ∷ pos (boundaryPairs (pairsOf f)) ∷ flagNumber (allScale f) ∷ []
+  -- the values of an answer that is taken
+  abbrev replied : List ℤ
+  replied = pos (length (pairsOf f)) ∷ pos (boundaryPairs (pairsOf f)) ∷ flagNumber (allScale f) ∷ []
 
-  reply-by : (r : Prepared) → PreparesBy f cap w w′ r → preparedReply r ≡ replyOf (prepareRefusal f cap) counts
+  reply-by : (r : Prepared) → PreparesBy f cap w w′ r → preparedReply r ≡ replyOf (prepareRefusal f cap) replied
   reply-by (Rows n e b) d =
       let g = d .4 in
       let x = g .count-is in
       let y = boundary-rows (pairsOf f) n e w′ (g .encoded .ascending) (g .pairs-are) x (g .turns) in
       let z = d .2 in
-      (λ i. replyOf 0 (pos (x i) ∷ pos (y i) ∷ flagNumber (z i) ∷ [])) ∙ taken-reply counts (d .0)
-  reply-by (Refused k) d = refused-reply counts (sym (d .0)) (λ z. omega (arith, d .1))
+      (λ i. replyOf 0 (pos (x i) ∷ pos (y i) ∷ flagNumber (z i) ∷ [])) ∙ taken-reply replied (d .0)
+  reply-by (Refused k) d = refused-reply replied (sym (d .0)) (λ z. omega (arith, d .1))
 
   work-by : (r : Prepared) → PreparesBy f cap w w′ r → w′ ≡ listOf (prepareRefusal f cap) 0 (length w) (fontRowNumbers f)
   work-by (Rows n e b) d = rw (d .0) (d .5)

@@ -51,18 +51,19 @@ module _ (f : Font) (cap : ℕ) (w w₁ : List ℕ) where
 -- ---- the contract, from what the answer says
 
 module _ (f : Font) (cap : ℕ) (w w′ : List ℕ) where
-  abbrev counts : List ℤ
-  counts = pos (length (pairsOf f)) ∷ pos (boundaryPairs (pairsOf f)) ∷ pos (tablePairs f) ∷ flagNumber (allScale f) ∷ []
+  -- the values of an answer that is taken
+  abbrev replied : List ℤ
+  replied = pos (length (pairsOf f)) ∷ pos (boundaryPairs (pairsOf f)) ∷ pos (tablePairs f) ∷ flagNumber (allScale f) ∷ []
 
-  reply-by : (r : SettledFont) → SettlesBy f cap w w′ r → settledReply r ≡ replyOf (prepareRefusal f cap) counts
+  reply-by : (r : SettledFont) → SettlesBy f cap w w′ r → settledReply r ≡ replyOf (prepareRefusal f cap) replied
   reply-by (Rows n e m b) d =
       let g = d .4 in
       let x = g .count-is in
       let y = boundary-rows (pairsOf f) n e w′ (g .encoded .ascending) (g .pairs-are) x (g .turns) in
       let z = finished-count f n w′ (g .pairs-are) (g .rules-are) x m (g .encoded) (g .settled) in
       let v = d .2 in
-      (λ i. replyOf 0 (pos (x i) ∷ pos (y i) ∷ pos (z i) ∷ flagNumber (v i) ∷ [])) ∙ taken-reply counts (d .0)
-  reply-by (Refused k) d = refused-reply counts (sym (d .0)) (λ z. omega (arith, d .1))
+      (λ i. replyOf 0 (pos (x i) ∷ pos (y i) ∷ pos (z i) ∷ flagNumber (v i) ∷ [])) ∙ taken-reply replied (d .0)
+  reply-by (Refused k) d = refused-reply replied (sym (d .0)) (λ z. omega (arith, d .1))
 
   pub settles : (r : SettledFont) → SettlesBy f cap w w′ r → Settles f cap w w′ r
   settles r d = record { reply = reply-by r d; rows = d }

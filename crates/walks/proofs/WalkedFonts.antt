@@ -55,18 +55,19 @@ module _ (f : Font) (cap : ℕ) (w w₁ : List ℕ) where
 -- ---- the contract, from what the answer says
 
 module _ (f : Font) (cap : ℕ) (w w′ : List ℕ) where
-  abbrev counts : List ℤ
-  counts = pos (length (pairsOf f)) ∷ pos (tablePairs f) ∷ pos (length (loopsOfFont f)) ∷ flagNumber (allScale f) ∷ []
+  -- the values of an answer that is taken
+  abbrev replied : List ℤ
+  replied = pos (length (pairsOf f)) ∷ pos (tablePairs f) ∷ pos (length (loopsOfFont f)) ∷ flagNumber (allScale f) ∷ []
 
-  reply-by : (r : WalkedFont) → FindsLoopsBy f cap w w′ r → walkedReply r ≡ replyOf (prepareRefusal f cap) counts
+  reply-by : (r : WalkedFont) → FindsLoopsBy f cap w w′ r → walkedReply r ≡ replyOf (prepareRefusal f cap) replied
   reply-by (Rows n m r b) d =
       let g = d .4 in
       let x = g .count-is in
       let y = finished-count f n w′ (g .pairs-are) (g .rules-are) x m (g .encoded) (g .settled) in
       let z = listed-count r w′ (g .loops-are) in
       let v = d .2 in
-      (λ i. replyOf 0 (pos (x i) ∷ pos (y i) ∷ pos (z i) ∷ flagNumber (v i) ∷ [])) ∙ taken-reply counts (d .0)
-  reply-by (Refused k) d = refused-reply counts (sym (d .0)) (λ z. omega (arith, d .1))
+      (λ i. replyOf 0 (pos (x i) ∷ pos (y i) ∷ pos (z i) ∷ flagNumber (v i) ∷ [])) ∙ taken-reply replied (d .0)
+  reply-by (Refused k) d = refused-reply replied (sym (d .0)) (λ z. omega (arith, d .1))
 
   pub finds-loops : (r : WalkedFont) → FindsLoopsBy f cap w w′ r → FindsLoops f cap w w′ r
   finds-loops r d = record { reply = reply-by r d; rows = d }
