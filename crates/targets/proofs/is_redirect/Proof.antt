@@ -1,11 +1,11 @@
--- `unpack::is_redirect` meets its contract: the kind that was read is 3.
+-- `targets::is_redirect` meets its contract: the kind that was read is 3.
 -- Assumes nothing.
 use mathlib.Core.Path.{ap}
 use Prim.Native.Nat.{ℕ}
 use lib.Dec.{eqb}
 use borrow.Author.Needs.{needs}
-use Rattle.unpack.proofs.is_redirect.Statement.{statement}
-use Rattle.unpack.proofs.is_redirect.Tie as tie
+use Rattle.targets.proofs.is_redirect.Statement.{statement}
+use Rattle.targets.proofs.is_redirect.Tie as tie
 
 field-at-requires : tie.Need-field-at-requires
 field-at-requires c κs = search needs

@@ -1,12 +1,12 @@
--- `unpack::entry_refusal` meets its contract: one answer for each way through the tests, in the definition's order.
+-- `targets::entry_refusal` meets its contract: one answer for each way through the tests, in the definition's order.
 -- Assumes nothing.
 use mathlib.Core.Path.{sym, _∙_}
 use denote.Ref.{now}
 use borrow.Author.Tests.{not-true, not-false}
 use borrow.Author.Needs.{needs}
-use Rattle.unpack.proofs.Unpacking.{entry-past, entry-plain, entry-followed, entry-far}
-use Rattle.unpack.proofs.entry_refusal.Statement.{statement}
-use Rattle.unpack.proofs.entry_refusal.Tie as tie
+use Rattle.targets.proofs.Targets.{entry-past, entry-plain, entry-followed, entry-far}
+use Rattle.targets.proofs.entry_refusal.Statement.{statement}
+use Rattle.targets.proofs.entry_refusal.Tie as tie
 
 returns : tie.Need-returns
 returns c =

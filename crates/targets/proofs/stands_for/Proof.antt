@@ -1,11 +1,11 @@
--- `unpack::stands_for` meets its contract: by whether the entry is a redirect.
+-- `targets::stands_for` meets its contract: by whether the entry is a redirect.
 -- Assumes nothing.
 use mathlib.Core.Path.{sym, _∙_}
 use denote.Ref.{now}
 use borrow.Author.Needs.{needs}
-use Rattle.unpack.proofs.Unpacking.{stands-target, stands-itself}
-use Rattle.unpack.proofs.stands_for.Statement.{statement}
-use Rattle.unpack.proofs.stands_for.Tie as tie
+use Rattle.targets.proofs.Targets.{stands-target, stands-itself}
+use Rattle.targets.proofs.stands_for.Statement.{statement}
+use Rattle.targets.proofs.stands_for.Tie as tie
 
 is-redirect-requires : tie.Need-is-redirect-requires
 is-redirect-requires c κs = search needs
