@@ -17,9 +17,9 @@ use Rattle.lang.specs.Records.{count, instructionAt}
 use Rattle.lang.specs.Checks.{entryAt}
 use Rattle.chain.specs.Chains.{Program, onwardFrom, chainFrom, chain}
 use Rattle.chain.proofs.Walks.{onward-ascends, chain-whole, chain-step}
-use Rattle.reach.specs.Reach.{entriesMarked, marksAfter, reachable}
-use Rattle.reach.specs.Reached.{Starts, entry, boundary, OnChain, ReachedExactly}
-use Rattle.reach.proofs.Marks.{length-entries, length-marks}
+use Rattle.marks.specs.Marks.{entriesMarked, marksAfter, reachable}
+use Rattle.marks.specs.Reached.{Starts, entry, boundary, OnChain, ReachedExactly}
+use Rattle.marks.proofs.Marks.{length-entries, length-marks}
 
 -- ---- marks of a list
 

@@ -1,13 +1,13 @@
--- `reach::mark_left` meets its contract: the entry's bits are its index, and a store past the end is none.
+-- `marks::mark_left` meets its contract: the entry's bits are its index, and a store past the end is none.
 -- Assumes nothing.
 use borrow.Author.Needs.{needs}
-use Rattle.reach.proofs.Marks.{left-last, left-other}
+use Rattle.marks.proofs.Marks.{left-last, left-other}
 use lib.ListN.{length}
 use mathlib.Core.Path.{ap, _∙_}
 use Rattle.words.specs.Words.{wordOf}
 use Rattle.words.proofs.Bits.{number-word}
-use Rattle.reach.proofs.mark_left.Statement.{statement}
-use Rattle.reach.proofs.mark_left.Tie as tie
+use Rattle.marks.proofs.mark_left.Statement.{statement}
+use Rattle.marks.proofs.mark_left.Tie as tie
 
 word-of-requires : tie.Need-word-of-requires
 word-of-requires c κs = search needs

@@ -1,4 +1,4 @@
--- `reach::mark_reached` meets its contract. The loop's invariant: the marks are those after a pass over the instructions before i.
+-- `marks::mark_reached` meets its contract. The loop's invariant: the marks are those after a pass over the instructions before i.
 -- The measure is what is left of the instructions. Assumes nothing.
 use mathlib.Core.Path.{_≡_, sym, ap, _∙_}
 use Prim.Native.Nat.{ℕ, _-_, _≤_}
@@ -9,10 +9,10 @@ use lib.ListN.{length}
 use Rattle.words.specs.Words.{numberOf, wordOf}
 use Rattle.words.proofs.Bits.{number-word}
 use Rattle.lang.specs.Records.{count}
-use Rattle.reach.specs.Reach.{marksAfter, reachable}
-use Rattle.reach.proofs.Marks.{pass-none, pass-more, length-marks}
-use Rattle.reach.proofs.mark_reached.Statement.{statement}
-use Rattle.reach.proofs.mark_reached.Tie as tie
+use Rattle.marks.specs.Marks.{marksAfter, reachable}
+use Rattle.marks.proofs.Marks.{pass-none, pass-more, length-marks}
+use Rattle.marks.proofs.mark_reached.Statement.{statement}
+use Rattle.marks.proofs.mark_reached.Tie as tie
 
 abbrev Inv-loop : tie.InvT-loop
 Inv-loop instructions entries left-entry marks₀ i₀ marks i = (i ≤ count instructions) × (marks ≡ marksAfter instructions entries (numberOf left-entry) i)

@@ -1,11 +1,11 @@
--- `reach::mark_onward` meets its contract: below the count a step of a walk is no end, and goes where the definition says.
+-- `marks::mark_onward` meets its contract: below the count a step of a walk is no end, and goes where the definition says.
 -- Assumes nothing.
 use mathlib.Core.Path.{sym, _∙_}
 use borrow.Author.Needs.{needs}
 use Rattle.lang.specs.Records.{count, instructionAt}
-use Rattle.reach.proofs.Marks.{pass-bare, pass-marked, step-ends, step-onward}
-use Rattle.reach.proofs.mark_onward.Statement.{statement}
-use Rattle.reach.proofs.mark_onward.Tie as tie
+use Rattle.marks.proofs.Marks.{pass-bare, pass-marked, step-ends, step-onward}
+use Rattle.marks.proofs.mark_onward.Statement.{statement}
+use Rattle.marks.proofs.mark_onward.Tie as tie
 
 u8-at-requires : tie.Need-u8-at-requires
 u8-at-requires c κs = search needs

@@ -8,7 +8,7 @@ use Rattle.words.specs.Words.{wordOf}
 use Rattle.lang.specs.Records.{count}
 use Rattle.lang.specs.Checks.{entryAt}
 use Rattle.chain.specs.Chains.{chainOf}
-use Rattle.reach.specs.Reach.{reachable}
+use Rattle.marks.specs.Marks.{reachable}
 
 -- an index at which a chain starts: an entry, or the left entry unless that is the last index (an absent one, -1, is past every index)
 pub data Starts (s es : List ℤ) (left : ℤ) (start : ℕ) : Type 0 where

@@ -1,14 +1,14 @@
--- `reach::mark_entries` meets its contract. The loop's invariant: the marks are those of the entries passed.
+-- `marks::mark_entries` meets its contract. The loop's invariant: the marks are those of the entries passed.
 -- The measure is what is left of the entries. Assumes nothing.
 use mathlib.Core.Path.{_≡_, ap, _∙_}
 use Prim.Native.Nat.{_-_, _/_, _≤_}
 use native.Mathlib.Omega.{arith}
 use lib.ListN.{length}
 use borrow.Author.Needs.{needs}
-use Rattle.reach.specs.Reach.{entriesMarked}
-use Rattle.reach.proofs.Marks.{marked-none, marked-more, marked-all, length-entries}
-use Rattle.reach.proofs.mark_entries.Statement.{statement}
-use Rattle.reach.proofs.mark_entries.Tie as tie
+use Rattle.marks.specs.Marks.{entriesMarked}
+use Rattle.marks.proofs.Marks.{marked-none, marked-more, marked-all, length-entries}
+use Rattle.marks.proofs.mark_entries.Statement.{statement}
+use Rattle.marks.proofs.mark_entries.Tie as tie
 
 abbrev Inv-loop : tie.InvT-loop
 Inv-loop entries marks₀ k₀ marks k = (k ≤ length entries / 2) × (marks ≡ entriesMarked (length marks₀) entries k)
