@@ -8,7 +8,7 @@ use native.Mathlib.Omega.{arith}
 use lib.IntN.{ℤ}
 use lib.Dec.{ltb}
 use lib.ListN.{length, length-append, set}
-use lib.Seq.{sets}
+use lib.Seq.{sets, length-sets}
 use borrow.Author.Tests.{lt-ltb}
 use Rattle.lang.specs.Every.{both}
 use Rattle.repairs.specs.Warnings.{warning, warnIf}
@@ -31,6 +31,9 @@ pushed-append w n xs w₁ m ys w₂ r a b =
           ∙ ap (λ (j : ℕ). sets (sets w (4 * n) xs) j ys) (a .count)
           ∙ sym (sets-append xs ys w (4 * n));
     }
+
+pub pushed-length : (w : List ℤ) (n : ℕ) (ws w′ : List ℤ) (r : ℕ) → Pushed w n ws w′ r → length w′ ≡ length w
+pushed-length w n ws w′ r p = ap length (p .list) ∙ length-sets w (4 * n) ws
 
 -- a count below 2^32 does not keep a warning off
 pub below-full : (t : Bool) (n : ℕ) → n < 4294967296 → both t (ltb n 4294967296) ≡ t

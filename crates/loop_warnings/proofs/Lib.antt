@@ -1,0 +1,3 @@
+-- The laws of loop warnings.
+--   Laws  the warnings of pairs that are listed one after the other
+pub mod Laws
