@@ -1,7 +1,7 @@
 -- Laws of unpacking an entry, of passthrough and of the seven-bit test: each says over plain values what a step of the code shows; and that both
 -- answers are known from their replies. Assumes nothing.
 use mathlib.Core.Path.{_≡_, refl, sym, ap, _∙_}
-use mathlib.Core.Bool.{Bool, true, false, cond, not}
+use mathlib.Core.Bool.{Bool, true, false, cond}
 use mathlib.Core.List.{List, [], _∷_, _++_}
 use mathlib.Core.Logic.{_⊎_, inl, inr}
 use Prim.Native.Nat.{ℕ, _%_, _<_, _≤_}
