@@ -9,7 +9,7 @@ use Rattle.pack.specs.Packing.{placeAmong, redirectsTo}
 use Rattle.reading.specs.Depth.{comp, raiseLeft}
 use Rattle.reading.specs.Loops.{loopList, insert, ordered, unfinished, walk, walks, member}
 use Rattle.fonts.specs.Numbers.{loopNumbers}
-use Rattle.reach.specs.Reach.{entriesMarked, marksAfter}
+use Rattle.marks.specs.Marks.{entriesMarked, marksAfter}
 use Rattle.repairs.specs.Damaged.{unpackedUpto}
 use Rattle.repairs.specs.Repaired.{repairedUpto}
 use Rattle.repairs.specs.Warnings.{entryWarnings, skipWarnings, stepsWarnings}

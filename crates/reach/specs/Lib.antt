@@ -1,4 +1,2 @@
--- Crate reach is held to Reach: read the contract `Reaches`, and then upwards to the marks (TFtoPL 66 to 70, 75). Reached states what
--- the marks mean, a theorem.
+-- Crate reach is held to Reach: read the contract `Reaches`, and then upwards (TFtoPL 75). Its marks are those of crate marks.
 pub mod Reach
-pub mod Reached

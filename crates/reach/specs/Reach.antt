@@ -1,49 +1,21 @@
--- Reach: which instructions a font's entries lead to, after `reachable_array` and `reachable_iter` of ligkern/lang.rs. TFtoPL 66 to 70
--- compute the activity of each step, and TFtoPL 75 counts skips over reachable steps alone. A skip that lands exactly at the end is not
+-- Reach: which instructions a font's entries lead to, after `reachable_iter` of ligkern/lang.rs. TFtoPL 66 to 70 compute the activity of
+-- each step (crate marks), and TFtoPL 75 counts skips over reachable steps alone. A skip that lands exactly at the end is not
 -- made to stop, as TFtoPL 70 does; it has an adjusted skip: docs/DIFFERENCES.md.
 use mathlib.Core.Path.{_≡_}
-use mathlib.Core.Bool.{Bool, true, false, cond}
+use mathlib.Core.Bool.{cond}
 use mathlib.Core.List.{List, [], _∷_}
 use Prim.Native.Nat.{ℕ, zero, suc, _+_, _*_, _/_, _%_}
 use lib.IntN.{ℤ, pos, negsuc}
-use lib.Dec.{leb, ltb, eqb}
-use lib.ListN.{length, getD, set, replicate}
-use Rattle.words.specs.Words.{wordOf}
+use lib.Dec.{leb, eqb}
+use lib.ListN.{length, getD}
 use Rattle.words.specs.Lists.{tabulate}
 use Rattle.lang.specs.declared.Written.{Written}
 use Rattle.lang.specs.declared.instruction.NextInstruction.{NextInstruction}
 use Rattle.lang.specs.declared.instruction.NextInstruction.the-variants.{Stop, Skip}
-use Rattle.lang.specs.Records.{count, field, instructionAt}
-use Rattle.lang.specs.Checks.{programRefusal, entriesRefusal, absentRefusal, passthroughRefusal, orElse, entryAt}
+use Rattle.lang.specs.Records.{count, instructionAt}
+use Rattle.lang.specs.Checks.{programRefusal, entriesRefusal, absentRefusal, passthroughRefusal, orElse}
 use Rattle.lang.specs.Answers.{roomRefusal, writtenReply, replyOf, listOf}
-use Rattle.chain.specs.Chains.{onwardFrom}
-
--- a mark at a place; past the end there is none to set
-abbrev pub mark : List ℕ → ℕ → List ℕ
-mark marks i = set marks i 1
-
--- TFtoPL 68: the first k entries are marked, of n instructions
-unfoldable pub entriesMarked : ℕ → List ℤ → ℕ → List ℕ
-entriesMarked n es zero = replicate n 0
-entriesMarked n es (suc k) = mark (entriesMarked n es k) (wordOf (entryAt es k))
-
--- TFtoPL 69: the left boundary's entry is marked too, unless it is the last instruction, which is pass-through then
-abbrev pub leftMarked : ℕ → ℤ → List ℕ → List ℕ
-leftMarked n left marks = cond (eqb (wordOf left + 1) n) marks (mark marks (wordOf left))
-
--- TFtoPL 70, of instruction i: where it is marked, so is the one it goes on to
-abbrev pub onwardMarked : List ℤ → List ℕ → ℕ → List ℕ
-onwardMarked s marks i =
-    cond (eqb (getD marks i 0) 0) marks (mark marks (onwardFrom (count s) (instructionAt s i .«next_instruction») i))
-
--- of the first k instructions, in order
-unfoldable pub marksAfter : List ℤ → List ℤ → ℤ → ℕ → List ℕ
-marksAfter s es left zero = leftMarked (count s) left (entriesMarked (count s) es (length es / 2))
-marksAfter s es left (suc k) = onwardMarked s (marksAfter s es left k) k
-
--- 1 for each instruction that is reachable, 0 for each that is not
-abbrev pub reachable : List ℤ → List ℤ → ℤ → List ℕ
-reachable s es left = marksAfter s es left (count s)
+use Rattle.marks.specs.Marks.{reachable}
 
 -- how many of the k places from i on are marked
 unfoldable pub marksFrom : List ℕ → ℕ → ℕ → ℕ

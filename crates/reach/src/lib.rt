@@ -1,15 +1,13 @@
-// Reach: which instructions a font's entries lead to, after `reachable_iter` and `reachable_array` of ligkern/lang.rs (lines 656 to 665, 821 to 853,
-// 955 to 1003). The marks are a byte an instruction, 1 where it is reached, in a local array of as many as a program can have.
+// Reach: which instructions a font's entries lead to, and their skips counted over those alone (TFtoPL 75), after `reachable_iter` of ligkern/lang.rs
+// (lines 656 to 665, 955 to 1003). The marks are a byte an instruction, 1 where it is reached, in a local array of as many as a program can have.
 ghost use mathlib.Core.Path.{_≡_};
 ghost use mathlib.Core.List.{_++_};
-ghost use Prim.Native.Nat.{_+_, _*_, _/_, _<_, _≤_};
+ghost use Prim.Native.Nat.{_+_, _*_, _<_, _≤_};
 ghost use lib.ListN.{length, drop};
 ghost use Rattle.words.specs.Words.{numberOf};
 ghost use Rattle.words.specs.Lists.{tabulate};
 ghost use Rattle.lang.specs.Records.{count};
-ghost use Rattle.reach.specs.Reach.{entriesMarked, leftMarked, onwardMarked, reachable, marksFrom, adjustedSkip, stateOf, skipOf, reachNumber, reachRefusal, Reaches};
-use chain::Next;
-use chain::next_instruction;
+ghost use Rattle.reach.specs.Reach.{marksFrom, adjustedSkip, stateOf, skipOf, reachNumber, reachRefusal, Reaches};
 use checks::absent_refusal;
 use checks::program_refusal;
 use lang::Written;
@@ -18,6 +16,7 @@ use lang::instruction::instruction_at;
 use limits::entries_refusal;
 use limits::passthrough_refusal;
 use limits::room_refusal;
+use marks::reachable_array;
 
 // The bits of -1: no skip.
 const NONE: u32 = 4294967295;
@@ -49,57 +48,6 @@ fn reach_refusal(
         return through;
     }
     room_refusal(2 * (instructions.len() / 4), room)
-}
-
-// TFtoPL 68: no place is marked, then the entries are.
-fn mark_entries(entries: &[i32], marks: &mut [u8])
-    ensures { λ _. ⌜ now (marks .exit) ≡ entriesMarked (length (now (marks .entry))) (now (entries .entry)) (length (now (entries .entry)) / 2) ⌝ }
-{
-    words::zero::zero_u8(marks);
-    let mut k = 0;
-    while k < entries.len() / 2 {
-        let entry = words::word_at(entries, 2 * k + 1) as usize;
-        words::put_u8(marks, entry, 1);
-        k += 1;
-    }
-}
-
-// TFtoPL 69: the left boundary's entry is marked, unless it is the last instruction.
-fn mark_left(left_entry: i32, marks: &mut [u8])
-    ensures { λ _. ⌜ now (marks .exit) ≡ leftMarked (length (now (marks .entry))) «left_entry» (now (marks .entry)) ⌝ }
-{
-    let entry = words::word_of(left_entry) as usize;
-    if entry + 1 != marks.len() {
-        words::put_u8(marks, entry, 1);
-    }
-}
-
-// TFtoPL 70, of instruction i: where it is marked, so is the one it goes on to.
-fn mark_onward(instructions: &[i32], i: usize, marks: &mut [u8])
-    requires { ⌜ i < count (now instructions) ⌝ }
-    ensures { λ _. ⌜ now (marks .exit) ≡ onwardMarked (now (instructions .entry)) (now (marks .entry)) i ⌝ }
-{
-    if words::u8_at(marks, i) == 0 {
-        return;
-    }
-    let Next::At(_, on) = next_instruction(instructions, i) else {
-        return;
-    };
-    words::put_u8(marks, on, 1);
-}
-
-// The instructions that the entries lead to, in one pass: a chain only goes forward.
-fn mark_reached(instructions: &[i32], entries: &[i32], left_entry: i32, marks: &mut [u8])
-    requires { ⌜ length (now marks) ≡ count (now instructions) ⌝ }
-    ensures { λ _. ⌜ now (marks .exit) ≡ reachable (now (instructions .entry)) (now (entries .entry)) «left_entry» ⌝ }
-{
-    mark_entries(entries, marks);
-    mark_left(left_entry, marks);
-    let mut i = 0;
-    while i < instructions.len() / 4 {
-        mark_onward(instructions, i, marks);
-        i += 1;
-    }
 }
 
 // How many of the k places from i on are marked.
@@ -200,7 +148,7 @@ pub fn reachable_iter(
     }
     let n = instructions.len() / 4;
     let mut marks = places();
-    mark_reached(instructions, entries, left_entry, &mut marks[..n]);
+    reachable_array(instructions, entries, left_entry, &mut marks[..n]);
     write_reach(instructions, &marks[..n], passthrough, out);
     Written::Count(n)
 }

@@ -1,15 +1,15 @@
 -- Laws of unpacking an entry, of passthrough and of the seven-bit test: each says over plain values what a step of the code shows; and that both
 -- answers are known from their replies. Assumes nothing.
 use mathlib.Core.Path.{_≡_, refl, sym, ap, _∙_}
-use mathlib.Core.Bool.{Bool, true, false, cond, not}
+use mathlib.Core.Bool.{Bool, true, false, cond}
 use mathlib.Core.List.{List, [], _∷_, _++_}
 use mathlib.Core.Logic.{_⊎_, inl, inr}
 use Prim.Native.Nat.{ℕ, _%_, _<_, _≤_}
 use native.Mathlib.Omega.{arith}
 use lib.IntN.{ℤ, pos}
-use lib.Dec.{leb, ltb, eqb}
+use lib.Dec.{leb, eqb}
 use lib.ListN.{length, getD, drop, replicate, length-replicate}
-use borrow.Author.Tests.{lt-ltb, le-ltb, le-leb, lt-leb, eq-eqb, ne-eqb}
+use borrow.Author.Tests.{le-leb, lt-leb, eq-eqb, ne-eqb}
 use Rattle.words.specs.Words.{wordOf}
 use Rattle.unpack.specs.declared.Unpacked.{Unpacked}
 use Rattle.unpack.specs.declared.Unpacked.the-variants.{Entry, Direct, Indirect, Refused}
@@ -22,7 +22,8 @@ use Rattle.lang.proofs.Refusals.{orElse-none, room-fits, refused-reply, taken-r
 use Rattle.lang.proofs.Filled.{refused-list, written-list}
 use Rattle.chain.specs.Chains.{chainOf}
 use Rattle.chain.proofs.Walks.{Stepped}
-use Rattle.unpack.specs.Unpacking.{UnpacksEntry, targetAt, standsFor, entryRefusal, unpackRefusal, unpackedReply, isNamed, passthroughAt, passthroughAfter, insertsSevenBit, allSevenBit, entrySafe, sevenBitReply}
+use Rattle.targets.specs.Targets.{standsFor, entryRefusal}
+use Rattle.unpack.specs.Unpacking.{UnpacksEntry, unpackRefusal, unpackedReply, isNamed, passthroughAt, passthroughAfter, insertsSevenBit, allSevenBit, entrySafe, sevenBitReply}
 
 -- ---- the answer of unpacking an entry
 
@@ -72,29 +73,6 @@ module _ (s : List ℤ) (e : ℕ) (p : List ℕ) (i : ℕ) where
       either : (t : Bool) (x : ℕ) → cond t x x ≡ x
       either true x = refl
       either false x = refl
-
--- ---- what an entry stands for
-
-module _ (s : List ℤ) (e : ℕ) where
-  pub stands-target : isKind 3 s e ≡ true → targetAt s e ≡ standsFor s e
-  stands-target k = rw k
-
-  pub stands-itself : isKind 3 s e ≡ false → e ≡ standsFor s e
-  stands-itself k = rw k
-
-  pub entry-past : count s ≤ e → 8 ≡ entryRefusal s e
-  entry-past h = rw (le-ltb e (count s) h)
-
-  module _ (h : e < count s) where
-    pub entry-plain : isKind 3 s e ≡ false → 0 ≡ entryRefusal s e
-    entry-plain k = rw (k, lt-ltb e (count s) h)
-
-    module _ (k : isKind 3 s e ≡ true) {t : ℕ} (ts : t ≡ targetAt s e) where
-      pub entry-followed : t < count s → 0 ≡ entryRefusal s e
-      entry-followed l = rw (k, ← ts, lt-ltb t (count s) l, lt-ltb e (count s) h)
-
-      pub entry-far : count s ≤ t → 9 ≡ entryRefusal s e
-      entry-far l = rw (k, ← ts, le-ltb t (count s) l, lt-ltb e (count s) h)
 
 -- ---- the seven-bit test
 

@@ -5,7 +5,7 @@ use mathlib.Core.Bool.{Bool, true, cond, not}
 use mathlib.Core.List.{List, [], _∷_}
 use Prim.Native.Nat.{ℕ, _/_, _%_}
 use lib.IntN.{ℤ, pos}
-use lib.Dec.{leb, ltb, eqb}
+use lib.Dec.{leb, eqb}
 use lib.ListN.{length, getD}
 use Rattle.words.specs.Words.{wordOf}
 use Rattle.words.specs.Lists.{tabulate}
@@ -14,24 +14,13 @@ use Rattle.unpack.specs.declared.Unpacked.the-variants.{Entry, Direct, I
 use Rattle.unpack.specs.declared.SevenBit.{SevenBit}
 use Rattle.unpack.specs.declared.SevenBit.the-variants.{Safe, Refused as RefusedFont}
 use Rattle.lang.specs.Every.{both, every}
-use Rattle.lang.specs.Records.{count, field, rightOf, isKind}
-use Rattle.lang.specs.Checks.{programRefusal, rangeRefusal, entriesRefusal, passthroughRefusal, orElse, unless, charAt, entryAt}
+use Rattle.lang.specs.Records.{field, rightOf, isKind}
+use Rattle.lang.specs.Checks.{programRefusal, rangeRefusal, entriesRefusal, passthroughRefusal, orElse, charAt, entryAt}
 use Rattle.lang.specs.Answers.{Reply, replyOf, listOf, roomRefusal}
 use Rattle.chain.specs.Chains.{chainOf}
+use Rattle.targets.specs.Targets.{standsFor, entryRefusal}
 
--- ---- what an entry stands for
-
--- the target of the redirect at i
-abbrev pub targetAt : List ℤ → ℕ → ℕ
-targetAt s i = wordOf (field s i 3) % 65536
-
--- a redirect's target, or the entry itself
-abbrev pub standsFor : List ℤ → ℕ → ℕ
-standsFor s e = cond (isKind 3 s e) (targetAt s e) e
-
--- 8: the entry is past the instructions. 9: it is at a redirect whose target is past them.
-abbrev pub entryRefusal : List ℤ → ℕ → ℕ
-entryRefusal s e = cond (ltb e (count s)) (cond (isKind 3 s e) (unless 9 (ltb (targetAt s e) (count s))) 0) 8
+-- ---- unpacking an entry
 
 -- the lowest that holds, for a list of `room` places
 abbrev pub unpackRefusal : List ℤ → ℤ → List ℕ → ℕ → ℕ

@@ -6,8 +6,7 @@ ghost use mathlib.Core.List.{[], _++_};
 ghost use Prim.Native.Nat.{_<_, _≤_, _/_};
 ghost use lib.ListN.{length, drop};
 ghost use Rattle.chain.specs.Chains.{chainOf};
-ghost use Rattle.lang.specs.Records.{isKind};
-ghost use Rattle.unpack.specs.Unpacking.{targetAt, standsFor, entryRefusal, unpackRefusal, unpackedReply, isNamed, passthroughAt, passthroughAfter, UnpacksEntry, insertsSevenBit, allSevenBit, entrySafe, isSevenBitSafe, sevenBitReply, sevenBit};
+ghost use Rattle.unpack.specs.Unpacking.{unpackRefusal, unpackedReply, isNamed, passthroughAt, passthroughAfter, UnpacksEntry, insertsSevenBit, allSevenBit, entrySafe, isSevenBitSafe, sevenBitReply, sevenBit};
 use chain::Next;
 use chain::next_instruction;
 use checks::program_refusal;
@@ -16,6 +15,9 @@ use lang::instruction::field_at;
 use limits::entries_refusal;
 use limits::passthrough_refusal;
 use limits::room_refusal;
+use targets::entry_refusal;
+use targets::is_redirect;
+use targets::stands_for;
 
 // What unpacking an entry answers.
 pub enum Unpacked {
@@ -32,49 +34,6 @@ pub enum Unpacked {
 pub enum SevenBit {
     Safe(bool),
     Refused(u32),
-}
-
-// The instruction at index i is a redirect.
-fn is_redirect(instructions: &[i32], i: usize) -> bool
-    ensures { λ r. ⌜ r ≡ isKind 3 (now (instructions .entry)) i ⌝ }
-{
-    field_at(instructions, i, 2) == 3
-}
-
-// The target of the redirect at index i.
-fn target_at(instructions: &[i32], i: usize) -> usize
-    ensures { λ r. ⌜ r ≡ targetAt (now (instructions .entry)) i ⌝ }
-{
-    (field_at(instructions, i, 3) % 65536) as usize
-}
-
-// What an entry stands for: a redirect's target, or itself.
-fn stands_for(instructions: &[i32], entry: usize) -> usize
-    ensures { λ r. ⌜ r ≡ standsFor (now (instructions .entry)) entry ⌝ }
-{
-    if is_redirect(instructions, entry) {
-        target_at(instructions, entry)
-    } else {
-        entry
-    }
-}
-
-// 8 and 9 of an entry; 0 where it can be followed.
-fn entry_refusal(instructions: &[i32], entry: usize) -> u32
-    ensures { λ r. ⌜ r ≡ entryRefusal (now (instructions .entry)) entry ⌝ }
-{
-    let n = instructions.len() / 4;
-    if n <= entry {
-        return 8;
-    }
-    if !is_redirect(instructions, entry) {
-        return 0;
-    }
-    if target_at(instructions, entry) < n {
-        0
-    } else {
-        9
-    }
 }
 
 // The first refusal that holds, 0 where none does; `room` is the length of the list that is to be.

@@ -4,7 +4,7 @@ use Prim.Native.Nat.{_<_}
 use borrow.Author.Needs.{needs}
 use native.Mathlib.Omega.{arith}
 use lib.ListN.{length}
-use Rattle.reach.proofs.Marks.{skip-stops, skip-nothing, skip-past, skip-counted}
+use Rattle.reach.proofs.Numbers.{skip-stops, skip-nothing, skip-past, skip-counted}
 use Rattle.reach.proofs.adjusted_skip.Statement.{statement}
 use Rattle.reach.proofs.adjusted_skip.Tie as tie
 

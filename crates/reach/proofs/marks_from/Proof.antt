@@ -5,7 +5,7 @@ use Prim.Native.Nat.{ℕ, _-_, _≤_}
 use native.Mathlib.Omega.{arith}
 use mathlib.Core.Logic.{⊎-elim}
 use Rattle.reach.specs.Reach.{marksFrom}
-use Rattle.reach.proofs.Marks.{counted-none, counted-marked, counted-bare, counted-few}
+use Rattle.reach.proofs.Numbers.{counted-none, counted-marked, counted-bare, counted-few}
 use Rattle.reach.proofs.marks_from.Statement.{statement}
 use Rattle.reach.proofs.marks_from.Tie as tie
 

@@ -14,7 +14,9 @@ use Rattle.words.proofs.Bits.{number-word}
 use Rattle.lang.specs.Records.{count}
 use Rattle.lang.specs.Checks.{programRefusal, entriesRefusal, absentRefusal, passthroughRefusal}
 use Rattle.lang.specs.Answers.{listOf}
-use Rattle.reach.specs.Reach.{reachable, reachNumber, reachList, reachRefusal}
+use Rattle.marks.specs.Marks.{reachable}
+use Rattle.marks.proofs.Marks.{marks-whole}
+use Rattle.reach.specs.Reach.{reachNumber, reachList, reachRefusal}
 use Rattle.lang.proofs.Refusals.{orElse-none, program-size, room-fits, refused-answer, taken-answer}
 use Rattle.lang.proofs.Filled.{refused-list, written-list}
 use Rattle.reach.proofs.reachable_iter.Statement.{statement}
@@ -60,13 +62,13 @@ places-enough c =
     omega (arith, c .places .ensures, program-fits (a .instructions .now) (a .entries .now) (a .left-entry) (a .passthrough .now) (length (a .out .now)) (none-holds (c .before)))
 
 -- the marks: as many as there are instructions
-marks-length : (c : tie.After-mark-reached) → length (c .mark-reached .last .1 .1 .1 .0) ≡ count (c .before .before .before .before .before .before .before .before .before .args .instructions .now)
+marks-length : (c : tie.After-reachable-array) → length (c .reachable-array .last .1 .1 .1 .0) ≡ count (c .before .before .before .before .before .before .before .before .before .args .instructions .now)
 marks-length c =
-    c .mark-reached .kept .1 .1 .1 .0
+    c .reachable-array .kept .1 .1 .1 .0
     ∙ length-take-le (count (c .before .before .before .before .before .before .before .before .before .args .instructions .now)) (c .before .before .places .result) (places-enough (c .before .before))
 
-front : (c : tie.After-mark-reached) → let n = count (c .before .before .before .before .before .before .before .before .before .args .instructions .now) in length (take n (c .mark-reached .last .1 .1 .1 .0 ++ drop n (c .before .before .places .result))) ≡ n
-front c = front-length (count (c .before .before .before .before .before .before .before .before .before .args .instructions .now)) (c .mark-reached .last .1 .1 .1 .0) (c .before .before .places .result) (marks-length c)
+front : (c : tie.After-reachable-array) → let n = count (c .before .before .before .before .before .before .before .before .before .args .instructions .now) in length (take n (c .reachable-array .last .1 .1 .1 .0 ++ drop n (c .before .before .places .result))) ≡ n
+front c = front-length (count (c .before .before .before .before .before .before .before .before .before .args .instructions .now)) (c .reachable-array .last .1 .1 .1 .0) (c .before .before .places .result) (marks-length c)
 
 zero-i32-requires : tie.Need-zero-i32-requires
 zero-i32-requires c κs = search needs
@@ -92,15 +94,15 @@ places-requires c κs = search needs
 array-borrow-prefix-marks : tie.Need-array-borrow-prefix-marks
 array-borrow-prefix-marks c = places-enough c
 
-slice-aggregate-mark-reached : tie.Need-slice-aggregate-mark-reached
-slice-aggregate-mark-reached c = sym (length-take-le (count (c .before .before .before .before .before .before .before .before .args .instructions .now)) (c .before .places .result) (places-enough (c .before)))
+slice-aggregate-reachable-array : tie.Need-slice-aggregate-reachable-array
+slice-aggregate-reachable-array c = sym (length-take-le (count (c .before .before .before .before .before .before .before .before .args .instructions .now)) (c .before .places .result) (places-enough (c .before)))
 
-mark-reached-requires : tie.Need-mark-reached-requires
-mark-reached-requires c κs = length-take-le (count (c .before .before .before .before .before .before .before .before .args .instructions .now)) (c .before .places .result) (places-enough (c .before))
+reachable-array-requires : tie.Need-reachable-array-requires
+reachable-array-requires c κs = search needs
 
 array-share-prefix-marks : tie.Need-array-share-prefix-marks
 array-share-prefix-marks c =
-    let m = c .before .mark-reached .last .1 .1 .1 .0 in
+    let m = c .before .reachable-array .last .1 .1 .1 .0 in
     omega (arith, marks-length (c .before), length-append m (drop (count (c .before .before .before .before .before .before .before .before .before .before .args .instructions .now)) (c .before .before .before .places .result)))
 
 slice-aggregate-write-reach : tie.Need-slice-aggregate-write-reach
@@ -124,8 +126,10 @@ returns-2 c =
       answer = taken-answer (count (a .instructions .now)) none;
       list =
           written (a .instructions .now) (a .entries .now) (a .left-entry) (a .passthrough .now) _ (length (a .out .now)) _ _ none
-          (take-at (m .mark-reached .last .1 .1 .1 .0) (drop (count (a .instructions .now)) (m .before .before .places .result)) (count (a .instructions .now)) (marks-length m)
-          ∙ m .mark-reached .ensures
+          (take-at (m .reachable-array .last .1 .1 .1 .0) (drop (count (a .instructions .now)) (m .before .before .places .result)) (count (a .instructions .now)) (marks-length m)
+          ∙ marks-whole (a .instructions .now) (a .entries .now) (numberOf (wordOf (a .left-entry))) (length (take (count (a .instructions .now)) (m .before .before .places .result)))
+          (length-take-le (count (a .instructions .now)) (m .before .before .places .result) (places-enough (m .before .before)))
+          (m .reachable-array .ensures)
           ∙ ap (λ (z : ℤ). reachable (a .instructions .now) (a .entries .now) z) (number-word (a .left-entry) (s .fits .left-entry)))
           (c .before .before .before .before .before .before .before .before .before .before .before .zero-i32 .ensures)
           (c .before .write-reach .ensures);
@@ -141,8 +145,8 @@ reachable-iter-spec =
     returns
     places-requires
     array-borrow-prefix-marks
-    slice-aggregate-mark-reached
-    mark-reached-requires
+    slice-aggregate-reachable-array
+    reachable-array-requires
     array-share-prefix-marks
     slice-aggregate-write-reach
     write-reach-requires

@@ -2,7 +2,7 @@
 -- Assumes nothing.
 use mathlib.Core.Path.{sym, _∙_}
 use borrow.Author.Needs.{needs}
-use Rattle.reach.proofs.Marks.{skip-bare, skip-marked}
+use Rattle.reach.proofs.Numbers.{skip-bare, skip-marked}
 use Rattle.reach.proofs.skip_of.Statement.{statement}
 use Rattle.reach.proofs.skip_of.Tie as tie
 

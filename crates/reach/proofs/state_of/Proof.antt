@@ -2,7 +2,7 @@
 -- Assumes nothing.
 use mathlib.Core.Path.{sym, _∙_}
 use borrow.Author.Needs.{needs}
-use Rattle.reach.proofs.Marks.{state-marked, state-through, state-bare}
+use Rattle.reach.proofs.Numbers.{state-marked, state-through, state-bare}
 use Rattle.reach.proofs.state_of.Statement.{statement}
 use Rattle.reach.proofs.state_of.Tie as tie
 

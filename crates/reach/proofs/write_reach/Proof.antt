@@ -9,7 +9,7 @@ use Rattle.words.proofs.Lists.{filling-none, filling-length}
 use Rattle.lang.specs.Records.{count}
 use Rattle.lang.proofs.Filled.{filling-to}
 use Rattle.reach.specs.Reach.{reachNumber}
-use Rattle.reach.proofs.Marks.{written-more}
+use Rattle.reach.proofs.Numbers.{written-more}
 use Rattle.reach.proofs.write_reach.Statement.{statement}
 use Rattle.reach.proofs.write_reach.Tie as tie
 

@@ -6,7 +6,7 @@ use Rattle.words.specs.Words.{wordOf}
 use Rattle.words.proofs.Bits.{number-word}
 use Rattle.lang.specs.Checks.{programRefusal, rangeRefusal, orElse}
 use Rattle.lang.proofs.Refusals.{first-refusal, later-refusal}
-use Rattle.unpack.specs.Unpacking.{entryRefusal}
+use Rattle.targets.specs.Targets.{entryRefusal}
 use borrow.Author.Needs.{needs}
 use Rattle.unpack.proofs.unpack_refusal.Statement.{statement}
 use Rattle.unpack.proofs.unpack_refusal.Tie as tie
