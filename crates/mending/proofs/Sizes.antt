@@ -17,7 +17,7 @@ use Rattle.lang.specs.Records.{count, field}
 use Rattle.lang.specs.Checks.{programRefusal, kernsRefusal, entriesRefusal, absentRefusal, passthroughRefusal, orElse, unless, charAt}
 use Rattle.lang.proofs.Refusals.{orElse-none, unless-none, program-size}
 use Rattle.lang.proofs.Entered.{entries-few}
-use Rattle.unpack.specs.Unpacking.{standsFor}
+use Rattle.targets.specs.Targets.{standsFor}
 use Rattle.repairs.proofs.Pushing.{sets-front}
 use Rattle.repairs.specs.Damaged.{Damaged, Program, unpacks, packedEntryOf, unpackedUpto, unpackedEntries, leftGoes, repairedPassthrough, passedOver}
 use Rattle.repairs.specs.Repaired.{skipGoes, redirectWarns, isLigature, rightGoes, kernGoes, productGoes, tagGoes, insertedBy}

@@ -16,9 +16,9 @@ use Rattle.repairs.specs.Repairs.{repairedPairsRefusal}
 
 -- How many warnings there are, or 12. The repaired instructions and their passthrough stand at the front of their lists, and the rest of these is as it came;
 -- the warnings, where it is not refused, are written as far as their list goes.
-pub record Mends (d : Damaged) (program : List ℤ) (passed : List ℕ) (warnings : List ℤ) (work : List ℕ) (r : Written) (program′ : List ℤ) (passed′ : List ℕ) (warnings′ : List ℤ) (work′ : List ℕ) : Type 0 where
+pub record Mends (d : Damaged) (program : List ℤ) (through : List ℕ) (warnings : List ℤ) (work : List ℕ) (r : Written) (program′ : List ℤ) (through′ : List ℕ) (warnings′ : List ℤ) (work′ : List ℕ) : Type 0 where
   pub answer : writtenReply r ≡ replyOf (repairedPairsRefusal d (length work)) (pos (length (warningsOf d) / 4) ∷ [])
   pub instructions : Appending (repairedInstructions d) program program′
-  pub passthrough : Appending (repairedPassthrough d) passed passed′
+  pub passthrough : Appending (repairedPassthrough d) through through′
   pub warned : repairedPairsRefusal d (length work) ≡ 0 → warnings′ ≡ sets warnings 0 (warningsOf d)
   pub cleared : work′ ≡ replicate (length work) 0
