@@ -79,6 +79,15 @@ unfolding stepsWarnings
 steps-few p zero = omega arith
 steps-few p (suc k) = omega (arith, length-append (stepsWarnings p k) (stepWarnings p k), steps-few p k, step-few p k)
 
+-- ---- of a font of at most 256 entries
+
+module _ (d : Damaged) (few : length (d .entries) / 2 ≤ 256) where
+  pub unpacked-fits : length (unpackedEntries d) ≤ 512
+  unpacked-fits = omega (arith, unpacked-few d (length (d .entries) / 2))
+
+  pub entered-few : length (leftWarning d ++ entryWarnings d (length (d .entries) / 2)) ≤ 1028
+  entered-few = omega (arith, length-append (leftWarning d) (entryWarnings d (length (d .entries) / 2)), left-few d, entry-few d (length (d .entries) / 2))
+
 -- ---- of a font that is not refused
 
 module _ (d : Damaged) (ok : damagedRefusal d ≡ 0) where
@@ -98,12 +107,6 @@ module _ (d : Damaged) (ok : damagedRefusal d ≡ 0) where
   small =
       let r = orElse-none (absentRefusal 65535 (d .left)) _ (orElse-none (absentRefusal 255 (d .boundary)) _ (orElse-none (entriesRefusal 255 (d .entries)) _ after-kerns .1) .1) .1 in
       omega (arith, leb-true (d .replacement) 255 (unless-none 3 (leb (d .replacement) 255) (orElse-none (unless 4 (leb (d .replacement) 255)) _ r .0)))
-
-  pub unpacked-fits : length (unpackedEntries d) ≤ 512
-  unpacked-fits = omega (arith, unpacked-few d (length (d .entries) / 2), few-entries)
-
-  pub entered-few : length (leftWarning d ++ entryWarnings d (length (d .entries) / 2)) ≤ 1028
-  entered-few = omega (arith, length-append (leftWarning d) (entryWarnings d (length (d .entries) / 2)), left-few d, entry-few d (length (d .entries) / 2), few-entries)
 
   pub stepped-few : (p : Program) → length (skipWarnings p (count (d .instructions)) ++ stepsWarnings p (count (d .instructions))) ≤ 786408
   stepped-few p = omega (arith, length-append (skipWarnings p (count (d .instructions))) (stepsWarnings p (count (d .instructions))), skip-few p (count (d .instructions)), steps-few p (count (d .instructions)), size)

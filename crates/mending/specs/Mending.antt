@@ -6,7 +6,6 @@ use Prim.Native.Nat.{ℕ, _/_}
 use lib.IntN.{ℤ, pos}
 use lib.ListN.{length, replicate}
 use lib.Seq.{sets}
-use Rattle.words.specs.Lists.{Appending}
 use Rattle.lang.specs.declared.Written.{Written}
 use Rattle.lang.specs.Answers.{replyOf, writtenReply}
 use Rattle.repairs.specs.Damaged.{Damaged, repairedPassthrough}
@@ -14,11 +13,18 @@ use Rattle.repairs.specs.Repaired.{repairedInstructions}
 use Rattle.repairs.specs.Warnings.{warningsOf}
 use Rattle.repairs.specs.Repairs.{repairedPairsRefusal}
 
--- How many warnings there are, or 12. The repaired instructions and their passthrough stand at the front of their lists, and the rest of these is as it came;
--- the warnings, where it is not refused, are written as far as their list goes.
-pub record Mends (d : Damaged) (program : List ℤ) (through : List ℕ) (warnings : List ℤ) (work : List ℕ) (r : Written) (program′ : List ℤ) (through′ : List ℕ) (warnings′ : List ℤ) (work′ : List ℕ) : Type 0 where
+-- the font d has these instructions, entries, left entry and passthrough
+pub record EntersFrom (d : Damaged) (s es : List ℤ) (left : ℤ) (passthrough : List ℕ) : Type 0 where
+  pub instructions : d .instructions ≡ s
+  pub entries : d .entries ≡ es
+  pub left-entry : d .left ≡ left
+  pub passed : d .passthrough ≡ passthrough
+
+-- How many warnings there are, or 12; the repaired instructions and their passthrough, in lists of just their length; and the warnings, where it is not refused, as
+-- far as their list goes.
+pub record Mends (d : Damaged) (warnings : List ℤ) (work : List ℕ) (r : Written) (program′ : List ℤ) (through′ : List ℕ) (warnings′ : List ℤ) (work′ : List ℕ) : Type 0 where
   pub answer : writtenReply r ≡ replyOf (repairedPairsRefusal d (length work)) (pos (length (warningsOf d) / 4) ∷ [])
-  pub instructions : Appending (repairedInstructions d) program program′
-  pub passthrough : Appending (repairedPassthrough d) through through′
+  pub instructions : program′ ≡ repairedInstructions d
+  pub passthrough : through′ ≡ repairedPassthrough d
   pub warned : repairedPairsRefusal d (length work) ≡ 0 → warnings′ ≡ sets warnings 0 (warningsOf d)
   pub cleared : work′ ≡ replicate (length work) 0

@@ -2,21 +2,25 @@
 // 70), the steps (70 to 77) and the loops (88 to 95). Each pass is a crate of its own.
 ghost use mathlib.Core.Path.{_≡_};
 ghost use mathlib.Core.Bool.{cond};
-ghost use Prim.Native.Nat.{_*_, _≤_};
-ghost use lib.Dec.{leb};
+ghost use Prim.Native.Nat.{_*_, _/_, _≤_};
+ghost use lib.Dec.{leb, eqb};
 ghost use lib.IntN.{negsuc};
 ghost use lib.ListN.{length};
 ghost use lib.Signed.{nonNeg};
 ghost use Rattle.words.specs.Words.{wordOf};
 ghost use Rattle.lang.specs.Every.{both};
 ghost use Rattle.lang.specs.Records.{count};
+ghost use Rattle.marks.specs.Marks.{reachable};
+ghost use Rattle.repairs.specs.Damaged.{Damaged, unpackedEntries, repairedLeft};
 ghost use Rattle.repairs.specs.Repairs.{damagedOf, damagedRefusal};
-ghost use Rattle.mending.specs.Mending.{Mends};
+ghost use Rattle.entrypoints.specs.Entering.{Enters};
+ghost use Rattle.mending.specs.Mending.{EntersFrom, Mends};
 use entrypoints::unpack_entries;
 use fixes::fix_program;
 use lang::Written;
 use loop_warnings::warn_loops;
 use marks::reachable_array;
+use repairs::Entered;
 
 // The left entry of n instructions, or -1 where it is past the end.
 fn repaired_left(n: usize, left_entry: i32) -> i32
@@ -33,6 +37,22 @@ fn repaired_left(n: usize, left_entry: i32) -> i32
     }
 }
 
+// At most 32,767 instructions and 256 entries, and lists of four numbers and of one for each instruction.
+fn lists_fit(n: usize, entries: usize, program: usize, through: usize) -> bool
+    ensures { λ r. ⌜ r ≡ both (leb n 32767) (both (leb entries 256) (both (eqb program (4 * n)) (eqb through n))) ⌝ }
+{
+    if 32767 < n {
+        return false;
+    }
+    if 256 < entries {
+        return false;
+    }
+    if program != 4 * n {
+        return false;
+    }
+    through == n
+}
+
 // Two places for each entry that a font can have.
 fn entry_places() -> [i32; 512]
     ensures { λ r. ⌜ length r ≡ 512 ⌝ }
@@ -47,9 +67,37 @@ fn mark_places() -> [u8; 32767]
     [0u8; 32767]
 }
 
-// The repaired program and its passthrough at the front of two lists that are long enough, and the warnings as far as their list goes. Answers how many warnings
-// there are; 12, where the loops of the repaired program can't be looked for. Of a font that is not refused; work is left zero. 1 of over 32,767 instructions, 4 of
-// over 256 entries, and 15 where the first two lists are too short, and then nothing is done.
+// The entries, and what they lead to: `unpacked` has 512 places, and `marks` and `through` one for each instruction.
+fn enter(
+    instructions: &[i32],
+    entries: &[i32],
+    left_entry: i32,
+    passthrough: &[u8],
+    unpacked: &mut [i32],
+    marks: &mut [u8],
+    through: &mut [u8],
+    warnings: &mut [i32],
+) -> Entered
+    requires { ⌜ (count (now instructions) ≤ 32767) × (length (now entries) / 2 ≤ 256) × (length (now unpacked) ≡ 512) × (length (now marks) ≡ count (now instructions)) × (length (now through) ≡ count (now instructions)) ⌝ }
+    ensures { λ r. ⌜ ((d : Damaged) → EntersFrom d (now (instructions .entry)) (now (entries .entry)) «left_entry» (now (passthrough .entry)) → Enters d (now (unpacked .entry)) (now (through .entry)) (now (warnings .entry)) r (now (unpacked .exit)) (now (through .exit)) (now (warnings .exit)) × (now (marks .exit) ≡ reachable (d .instructions) (unpackedEntries d) (repairedLeft d))) ⌝ }
+{
+    let entered = unpack_entries(
+        instructions,
+        entries,
+        left_entry,
+        passthrough,
+        unpacked,
+        through,
+        warnings,
+    );
+    let left = repaired_left(instructions.len() / 4, left_entry);
+    reachable_array(instructions, &unpacked[..2 * entered.entries], left, marks);
+    entered
+}
+
+// The repaired program and its passthrough, in lists of just their length, and the warnings as far as their list goes. Answers how many warnings there are; 12,
+// where the loops of the repaired program can't be looked for. That is of a font that is not refused; work is left zero. 15 of over 32,767 instructions or
+// 256 entries, and where the first two lists have another length; then nothing is done.
 pub fn mend(
     instructions: &[i32],
     kerns: &[i32],
@@ -64,35 +112,24 @@ pub fn mend(
     warnings: &mut [i32],
     work: &mut [u32],
 ) -> Written
-    ensures { λ r. ⌜ (damagedRefusal (damagedOf (now (instructions .entry)) (now (kerns .entry)) (now (entries .entry)) boundary «left_entry» replacement (now (existing .entry)) (now (passthrough .entry))) ≡ 0 → 4 * count (now (instructions .entry)) ≤ length (now (program .entry)) → count (now (instructions .entry)) ≤ length (now (through .entry)) → Mends (damagedOf (now (instructions .entry)) (now (kerns .entry)) (now (entries .entry)) boundary «left_entry» replacement (now (existing .entry)) (now (passthrough .entry))) (now (program .entry)) (now (through .entry)) (now (warnings .entry)) (now (work .entry)) r (now (program .exit)) (now (through .exit)) (now (warnings .exit)) (now (work .exit))) ⌝ }
+    ensures { λ r. ⌜ (damagedRefusal (damagedOf (now (instructions .entry)) (now (kerns .entry)) (now (entries .entry)) boundary «left_entry» replacement (now (existing .entry)) (now (passthrough .entry))) ≡ 0 → length (now (program .entry)) ≡ 4 * count (now (instructions .entry)) → length (now (through .entry)) ≡ count (now (instructions .entry)) → Mends (damagedOf (now (instructions .entry)) (now (kerns .entry)) (now (entries .entry)) boundary «left_entry» replacement (now (existing .entry)) (now (passthrough .entry))) (now (warnings .entry)) (now (work .entry)) r (now (program .exit)) (now (through .exit)) (now (warnings .exit)) (now (work .exit))) ⌝ }
 {
     let n = instructions.len() / 4;
-    if 32767 < n {
-        return Written::Refused(1);
-    }
-    if 513 < entries.len() {
-        return Written::Refused(4);
-    }
-    if program.len() < 4 * n {
+    if !lists_fit(n, entries.len() / 2, program.len(), through.len()) {
         return Written::Refused(15);
     }
-    if through.len() < n {
-        return Written::Refused(15);
-    }
-    let left = repaired_left(n, left_entry);
     let mut unpacked = entry_places();
     let mut marks = mark_places();
-    let entered = unpack_entries(
+    let entered = enter(
         instructions,
         entries,
         left_entry,
         passthrough,
         &mut unpacked,
-        &mut through[..n],
+        &mut marks[..n],
+        through,
         warnings,
     );
-    let m = 2 * entered.entries;
-    reachable_array(instructions, &unpacked[..m], left, &mut marks[..n]);
     let count = fix_program(
         instructions,
         kerns,
@@ -100,15 +137,16 @@ pub fn mend(
         words::word_of(replacement),
         existing,
         &marks[..n],
-        &through[..n],
-        &mut program[..4 * n],
+        through,
+        program,
         warnings,
         entered.warnings,
     );
+    let left = repaired_left(n, left_entry);
     warn_loops(
-        &program[..4 * n],
+        program,
         kerns,
-        &unpacked[..m],
+        &unpacked[..2 * entered.entries],
         left,
         warnings,
         count,

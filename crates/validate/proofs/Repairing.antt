@@ -117,10 +117,11 @@ module _ (d : Damaged) (fixed : List ℤ) (through : List ℕ) (warnings : List 
               let z = whole ∙ e in
               let p = subst (λ (xs : List ℤ). Appending xs fixed₀ fixed₂) program-is (t .0) in
               let q = subst (λ (xs : List ℕ). Appending xs through₀ through₂) passed-is (t .1) in
-              let fits : length (warningsOf d) ≤ length warnings₀ = warnings-fit e in
-              (written-over (pos 0) (repairedInstructions d) fixed₀ fixed₂ (length fixed) _ zf p z,
-              written-over 0 (repairedPassthrough d) through₀ through₂ (length through) _ zt q z,
-              written-over (pos 0) (warningsOf d) warnings₀ warnings₂ (length warnings) _ zw (record { within = fits; appended = t .2 ∙ warned ∙ sets-front (warningsOf d) warnings₀ fits }) z)
+              let fits : length (warningsOf d) ≤ length warnings₀ = warnings-fit e in (
+                written-over (pos 0) (repairedInstructions d) fixed₀ fixed₂ (length fixed) _ zf p z,
+                written-over 0 (repairedPassthrough d) through₀ through₂ (length through) _ zt q z,
+                written-over (pos 0) (warningsOf d) warnings₀ warnings₂ (length warnings) _ zw (record { within = fits; appended = t .2 ∙ warned ∙ sets-front (warningsOf d) warnings₀ fits }) z,
+              )
             where
               warnings-fit : repairRoomRefusal d room ≡ 0 → length (warningsOf d) ≤ length warnings₀
               warnings-fit o =
@@ -130,10 +131,11 @@ module _ (d : Damaged) (fixed : List ℤ) (through : List ℕ) (warnings : List 
               let ne : fitsRefusal (length program) (length passed) n (length fixed₀) (length through₀) (length warnings₁) ≡ 0 → ⊥ = λ o. omega (arith, sym e ∙ sym numbers-are ∙ o) in
               let t = g .refused ne in
               let same : suc k ≡ repairRefusal d room = sym (whole ∙ e) in
-              let lw : length warnings₁ ≡ length warnings = ap length warned ∙ length-sets warnings₀ 0 (warningsOf d) ∙ ap length zw ∙ length-replicate (length warnings) (pos 0) in
-              (refused-list (pos 0) (length fixed) (repairedInstructions d) same (λ o. omega (arith, o)) (t .0 ∙ zf),
-              refused-list 0 (length through) (repairedPassthrough d) same (λ o. omega (arith, o)) (t .1 ∙ zt),
-              refused-list (pos 0) (length warnings) (warningsOf d) same (λ o. omega (arith, o)) (t .2 ∙ ap (λ (j : ℕ). replicate j (pos 0)) lw))
+              let lw : length warnings₁ ≡ length warnings = ap length warned ∙ length-sets warnings₀ 0 (warningsOf d) ∙ ap length zw ∙ length-replicate (length warnings) (pos 0) in (
+                refused-list (pos 0) (length fixed) (repairedInstructions d) same (λ o. omega (arith, o)) (t .0 ∙ zf),
+                refused-list 0 (length through) (repairedPassthrough d) same (λ o. omega (arith, o)) (t .1 ∙ zt),
+                refused-list (pos 0) (length warnings) (warningsOf d) same (λ o. omega (arith, o)) (t .2 ∙ ap (λ (j : ℕ). replicate j (pos 0)) lw),
+              )
 
           lists-are : (fixed₂ ≡ listOf (repairRefusal d room) (pos 0) (length fixed) (repairedInstructions d)) × (through₂ ≡ listOf (repairRefusal d room) 0 (length through) (repairedPassthrough d)) × (warnings₂ ≡ listOf (repairRefusal d room) (pos 0) (length warnings) (warningsOf d))
           lists-are = by (repairRoomRefusal d room) refl
