@@ -10,7 +10,7 @@
 --   Sound      the states that a run can be in, and the plain run that each stands for
 --   Giving, Following, Turning   a step answers as the plain run does: ops, what is given at once, and lefts that are looked up
 --   Running    any number of steps from a fresh state
---   Replies    each reply determines its answer
+--   Replies    each reply determines its answer; the reply to a question
 --   Ending     after the end comes only the end, for any table and state: specs/Ending
 --   Passed     a number that is passed to a check of another crate
 pub mod Finding

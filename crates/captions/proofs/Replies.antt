@@ -1,5 +1,5 @@
 -- Each reply determines its answer, since the answer can be read back from it; so the contracts of begin and step say the same as equations with
--- `beginOf` and `stepOf`.
+-- `beginOf` and `stepOf`. And the reply to a question, from the number of the refusal.
 -- Assumes nothing.
 use mathlib.Core.Path.{_≡_, refl, sym, ap, _∙_}
 use mathlib.Core.Bool.{Bool, true, false}
@@ -150,3 +150,11 @@ told-back (told.Refused n) = refl
 
 pub told-determined : (a b : Told) → toldReply a ≡ toldReply b → a ≡ b
 told-determined a b e = sym (told-back a) ∙ ap toldBack e ∙ told-back b
+
+-- the reply to a question that is refused, and to one that is taken
+pub told-refused : (n r : ℕ) (vs : List ℤ) → n ≡ r → (n ≡ 0 → ⊥) → toldReply (told.Refused n) ≡ replyOf r vs
+told-refused zero r vs e h = absurd (h refl)
+told-refused (suc n) r vs e h = rw (← e)
+
+pub told-is : (n r : ℕ) (a b : Bool) → n ≡ r → n ≡ 0 → a ≡ b → toldReply (told.Is a) ≡ replyOf r (bitNumber b ∷ [])
+told-is n r a b e z q = rw (← e, z, q)

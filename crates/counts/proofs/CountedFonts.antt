@@ -2,21 +2,23 @@
 -- Assumes nothing.
 use mathlib.Core.Path.{_≡_, refl, sym, ap, _∙_}
 use mathlib.Core.Bool.{Bool, true, false, cond}
-use mathlib.Core.List.{List}
+use mathlib.Core.List.{List, [], _∷_}
 use Prim.Native.Nat.{ℕ, zero, suc, _*_, _/_, _<_, _≤_, min}
 use native.Mathlib.Omega.{arith}
+use lib.IntN.{ℤ, pos}
 use lib.Dec.{leb}
 use lib.ListN.{length, replicate}
 use borrow.Author.Tests.{leb-true, leb-false, le-leb, lt-leb}
-use Rattle.words.proofs.Lists.{tabulate-ext, length-tabulate}
+use Rattle.words.proofs.Lists.{tabulate-ext}
 use Rattle.lang.specs.Every.{both}
 use Rattle.lang.specs.Checks.{orElse}
-use Rattle.lang.proofs.Every.{both-left}
-use Rattle.lang.proofs.Refusals.{orElse-none, unless-none}
+use Rattle.lang.specs.Answers.{replyOf}
+use Rattle.lang.proofs.Refusals.{orElse-assoc, taken-reply, refused-reply}
 use Rattle.reading.specs.Loops.{finished}
 use Rattle.fonts.specs.Fonts.{Font, pairsOf}
 use Rattle.fonts.specs.Numbers.{opsBefore}
-use Rattle.fonts.specs.Compiled.{Room, totalOps, loopsOfFont, allScale, longRefusal, buildRefusal}
+use Rattle.fonts.specs.Compiled.{Room, totalOps, loopsOfFont, tablePairs, allScale, longRefusal, buildRefusal}
+use Rattle.fonts.proofs.Replies.{values-known, number-known, taken-unlike}
 use Rattle.pairs.specs.declared.WalkedFont.the-variants as walked
 use Rattle.pairs.specs.declared.CountedFont.{CountedFont}
 use Rattle.pairs.specs.declared.CountedFont.the-variants.{Sizes, Refused}
@@ -25,10 +27,11 @@ use Rattle.pairs.specs.SettledRows.{Settled}
 use Rattle.pairs.specs.OpRows.{capped, opTotal, Counts, Exact, Firsts}
 use Rattle.pairs.proofs.RowLaws.{SameRules, Keeps, keeps-rules, only-keeps, settled-kept, encoded-same, rules-same, pairs-same, pair-same}
 use Rattle.pairs.proofs.FieldLaws.{total-same}
-use Rattle.pairs.proofs.LoopLaws.{listedPair}
+use Rattle.pairs.proofs.LoopLaws.{listedPair, listed-count}
+use Rattle.pairs.proofs.TableCount.{finished-count}
 use Rattle.prepare.specs.Prepares.{prepareRefusal}
 use Rattle.walks.specs.FindsLoops.{FontWalked, FindsLoopsBy}
-use Rattle.counts.specs.Counting.{sizesRefusal, FontCounted, MeasuresBy, CountsBy}
+use Rattle.counts.specs.Counting.{sizesRefusal, FontCounted, MeasuresBy, CountsBy, countedReply, CountsFont}
 use Rattle.counts.proofs.Totals.{count-same, capped-small, row-of-total, capped-refusal}
 
 -- ---- one pass after the other
@@ -40,9 +43,6 @@ module _ (f : Font) (n m r : ℕ) (w : List ℕ) (g : FontWalked f w n m r) wher
       let q = g .rules-are in
       let k = g .count-is in
       λ i. opsBefore (finished (q i) (p i)) (p i) (k i)
-
-  loops-count : r ≡ length (loopsOfFont f)
-  loops-count = sym (length-tabulate r (λ i. pairAt w (at w i 8))) ∙ ap length (g .loops-are)
 
   module _ (total : ℕ) (w₁ : List ℕ) (ct : Counts n w w₁ total) where
     keeps₁ : Keeps n w w₁
@@ -60,7 +60,7 @@ module _ (f : Font) (n m r : ℕ) (w : List ℕ) (g : FontWalked f w n m r) wher
     -- what the capped total refuses
     refusal-is : (b : Bool) (opRoom loopRoom : ℕ) → sizesRefusal b total r opRoom loopRoom ≡ sizesRefusal b (totalOps f) (length (loopsOfFont f)) opRoom loopRoom
     refusal-is b opRoom loopRoom =
-        (let t = ct .total ∙ ap capped total-is in let l = loops-count in λ i. sizesRefusal b (t i) (l i) opRoom loopRoom)
+        (let t = ct .total ∙ ap capped total-is in let l = listed-count r w (g .loops-are) in λ i. sizesRefusal b (t i) (l i) opRoom loopRoom)
         ∙ capped-refusal b (totalOps f) (length (loopsOfFont f)) opRoom loopRoom
 
     pub refused : (b : Bool) (opRoom loopRoom k : ℕ) (w₂ : List ℕ) → k ≡ sizesRefusal b total r opRoom loopRoom → (k ≡ 0 → ⊥) → w₂ ≡ replicate (length w) 0 → MeasuresBy f b opRoom loopRoom n m r w w₂ (Refused k)
@@ -150,10 +150,6 @@ cap-by l a b true true p q = le-leb l (min b a) (omega (arith, leb-true l a p, l
 cap-by l a b true false p q = lt-leb l (min b a) (omega (arith, leb-false l b q))
 cap-by l a b false y p q = lt-leb l (min b a) (omega (arith, leb-false l a p))
 
-or-assoc : (a b c : ℕ) → orElse a (orElse b c) ≡ orElse (orElse a b) c
-or-assoc zero b c = refl
-or-assoc (suc a) b c = refl
-
 module _ (f : Font) (room : Room) (w : List ℕ) (long : room .work ≡ length w) where
   abbrev cap : ℕ
   cap = min (room .pairs / 6) (length w / 16)
@@ -166,7 +162,7 @@ module _ (f : Font) (room : Room) (w : List ℕ) (long : room .work ≡ length w
       let l = length (pairsOf f) in
       let e : leb l cap ≡ both (leb l (length w / 16)) (leb l (room .pairs / 6)) = cap-by l (length w / 16) (room .pairs / 6) (leb l (length w / 16)) (leb l (room .pairs / 6)) refl refl in
       let a : buildRefusal f room ≡ orElse (longRefusal (f .instructions)) (orElse (cond (leb l cap) 0 12) sizes) = (λ i. orElse (longRefusal (f .instructions)) (orElse (cond (both (leb l (long i / 16)) (leb l (room .pairs / 6))) 0 12) sizes)) ∙ ap (λ (b : Bool). orElse (longRefusal (f .instructions)) (orElse (cond b 0 12) sizes)) (sym e) in
-      a ∙ or-assoc (longRefusal (f .instructions)) (cond (leb l cap) 0 12) sizes
+      a ∙ orElse-assoc (longRefusal (f .instructions)) (cond (leb l cap) 0 12) sizes
 
   later : (j : ℕ) → 0 < j → orElse j sizes ≡ j
   later zero i = absurd (omega arith)
@@ -182,3 +178,31 @@ module _ (f : Font) (room : Room) (w : List ℕ) (long : room .work ≡ length w
     pub counts : (c : CountedFont) → MeasuresBy f b (room .ops) (room .loops) n m r w₁ w₂ c → CountsBy f room w w₂ c
     counts (Sizes n′ m′ total r′) q = (whole 0 (q .0), q .1 ∙ p .1, q .2, omega (arith, q .3, p .3), q .4)
     counts (Refused k) q = (whole k (q .0), q .1, q .2 ∙ ap (λ (j : ℕ). replicate j 0) (p .1))
+
+-- ---- the contract, from what the answer says
+
+module _ (f : Font) (room : Room) (w w′ : List ℕ) where
+  -- the values of an answer that is taken
+  abbrev replied : List ℤ
+  replied = pos (length (pairsOf f)) ∷ pos (tablePairs f) ∷ pos (totalOps f) ∷ pos (length (loopsOfFont f)) ∷ []
+
+  pub counted-reply : (c : CountedFont) → CountsBy f room w w′ c → countedReply c ≡ replyOf (buildRefusal f room) replied
+  counted-reply (Sizes n m total r) d =
+      let g = d .4 in
+      let x = g .count-is in
+      let y = finished-count f n w′ (g .pairs-are) (g .rules-are) x m (g .ready .encoded) (g .ready .settled) in
+      let z = d .2 in
+      let v = listed-count r w′ (g .loops-are) in
+      (λ i. replyOf 0 (pos (x i) ∷ pos (y i) ∷ pos (z i) ∷ pos (v i) ∷ [])) ∙ taken-reply replied (d .0)
+  counted-reply (Refused k) d = refused-reply replied (sym (d .0)) (λ z. omega (arith, d .1))
+
+  pub counts-font : (c : CountedFont) → CountsBy f room w w′ c → CountsFont f room w w′ c
+  counts-font c d = record { reply = counted-reply c d; rows = d }
+
+-- ---- the answer is known from its reply
+
+pub counted-determined : (a b : CountedFont) → countedReply a ≡ countedReply b → a ≡ b
+counted-determined (Sizes n m t r) (Sizes n′ m′ t′ r′) q = let v = values-known q in cc
+counted-determined (Sizes n m t r) (Refused k) q = taken-unlike q
+counted-determined (Refused k) (Sizes n m t r) q = taken-unlike (sym q)
+counted-determined (Refused j) (Refused k) q = ap Refused (number-known q)

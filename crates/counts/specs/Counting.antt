@@ -1,16 +1,17 @@
 -- The rows of a font with their ops counted: the contract of `count`.
 use mathlib.Core.Path.{_≡_}
 use mathlib.Core.Bool.{Bool, cond}
-use mathlib.Core.List.{List}
+use mathlib.Core.List.{List, [], _∷_}
 use Prim.Native.Nat.{ℕ, _*_, _<_, _≤_}
+use lib.IntN.{pos}
 use lib.Dec.{leb}
 use lib.ListN.{length, replicate}
 use Rattle.words.specs.Lists.{tabulate}
 use Rattle.lang.specs.Every.{both}
 use Rattle.lang.specs.Checks.{orElse}
-use Rattle.lang.specs.Answers.{roomRefusal}
+use Rattle.lang.specs.Answers.{Reply, replyOf, roomRefusal}
 use Rattle.fonts.specs.Fonts.{Font, pairsOf, rulesOf}
-use Rattle.fonts.specs.Compiled.{Room, totalOps, loopsOfFont, buildRefusal}
+use Rattle.fonts.specs.Compiled.{Room, totalOps, loopsOfFont, tablePairs, buildRefusal}
 use Rattle.pairs.specs.declared.CountedFont.{CountedFont}
 use Rattle.pairs.specs.declared.CountedFont.the-variants.{Sizes, Refused}
 use Rattle.pairs.specs.Rows.{at, pairAt, pairs, rules}
@@ -47,3 +48,15 @@ abbrev pub CountsBy : Font → Room → List ℕ → List ℕ → CountedFont �
 CountsBy f room w w′ (Sizes n m total r) =
     (buildRefusal f room ≡ 0) × (length w′ ≡ length w) × (total ≡ totalOps f) × (6 * n ≤ room .pairs) × FontCounted f w′ n m r
 CountsBy f room w w′ (Refused k) = (buildRefusal f room ≡ k) × (0 < k) × (w′ ≡ replicate (length w) 0)
+
+-- what count answers, as document 01 has it: how many rows, how many of them finish, how many ops, and how many loops; or the number
+abbrev pub countedReply : CountedFont → Reply
+countedReply (Sizes n m total r) = replyOf 0 (pos n ∷ pos m ∷ pos total ∷ pos r ∷ [])
+countedReply (Refused k) = record { number = k; values = [] }
+
+-- THE contract of count: the answer by equation, and what the rows are good for
+pub record CountsFont (f : Font) (room : Room) (w w′ : List ℕ) (r : CountedFont) : Type 0 where
+  pub reply : countedReply r ≡
+      replyOf (buildRefusal f room)
+      (pos (length (pairsOf f)) ∷ pos (tablePairs f) ∷ pos (totalOps f) ∷ pos (length (loopsOfFont f)) ∷ [])
+  pub rows : CountsBy f room w w′ r

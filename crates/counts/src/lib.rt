@@ -11,7 +11,7 @@ ghost use Rattle.pairs.specs.SettledRows.{Settled};
 ghost use Rattle.pairs.specs.OpRows.{capped, Counts, Exact, Firsts, opTotal};
 ghost use Rattle.pairs.specs.OpSteps.{LastFits, partCount, rowCount, countsBefore, FieldStored, OpsCounted};
 ghost use Rattle.walks.specs.FindsLoops.{FontWalked};
-ghost use Rattle.counts.specs.Counting.{sizesRefusal, MeasuresBy, CountsBy};
+ghost use Rattle.counts.specs.Counting.{sizesRefusal, MeasuresBy, CountsFont};
 use pairs::CountedFont;
 use pairs::Part;
 use pairs::WalkedFont;
@@ -168,7 +168,7 @@ pub fn count(
     op_room: usize,
     loop_room: usize,
 ) -> CountedFont
-    ensures { λ r. ⌜ ((b : ℤ) → CountsBy (fontOf (now (instructions .entry)) (now (kerns .entry)) (now (entries .entry)) b «left_entry» «design_size») (roomOf «pair_room» «op_room» «loop_room» (length (now (work .entry)))) (now (work .entry)) (now (work .exit)) r) ⌝ }
+    ensures { λ r. ⌜ ((b : ℤ) → CountsFont (fontOf (now (instructions .entry)) (now (kerns .entry)) (now (entries .entry)) b «left_entry» «design_size») (roomOf «pair_room» «op_room» «loop_room» (length (now (work .entry)))) (now (work .entry)) (now (work .exit)) r) ⌝ }
 {
     match find_loops(
         instructions,

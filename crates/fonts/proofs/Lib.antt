@@ -1,7 +1,9 @@
 -- What is proved of a font's definitions.
 --   FontLaws  a font's pairs are all that have a rule
 --   Lent      a font as it was lent
+--   Replies   an answer is known from its reply
 --   Theorems  the table is the reading; a loop is reported exactly when a pair never ends
 pub mod FontLaws
 pub mod Lent
+pub mod Replies
 pub mod Theorems

@@ -48,6 +48,10 @@ totalOps f = opsBefore (finishedOf f) (pairsOf f) (length (pairsOf f))
 abbrev pub fontTable : Font → List ℤ
 fontTable f = pairTable (finishedOf f) (pairsOf f) (length (pairsOf f))
 
+-- how many pairs the table holds: those that finish
+abbrev pub tablePairs : Font → ℕ
+tablePairs f = length (fontTable f) / 6
+
 abbrev pub fontOps : Font → List ℤ
 fontOps f = opsTable (finishedOf f) (pairsOf f) (length (pairsOf f))
 
@@ -119,7 +123,7 @@ compiledReply (Refused n) = record { number = n; values = [] }
 
 -- the counts: pairs in the table, ops, loops
 abbrev pub fontCounts : Font → List ℤ
-fontCounts f = pos (length (fontTable f) / 6) ∷ pos (totalOps f) ∷ pos (length (loopsOfFont f)) ∷ []
+fontCounts f = pos (tablePairs f) ∷ pos (totalOps f) ∷ pos (length (loopsOfFont f)) ∷ []
 
 -- the three lists, by the refusal: what is written and zeros, or zeros alone
 pub record ListsWritten (f : Font) (n : ℕ) (pairs ops loops pairs′ ops′ loops′ : List ℤ) : Type 0 where

@@ -10,7 +10,7 @@ ghost use Rattle.reading.specs.Form.{noPlain};
 ghost use Rattle.captions.specs.Tables.{pairCount, opCount, opFits, recordFits};
 ghost use Rattle.captions.specs.Form.{opsEnd, comesAfter, keyForm, pairForm, sizesForm, tableRefusal};
 ghost use Rattle.form.specs.Parts.{leftBy, firstFits, opsTo, Leads, entryForm};
-use tables::key_at;
+use lookup::key_at;
 use tables::kind_at;
 use tables::number_at;
 use tables::op_fits;

@@ -17,11 +17,11 @@ mod share;
 
 use crate::share::gather;
 use crate::share::place_of;
-use checks::kerns_refusal;
 use checks::program_refusal;
-use checks::room_refusal;
 use lang::Written;
 use lang::instruction::field_at;
+use limits::kerns_refusal;
+use limits::room_refusal;
 
 // 1, 2, 3 or 15.
 fn pack_refusal(instructions: &[i32], kerns: &[i32], room: usize) -> u32

@@ -1,29 +1,25 @@
 -- The stages put together: what is refused, and what the lists hold, of a font whose rows were counted and whose ops were written.
 -- Assumes nothing.
-use mathlib.Core.Path.{_≡_, refl, sym, ap, _∙_, subst}
+use mathlib.Core.Path.{_≡_, refl, sym, ap, _∙_}
 use mathlib.Core.List.{List, [], _∷_}
 use Prim.Native.Nat.{ℕ, zero, suc, _*_, _/_, _<_, _≤_}
 use native.Mathlib.Omega.{arith}
 use lib.IntN.{ℤ, pos}
-use lib.Dec.{leb}
 use lib.ListN.{length, replicate, length-replicate}
 use Rattle.words.specs.Lists.{tabulate}
-use Rattle.words.proofs.Lists.{length-tabulate}
 use Rattle.lang.specs.Checks.{orElse}
-use Rattle.lang.specs.Answers.{padded, listOf, replyOf}
+use Rattle.lang.specs.Answers.{padded, replyOf}
 use Rattle.lang.proofs.Refusals.{orElse-none, room-fits}
-use Rattle.reading.specs.Loops.{finished}
-use Rattle.fonts.specs.declared.Compiled.{Compiled}
 use Rattle.fonts.specs.declared.Compiled.the-variants.{Tables, Refused}
 use Rattle.fonts.specs.Fonts.{Font}
-use Rattle.fonts.specs.Numbers.{pairTable, loopNumbers}
-use Rattle.fonts.specs.Compiled.{Room, roomOf, roomIn, totalOps, loopsOfFont, fontTable, fontOps, fontLoops, longRefusal, pairsRefusal, kernRefusal, opsRefusal, loopsRefusal, tablesRefusal, buildRefusal, compiledReply, fontCounts, ListsWritten}
-use Rattle.pairs.specs.declared.CountedFont.{CountedFont}
+use Rattle.fonts.specs.Numbers.{loopNumbers}
+use Rattle.fonts.specs.Compiled.{Room, roomOf, roomIn, loopsOfFont, longRefusal, pairsRefusal, kernRefusal, opsRefusal, loopsRefusal, tablesRefusal, buildRefusal, compiledReply, fontCounts, ListsWritten}
 use Rattle.pairs.specs.declared.CountedFont.the-variants as counted
 use Rattle.pairs.specs.Rows.{at, pairAt}
 use Rattle.pairs.specs.OpRows.{pairsWritten}
-use Rattle.counts.specs.Counting.{FontCounted, CountsBy}
-use Rattle.ops.specs.WritesOps.{WritesOpsBy}
+use Rattle.pairs.proofs.LoopLaws.{listed-count}
+use Rattle.pairs.proofs.TableCount.{table-written}
+use Rattle.ops.specs.WritesOps.{WritesOps}
 use Rattle.lists.specs.Builds.{Builds}
 
 -- a font that is not refused has room for its loops
@@ -33,17 +29,6 @@ loop-room-for f room e =
     let b = orElse-none (pairsRefusal f room) (orElse (kernRefusal f) (orElse (opsRefusal f room) (loopsRefusal f room))) a .1 in
     let c = orElse-none (kernRefusal f) (orElse (opsRefusal f room) (loopsRefusal f room)) b .1 in
     room-fits (2 * length (loopsOfFont f)) (room .loops) (orElse-none (opsRefusal f room) (loopsRefusal f room) c .1)
-
-module _ (f : Font) (w : List ℕ) (n m r : ℕ) (g : FontCounted f w n m r) where
-  loops-count : r ≡ length (loopsOfFont f)
-  loops-count = sym (length-tabulate r (λ i. pairAt w (at w i 8))) ∙ ap length (g .loops-are)
-
-  table-is : pairsWritten n w ≡ fontTable f
-  table-is =
-      let p = g .pairs-are in
-      let q = g .rules-are in
-      let k = g .count-is in
-      λ i. pairTable (finished (q i) (p i)) (p i) (k i)
 
 -- the pair table and the loop list were zeroed
 module _ (f : Font) (ps os ls zp zl : List ℤ) (w w₁ : List ℕ) (bp : zp ≡ replicate (length ps) (pos 0)) (bl : zl ≡ replicate (length ls) (pos 0)) (os′ : List ℤ) where
@@ -66,26 +51,26 @@ module _ (f : Font) (ps os ls zp zl : List ℤ) (w w₁ : List ℕ) (bp : zp ≡
   unfit-by zero j e h o = absurd (omega arith)
   unfit-by (suc k) j e h o = rw e (refl, record { table = bp; ops-table = o; loop-list = bl })
 
-  pub unfit : (k : ℕ) → WritesOpsBy f (length zp) (length zl) os w os′ w₁ (counted.Refused k) → Builds f ps os ls w (Refused k) zp os′ zl w₁
+  pub unfit : (k : ℕ) → WritesOps f (length zp) (length zl) os w os′ w₁ (counted.Refused k) → Builds f ps os ls w (Refused k) zp os′ zl w₁
   unfit k p =
-      let c = p .counted in
+      let c = p .rows in
       let q = unfit-by k (buildRefusal f (roomIn ps os ls w)) (sym (ap (buildRefusal f) room-is) ∙ c .0) (c .1) (p .written) in
       record { answer = q .0; lists = q .1; cleared = c .2 }
 
-  module _ (n m total r : ℕ) (p : WritesOpsBy f (length zp) (length zl) os w os′ w₁ (counted.Sizes n m total r)) where
+  module _ (n m total r : ℕ) (p : WritesOps f (length zp) (length zl) os w os′ w₁ (counted.Sizes n m total r)) where
     pub loop-room : 2 * r ≤ length zl
-    loop-room = omega (arith, loop-room-for f (roomOf (length zp) (length os) (length zl) (length w)) (p .counted .0), loops-count f w₁ n m r (p .counted .4))
+    loop-room = omega (arith, loop-room-for f (roomOf (length zp) (length os) (length zl) (length w)) (p .rows .0), listed-count r w₁ (p .rows .4 .loops-are))
 
     pub few : r ≤ 65792
-    few = omega (arith, p .counted .4 .few, p .counted .4 .ready .encoded .ascending .few)
+    few = omega (arith, p .rows .4 .few, p .rows .4 .ready .encoded .ascending .few)
 
     pub built : (numbers : ℕ) (ps′ ls′ : List ℤ) (w₂ : List ℕ) → numbers ≡ length (pairsWritten n w₁) → ps′ ≡ padded (pos 0) (length zp) (pairsWritten n w₁) → ls′ ≡ padded (pos 0) (length zl) (loopNumbers (tabulate r (λ i. pairAt w₁ (at w₁ i 8)))) → w₂ ≡ replicate (length w₁) 0 → Builds f ps os ls w (Tables (numbers / 6) total r) ps′ os′ ls′ w₂
     built numbers ps′ ls′ w₂ c a b z =
-        let g = p .counted .4 in
-        let e : buildRefusal f (roomIn ps os ls w) ≡ 0 = sym (ap (buildRefusal f) room-is) ∙ p .counted .0 in
-        let t = table-is f w₁ n m r g in
+        let g = p .rows .4 in
+        let e : buildRefusal f (roomIn ps os ls w) ≡ 0 = sym (ap (buildRefusal f) room-is) ∙ p .rows .0 in
+        let t = table-written f n w₁ (g .pairs-are) (g .rules-are) (g .count-is) in
         record {
-          answer = rw e (let x = c ∙ ap length t in let y = p .counted .2 in let v = loops-count f w₁ n m r g in λ i. replyOf 0 (pos (x i / 6) ∷ pos (y i) ∷ pos (v i) ∷ []));
+          answer = rw e (let x = c ∙ ap length t in let y = p .rows .2 in let v = listed-count r w₁ (g .loops-are) in λ i. replyOf 0 (pos (x i / 6) ∷ pos (y i) ∷ pos (v i) ∷ []));
           lists =
               rw e
               (record {
@@ -93,5 +78,5 @@ module _ (f : Font) (ps os ls zp zl : List ℤ) (w w₁ : List ℕ) (bp : zp ≡
                 ops-table = p .written;
                 loop-list = b ∙ (let x = loop-long in let y = g .loops-are in λ i. padded (pos 0) (x i) (loopNumbers (y i)));
               });
-          cleared = z ∙ ap (λ (k : ℕ). replicate k 0) (p .counted .1);
+          cleared = z ∙ ap (λ (k : ℕ). replicate k 0) (p .rows .1);
         }

@@ -29,7 +29,7 @@ use Rattle.prepare.specs.Prepares.{prepareRefusal}
 use Rattle.walks.specs.FindsLoops.{FindsLoopsBy}
 use Rattle.repairs.specs.Warnings.{warning, warnIf, loopWarnings}
 use Rattle.repairs.specs.Pushed.{Pushed}
-use Rattle.repairs.proofs.Pushing.{pushed-none, pushed-append, pushed-if}
+use Rattle.repairs.proofs.Pushing.{pushed-none, pushed-append, pushed-if, loop-count}
 use Rattle.loop_warnings.specs.WarnsLoops.{unlessRefused, WarnsLoops}
 
 -- ---- of plain values
@@ -41,11 +41,6 @@ last-warning : (ps : List Pair) (p : Pair) → loopWarnings (ps ++ (p ∷ [])) �
 unfolding loopWarnings
 last-warning [] p = refl
 last-warning (q ∷ qs) p = ap (λ (ws : List ℤ). warning 10 (leftNumber (q .left)) (pos (q .right)) (pos 0) ++ ws) (last-warning qs p)
-
-length-warnings : (ps : List Pair) → length (loopWarnings ps) ≡ 4 * length ps
-unfolding loopWarnings
-length-warnings [] = refl
-length-warnings (p ∷ ps) = omega (arith, length-warnings ps)
 
 -- ---- of the rows that are listed
 
@@ -62,7 +57,7 @@ none-listed w d n = pushed-none d n
 
 -- how many warnings there are after i rows
 pub counted : (w : List ℕ) (d₀ d : List ℤ) (n i count : ℕ) → Pushed d₀ n (loopWarnings (tabulate i (listedPair w))) d count → count ≡ n + i
-counted w d₀ d n i count s = omega (arith, s .count, length-warnings (tabulate i (listedPair w)), length-tabulate i (listedPair w))
+counted w d₀ d n i count s = omega (arith, s .count, loop-count (tabulate i (listedPair w)), length-tabulate i (listedPair w))
 
 -- the pair of row k, which is listed i-th: its left number t, its right number y
 pub one-more : (w : List ℕ) (r : ℕ) (d₀ d d₁ : List ℤ) (n i k t y count count₁ : ℕ) → Listing r w → i < r → r ≤ 65792 → n < 2147483648 → k ≡ at w i 8 → t ≡ at w k 0 → y ≡ at w k 1 →

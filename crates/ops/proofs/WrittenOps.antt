@@ -21,7 +21,8 @@ use Rattle.pairs.specs.declared.CountedFont.{CountedFont}
 use Rattle.pairs.specs.declared.CountedFont.the-variants.{Sizes, Refused}
 use Rattle.pairs.specs.OpRows.{opTotal, opsWritten}
 use Rattle.counts.specs.Counting.{FontCounted, CountsBy}
-use Rattle.ops.specs.WritesOps.{WritesOpsBy}
+use Rattle.counts.proofs.CountedFonts.{counted-reply}
+use Rattle.ops.specs.WritesOps.{OpsBy, WritesOps}
 
 -- a font that is not refused has room for its ops
 room-for : (f : Font) (room : Room) → buildRefusal f room ≡ 0 → 2 * totalOps f ≤ room .ops
@@ -55,8 +56,13 @@ module _ (f : Font) (pairRoom loopRoom : ℕ) (ops z : List ℤ) (w w₁ : List 
   counted : (c : CountedFont) → CountsBy f (roomOf pairRoom (length z) loopRoom (length w)) w w₁ c → CountsBy f (roomOf pairRoom (length ops) loopRoom (length w)) w w₁ c
   counted c = subst (λ (k : ℕ). CountsBy f (roomOf pairRoom k loopRoom (length w)) w w₁ c) long
 
-  pub unfit : (k : ℕ) → CountsBy f (roomOf pairRoom (length z) loopRoom (length w)) w w₁ (Refused k) → WritesOpsBy f pairRoom loopRoom ops w z w₁ (Refused k)
-  unfit k p = record { counted = counted (Refused k) p; written = blank }
+  writes : (ops′ : List ℤ) (c : CountedFont) → CountsBy f (roomOf pairRoom (length z) loopRoom (length w)) w w₁ c → OpsBy f ops ops′ c → WritesOps f pairRoom loopRoom ops w ops′ w₁ c
+  writes ops′ c p o =
+      let d = counted c p in
+      record { reply = counted-reply f (roomOf pairRoom (length ops) loopRoom (length w)) w w₁ c d; written = o; rows = d }
+
+  pub unfit : (k : ℕ) → CountsBy f (roomOf pairRoom (length z) loopRoom (length w)) w w₁ (Refused k) → WritesOps f pairRoom loopRoom ops w z w₁ (Refused k)
+  unfit k p = writes z (Refused k) p blank
 
   module _ (n m total r : ℕ) (p : CountsBy f (roomOf pairRoom (length z) loopRoom (length w)) w w₁ (Sizes n m total r)) where
     pub op-room : 2 * opTotal n w₁ ≤ length z
@@ -65,9 +71,6 @@ module _ (f : Font) (pairRoom loopRoom : ℕ) (ops z : List ℤ) (w w₁ : List 
     pub blank-still : z ≡ replicate (length z) (pos 0)
     blank-still = blank ∙ ap (λ (k : ℕ). replicate k (pos 0)) (sym long)
 
-    pub written : (ops′ : List ℤ) → ops′ ≡ padded (pos 0) (length z) (opsWritten n w₁) → WritesOpsBy f pairRoom loopRoom ops w ops′ w₁ (Sizes n m total r)
+    pub written : (ops′ : List ℤ) → ops′ ≡ padded (pos 0) (length z) (opsWritten n w₁) → WritesOps f pairRoom loopRoom ops w ops′ w₁ (Sizes n m total r)
     written ops′ e =
-        record {
-          counted = counted (Sizes n m total r) p;
-          written = e ∙ (let a = long in let b = ops-are f w₁ n m r (p .4) in λ i. padded (pos 0) (a i) (b i));
-        }
+        writes ops′ (Sizes n m total r) p (e ∙ (let a = long in let b = ops-are f w₁ n m r (p .4) in λ i. padded (pos 0) (a i) (b i)))

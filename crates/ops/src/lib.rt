@@ -14,7 +14,7 @@ ghost use Rattle.fonts.specs.Numbers.{opsOf, opNumbers};
 ghost use Rattle.pairs.specs.SettledRows.{outcome};
 ghost use Rattle.pairs.specs.OpRows.{Ready, opTotal, opsWritten};
 ghost use Rattle.pairs.specs.OpSteps.{raisedOuts, OpsAt, Apart, opsPlace, opsSize, Copies, PartFits, PartWritten, ToWrite};
-ghost use Rattle.ops.specs.WritesOps.{WritesOpsBy};
+ghost use Rattle.ops.specs.WritesOps.{WritesOps};
 use counts::count;
 use pairs::CountedFont;
 use pairs::Part;
@@ -119,7 +119,7 @@ pub fn write_ops(
     pair_room: usize,
     loop_room: usize,
 ) -> CountedFont
-    ensures { λ r. ⌜ ((b : ℤ) → WritesOpsBy (fontOf (now (instructions .entry)) (now (kerns .entry)) (now (entries .entry)) b «left_entry» «design_size») «pair_room» «loop_room» (now (ops .entry)) (now (work .entry)) (now (ops .exit)) (now (work .exit)) r) ⌝ }
+    ensures { λ r. ⌜ ((b : ℤ) → WritesOps (fontOf (now (instructions .entry)) (now (kerns .entry)) (now (entries .entry)) b «left_entry» «design_size») «pair_room» «loop_room» (now (ops .entry)) (now (work .entry)) (now (ops .exit)) (now (work .exit)) r) ⌝ }
 {
     zero_i32(ops);
     let room = ops.len();

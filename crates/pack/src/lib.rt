@@ -22,9 +22,9 @@ use crate::numbers::place_among;
 use crate::numbers::present_or_zero;
 use crate::numbers::redirect_number;
 use checks::absent_refusal;
-use checks::entries_refusal;
 use checks::program_refusal;
 use labels::label;
+use limits::entries_refusal;
 
 // What packing answers.
 pub enum Packed {

@@ -10,6 +10,7 @@
 --   Segments     stores in a row
 --   FieldLaws       passes that store a number of each row
 --   OpTables       the ops and the pair table as they are written
+--   TableCount     how many rows finish
 --   EncodeLaws   what the two numbers of a rule say
 --   PairRowLaws  a chain walked once, the rows of one left, and all lefts
 --   Tied         rows and the font's rules agree
@@ -27,6 +28,7 @@ pub mod OpLaws
 pub mod Segments
 pub mod FieldLaws
 pub mod OpTables
+pub mod TableCount
 pub mod EncodeLaws
 pub mod PairRowLaws
 pub mod Tied

@@ -67,6 +67,10 @@ written-more h d₀ d i a b e g s l =
 abbrev pub listedPair : List ℕ → ℕ → Pair
 listedPair w i = pairAt w (at w i 8)
 
+-- as many rows are listed as there are loops
+pub listed-count : (r : ℕ) (w : List ℕ) {loops : List Pair} → tabulate r (listedPair w) ≡ loops → r ≡ length loops
+listed-count r w e = sym (length-tabulate r (listedPair w)) ∙ ap length e
+
 pub left-small : (w : List ℕ) (r i k t : ℕ) → Listing r w → i < r → k ≡ at w i 8 → t ≡ at w k 0 → t < 257
 left-small w r i k t l h e a = subst (λ (z : ℕ). z < 257) (sym (a ∙ ap (λ (z : ℕ). at w z 0) e)) (l .left i h)
 

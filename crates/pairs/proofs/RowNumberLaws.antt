@@ -19,7 +19,7 @@ use Rattle.reading.specs.Depth.{Pair}
 use Rattle.reading.specs.Loops.{Ruled, samePair, ordered}
 use Rattle.fonts.specs.Fonts.{numberOfLeft, pairsBy}
 use Rattle.fonts.specs.Numbers.{nth}
-use Rattle.pairs.specs.Rows.{at, pairAt, ruledAt, Ascending}
+use Rattle.pairs.specs.Rows.{at, pairAt, ruledAt, pairs, Ascending}
 use Rattle.pairs.specs.LoopRows.{walkPlace, walkRow, WalkOrder}
 use Rattle.pairs.specs.RowNumbers.{boundaryMore, boundaryPairs, pairPlace, walkOf, turnOf, sixteenNumbers, inRows, pairRowNumbers}
 use Rattle.pairs.specs.PairRows.{Collects}
@@ -175,6 +175,11 @@ module _ (ps : List Ruled) (n e : ℕ) (w : List ℕ) (a : Ascending n w) (all :
       (λ k f h l. number-is k (op k) (value k) h (o k h) (v k h) (λ g. rest k g h) f l)
       after
       ∙ ap (λ (m : ℕ). padded 0 (length w) (inRows (λ k. sixteenNumbers ps k (op k) (value k)) m)) all
+
+-- the rows that are the boundary's, where the rows are those of a list of pairs
+pub boundary-rows : (ps : List Ruled) (n e : ℕ) (w : List ℕ) → Ascending n w → pairs n w ≡ ps → n ≡ length ps → WalkOrder n e w → e ≡ boundaryPairs ps
+boundary-rows ps n e w a p all t =
+    sym (boundary-is ps n e w a all (λ k h. sym (getD-tabulate n (ruledAt w) k _ h) ∙ ap (λ (qs : List Ruled). nth qs k) p) t)
 
 -- the pairs of a font as they are collected
 pub collected-rows : (s table : List ℤ) (w w′ : List ℕ) (n e : ℕ) → Collects s table w w′ n e → w′ ≡ padded 0 (length w) (pairRowNumbers (pairsBy s table))

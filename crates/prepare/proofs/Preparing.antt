@@ -3,33 +3,35 @@
 use mathlib.Core.Path.{_≡_, sym, ap, _∙_, subst}
 use mathlib.Core.Bool.{Bool}
 use mathlib.Core.List.{List, [], _∷_}
-use Prim.Native.Nat.{ℕ, zero, suc, _<_, _≤_}
+use Prim.Native.Nat.{ℕ, _<_}
 use native.Mathlib.Omega.{arith}
 use lib.IntN.{ℤ, pos}
-use lib.ListN.{length, replicate}
-use Rattle.words.proofs.Lists.{getD-tabulate}
+use lib.ListN.{length}
 use Rattle.lang.specs.Answers.{replyOf, padded, listOf}
 use Rattle.lang.specs.Every.{every}
 use Rattle.lang.specs.Records.{instructionAt}
 use Rattle.lang.proofs.Every.{every-ext}
+use Rattle.lang.proofs.Refusals.{taken-reply, refused-reply}
+use Rattle.lang.proofs.Filled.{refused-list}
 use Rattle.chain.specs.Chains.{actsAs}
 use Rattle.reading.specs.Loops.{Ruled}
 use Rattle.fonts.specs.Fonts.{Font, tableOf, pairsOf}
-use Rattle.fonts.specs.Numbers.{nth, flagNumber}
+use Rattle.fonts.specs.Numbers.{flagNumber}
 use Rattle.fonts.specs.Compiled.{scales, pairScales, allScale}
+use Rattle.fonts.proofs.Replies.{flag-known, values-known, number-known, taken-unlike}
 use Rattle.pairs.specs.declared.Collected.{Collected}
 use Rattle.pairs.specs.declared.Collected.the-variants as collected
 use Rattle.pairs.specs.declared.Prepared.{Prepared}
 use Rattle.pairs.specs.declared.Prepared.the-variants.{Rows, Refused}
 use Rattle.pairs.specs.declared.Effect.{Effect}
-use Rattle.pairs.specs.Rows.{at, ruledAt}
+use Rattle.pairs.specs.Rows.{at}
 use Rattle.pairs.specs.LoopRows.{WalkOrder}
 use Rattle.pairs.specs.RowNumbers.{boundaryPairs, effectOf, pairEffect, fontRowNumbers}
 use Rattle.pairs.specs.PairRows.{Collects, operationAt, effectAt, rowsScale, Encodes}
 use Rattle.pairs.proofs.Tied.{ruled-tied, pairs-tied, rules-tied, ascending}
-use Rattle.pairs.proofs.RowNumberLaws.{boundary-is, rows-are}
+use Rattle.pairs.proofs.RowNumberLaws.{boundary-rows, rows-are}
 use Rattle.pairs.proofs.LoopLaws.{turns-same}
-use Rattle.collect.specs.Collecting.{collectRefusal, CollectsFont}
+use Rattle.collect.specs.Collecting.{CollectsFontBy, CollectsFont}
 use Rattle.prepare.specs.Prepares.{prepareRefusal, PreparesBy, preparedReply, Prepares}
 
 -- what encoding answers, at the design size as it was lent
@@ -41,10 +43,10 @@ pub collects-as : (s : List ℤ) (table : ℤ → List ℤ) (l l′ : ℤ) (cap 
 collects-as s table l l′ cap w w′ u t h e q = subst (λ (x : ℤ). CollectsFont s (table x) cap w w′ t) q (subst (CollectsFont s (table l) cap w w′) e h)
 
 module _ (f : Font) (cap : ℕ) (w : List ℕ) where
-  pub unfit : (k : ℕ) (w₁ : List ℕ) → CollectsFont (f .instructions) (tableOf f) cap w w₁ (collected.Refused k) → PreparesBy f cap w w₁ (Refused k)
+  pub unfit : (k : ℕ) (w₁ : List ℕ) → CollectsFontBy (f .instructions) (tableOf f) cap w w₁ (collected.Refused k) → PreparesBy f cap w w₁ (Refused k)
   unfit k w₁ c = c
 
-  module _ (n e : ℕ) (w₁ w₂ : List ℕ) (q : CollectsFont (f .instructions) (tableOf f) cap w w₁ (collected.Rows n e)) (b : Bool) (d : Encodes (f .instructions) (f .kerns) (f .design) n w₁ w₂ b) where
+  module _ (n e : ℕ) (w₁ w₂ : List ℕ) (q : CollectsFontBy (f .instructions) (tableOf f) cap w w₁ (collected.Rows n e)) (b : Bool) (d : Encodes (f .instructions) (f .kerns) (f .design) n w₁ w₂ b) where
     abbrev c : Collects (f .instructions) (tableOf f) w w₁ n e
     c = q .2
 
@@ -98,21 +100,31 @@ module _ (f : Font) (cap : ℕ) (w : List ℕ) where
 
 -- ---- the contract, from what the answer says
 
-reply-by : (f : Font) (cap : ℕ) (w w′ : List ℕ) (r : Prepared) → PreparesBy f cap w w′ r →
-    preparedReply r ≡ replyOf (prepareRefusal f cap) (pos (length (pairsOf f)) ∷ pos (boundaryPairs (pairsOf f)) ∷ flagNumber (allScale f) ∷ [])
-reply-by f cap w w′ (Rows n e b) d =
-    let g = d .4 in
-    let p : (k : ℕ) → k < n → ruledAt w′ k ≡ nth (pairsOf f) k = λ k h. sym (getD-tabulate n (ruledAt w′) k _ h) ∙ ap (λ (ps : List Ruled). nth ps k) (g .pairs-are) in
-    let x = boundary-is (pairsOf f) n e w′ (g .encoded .ascending) (g .count-is) p (g .turns) in
-    let z : replyOf 0 (pos n ∷ pos e ∷ flagNumber b ∷ []) ≡ replyOf 0 (pos (length (pairsOf f)) ∷ pos (boundaryPairs (pairsOf f)) ∷ flagNumber (allScale f) ∷ []) = (let u = g .count-is in let v = d .2 in λ i. replyOf 0 (pos (u i) ∷ pos (sym x i) ∷ flagNumber (v i) ∷ [])) in
-    z ∙ ap (λ (k : ℕ). replyOf k (pos (length (pairsOf f)) ∷ pos (boundaryPairs (pairsOf f)) ∷ flagNumber (allScale f) ∷ [])) (sym (d .0))
-reply-by f cap w w′ (Refused zero) d = absurd (omega (arith, d .1))
-reply-by f cap w w′ (Refused (suc k)) d = ap (λ (j : ℕ). replyOf j (pos (length (pairsOf f)) ∷ pos (boundaryPairs (pairsOf f)) ∷ flagNumber (allScale f) ∷ [])) (sym (d .0))
+module _ (f : Font) (cap : ℕ) (w w′ : List ℕ) where
+  -- the values of an answer that is taken
+  abbrev replied : List ℤ
+  replied = pos (length (pairsOf f)) ∷ pos (boundaryPairs (pairsOf f)) ∷ flagNumber (allScale f) ∷ []
 
-work-by : (f : Font) (cap : ℕ) (w w′ : List ℕ) (r : Prepared) → PreparesBy f cap w w′ r → w′ ≡ listOf (prepareRefusal f cap) 0 (length w) (fontRowNumbers f)
-work-by f cap w w′ (Rows n e b) d = d .5 ∙ ap (λ (k : ℕ). listOf k 0 (length w) (fontRowNumbers f)) (sym (d .0))
-work-by f cap w w′ (Refused zero) d = absurd (omega (arith, d .1))
-work-by f cap w w′ (Refused (suc k)) d = d .2 ∙ ap (λ (j : ℕ). listOf j 0 (length w) (fontRowNumbers f)) (sym (d .0))
+  reply-by : (r : Prepared) → PreparesBy f cap w w′ r → preparedReply r ≡ replyOf (prepareRefusal f cap) replied
+  reply-by (Rows n e b) d =
+      let g = d .4 in
+      let x = g .count-is in
+      let y = boundary-rows (pairsOf f) n e w′ (g .encoded .ascending) (g .pairs-are) x (g .turns) in
+      let z = d .2 in
+      (λ i. replyOf 0 (pos (x i) ∷ pos (y i) ∷ flagNumber (z i) ∷ [])) ∙ taken-reply replied (d .0)
+  reply-by (Refused k) d = refused-reply replied (sym (d .0)) (λ z. omega (arith, d .1))
 
-pub prepares : (f : Font) (cap : ℕ) (w w′ : List ℕ) (r : Prepared) → PreparesBy f cap w w′ r → Prepares f cap w w′ r
-prepares f cap w w′ r d = record { reply = reply-by f cap w w′ r d; work = work-by f cap w w′ r d; rows = d }
+  work-by : (r : Prepared) → PreparesBy f cap w w′ r → w′ ≡ listOf (prepareRefusal f cap) 0 (length w) (fontRowNumbers f)
+  work-by (Rows n e b) d = rw (d .0) (d .5)
+  work-by (Refused k) d = refused-list 0 (length w) (fontRowNumbers f) (sym (d .0)) (λ z. omega (arith, d .1)) (d .2)
+
+  pub prepares : (r : Prepared) → PreparesBy f cap w w′ r → Prepares f cap w w′ r
+  prepares r d = record { reply = reply-by r d; work = work-by r d; rows = d }
+
+-- ---- the answer is known from its reply
+
+pub prepared-determined : (a b : Prepared) → preparedReply a ≡ preparedReply b → a ≡ b
+prepared-determined (Rows n e b) (Rows n′ e′ b′) q = let v = values-known q in let z = flag-known b b′ (cc) in cc
+prepared-determined (Rows n e b) (Refused k) q = taken-unlike q
+prepared-determined (Refused k) (Rows n e b) q = taken-unlike (sym q)
+prepared-determined (Refused j) (Refused k) q = ap Refused (number-known q)

@@ -1,3 +1,3 @@
 -- The laws of queries.
---   Laws  what else a host asks: by the tests of the code, and by the refusals
+--   Laws  what else a host asks: by the tests of the code
 pub mod Laws

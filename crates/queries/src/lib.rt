@@ -1,28 +1,25 @@
-// What else a host asks of a run, of a table or of a word: after `is_separation_point`, `has_replacement`, `all_pairs_with_replacements` and
-// `CompiledProgram::is_seven_bit_safe` of ligkern/mod.rs, and the original of an item as a part of the caller's word.
-//   keys       the left and the right of every pair        seven_bit  whether every pair becomes seven-bit characters
+// What else a host asks of a run, of a table or of a word: after `is_separation_point`, `has_replacement` and `all_pairs_with_replacements` of
+// ligkern/mod.rs, and the original of an item as a part of the caller's word. The table's seven-bit test is crate seven_bit.
+//   keys  the left and the right of every pair
 ghost use mathlib.Core.Path.{_≡_};
 ghost use Rattle.captions.specs.Tables.{keyBy};
 ghost use Rattle.captions.specs.Tables as tables;
 ghost use Rattle.captions.specs.Replies.{toldReply};
 ghost use Rattle.captions.specs.Steps.{rightItem};
-ghost use Rattle.captions.specs.Queries.{notLigature, isSeparationPoint, originalOf, isFound, hasEntry, hasRefusal, hasReply, ListsPairs, safeReply};
+ghost use Rattle.captions.specs.Queries.{notLigature, isSeparationPoint, originalOf, isFound, hasEntry, hasRefusal, hasReply, ListsPairs};
 
 mod keys;
-mod seven_bit;
 
 use captions::Found;
 use captions::NextLeft;
 use captions::State;
 use captions::Told;
 use checks::absent_refusal;
-use form::table_refusal;
 use keys::keys_refusal;
 use keys::write_keys;
 use lang::Written;
-use seven_bit::all_are_safe;
-use tables::find;
-use tables::left_place;
+use lookup::find;
+use lookup::left_place;
 
 fn is_no_ligature(next_left: NextLeft) -> bool
     ensures { λ r. ⌜ r ≡ notLigature «next_left» ⌝ }
@@ -127,15 +124,4 @@ pub fn all_pairs_with_replacements(pairs: &[i32], out: &mut [i32]) -> Written
     }
     write_keys(pairs, out);
     Written::Count(pairs.len() / 6)
-}
-
-// Whether any pair of seven-bit characters, the left boundary among them, becomes seven-bit characters.
-pub fn is_seven_bit_safe(pairs: &[i32], ops: &[i32]) -> Told
-    ensures { λ r. ⌜ toldReply r ≡ safeReply (now (pairs .entry)) (now (ops .entry)) ⌝ }
-{
-    let refusal = table_refusal(pairs, ops);
-    if refusal != 0 {
-        return Told::Refused(refusal);
-    }
-    Told::Is(all_are_safe(pairs, ops))
 }

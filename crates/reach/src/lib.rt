@@ -9,13 +9,13 @@ ghost use Rattle.words.specs.Lists.{tabulate};
 ghost use Rattle.lang.specs.Records.{count};
 ghost use Rattle.reach.specs.Reach.{marksFrom, adjustedSkip, stateOf, skipOf, reachNumber, reachRefusal, Reaches};
 use checks::absent_refusal;
-use checks::entries_refusal;
-use checks::passthrough_refusal;
 use checks::program_refusal;
-use checks::room_refusal;
 use lang::Written;
 use lang::instruction::NextInstruction;
 use lang::instruction::instruction_at;
+use limits::entries_refusal;
+use limits::passthrough_refusal;
+use limits::room_refusal;
 use marks::reachable_array;
 
 // The bits of -1: no skip.

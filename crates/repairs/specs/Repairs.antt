@@ -40,9 +40,9 @@ damagedRefusal d =
     (orElse (absentRefusal 65535 (d .left))
     (orElse (unless 4 (leb (d .replacement) 255)) (passthroughRefusal (d .passthrough) (d .instructions)))))))
 
--- 12: the repaired font has more pairs with a rule than the work buffer holds at sixteen u32 each
-abbrev pub repairedPairsRefusal : Damaged → RepairRoom → ℕ
-repairedPairsRefusal d room = cond (leb (length (pairsOf (repairedFont d))) (room .work / 16)) 0 12
+-- 12: the repaired font has more pairs with a rule than a work buffer of so many places holds at sixteen each
+abbrev pub repairedPairsRefusal : Damaged → ℕ → ℕ
+repairedPairsRefusal d work = cond (leb (length (pairsOf (repairedFont d))) (work / 16)) 0 12
 
 -- 15: a list is too short for the repaired instructions, for their passthrough, or for the warnings
 abbrev pub repairRoomRefusal : Damaged → RepairRoom → ℕ
@@ -51,7 +51,7 @@ repairRoomRefusal d room =
     (orElse (roomRefusal (count (d .instructions)) (room .passthrough)) (roomRefusal (length (warningsOf d)) (room .warnings)))
 
 abbrev pub repairRefusal : Damaged → RepairRoom → ℕ
-repairRefusal d room = orElse (damagedRefusal d) (orElse (repairedPairsRefusal d room) (repairRoomRefusal d room))
+repairRefusal d room = orElse (damagedRefusal d) (orElse (repairedPairsRefusal d (room .work)) (repairRoomRefusal d room))
 
 -- what repair answers, as document 01 has it: the left entry and how many warnings there are, or the number
 abbrev pub validatedReply : Validated → Reply

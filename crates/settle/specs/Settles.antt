@@ -1,15 +1,19 @@
 -- The rows of a font, settled: the contract of `settle`. `Settled` of crate `pairs` says what is known of each row.
 use mathlib.Core.Path.{_≡_}
-use mathlib.Core.List.{List}
+use mathlib.Core.List.{List, [], _∷_}
 use Prim.Native.Nat.{ℕ, _<_, _≤_}
+use lib.IntN.{pos}
 use lib.ListN.{length, replicate}
+use Rattle.lang.specs.Answers.{Reply, replyOf}
 use Rattle.fonts.specs.Fonts.{Font, pairsOf, rulesOf}
-use Rattle.fonts.specs.Compiled.{allScale}
+use Rattle.fonts.specs.Numbers.{flagNumber}
+use Rattle.fonts.specs.Compiled.{tablePairs, allScale}
 use Rattle.pairs.specs.declared.SettledFont.{SettledFont}
 use Rattle.pairs.specs.declared.SettledFont.the-variants.{Rows, Refused}
 use Rattle.pairs.specs.Rows.{at, pairs, rules, Encoded}
 use Rattle.pairs.specs.SettledRows.{Settled}
 use Rattle.pairs.specs.LoopRows.{WalkOrder}
+use Rattle.pairs.specs.RowNumbers.{boundaryPairs}
 use Rattle.prepare.specs.Prepares.{prepareRefusal}
 
 -- n rows are the font's, of which e are the boundary's and m finish; numbers 8, and 9 of the rows that finish, are left free
@@ -27,3 +31,16 @@ abbrev pub SettlesBy : Font → ℕ → List ℕ → List ℕ → SettledFont �
 SettlesBy f cap w w′ (Rows n e m b) =
     (prepareRefusal f cap ≡ 0) × (length w′ ≡ length w) × (b ≡ allScale f) × (n ≤ cap) × FontSettled f w′ n e m
 SettlesBy f cap w w′ (Refused k) = (prepareRefusal f cap ≡ k) × (0 < k) × (w′ ≡ replicate (length w) 0)
+
+-- what settle answers, as document 01 has it: how many rows, how many of them are the boundary's, how many finish, and 1 where every kern
+-- that is a rule scales; or the number
+abbrev pub settledReply : SettledFont → Reply
+settledReply (Rows n e m b) = replyOf 0 (pos n ∷ pos e ∷ pos m ∷ flagNumber b ∷ [])
+settledReply (Refused k) = record { number = k; values = [] }
+
+-- THE contract of settle: the answer by equation, and what the rows are good for
+pub record Settles (f : Font) (cap : ℕ) (w w′ : List ℕ) (r : SettledFont) : Type 0 where
+  pub reply : settledReply r ≡
+      replyOf (prepareRefusal f cap)
+      (pos (length (pairsOf f)) ∷ pos (boundaryPairs (pairsOf f)) ∷ pos (tablePairs f) ∷ flagNumber (allScale f) ∷ [])
+  pub rows : SettlesBy f cap w w′ r

@@ -9,7 +9,7 @@ ghost use Rattle.pairs.specs.Rows.{at, Ascending, Encoded};
 ghost use Rattle.fonts.specs.Fonts.{leftOf, fontOf};
 ghost use Rattle.pairs.specs.SettledRows.{Settled};
 ghost use Rattle.pairs.specs.SettleSteps.{LastsStored, PairSays, RuleSays, SecondSays, flagged, codeOf, Searching, Opened, Stuck, opening, finishing, GivenUp, Advanced, Searched};
-ghost use Rattle.settle.specs.Settles.{SettlesBy};
+ghost use Rattle.settle.specs.Settles.{Settles};
 use pairs::Last;
 use pairs::Prepared;
 use pairs::Progress;
@@ -193,7 +193,7 @@ pub fn settle(
     work: &mut [u32],
     room: usize,
 ) -> SettledFont
-    ensures { λ r. ⌜ ((b : ℤ) → SettlesBy (fontOf (now (instructions .entry)) (now (kerns .entry)) (now (entries .entry)) b «left_entry» «design_size») (min room (length (now (work .entry)) / 16)) (now (work .entry)) (now (work .exit)) r) ⌝ }
+    ensures { λ r. ⌜ ((b : ℤ) → Settles (fontOf (now (instructions .entry)) (now (kerns .entry)) (now (entries .entry)) b «left_entry» «design_size») (min room (length (now (work .entry)) / 16)) (now (work .entry)) (now (work .exit)) r) ⌝ }
 {
     match prepare(
         instructions,

@@ -4,7 +4,6 @@ use captions::Told;
 use lang::Written;
 use queries::all_pairs_with_replacements;
 use queries::has_replacement;
-use queries::is_seven_bit_safe;
 use requests::answer::bit;
 use requests::answer::put_count;
 use requests::answer::put_list;
@@ -12,6 +11,7 @@ use requests::answer::put_one;
 use requests::request::from_end;
 use requests::request::number_at;
 use requests::request::part;
+use seven_bit::is_seven_bit_safe;
 
 // 1 where the answer is yes, else 0.
 fn is_so(answer: Told) -> u32 {

@@ -1,11 +1,8 @@
-// The pair table and the ops as they are lent, whatever they hold: one number as its 32 bits, what fits, and a pair found by bisection.
+// The pair table and the ops as they are lent, whatever they hold: one number as its 32 bits, and what fits. A pair is found by crate lookup.
 ghost use mathlib.Core.Path.{_≡_};
-ghost use Prim.Native.Nat.{_+_, _%_};
 ghost use Rattle.words.specs.Words.{Word};
-ghost use Rattle.captions.specs.Tables.{number, opKind, opValue, keyBy, keyAt, opFits, recordFits, foundAt};
-ghost use Rattle.captions.specs.Tables as tables;
+ghost use Rattle.captions.specs.Tables.{number, opKind, opValue, opFits, recordFits};
 ghost use Rattle.tables.specs.Parts.{lastFits};
-use captions::Found;
 
 // Number j of pair k; 0 past the numbers.
 pub fn number_at(pairs: &[i32], k: usize, j: u8) -> u32
@@ -35,46 +32,6 @@ pub fn value_at(ops: &[i32], i: usize) -> u32
         return 0;
     }
     words::word_at(ops, 2 * i + 1)
-}
-
-// A left by its 32 bits: -1 is 0, and c is 1 + c.
-pub fn left_place(word: u32) -> u32
-    ensures { λ r. ⌜ r ≡ (word + 1) % 4294967296 ⌝ }
-{
-    (((word as u64) + 1) % 4294967296) as u32
-}
-
-// Pair k's place in the order of pairs.
-pub fn key_at(pairs: &[i32], k: usize) -> u64
-    ensures { λ r. ⌜ r ≡ keyAt (now (pairs .entry)) k ⌝ }
-{
-    let left = number_at(pairs, k, 0) as u64;
-    let right = number_at(pairs, k, 1) as u64;
-    4294967296 * ((left + 1) % 4294967296) + right
-}
-
-// The pair of a left (0 the boundary, else 1 + character) and a right character.
-pub fn find(pairs: &[i32], left: u32, right: u32) -> Found
-    ensures { λ r. ⌜ r ≡ foundAt (tables.find (now (pairs .entry)) (keyBy left right)) ⌝ }
-{
-    let wanted = 4294967296 * (left as u64) + (right as u64);
-    let n = pairs.len() / 6;
-    let mut lo = 0;
-    let mut hi = n;
-    while lo < hi {
-        let mid = lo + (hi - lo) / 2;
-        if key_at(pairs, mid) < wanted {
-            lo = mid + 1;
-        } else {
-            hi = mid;
-        }
-    }
-    if lo < n {
-        if key_at(pairs, lo) == wanted {
-            return Found::At(lo);
-        }
-    }
-    Found::Nothing
 }
 
 // Op i is there: a character or a ligature with its code, or a kern.

@@ -19,7 +19,7 @@ use captions::NextLeft;
 use captions::State;
 use captions::Step;
 use captions::Turned;
-use tables::find;
+use lookup::find;
 use tables::number_at;
 use tables::record_fits;
 

@@ -9,7 +9,7 @@ ghost use Rattle.pairs.specs.Rows.{at, Encoded};
 ghost use Rattle.pairs.specs.SettledRows.{Settled};
 ghost use Rattle.pairs.specs.LoopRows.{walkRow, WalkOrder, Listed};
 ghost use Rattle.pairs.specs.LoopSteps.{Walkable, Walk, WalkTaken};
-ghost use Rattle.walks.specs.FindsLoops.{FindsLoopsBy};
+ghost use Rattle.walks.specs.FindsLoops.{FindsLoops};
 use pairs::SettledFont;
 use pairs::WalkedFont;
 use rows::get;
@@ -82,7 +82,7 @@ pub fn find_loops(
     work: &mut [u32],
     room: usize,
 ) -> WalkedFont
-    ensures { λ r. ⌜ ((b : ℤ) → FindsLoopsBy (fontOf (now (instructions .entry)) (now (kerns .entry)) (now (entries .entry)) b «left_entry» «design_size») (min room (length (now (work .entry)) / 16)) (now (work .entry)) (now (work .exit)) r) ⌝ }
+    ensures { λ r. ⌜ ((b : ℤ) → FindsLoops (fontOf (now (instructions .entry)) (now (kerns .entry)) (now (entries .entry)) b «left_entry» «design_size») (min room (length (now (work .entry)) / 16)) (now (work .entry)) (now (work .exit)) r) ⌝ }
 {
     match settle(
         instructions,

@@ -7,7 +7,7 @@ use Rattle.fonts.specs.Fonts.{Font, fontOf}
 use Rattle.fonts.specs.Compiled.{roomOf}
 use Rattle.fonts.proofs.Lent.{lent-as}
 use Rattle.pairs.specs.declared.CountedFont.{CountedFont}
-use Rattle.counts.specs.Counting.{CountsBy}
+use Rattle.counts.specs.Counting.{CountsFont}
 use Rattle.ops.proofs.WrittenOps.{unfit, op-room, blank-still, written}
 use borrow.Author.Needs.{needs}
 use Rattle.ops.proofs.write_ops.Statement.{statement}
@@ -34,7 +34,7 @@ write-rows-requires c κs =
     let a = o .args in
     let w = k .count .last .1 .1 .1 .1 .1 .0 in
     let f = fontOf (a .instructions .now) (a .kerns .now) (a .entries .now) (pos 0) (a .«left-entry») (a .«design-size») in
-    let p = lent-as (λ (x : Font) (r : CountedFont). CountsBy x (roomOf (a .«pair-room») (length (z .last .0)) (a .«loop-room») (length (a .work .now))) (a .work .now) w r) (a .instructions .now) (a .kerns .now) (a .entries .now) (pos 0) _ (a .«left-entry») _ (a .«design-size») (k .count .result) _ (k .count .ensures (pos 0)) (g .1) (number-word (a .«left-entry») (o .fits .«left-entry»)) (number-word (a .«design-size») (o .fits .«design-size»)) in
+    let p = (lent-as (λ (x : Font) (r : CountedFont). CountsFont x (roomOf (a .«pair-room») (length (z .last .0)) (a .«loop-room») (length (a .work .now))) (a .work .now) w r) (a .instructions .now) (a .kerns .now) (a .entries .now) (pos 0) _ (a .«left-entry») _ (a .«design-size») (k .count .result) _ (k .count .ensures (pos 0)) (g .1) (number-word (a .«left-entry») (o .fits .«left-entry»)) (number-word (a .«design-size») (o .fits .«design-size»))) .rows in
     (p .4 .ready, op-room f (a .«pair-room») (a .«loop-room») (a .ops .now) (z .last .0) (a .work .now) w (z .ensures) (g .0 .0) (g .0 .1 .0) (g .0 .1 .1 .0) (g .0 .1 .1 .1 .0) p, blank-still f (a .«pair-room») (a .«loop-room») (a .ops .now) (z .last .0) (a .work .now) w (z .ensures) (g .0 .0) (g .0 .1 .0) (g .0 .1 .1 .0) (g .0 .1 .1 .1 .0) p)
 
 same-length : tie.Need-same-length
@@ -51,7 +51,7 @@ returns c = λ b.
     let o = k .before .before .before .before .before .before in
     let a = o .args in
     let w = k .count .last .1 .1 .1 .1 .1 .0 in
-    let p = lent-as (λ (x : Font) (r : CountedFont). CountsBy x (roomOf (a .«pair-room») (length (z .last .0)) (a .«loop-room») (length (a .work .now))) (a .work .now) w r) (a .instructions .now) (a .kerns .now) (a .entries .now) b _ (a .«left-entry») _ (a .«design-size») (k .count .result) _ (k .count .ensures b) (g .1) (number-word (a .«left-entry») (o .fits .«left-entry»)) (number-word (a .«design-size») (o .fits .«design-size»)) in
+    let p = (lent-as (λ (x : Font) (r : CountedFont). CountsFont x (roomOf (a .«pair-room») (length (z .last .0)) (a .«loop-room») (length (a .work .now))) (a .work .now) w r) (a .instructions .now) (a .kerns .now) (a .entries .now) b _ (a .«left-entry») _ (a .«design-size») (k .count .result) _ (k .count .ensures b) (g .1) (number-word (a .«left-entry») (o .fits .«left-entry»)) (number-word (a .«design-size») (o .fits .«design-size»))) .rows in
     unfit (fontOf (a .instructions .now) (a .kerns .now) (a .entries .now) b (a .«left-entry») (a .«design-size»)) (a .«pair-room») (a .«loop-room») (a .ops .now) (z .last .0) (a .work .now) w (z .ensures) (g .0 .0) p
 
 same-length-3 : tie.Need-same-length-3
@@ -69,7 +69,7 @@ returns-2 c = λ b.
     let o = k .before .before .before .before .before .before in
     let a = o .args in
     let w = k .count .last .1 .1 .1 .1 .1 .0 in
-    let p = lent-as (λ (x : Font) (r : CountedFont). CountsBy x (roomOf (a .«pair-room») (length (z .last .0)) (a .«loop-room») (length (a .work .now))) (a .work .now) w r) (a .instructions .now) (a .kerns .now) (a .entries .now) b _ (a .«left-entry») _ (a .«design-size») (k .count .result) _ (k .count .ensures b) (g .1) (number-word (a .«left-entry») (o .fits .«left-entry»)) (number-word (a .«design-size») (o .fits .«design-size»)) in
+    let p = (lent-as (λ (x : Font) (r : CountedFont). CountsFont x (roomOf (a .«pair-room») (length (z .last .0)) (a .«loop-room») (length (a .work .now))) (a .work .now) w r) (a .instructions .now) (a .kerns .now) (a .entries .now) b _ (a .«left-entry») _ (a .«design-size») (k .count .result) _ (k .count .ensures b) (g .1) (number-word (a .«left-entry») (o .fits .«left-entry»)) (number-word (a .«design-size») (o .fits .«design-size»))) .rows in
     written (fontOf (a .instructions .now) (a .kerns .now) (a .entries .now) b (a .«left-entry») (a .«design-size»)) (a .«pair-room») (a .«loop-room») (a .ops .now) (z .last .0) (a .work .now) w (z .ensures) (g .0 .0) (g .0 .1 .0) (g .0 .1 .1 .0) (g .0 .1 .1 .1 .0) p (s .last .1 .1 .1 .0) (s .ensures)
 
 pub write-ops-spec : {M : Type 1} → statement M

@@ -5,7 +5,7 @@ use denote.Ref.{now}
 use Rattle.words.proofs.Bits.{number-word}
 use Rattle.captions.specs.Steps.{rightItem}
 use Rattle.captions.specs.Queries.{hasEntry, hasRefusal}
-use Rattle.queries.proofs.Laws.{told-refused, told-is}
+use Rattle.captions.proofs.Replies.{told-refused, told-is}
 use borrow.Author.Needs.{needs}
 use Rattle.queries.proofs.has_replacement.Statement.{statement}
 use Rattle.queries.proofs.has_replacement.Tie as tie

@@ -8,7 +8,7 @@ use Rattle.fonts.specs.Fonts.{Font, fontOf}
 use Rattle.fonts.proofs.Lent.{lent-as}
 use Rattle.pairs.specs.declared.Prepared.{Prepared}
 use Rattle.prepare.specs.Prepares.{Prepares}
-use Rattle.settle.proofs.SettledFonts.{unfit, settled}
+use Rattle.settle.proofs.SettledFonts.{unfit, settled, settles}
 use borrow.Author.Needs.{needs}
 use Rattle.settle.proofs.settle.Statement.{statement}
 use Rattle.settle.proofs.settle.Tie as tie
@@ -42,7 +42,7 @@ returns c = λ b.
     let w = k .prepare .last .1 .1 .1 .1 .1 .0 in
     let cap = min (a .room) (length (a .work .now) / 16) in
     let p = (lent-as (λ (f : Font) (r : Prepared). Prepares f cap (a .work .now) w r) (a .instructions .now) (a .kerns .now) (a .entries .now) b _ (a .«left-entry») _ (a .«design-size») (k .prepare .result) _ (k .prepare .ensures b) (c .before .number .given .1) (number-word (a .«left-entry») (o .fits .«left-entry»)) (number-word (a .«design-size») (o .fits .«design-size»))) .rows in
-    unfit (fontOf (a .instructions .now) (a .kerns .now) (a .entries .now) b (a .«left-entry») (a .«design-size»)) cap (a .work .now) w (c .before .number .given .0 .0) p
+    settles _ _ _ _ _ (unfit (fontOf (a .instructions .now) (a .kerns .now) (a .entries .now) b (a .«left-entry») (a .«design-size»)) cap (a .work .now) w (c .before .number .given .0 .0) p)
 
 same-length-2 : tie.Need-same-length-2
 same-length-2 c = search needs
@@ -57,7 +57,7 @@ returns-2 c = λ b.
     let w = k .prepare .last .1 .1 .1 .1 .1 .0 in
     let cap = min (a .room) (length (a .work .now) / 16) in
     let p = (lent-as (λ (f : Font) (r : Prepared). Prepares f cap (a .work .now) w r) (a .instructions .now) (a .kerns .now) (a .entries .now) b _ (a .«left-entry») _ (a .«design-size») (k .prepare .result) _ (k .prepare .ensures b) (g .1) (number-word (a .«left-entry») (o .fits .«left-entry»)) (number-word (a .«design-size») (o .fits .«design-size»))) .rows in
-    settled (fontOf (a .instructions .now) (a .kerns .now) (a .entries .now) b (a .«left-entry») (a .«design-size»)) cap (a .work .now) w (g .0 .0) (g .0 .1 .0) (s .settle-rows .result) (g .0 .1 .1 .0) (s .settle-rows .last .0) p (s .settle-rows .ensures)
+    settles _ _ _ _ _ (settled (fontOf (a .instructions .now) (a .kerns .now) (a .entries .now) b (a .«left-entry») (a .«design-size»)) cap (a .work .now) w (g .0 .0) (g .0 .1 .0) (s .settle-rows .result) (g .0 .1 .1 .0) (s .settle-rows .last .0) p (s .settle-rows .ensures))
 
 pub settle-spec : {M : Type 1} → statement M
 settle-spec =

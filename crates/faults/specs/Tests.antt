@@ -1,0 +1,31 @@
+-- Each test of a step (TFtoPL 70 to 77) over those lists alone that it asks of: the tests of crate `repairs`, at a program whose other parts are nothing.
+use mathlib.Core.Bool.{Bool}
+use mathlib.Core.List.{List, []}
+use Prim.Native.Nat.{ℕ}
+use lib.IntN.{ℤ, pos}
+use Rattle.repairs.specs.Damaged.{programBy}
+use Rattle.repairs.specs.Repaired.{exists, skipGoes, redirectWarns, isBoundary, rightGoes, kernGoes, productGoes, tagGoes}
+
+abbrev pub existsIn : List ℕ → ℕ → Bool
+existsIn existing c = exists (programBy [] [] (pos 0) 0 existing [] []) c
+
+abbrev pub isEdge : ℤ → ℤ → Bool
+isEdge boundary right = isBoundary (programBy [] [] boundary 0 [] [] []) right
+
+abbrev pub skipPasses : List ℤ → List ℕ → ℕ → Bool
+skipPasses s marks i = skipGoes (programBy s [] (pos 0) 0 [] marks []) i
+
+abbrev pub redirectPasses : List ℤ → List ℕ → List ℕ → ℕ → Bool
+redirectPasses s marks passthrough i = redirectWarns (programBy s [] (pos 0) 0 [] marks passthrough) i
+
+abbrev pub rightMissing : List ℤ → ℤ → List ℕ → ℕ → Bool
+rightMissing s boundary existing i = rightGoes (programBy s [] boundary 0 existing [] []) i
+
+abbrev pub kernPasses : List ℤ → List ℤ → ℕ → Bool
+kernPasses s kerns i = kernGoes (programBy s kerns (pos 0) 0 [] [] []) i
+
+abbrev pub productMissing : List ℤ → List ℕ → ℕ → Bool
+productMissing s existing i = productGoes (programBy s [] (pos 0) 0 existing [] []) i
+
+abbrev pub tagInvalid : List ℤ → ℕ → Bool
+tagInvalid s i = tagGoes (programBy s [] (pos 0) 0 [] [] []) i

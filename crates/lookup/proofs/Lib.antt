@@ -1,0 +1,3 @@
+-- The laws of lookup.
+--   Bisection   the search of `find`: however many halvings there is room for, and turn by turn
+pub mod Bisection

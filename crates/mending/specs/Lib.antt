@@ -1,0 +1,3 @@
+-- What the passes of repair together are held to.
+--   Mending  THE contract of `mend`
+pub mod Mending
