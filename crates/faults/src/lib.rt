@@ -1,4 +1,4 @@
-// What is wrong with a step of a program, after `validate_and_fix` of ligkern/lang.rs (lines 724 to 798); TFtoPL 70 to 77. Nothing is repaired here: crate `fixes` does.
+// What is wrong with a step of a program, after `validate_and_fix` of ligkern/lang.rs (lines 722 to 806); TFtoPL 70 to 77. Nothing is repaired here: crate `fixes` does.
 ghost use mathlib.Core.Path.{_≡_};
 ghost use Prim.Native.Nat.{ℕ};
 ghost use lib.ListN.{getD};
@@ -121,7 +121,7 @@ fn tag_goes(instructions: &[i32], i: usize) -> bool
     !is_standard(field_at(instructions, i, 3) / 256)
 }
 
-// What is wrong with step i.
+// What is wrong with step i, whatever replaces a character that does not exist.
 pub fn faults(
     instructions: &[i32],
     kerns: &[i32],

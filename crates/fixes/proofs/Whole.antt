@@ -6,11 +6,15 @@ use mathlib.Core.List.{List}
 use Prim.Native.Nat.{ℕ, _+_, _*_, _<_}
 use lib.IntN.{ℤ}
 use lib.Seq.{sets}
+use mir.Syntax.{w32}
+use mir.Val.{SFits}
+use Rattle.words.specs.Words.{wordOf, numberOf}
+use Rattle.words.proofs.Bits.{number-word}
 use Rattle.lang.specs.Records.{count, isInstruction}
 use Rattle.lang.specs.Checks.{programRefusal}
 use Rattle.lang.proofs.Refusals.{program-record}
 use Rattle.repairs.specs.declared.Faults.{Faults}
-use Rattle.repairs.specs.Damaged.{Program}
+use Rattle.repairs.specs.Damaged.{Program, programBy}
 use Rattle.repairs.specs.Repaired.{faultsOf}
 use Rattle.repairs.specs.Warnings.{skipWarnings}
 use Rattle.fixes.specs.Fixing.{Fixes}
@@ -27,10 +31,18 @@ module _ (p : Program) where
       record {
         instructions =
             λ t.
-                written-more p k fixed f₁ f₂ (a .instructions t)
-                (c (program-record (p .instructions) t k h) ∙ ap (λ (g : Faults). sets f₁ (4 * k) (stepBy (p .instructions) (p .replacement) g k)) e);
+            written-more p k fixed f₁ f₂ (a .instructions t)
+            (c (program-record (p .instructions) t k h) ∙ ap (λ (g : Faults). sets f₁ (4 * k) (stepBy (p .instructions) (p .replacement) g k)) e);
         warned = steps-more p k (a .warned) (subst (λ (g : Faults). PushedUpTo 5 w₁ m (warningsBy (p .instructions) (p .replacement) g k) w₂ r) e b);
       }
 
-  pub fixes-whole : {k n m : ℕ} {fixed warnings w₁ : List ℤ} {r : ℕ} {fixed′ warnings′ : List ℤ} → PushedUpTo k warnings n (skipWarnings p (count (p .instructions))) w₁ m → FixesUpto p (count (p .instructions)) m fixed w₁ r fixed′ warnings′ → programRefusal (p .instructions) ≡ 0 → Fixes p n fixed warnings r fixed′ warnings′
-  fixes-whole a b e = record { instructions = b .instructions e; warned = and-then a (b .warned) .pushed }
+-- the boundary character is passed on by its 32 bits
+module _ (s kerns : List ℤ) (boundary : ℤ) (replacement : ℕ) (existing marks through : List ℕ) (fits : SFits w32 boundary) where
+  -- the program with the boundary character b
+  abbrev lent : ℤ → Program
+  lent b = programBy s kerns b replacement existing marks through
+
+  pub fixes-whole : {k n m : ℕ} {fixed warnings w₁ : List ℤ} {r : ℕ} {fixed′ warnings′ : List ℤ} → PushedUpTo k warnings n (skipWarnings (lent (numberOf (wordOf boundary))) (count s)) w₁ m → FixesUpto (lent (numberOf (wordOf boundary))) (count s) m fixed w₁ r fixed′ warnings′ → programRefusal s ≡ 0 → Fixes (lent boundary) n fixed warnings r fixed′ warnings′
+  fixes-whole {n = n} {fixed = fixed} {warnings} {r = r} {fixed′} {warnings′} a b e =
+      subst (λ (z : ℤ). Fixes (lent z) n fixed warnings r fixed′ warnings′) (number-word boundary fits)
+      (record { instructions = b .instructions e; warned = and-then a (b .warned) .pushed })

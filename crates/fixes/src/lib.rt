@@ -1,4 +1,4 @@
-// The pass of repair over the steps of a program, after `validate_and_fix` of ligkern/lang.rs (lines 724 to 798); TFtoPL 70 to 77. Crate `faults` says what is wrong
+// The pass of repair over the steps of a program, after `validate_and_fix` of ligkern/lang.rs (lines 722 to 806); TFtoPL 70 to 77. Crate `faults` says what is wrong
 // with a step; here it is warned of and repaired.
 ghost use mathlib.Core.Path.{_≡_};
 ghost use mathlib.Core.Bool.{true, cond};
@@ -101,7 +101,15 @@ fn warn_skips(
     let mut at = n;
     let mut i = 0;
     while i < instructions.len() / 4 {
-        let f = faults(instructions, kerns, boundary, existing, marks, passthrough, i);
+        let f = faults(
+            instructions,
+            kerns,
+            boundary,
+            existing,
+            marks,
+            passthrough,
+            i,
+        );
         at = push_if(f.skip, warnings, at, 3, i as u32, 0, 0);
         i += 1;
     }
@@ -127,7 +135,15 @@ fn fix_steps(
     let mut at = n;
     let mut i = 0;
     while i < instructions.len() / 4 {
-        let f = faults(instructions, kerns, boundary, existing, marks, passthrough, i);
+        let f = faults(
+            instructions,
+            kerns,
+            boundary,
+            existing,
+            marks,
+            passthrough,
+            i,
+        );
         at = warn_step(instructions, replacement, f, i, warnings, at);
         write_step(instructions, replacement, f, i, fixed);
         i += 1;
@@ -160,6 +176,26 @@ pub fn fix_program(
     if 65535 < n {
         return n;
     }
-    let skipped = warn_skips(instructions, kerns, boundary, existing, marks, passthrough, warnings, n);
-    fix_steps(instructions, kerns, boundary, replacement, existing, marks, passthrough, fixed, warnings, skipped)
+    let skipped = warn_skips(
+        instructions,
+        kerns,
+        boundary,
+        existing,
+        marks,
+        passthrough,
+        warnings,
+        n,
+    );
+    fix_steps(
+        instructions,
+        kerns,
+        boundary,
+        replacement,
+        existing,
+        marks,
+        passthrough,
+        fixed,
+        warnings,
+        skipped,
+    )
 }

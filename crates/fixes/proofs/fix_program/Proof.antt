@@ -1,42 +1,43 @@
+-- `fixes::fix_program` meets its contract. A program that it does nothing to is refused; else the warnings of skips are pushed, and after them those of steps.
+-- Assumes nothing.
+use native.Mathlib.Omega.{arith}
+use denote.Ref.{now}
+use Rattle.lang.proofs.Refusals.{program-size}
+use Rattle.fixes.proofs.Whole.{fixes-whole}
 use borrow.Author.Needs.{needs}
 use Rattle.fixes.proofs.fix_program.Statement.{statement}
 use Rattle.fixes.proofs.fix_program.Tie as tie
-use Rattle.fixes.proofs.fix_program.Reads as reads
-use Rattle.fixes.proofs.fix_program.Lts as lts
-use Rattle.fixes.proofs.fix_steps.Reads as fix-steps-reads
-use Rattle.fixes.proofs.warn_skips.Reads as warn-skips-reads
 
--- src/lib.rt:155:9
 returns : tie.Need-returns
-returns c = ?
+returns c = λ e h l. let a = c .before .before .before .args in absurd (omega (arith, program-size (now (a .instructions)) e, c .if1 .taken))
 
--- src/lib.rt:158:9
 returns-2 : tie.Need-returns-2
-returns-2 c = ?
+returns-2 c = λ e h l. absurd (omega (arith, c .if2 .taken))
 
--- src/lib.rt:161:9
 returns-3 : tie.Need-returns-3
-returns-3 c = ?
+returns-3 c = λ e h l. absurd (omega (arith, c .if3 .taken))
 
--- src/lib.rt:163:9
 warn-skips-requires : tie.Need-warn-skips-requires
 warn-skips-requires c κs = search needs
 
--- src/lib.rt:164:5
 fix-steps-requires : tie.Need-fix-steps-requires
-fix-steps-requires c κs = ?
+fix-steps-requires c κs = let h = c .before .before .before .warn-skips .ensures 0 .most in search needs
 
--- src/lib.rt:140:1
 same-length : tie.Need-same-length
 same-length c = search needs
 
--- src/lib.rt:140:1
 same-length-2 : tie.Need-same-length-2
 same-length-2 c = search needs
 
--- src/lib.rt:140:1
 returns-4 : tie.Need-returns-4
-returns-4 c = ?
+returns-4 c = λ e h l.
+    let x = c .before .before in
+    let y = x .before .before .before .before in
+    let k = y .before .before .before .before in
+    let s = k .before .before .before in
+    let a = s .args in
+    fixes-whole (now (a .instructions)) (now (a .kerns)) (a .boundary) (a .replacement) (now (a .existing)) (now (a .marks)) (now (a .passthrough)) (s .fits .boundary)
+    (y .warn-skips .ensures (a .replacement)) (x .fix-steps .ensures) e
 
 pub fix-program-spec : {M : Type 1} → statement M
 fix-program-spec =

@@ -43,7 +43,7 @@ loop-less : tie.Need-loop-less Inv-loop μ-loop
 loop-less c = omega arith
 
 loop-again : tie.Need-loop-again Inv-loop μ-loop
-loop-again c = 
+loop-again c =
     let w = c .before in
     let v = w .before .before .before in
     let f = v .before .before in
@@ -52,7 +52,7 @@ loop-again c =
     let a = s .args in (
       omega (arith, f .before .loop-test .taken),
       fixes-more (programBy (now (a .instructions)) (now (a .kerns)) (numberOf (wordOf (a .boundary))) (a .replacement) (now (a .existing)) (now (a .marks)) (now (a .passthrough))) (l .loop .i) (f .before .loop-test .taken) (f .faults .ensures (a .replacement))
-      (l .loop .inv .1) (v .warn-step .ensures) (w .write-step .ensures),
+          (l .loop .inv .1) (v .warn-step .ensures) (w .write-step .ensures),
       w .write-step .kept .1 .1 .1 .1 .0 ∙ l .loop .inv .2,
     )
 
@@ -60,13 +60,13 @@ same-length : tie.Need-same-length Inv-loop μ-loop
 same-length c = c .before .loop .inv .2
 
 same-length-2 : tie.Need-same-length-2 Inv-loop μ-loop
-same-length-2 c = 
+same-length-2 c =
     let l = c .before in
     let a = l .before .before .before .args in
     pushed-length (now (a .warnings)) (a .n) _ (l .loop .warnings) (l .loop .at) (l .loop .inv .1 .warned .pushed)
 
 returns : tie.Need-returns Inv-loop μ-loop
-returns c = 
+returns c =
     let l = c .before in
     let s = l .before .before .before in
     let a = s .args in

@@ -28,7 +28,7 @@ pick-requires-2 : tie.Need-pick-requires-2
 pick-requires-2 c κs = search needs
 
 mul-result : tie.Need-mul-result
-mul-result c = 
+mul-result c =
     let d = c .before .before .before in
     let o = d .field-at .result in
     let a = d .before .args in
@@ -38,7 +38,7 @@ pick-requires-3 : tie.Need-pick-requires-3
 pick-requires-3 c κs = search needs
 
 add-result : tie.Need-add-result
-add-result c = 
+add-result c =
     let d = c .before .before .before .before in
     let o = d .field-at .result in
     let a = d .before .args in
@@ -47,12 +47,12 @@ add-result c =
           omega (
             arith,
             picked-most (a .f .tag) 0 (o / 256) 16777215 (c .before .pick2 .ensures) (omega arith) (omega (arith, read-lt (d .field-at .ensures))),
-            picked-most (a .f .product) (a .replacement) (o % 256) 255 (c .pick3 .ensures) (omega arith) (omega arith)
-          )
+            picked-most (a .f .product) (a .replacement) (o % 256) 255 (c .pick3 .ensures) (omega arith) (omega arith),
+          );
     }
 
 returns-2 : tie.Need-returns-2
-returns-2 c = 
+returns-2 c =
     let e = c .before .before in
     let b = e .before in
     let s = b .before .before in

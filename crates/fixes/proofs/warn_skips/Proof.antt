@@ -41,7 +41,7 @@ loop-less : tie.Need-loop-less Inv-loop μ-loop
 loop-less c = omega arith
 
 loop-again : tie.Need-loop-again Inv-loop μ-loop
-loop-again c = 
+loop-again c =
     let p = c .before in
     let f = p .before .before in
     let l = f .before .before in
@@ -55,7 +55,7 @@ loop-again c =
     )
 
 same-length : tie.Need-same-length Inv-loop μ-loop
-same-length c = 
+same-length c =
     let l = c .before in
     let a = l .before .before .before .args in
     pushed-length (now (a .warnings)) (a .n) _ (l .loop .warnings) (l .loop .at) (l .loop .inv .1 0 .pushed)
