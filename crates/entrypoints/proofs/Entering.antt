@@ -24,23 +24,20 @@ use Rattle.targets.proofs.Targets.{followed-below, stands-below}
 use Rattle.repairs.specs.Damaged.{Damaged, packedEntryOf, unpacks, unpackedUpto, unpackedEntries, redirectsAt, repairedPassthrough, leftGoes}
 use Rattle.repairs.specs.Warnings.{warning, warnIf, leftWarning, entryWarnings}
 use Rattle.repairs.specs.Pushed.{Pushed}
-use Rattle.repairs.proofs.Pushing.{sets-append, pushed-none, pushed-append, pushed-if}
+use Rattle.repairs.proofs.Pushing.{sets-after, pushed-none, pushed-append, pushed-if}
 use Rattle.entrypoints.specs.Entering.{Lends, Placed, entryNumbers, passthroughBits, redirectPassed, passedUpto, passthroughUpto, Enters}
 use Rattle.entrypoints.proofs.Stores.{stored-none, stored-more, stored-set}
 
 -- ---- entries placed one after the other
 
-pub placed-none : (u : List ℤ) (n : ℕ) → Placed u n [] u n
+placed-none : (u : List ℤ) (n : ℕ) → Placed u n [] u n
 placed-none u n = record { count = omega arith; list = refl }
 
-pub placed-append : (u : List ℤ) (n : ℕ) (xs u₁ : List ℤ) (m : ℕ) (ys u₂ : List ℤ) (r : ℕ) → Placed u n xs u₁ m → Placed u₁ m ys u₂ r → Placed u n (xs ++ ys) u₂ r
+placed-append : (u : List ℤ) (n : ℕ) (xs u₁ : List ℤ) (m : ℕ) (ys u₂ : List ℤ) (r : ℕ) → Placed u n xs u₁ m → Placed u₁ m ys u₂ r → Placed u n (xs ++ ys) u₂ r
 placed-append u n xs u₁ m ys u₂ r a b =
     record {
       count = omega (arith, a .count, b .count, length-append xs ys);
-      list =
-          b .list ∙ ap (λ (l : List ℤ). sets l (2 * m) ys) (a .list)
-          ∙ ap (λ (j : ℕ). sets (sets u (2 * n) xs) j ys) (a .count)
-          ∙ sym (sets-append xs ys u (2 * n));
+      list = sets-after xs ys u (2 * n) (2 * m) (a .list) (a .count) (b .list);
     }
 
 pub placed-length : (u : List ℤ) (n : ℕ) (ws u′ : List ℤ) (r : ℕ) → Placed u n ws u′ r → length u′ ≡ length u

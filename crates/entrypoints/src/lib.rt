@@ -1,4 +1,4 @@
-// TFtoPL 67 and 69: the entries of a font that is repaired, after the first part of `validate_and_fix` of ligkern/lang.rs (lines 702 to 719). An entry that does not
+// TFtoPL 67 and 69: the entries of a font that is repaired, after the first part of `validate_and_fix` of ligkern/lang.rs (lines 702 to 720). An entry that does not
 // unpack goes, with a warning; a redirect by which one unpacks is passed over.
 ghost use mathlib.Core.Path.{_≡_};
 ghost use mathlib.Core.List.{List};

@@ -25,6 +25,11 @@ sets-append [] ys l i = ap (λ (j : ℕ). sets l j ys) (omega arith)
 sets-append (x ∷ xs) ys l i =
     sets-append xs ys (set l i x) (suc i) ∙ ap (λ (j : ℕ). sets (sets (set l i x) (suc i) xs) j ys) (omega arith)
 
+-- stores after others, which end where they begin
+pub sets-after : {A : Type 0} (xs ys l : List A) (i j : ℕ) {l₁ l₂ : List A} → l₁ ≡ sets l i xs → j ≡ i + length xs → l₂ ≡ sets l₁ j ys → l₂ ≡ sets l i (xs ++ ys)
+sets-after {A} xs ys l i j e f g =
+    g ∙ ap (λ (m : List A). sets m j ys) e ∙ ap (λ (k : ℕ). sets (sets l i xs) k ys) f ∙ sym (sets-append xs ys l i)
+
 -- stores from the front, in a list that is long enough
 pub sets-front : {A : Type 0} (xs l : List A) → length xs ≤ length l → sets l 0 xs ≡ xs ++ drop (length xs) l
 sets-front xs l h = sets-eq xs l 0 (omega arith) ∙ ap (λ (k : ℕ). xs ++ drop k l) (let e : 0 + length xs ≡ length xs = omega arith in e)
@@ -36,10 +41,7 @@ pub pushed-append : (w : List ℤ) (n : ℕ) (xs w₁ : List ℤ) (m : ℕ) (ys 
 pushed-append w n xs w₁ m ys w₂ r a b =
     record {
       count = omega (arith, a .count, b .count, length-append xs ys);
-      list =
-          b .list ∙ ap (λ (l : List ℤ). sets l (4 * m) ys) (a .list)
-          ∙ ap (λ (j : ℕ). sets (sets w (4 * n) xs) j ys) (a .count)
-          ∙ sym (sets-append xs ys w (4 * n));
+      list = sets-after xs ys w (4 * n) (4 * m) (a .list) (a .count) (b .list);
     }
 
 pub pushed-length : (w : List ℤ) (n : ℕ) (ws w′ : List ℤ) (r : ℕ) → Pushed w n ws w′ r → length w′ ≡ length w
