@@ -19,16 +19,12 @@ use Rattle.repairs.specs.Repaired.{faultsOf}
 use Rattle.faults.specs.Tests.{existsIn, isEdge, skipPasses, redirectPasses, rightMissing, kernPasses, productMissing, tagInvalid}
 
 -- two tests of order that hold together
-leb-both : (a b c d : ℕ) → (a ≤ b → c ≤ d) → (c ≤ d → a ≤ b) → leb a b ≡ leb c d
+leb-both : (a b c d : ℕ) → (a ≤ b → c ≤ d) → (b < a → d < c) → leb a b ≡ leb c d
 leb-both a b c d f g = go (leb a b) refl
   where
     go : (t : Bool) → leb a b ≡ t → t ≡ leb c d
     go true e = sym (le-leb c d (f (leb-true a b e)))
-    go false e = let l : b < a = leb-false a b e in go₂ (leb c d) refl l
-      where
-        go₂ : (t : Bool) → leb c d ≡ t → b < a → false ≡ t
-        go₂ true e l = absurd (let h : a ≤ b = g (leb-true c d e) in omega arith)
-        go₂ false e l = refl
+    go false e = sym (lt-leb c d (g (leb-false a b e)))
 
 -- ---- kinds
 

@@ -1,6 +1,5 @@
 -- `fixes::right_warning` meets its contract: by whether the step is a ligature.
 -- Assumes nothing.
-use mathlib.Core.Path.{refl}
 use denote.Ref.{now}
 use Rattle.faults.proofs.Steps.{of-kind, not-kind}
 use borrow.Author.Needs.{needs}
