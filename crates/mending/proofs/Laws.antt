@@ -16,19 +16,23 @@ use borrow.Author.Tests.{le-leb, leb-true, eq-eqb, eqb-true}
 use Rattle.words.specs.Words.{wordOf, numberOf}
 use Rattle.words.proofs.Bits.{number-word, number-fits}
 use Rattle.lang.specs.declared.Written.{Written}
+use Rattle.lang.specs.declared.Written.the-variants.{Count, Refused}
 use Rattle.lang.specs.Every.{both}
 use Rattle.lang.specs.Records.{count}
 use Rattle.lang.specs.Checks.{orElse}
-use Rattle.lang.specs.Answers.{replyOf, writtenReply}
+use Rattle.lang.specs.Answers.{Reply, replyOf, writtenReply}
 use Rattle.fonts.specs.Compiled.{loopsOfFont}
 use Rattle.lang.proofs.Every.{both-left, both-right}
+use Rattle.lang.proofs.Refusals.{refused-reply, taken-reply}
 use Rattle.fonts.specs.Fonts.{Font, fontOf}
 use Rattle.marks.specs.Marks.{reachable}
 use Rattle.repairs.specs.declared.Entered.{Entered}
+use Rattle.repairs.specs.declared.Validated.{Validated}
+use Rattle.repairs.specs.declared.Validated.the-variants as validated
 use Rattle.repairs.specs.Damaged.{Damaged, Program, programBy, programOf, unpackedEntries, leftGoes, repairedLeft, repairedPassthrough}
 use Rattle.repairs.specs.Repaired.{repairedInstructions, repairedFont}
 use Rattle.repairs.specs.Warnings.{leftWarning, entryWarnings, skipWarnings, stepsWarnings, repairWarnings, loopWarnings, warningsOf}
-use Rattle.repairs.specs.Repairs.{damagedRefusal, repairedPairsRefusal}
+use Rattle.repairs.specs.Repairs.{damagedRefusal, repairedPairsRefusal, validatedReply}
 use Rattle.repairs.specs.Pushed.{Pushed}
 use Rattle.repairs.proofs.Pushing.{sets-append, pushed-append, loop-count}
 use Rattle.repairs.proofs.Steps.{length-upto, same-count}
@@ -37,6 +41,34 @@ use Rattle.fixes.specs.Fixing.{Fixes}
 use Rattle.loop_warnings.specs.WarnsLoops.{unlessRefused, loopSearchRefusal, WarnsLoops}
 use Rattle.mending.specs.Mending.{Mends}
 use Rattle.mending.proofs.Sizes.{front-is, sets-all, size, few-entries, unpacked-fits, entered-few, stepped-few, length-passthrough}
+
+-- ---- of answers
+
+magnitude : List ℤ → ℕ
+magnitude [] = 0
+magnitude (pos j ∷ vs) = j
+magnitude (negsuc j ∷ vs) = 0
+
+-- an answer that is a refusal, and one that is taken, by what it must be
+pub refused-by : (r k : ℕ) (v : ℤ) (vs : List ℤ) → _≡_ {A = Reply} (record { number = k; values = [] }) (replyOf r (v ∷ vs)) → (k ≡ r) × (k ≡ 0 → ⊥)
+refused-by zero k v vs e =
+    let l : _≡_ {A = ℕ} 0 (suc (length vs)) = ap (λ (x : Reply). length (x .values)) e in
+    absurd (omega arith)
+refused-by (suc r) k v vs e =
+    let l : k ≡ suc r = ap (λ (x : Reply). x .number) e in
+    (l, λ z. omega arith)
+
+pub taken-by : (r n m : ℕ) → replyOf 0 (pos n ∷ []) ≡ replyOf r (pos m ∷ []) → (r ≡ 0) × (n ≡ m)
+unfolding magnitude
+taken-by zero n m e = (refl, ap (λ (x : Reply). magnitude (x .values)) e)
+taken-by (suc r) n m e =
+    let l : _≡_ {A = ℕ} 0 (suc r) = ap (λ (x : Reply). x .number) e in
+    absurd (omega arith)
+
+-- what the search for loops answers, and what is answered then
+pub data Tells (left : ℤ) (r : Written) (v : Validated) : Type 0 where
+  refuses : (k : ℕ) → r ≡ Refused k → v ≡ validated.Refused k → Tells left r v
+  counts : (n : ℕ) → r ≡ Count n → v ≡ validated.Fixed left n → Tells left r v
 
 -- ---- after the entries: `unpacked` has 512 places, `through` one for each instruction
 
@@ -99,10 +131,22 @@ module _ (d : Damaged) (ok : damagedRefusal d ≡ 0) where
     counted : c + length (loopsOfFont (repairedFont d)) ≡ length (warningsOf d) / 4
     counted = omega (arith, before .count, length-append (repairWarnings d) (loopWarnings (loopsOfFont (repairedFont d))), loop-count (loopsOfFont (repairedFont d)))
 
-    pub mended : (program : List ℤ) (through : List ℕ) → program ≡ repairedInstructions d → through ≡ repairedPassthrough d → Mends d w work r program through w₂ work₁
-    mended program through p q =
+    -- as it is answered
+    said : writtenReply r ≡ replyOf (repairedPairsRefusal d (length work)) (pos (length (warningsOf d) / 4) ∷ [])
+    said = g .answer ∙ ap (λ (k : ℕ). replyOf k (pos (c + length (loopsOfFont (repairedFont d))) ∷ [])) (search-refusal work) ∙ ap (λ (m : ℕ). replyOf (repairedPairsRefusal d (length work)) (pos m ∷ [])) counted
+
+    replied : (v : Validated) (left : ℤ) → Tells left r v → left ≡ repairedLeft d → validatedReply v ≡ replyOf (repairedPairsRefusal d (length work)) (repairedLeft d ∷ pos (length (warningsOf d) / 4) ∷ [])
+    replied v left (refuses k a b) e =
+        let x = refused-by (repairedPairsRefusal d (length work)) k _ _ (sym (ap writtenReply a) ∙ said) in
+        ap validatedReply b ∙ refused-reply _ (x .0) (x .1)
+    replied v left (counts t a b) e =
+        let x = taken-by (repairedPairsRefusal d (length work)) t _ (sym (ap writtenReply a) ∙ said) in
+        ap validatedReply b ∙ (λ i. replyOf 0 (e i ∷ pos (x .1 i) ∷ [])) ∙ taken-reply _ (x .0)
+
+    pub mended : (v : Validated) (left : ℤ) (program : List ℤ) (through : List ℕ) → Tells left r v → left ≡ repairedLeft d → program ≡ repairedInstructions d → through ≡ repairedPassthrough d → Mends d w work v program through w₂ work₁
+    mended v left program through a l p q =
         record {
-          answer = g .answer ∙ ap (λ (k : ℕ). replyOf k (pos (c + length (loopsOfFont (repairedFont d))) ∷ [])) (search-refusal work) ∙ ap (λ (m : ℕ). replyOf (repairedPairsRefusal d (length work)) (pos m ∷ [])) counted;
+          answer = replied v left a l;
           instructions = p;
           passthrough = q;
           warned = λ z.

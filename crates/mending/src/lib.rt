@@ -21,6 +21,7 @@ use lang::Written;
 use loop_warnings::warn_loops;
 use marks::reachable_array;
 use repairs::Entered;
+use repairs::Validated;
 
 // The left entry of n instructions, or -1 where it is past the end.
 fn repaired_left(n: usize, left_entry: i32) -> i32
@@ -95,8 +96,8 @@ fn enter(
     entered
 }
 
-// The repaired program and its passthrough, in lists of just their length, and the warnings as far as their list goes. Answers how many warnings there are; 12,
-// where the loops of the repaired program can't be looked for. That is of a font that is not refused; work is left zero. 15 of over 32,767 instructions or
+// The repaired program and its passthrough, in lists of just their length, and the warnings as far as their list goes. Answers the repaired left entry
+// and how many warnings there are; 12, where the loops of the repaired program can't be looked for. That is of a font that is not refused; work is left zero. 15 of over 32,767 instructions or
 // 256 entries, and where the first two lists have another length; then nothing is done.
 pub fn mend(
     instructions: &[i32],
@@ -111,12 +112,12 @@ pub fn mend(
     through: &mut [u8],
     warnings: &mut [i32],
     work: &mut [u32],
-) -> Written
+) -> Validated
     ensures { λ r. ⌜ (damagedRefusal (damagedOf (now (instructions .entry)) (now (kerns .entry)) (now (entries .entry)) boundary «left_entry» replacement (now (existing .entry)) (now (passthrough .entry))) ≡ 0 → length (now (program .entry)) ≡ 4 * count (now (instructions .entry)) → length (now (through .entry)) ≡ count (now (instructions .entry)) → Mends (damagedOf (now (instructions .entry)) (now (kerns .entry)) (now (entries .entry)) boundary «left_entry» replacement (now (existing .entry)) (now (passthrough .entry))) (now (warnings .entry)) (now (work .entry)) r (now (program .exit)) (now (through .exit)) (now (warnings .exit)) (now (work .exit))) ⌝ }
 {
     let n = instructions.len() / 4;
     if !lists_fit(n, entries.len() / 2, program.len(), through.len()) {
-        return Written::Refused(15);
+        return Validated::Refused(15);
     }
     let mut unpacked = entry_places();
     let mut marks = mark_places();
@@ -143,7 +144,7 @@ pub fn mend(
         entered.warnings,
     );
     let left = repaired_left(n, left_entry);
-    warn_loops(
+    match warn_loops(
         program,
         kerns,
         &unpacked[..2 * entered.entries],
@@ -151,5 +152,8 @@ pub fn mend(
         warnings,
         count,
         work,
-    )
+    ) {
+        Written::Refused(number) => Validated::Refused(number),
+        Written::Count(total) => Validated::Fixed(left, total),
+    }
 }

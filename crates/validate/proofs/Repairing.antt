@@ -38,26 +38,6 @@ module _ (left : ℤ) (n : ℕ) (program : List ℤ) (passed : List ℕ) (fixed 
 
 -- ---- the whole
 
--- an answer that is a refusal, and one that is taken, by what it must be
-refused-by : (r k : ℕ) (v : ℤ) (vs : List ℤ) → _≡_ {A = Reply} (record { number = k; values = [] }) (replyOf r (v ∷ vs)) → (k ≡ r) × (k ≡ 0 → ⊥)
-refused-by zero k v vs e =
-    let l : _≡_ {A = ℕ} 0 (suc (length vs)) = ap (λ (x : Reply). length (x .values)) e in
-    absurd (omega arith)
-refused-by (suc r) k v vs e =
-    let l : k ≡ suc r = ap (λ (x : Reply). x .number) e in
-    (l, λ z. omega arith)
-
-pub taken-by : (r n m : ℕ) → replyOf 0 (pos n ∷ []) ≡ replyOf r (pos m ∷ []) → (r ≡ 0) × (n ≡ m)
-taken-by zero n m e = (refl, ap (λ (x : Reply). magnitude (x .values)) e)
-  where
-    magnitude : List ℤ → ℕ
-    magnitude [] = 0
-    magnitude (pos j ∷ vs) = j
-    magnitude (negsuc j ∷ vs) = 0
-taken-by (suc r) n m e =
-    let l : _≡_ {A = ℕ} 0 (suc r) = ap (λ (x : Reply). x .number) e in
-    absurd (omega arith)
-
 written-over : {A : Type 0} (o : A) (xs l l′ : List A) (n number : ℕ) → l ≡ replicate n o → Appending xs l l′ → number ≡ 0 → l′ ≡ listOf number o n xs
 written-over o xs l l′ n number z p e = appending-rest l o n z p ∙ ap (λ (k : ℕ). listOf k o n xs) (sym e)
 

@@ -166,3 +166,71 @@ fn finish(
     copy_bytes(passed, through);
     Validated::Fixed(left, count)
 }
+
+// Repairs a font: what is wrong is warned of and, but for entries, redirects and loops, put right. Answers the repaired left entry and how many warnings there are,
+// four numbers each. Work is left zero, and so is every list on a refusal: 1 to 4, then 12 (of the repaired program), then 15.
+pub fn validate_and_fix(
+    instructions: &[i32],
+    kerns: &[i32],
+    entries: &[i32],
+    boundary: i32,
+    left_entry: i32,
+    replacement: i32,
+    existing: &[u64; 4],
+    passthrough: &[u8],
+    fixed: &mut [i32],
+    through: &mut [u8],
+    warnings: &mut [i32],
+    work: &mut [u32],
+) -> Validated
+    ensures { λ r. ⌜ Repairs (damagedOf (now (instructions .entry)) (now (kerns .entry)) (now (entries .entry)) boundary «left_entry» replacement (now (existing .entry)) (now (passthrough .entry))) (now (fixed .entry)) (now (through .entry)) (now (warnings .entry)) (now (work .entry)) r (now (fixed .exit)) (now (through .exit)) (now (warnings .exit)) (now (work .exit)) ⌝ }
+{
+    zero_i32(fixed);
+    zero_u8(through);
+    zero_i32(warnings);
+    let refusal = damaged_refusal(
+        instructions,
+        kerns,
+        entries,
+        boundary,
+        left_entry,
+        replacement,
+        passthrough,
+    );
+    if refusal != 0 {
+        zero_u32(work);
+        return Validated::Refused(refusal);
+    }
+    let n = instructions.len() / 4;
+    let mut program = programs();
+    let mut passed = places();
+    let mended = mend(
+        instructions,
+        kerns,
+        entries,
+        boundary,
+        left_entry,
+        replacement,
+        existing,
+        passthrough,
+        &mut program[..4 * n],
+        &mut passed[..n],
+        warnings,
+        work,
+    );
+    match mended {
+        Written::Refused(number) => {
+            zero_i32(warnings);
+            Validated::Refused(number)
+        }
+        Written::Count(count) => finish(
+            repaired_left(n, left_entry),
+            count,
+            &program[..4 * n],
+            &passed[..n],
+            fixed,
+            through,
+            warnings,
+        ),
+    }
+}

@@ -10,16 +10,18 @@ use lib.Dec.{leb, eqb}
 use lib.ListN.{length, length-append, take, drop}
 use lib.Seq.{length-take-le, take-at}
 use borrow.Author.Tests.{le-leb, eq-eqb, not-true, not-false}
-use Rattle.words.specs.Words.{wordOf}
+use Rattle.words.specs.Words.{wordOf, numberOf}
 use Rattle.words.proofs.Bits.{number-word}
 use Rattle.lang.specs.Every.{both}
 use Rattle.lang.specs.Records.{count}
 use Rattle.marks.specs.Marks.{reachable}
+use Rattle.repairs.specs.declared.Validated.{Validated}
 use Rattle.repairs.specs.Damaged.{Damaged, unpackedEntries, repairedLeft}
 use Rattle.repairs.specs.Repairs.{damagedOf, damagedRefusal}
 use Rattle.entrypoints.specs.Entering.{Enters}
+use Rattle.mending.specs.Mending.{Mends}
 use Rattle.mending.proofs.Sizes.{size, few-entries, small, program-taken}
-use Rattle.mending.proofs.Laws.{fitting, entries-within, entries-few, entries-are, passthrough-is, few-warned, left-is, steps-are, instructions-are, few-stepped, repair-warned, loops-are, mended}
+use Rattle.mending.proofs.Laws.{Tells, refuses, counts, fitting, entries-within, entries-few, entries-are, passthrough-is, few-warned, left-is, steps-are, instructions-are, few-stepped, repair-warned, loops-are, mended}
 use borrow.Author.Needs.{needs}
 use Rattle.mending.proofs.mend.Statement.{statement}
 use Rattle.mending.proofs.mend.Tie as tie
@@ -71,6 +73,36 @@ module _ (c : tie.After-enter) where
 
   front-long : let n = count (c .before .before .before .before .before .before .before .before .before .before .before .before .args .instructions .now) in n ≤ length (c .enter .last .1 .1 .1 .1 .1 .0 ++ drop n (c .before .before .before .before .before .mark-places .result))
   front-long = let n = count (c .before .before .before .before .before .before .before .before .before .before .before .before .args .instructions .now) in omega (arith, length-append (c .enter .last .1 .1 .1 .1 .1 .0) (drop n (c .before .before .before .before .before .mark-places .result)), marks-length)
+
+-- all passes are done
+whole : (c : tie.After-warn-loops) → let k = c .before .before .before .before .before .before .before .before .before .before .before .before .before .before .before .before .before .before .before .before in let a = k .before .before .before .before .before .before .before .before .before .before .before .before .args in let x = c .warn-loops .last .1 .1 .1 .1 in damagedRefusal (font k) ≡ 0 → length (a .program .now) ≡ 4 * count (a .instructions .now) → length (a .through .now) ≡ count (a .instructions .now) → (v : Validated) → Tells (numberOf (wordOf (c .before .before .before .before .before .before .repaired-left .result))) (c .warn-loops .result) v → Mends (font k) (a .warnings .now) (a .work .now) v (c .before .before .before .before .before .before .before .before .before .fix-program .last .1 .1 .1 .1 .1 .1 .1 .0) (k .enter .last .1 .1 .1 .1 .1 .1 .0) (x .0) (x .1 .1 .0)
+whole c ok p t v told =
+    let k = c .before .before .before .before .before .before .before .before .before .before .before .before .before .before .before .before .before .before .before .before in
+    let s = k .before .before .before .before .before .before .before .before .before .before .before .before in
+    let a = s .args in
+    let d = font k in
+    let u = k .enter .last .1 .1 .1 .1 in
+    let e = k .enter .result in
+    let places = k .before .before .before .before .before .before .entry-places in
+    let g = handed k .0 in
+    let through = passthrough-is d (few k) (places .result) (u .0) (a .through .now) (u .1 .1 .0) (a .warnings .now) (u .1 .1 .1 .0) e (places .ensures) g t in
+    let es = entries-are d (few k) (places .result) (u .0) (a .through .now) (u .1 .1 .0) (a .warnings .now) (u .1 .1 .1 .0) e (places .ensures) g in
+    let warned = few-warned d (few k) (places .result) (u .0) (a .through .now) (u .1 .1 .0) (a .warnings .now) (u .1 .1 .1 .0) e (places .ensures) g in
+    let f = c .before .before .before .before .before .before .before .before .before .fix-program in
+    let y = f .last .1 .1 .1 .1 .1 .1 .1 in
+    let o = c .before .before .before .before .before .before .before .before .before .before .before .before .before .before .word-of in
+    let replacement : o .result ≡ wordOf (a .replacement) = o .ensures ∙ ap wordOf (number-word (a .replacement) (s .fits .replacement)) in
+    let in-range : o .result < 256 = omega (arith, replacement, small d ok) in
+    let h = steps-are d _ _ (e .warnings) (f .result) _ (u .1 .1 .0) (a .program .now) (u .1 .1 .1 .0) (y .0) (y .1 .0) (number-word (a .boundary) (s .fits .boundary)) replacement (marks-front k ∙ handed k .1) through (f .ensures (program-taken d ok) in-range warned) in
+    let program = instructions-are d ok (a .program .now) (y .0) (a .warnings .now) (u .1 .1 .1 .0) (y .1 .0) (e .warnings) (f .result) p (g .warned) h in
+    let few-steps = few-stepped d ok (a .program .now) (y .0) (a .warnings .now) (u .1 .1 .1 .0) (y .1 .0) (e .warnings) (f .result) p (g .warned) h in
+    let steps = repair-warned d ok (a .program .now) (y .0) (a .warnings .now) (u .1 .1 .1 .0) (y .1 .0) (e .warnings) (f .result) p (g .warned) h in
+    let l = c .before .before .before .before .before .before .repaired-left in
+    let left = left-is d (a .instructions .now) (a .«left-entry») _ (l .result) refl refl (s .fits .«left-entry») (number-word (a .«left-entry») (s .fits .«left-entry»)) (l .ensures) in
+    let w = c .warn-loops in
+    let x = w .last .1 .1 .1 .1 in
+    let loops = loops-are d _ _ _ (f .result) (y .1 .0) (x .0) (a .work .now) (x .1 .1 .0) (w .result) program es left (w .ensures (a .boundary) few-steps) in
+    mended d ok (a .warnings .now) (y .1 .0) (x .0) (f .result) steps (a .work .now) (x .1 .1 .0) (w .result) loops v _ (y .0) (u .1 .1 .0) told left program through
 
 lists-fit-requires : tie.Need-lists-fit-requires
 lists-fit-requires c κs = search needs
@@ -140,34 +172,29 @@ same-length-3 c = search needs
 same-length-4 : tie.Need-same-length-4
 same-length-4 c = search needs
 
+enum-known-number : tie.Need-enum-known-number
+enum-known-number c = search needs
+
+enum-known-total : tie.Need-enum-known-total
+enum-known-total c = search needs
+
 returns-2 : tie.Need-returns-2
-returns-2 c = λ ok p t.
-    let k = c .before .before .before .before .before .before .before .before .before .before .before .before .before .before .before .before .before .before .before .before .before .before .before in
-    let s = k .before .before .before .before .before .before .before .before .before .before .before .before in
-    let a = s .args in
-    let d = font k in
-    let u = k .enter .last .1 .1 .1 .1 in
-    let e = k .enter .result in
-    let places = k .before .before .before .before .before .before .entry-places in
-    let g = handed k .0 in
-    let through = passthrough-is d (few k) (places .result) (u .0) (a .through .now) (u .1 .1 .0) (a .warnings .now) (u .1 .1 .1 .0) e (places .ensures) g t in
-    let es = entries-are d (few k) (places .result) (u .0) (a .through .now) (u .1 .1 .0) (a .warnings .now) (u .1 .1 .1 .0) e (places .ensures) g in
-    let warned = few-warned d (few k) (places .result) (u .0) (a .through .now) (u .1 .1 .0) (a .warnings .now) (u .1 .1 .1 .0) e (places .ensures) g in
-    let f = c .before .before .before .before .before .before .before .before .before .before .before .before .fix-program in
-    let v = f .last .1 .1 .1 .1 .1 .1 .1 in
-    let o = c .before .before .before .before .before .before .before .before .before .before .before .before .before .before .before .before .before .word-of in
-    let replacement : o .result ≡ wordOf (a .replacement) = o .ensures ∙ ap wordOf (number-word (a .replacement) (s .fits .replacement)) in
-    let in-range : o .result < 256 = omega (arith, replacement, small d ok) in
-    let h = steps-are d _ _ (e .warnings) (f .result) _ (u .1 .1 .0) (a .program .now) (u .1 .1 .1 .0) (v .0) (v .1 .0) (number-word (a .boundary) (s .fits .boundary)) replacement (marks-front k ∙ handed k .1) through (f .ensures (program-taken d ok) in-range warned) in
-    let program = instructions-are d ok (a .program .now) (v .0) (a .warnings .now) (u .1 .1 .1 .0) (v .1 .0) (e .warnings) (f .result) p (g .warned) h in
-    let few-steps = few-stepped d ok (a .program .now) (v .0) (a .warnings .now) (u .1 .1 .1 .0) (v .1 .0) (e .warnings) (f .result) p (g .warned) h in
-    let steps = repair-warned d ok (a .program .now) (v .0) (a .warnings .now) (u .1 .1 .1 .0) (v .1 .0) (e .warnings) (f .result) p (g .warned) h in
-    let l = c .before .before .before .before .before .before .before .before .before .repaired-left in
-    let left = left-is d (a .instructions .now) (a .«left-entry») _ (l .result) refl refl (s .fits .«left-entry») (number-word (a .«left-entry») (s .fits .«left-entry»)) (l .ensures) in
-    let w = c .before .before .before .warn-loops in
-    let x = w .last .1 .1 .1 .1 in
-    let loops = loops-are d _ _ _ (f .result) (v .1 .0) (x .0) (a .work .now) (x .1 .1 .0) (w .result) program es left (w .ensures (a .boundary) few-steps) in
-    mended d ok (a .warnings .now) (v .1 .0) (x .0) (f .result) steps (a .work .now) (x .1 .1 .0) (w .result) loops (v .0) (u .1 .1 .0) program through
+returns-2 c = λ ok p t. whole (c .before .before .before .before .before .before) ok p t _ (refuses _ (c .before .number .given .1) refl)
+
+same-length-5 : tie.Need-same-length-5
+same-length-5 c = search needs
+
+same-length-6 : tie.Need-same-length-6
+same-length-6 c = search needs
+
+same-length-7 : tie.Need-same-length-7
+same-length-7 c = search needs
+
+same-length-8 : tie.Need-same-length-8
+same-length-8 c = search needs
+
+returns-3 : tie.Need-returns-3
+returns-3 c = λ ok p t. whole (c .before .before .before .before .before .before) ok p t _ (counts _ (c .before .total .given .1) refl)
 
 pub mend-spec : {M : Type 1} → statement M
 mend-spec =
@@ -190,8 +217,15 @@ mend-spec =
     array-share-prefix-unpacked
     slice-aggregate-warn-loops
     warn-loops-requires
+    enum-known-number
+    enum-known-total
     same-length
     same-length-2
     same-length-3
     same-length-4
-    returns-2)
+    returns-2
+    same-length-5
+    same-length-6
+    same-length-7
+    same-length-8
+    returns-3)
