@@ -93,11 +93,13 @@ left-fits : (t : Bool) (z : ℤ) → SFits w32 z → SFits w32 (cond t (negsuc 0
 left-fits true z f = number-fits 4294967295 (omega arith)
 left-fits false z f = f
 
+pub left-handed : (d : Damaged) (z : ℤ) → SFits w32 (d .left) → z ≡ repairedLeft d → numberOf (wordOf z) ≡ repairedLeft d
+left-handed d z f x = ap (λ (z : ℤ). numberOf (wordOf z)) x ∙ number-word (repairedLeft d) (left-fits (leftGoes d) (d .left) f)
+
 pub left-is : (d : Damaged) (s : List ℤ) (left left′ r : ℤ) → d .instructions ≡ s → d .left ≡ left → SFits w32 left → left′ ≡ left → r ≡ cond (both (nonNeg left′) (leb (count s) (wordOf left′))) (negsuc 0) left′ → numberOf (wordOf r) ≡ repairedLeft d
 left-is d s left left′ r a b f e g =
-    let x : r ≡ repairedLeft d = g ∙ (λ i. cond (both (nonNeg ((e ∙ sym b) i)) (leb (count (sym a i)) (wordOf ((e ∙ sym b) i)))) (negsuc 0) ((e ∙ sym b) i)) in
-    let fits : SFits w32 (repairedLeft d) = left-fits (leftGoes d) (d .left) (subst (SFits w32) (sym b) f) in
-    ap (λ (z : ℤ). numberOf (wordOf z)) x ∙ number-word (repairedLeft d) fits
+    left-handed d r (subst (SFits w32) (sym b) f)
+    (g ∙ (λ i. cond (both (nonNeg ((e ∙ sym b) i)) (leb (count (sym a i)) (wordOf ((e ∙ sym b) i)))) (negsuc 0) ((e ∙ sym b) i)))
 
 -- the marks, by the test of their length
 pub marked : (d : Damaged) (s es : List ℤ) (left : ℤ) (m m₁ o : List ℕ) → d .instructions ≡ s → es ≡ unpackedEntries d → left ≡ repairedLeft d → length m ≡ count s → m₁ ≡ cond (eqb (length m) (count s)) (reachable s es left) o → m₁ ≡ reachable (d .instructions) (unpackedEntries d) (repairedLeft d)

@@ -20,9 +20,10 @@ use Rattle.repairs.specs.declared.Validated.the-variants.{Fixed, Refused}
 use Rattle.repairs.specs.Damaged.{Damaged, programOf, passedOver, repairedLeft, repairedPassthrough}
 use Rattle.repairs.specs.Repaired.{repairedInstructions}
 use Rattle.repairs.specs.Warnings.{warningsOf}
-use Rattle.repairs.specs.Repairs.{RepairRoom, roomFor, damagedRefusal, repairedPairsRefusal, repairRoomRefusal, repairRefusal, Repairs}
+use Rattle.repairs.specs.Repairs.{RepairRoom, roomFor, damagedRefusal, repairedPairsRefusal, repairRoomRefusal, repairRefusal, validatedReply, Repairs}
 use Rattle.repairs.proofs.Pushing.{sets-front, fours}
 use Rattle.repairs.proofs.Steps.{length-upto}
+use Rattle.mending.proofs.Laws.{refused-by}
 use Rattle.validate.specs.Finishing.{fitsRefusal, Finishes}
 
 -- ---- the last part
@@ -37,6 +38,15 @@ module _ (left : ℤ) (n : ℕ) (program : List ℤ) (passed : List ℕ) (fixed 
       record { answer = ap (λ (z : ℤ). replyOf 0 (z ∷ pos n ∷ [])) l ∙ taken-reply _ (sym e ∙ h); taken = λ o. (p, q, refl); refused = λ o. absurd (o (sym e ∙ h)) }
 
 -- ---- the whole
+
+-- what the passes answer where they refuse nothing
+pub passed-by : (r : ℕ) (left left′ : ℤ) (n m : ℕ) → validatedReply (Fixed left n) ≡ replyOf r (left′ ∷ pos m ∷ []) → (r ≡ 0) × (left ≡ left′) × (n ≡ m)
+passed-by zero left left′ n m e =
+    let q : _≡_ {A = List ℤ} (left ∷ pos n ∷ []) (left′ ∷ pos m ∷ []) = ap (λ (x : Reply). x .values) e in
+    (refl, cc, cc)
+passed-by (suc r) left left′ n m e =
+    let l : _≡_ {A = ℕ} 0 (suc r) = ap (λ (x : Reply). x .number) e in
+    absurd (omega arith)
 
 written-over : {A : Type 0} (o : A) (xs l l′ : List A) (n number : ℕ) → l ≡ replicate n o → Appending xs l l′ → number ≡ 0 → l′ ≡ listOf number o n xs
 written-over o xs l l′ n number z p e = appending-rest l o n z p ∙ ap (λ (k : ℕ). listOf k o n xs) (sym e)
@@ -61,9 +71,9 @@ module _ (d : Damaged) (fixed : List ℤ) (through : List ℕ) (warnings : List 
     after-checks = ap (λ (k : ℕ). orElse k (orElse (repairedPairsRefusal d (length work)) (repairRoomRefusal d room))) ok
 
     -- 12, which the passes answer
-    pub pairs-refused : (k : ℕ) → _≡_ {A = Reply} (record { number = k; values = [] }) (replyOf (repairedPairsRefusal d (length work)) (pos (length (warningsOf d) / 4) ∷ [])) → (k ≡ repairRefusal d room) × (k ≡ 0 → ⊥)
+    pub pairs-refused : (k : ℕ) → validatedReply (Refused k) ≡ replyOf (repairedPairsRefusal d (length work)) (repairedLeft d ∷ pos (length (warningsOf d) / 4) ∷ []) → (k ≡ repairRefusal d room) × (k ≡ 0 → ⊥)
     pairs-refused k e =
-        let x = refused-by (repairedPairsRefusal d (length work)) k (pos (length (warningsOf d) / 4)) [] e in
+        let x = refused-by (repairedPairsRefusal d (length work)) k (repairedLeft d) (pos (length (warningsOf d) / 4) ∷ []) e in
         (first-refusal (repairRoomRefusal d room) (x .0) (x .1) ∙ sym after-checks, x .1)
 
     -- the passes are done, and the last part too

@@ -3,13 +3,13 @@
 // which is of the repaired program, comes before 15.
 ghost use mathlib.Core.Path.{_≡_};
 ghost use mathlib.Core.List.{List};
-ghost use Prim.Native.Nat.{ℕ, _<_, _≤_};
+ghost use Prim.Native.Nat.{ℕ, _≤_};
 ghost use lib.Dec.{leb};
 ghost use lib.ListN.{length};
 ghost use Rattle.words.specs.Words.{wordOf};
 ghost use Rattle.words.specs.Lists.{Appending};
 ghost use Rattle.lang.specs.Checks.{programRefusal, kernsRefusal, entriesRefusal, absentRefusal, unless, orElse};
-ghost use Rattle.repairs.specs.Repairs.{damagedOf, damagedRefusal};
+ghost use Rattle.repairs.specs.Repairs.{damagedOf, damagedRefusal, Repairs};
 ghost use Rattle.validate.specs.Finishing.{fitsRefusal, Finishes};
 use checks::absent_refusal;
 use checks::program_refusal;
@@ -17,8 +17,11 @@ use limits::entries_refusal;
 use limits::kerns_refusal;
 use limits::passthrough_refusal;
 use limits::room_refusal;
+use mending::mend;
 use repairs::Validated;
 use words::zero::zero_i32;
+use words::zero::zero_u8;
+use words::zero::zero_u32;
 
 // 4 of the boundary character, the left entry or the replacement.
 fn edge_refusal(boundary: i32, left_entry: i32, replacement: i32) -> u32
@@ -86,7 +89,6 @@ fn fits_refusal(
     through: usize,
     warnings: usize,
 ) -> u32
-    requires { ⌜ count < 4611686018427387904 ⌝ }
     ensures { λ r. ⌜ r ≡ fitsRefusal numbers bytes count fixed through warnings ⌝ }
 {
     let of_numbers = room_refusal(numbers, fixed);
@@ -97,7 +99,7 @@ fn fits_refusal(
     if of_bytes != 0 {
         return of_bytes;
     }
-    room_refusal(4 * count, warnings)
+    if count <= warnings / 4 { 0 } else { 15 }
 }
 
 // Numbers copied to the front of a list that has room for them.
@@ -147,7 +149,6 @@ fn finish(
     through: &mut [u8],
     warnings: &mut [i32],
 ) -> Validated
-    requires { ⌜ count < 4611686018427387904 ⌝ }
     ensures { λ r. ⌜ Finishes left count (now (program .entry)) (now (passed .entry)) (now (fixed .entry)) (now (through .entry)) (now (warnings .entry)) (fitsRefusal (length (now (program .entry))) (length (now (passed .entry))) count (length (now (fixed .entry))) (length (now (through .entry))) (length (now (warnings .entry)))) r (now (fixed .exit)) (now (through .exit)) (now (warnings .exit)) ⌝ }
 {
     let number = fits_refusal(
@@ -204,7 +205,7 @@ pub fn validate_and_fix(
     let n = instructions.len() / 4;
     let mut program = programs();
     let mut passed = places();
-    let mended = mend(
+    match mend(
         instructions,
         kerns,
         entries,
@@ -217,14 +218,13 @@ pub fn validate_and_fix(
         &mut passed[..n],
         warnings,
         work,
-    );
-    match mended {
-        Written::Refused(number) => {
+    ) {
+        Validated::Refused(number) => {
             zero_i32(warnings);
             Validated::Refused(number)
         }
-        Written::Count(count) => finish(
-            repaired_left(n, left_entry),
+        Validated::Fixed(left, count) => finish(
+            left,
             count,
             &program[..4 * n],
             &passed[..n],

@@ -1,7 +1,9 @@
 -- `validate::fits_refusal` meets its contract: the first refusal that is not 0.
 -- Assumes nothing.
+use mathlib.Core.Path.{sym}
+use Prim.Native.Nat.{_*_}
 use native.Mathlib.Omega.{arith}
-use Rattle.lang.proofs.Refusals.{first-refusal, later-refusal}
+use Rattle.lang.proofs.Refusals.{first-refusal, later-refusal, room-is, room-short}
 use borrow.Author.Needs.{needs}
 use Rattle.validate.proofs.fits_refusal.Statement.{statement}
 use Rattle.validate.proofs.fits_refusal.Tie as tie
@@ -20,26 +22,21 @@ returns-2 c =
     let p = c .before .before in
     later-refusal (p .before .room-refusal .ensures) (p .if1 .left) (first-refusal _ (c .before .room-refusal2 .ensures) (c .if2 .taken))
 
-mul-room-refusal : tie.Need-mul-room-refusal
-mul-room-refusal c = search needs
-
-room-refusal-requires-3 : tie.Need-room-refusal-requires-3
-room-refusal-requires-3 c κs = search needs
-
 returns-3 : tie.Need-returns-3
 returns-3 c =
     let k = c .before in
     let p = k .before .before in
-    later-refusal (p .before .room-refusal .ensures) (p .if1 .left) (later-refusal (k .before .room-refusal2 .ensures) (k .if2 .left) (c .room-refusal3 .ensures))
+    let a = p .before .before .args in
+    later-refusal (p .before .room-refusal .ensures) (p .if1 .left) (later-refusal (k .before .room-refusal2 .ensures) (k .if2 .left) (sym (room-is (4 * a .count) (a .warnings) (omega (arith, c .if3 .taken)))))
+
+returns-4 : tie.Need-returns-4
+returns-4 c =
+    let k = c .before in
+    let p = k .before .before in
+    let a = p .before .before .args in
+    later-refusal (p .before .room-refusal .ensures) (p .if1 .left) (later-refusal (k .before .room-refusal2 .ensures) (k .if2 .left) (sym (room-short (4 * a .count) (a .warnings) (omega (arith, c .if3 .left)))))
 
 pub fits-refusal-spec : {M : Type 1} → statement M
 fits-refusal-spec =
     tie.close
-    (tie.spec
-    room-refusal-requires
-    returns
-    room-refusal-requires-2
-    returns-2
-    mul-room-refusal
-    room-refusal-requires-3
-    returns-3)
+    (tie.spec room-refusal-requires returns room-refusal-requires-2 returns-2 returns-3 returns-4)
