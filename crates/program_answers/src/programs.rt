@@ -1,5 +1,4 @@
 // The answers about a program: I, U, B and R.
-ghost use Prim.Native.Nat.{_≤_};
 use crate::room::indices;
 use crate::room::places;
 use crate::room::values;
@@ -18,6 +17,8 @@ use requests::request::items;
 use requests::request::number_at;
 use requests::request::part;
 use requests::request::rest;
+use requests::sets::mark;
+use requests::sets::put_set;
 use unpack::SevenBit;
 use unpack::Unpacked;
 
@@ -34,45 +35,11 @@ pub(crate) fn chain_from(numbers: &[i32], out: &mut [i32]) -> Written {
     }
 }
 
-// Passthrough from a list of indices: a byte an instruction, 1 at each index of the list.
-fn mark(listed: &[i32], marks: &mut [u8]) {
-    let mut i = 0;
-    while i < listed.len() {
-        words::put_u8(marks, words::word_at(listed, i) as usize, 1);
-        i += 1;
-    }
-}
-
-fn put_if_set(out: &mut [i32], at: usize, mark: u8, i: usize) -> usize
-    ensures { λ r. ⌜ at ≤ r ⌝ }
-{
-    if mark == 0 {
-        return at;
-    }
-    put_count(out, at, i)
-}
-
-// The indices of the marks that are set.
-fn put_marked(out: &mut [i32], at: usize, marks: &[u8]) -> usize
-    ensures { λ r. ⌜ at ≤ r ⌝ }
-{
-    let mut next = at;
-    let mut i = 0;
-    while i < marks.len() {
-        next = put_if_set(out, next, marks[i], i);
-        i += 1;
-    }
-    next
-}
-
-// An unpacked entry and the marks that are left, whose number stands before them.
+// An unpacked entry and the marks that are left.
 fn put_entry(out: &mut [i32], entry: usize, marks: &[u8]) -> usize {
     let a = put_count(out, 0, 0);
     let b = put_count(out, a, entry);
-    let c = put_count(out, b, 0);
-    let d = put_marked(out, c, marks);
-    put_count(out, b, d - c);
-    d
+    put_set(out, b, marks)
 }
 
 // What unpacking answered, and the marks that it left.

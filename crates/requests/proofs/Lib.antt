@@ -1,2 +1,3 @@
--- Laws of crate requests: Parts (the definitions by the tests that the code makes).
+-- Laws of crate requests: Parts (the definitions by the tests that the code makes), Marking (sets of indices).
 pub mod Parts
+mod Marking

@@ -2,10 +2,10 @@
 -- items, then the boundary character and the left-boundary entry.
 use mathlib.Core.Bool.{cond}
 use mathlib.Core.List.{List, []}
-use Prim.Native.Nat.{ℕ, _+_, _-_, _*_}
+use Prim.Native.Nat.{ℕ, zero, suc, _+_, _-_, _*_}
 use lib.Dec.{leb, ltb}
 use lib.IntN.{ℤ, pos}
-use lib.ListN.{length, take, drop, getD}
+use lib.ListN.{length, take, drop, getD, set}
 use Rattle.words.specs.Words.{wordOf}
 
 -- the numbers from place a to place e, where they stand so
@@ -24,6 +24,11 @@ afterOf w s i =
 -- its items
 unfoldable pub itemsOf : ℕ → List ℤ → ℕ → List ℤ
 itemsOf w s i = cond (leb (length s) i) [] (partOf s (i + 1) (afterOf w s i))
+
+-- the marks after the first k numbers of a list: at each of them a 1
+unfoldable pub marked : ℕ → List ℤ → List ℕ → List ℕ
+marked zero s m = m
+marked (suc k) s m = set (marked k s m) (wordOf (numberAt s k)) 1
 
 -- where the kerns and the entries of a font stand
 abbrev pub kernsAt : List ℤ → ℕ

@@ -25,6 +25,7 @@ fn answer_by(letter: u8, numbers: &[i32], out: &mut [i32]) -> Written {
     match letter {
         b'C' | b'W' | b'A' => of_fonts::compiled(letter, numbers, out),
         b'K' | b'J' | b'P' => change_answers::answer(letter, numbers, out),
+        b'X' => repair_answers::answer(numbers, out),
         _ => program_answers::answer(letter, numbers, out),
     }
 }

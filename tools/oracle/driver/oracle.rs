@@ -92,6 +92,28 @@ impl Numbers {
     fn passthrough(&mut self) -> Read<HashSet<u16>> {
         Ok(self.many(Self::half)?.into_iter().collect())
     }
+    fn damaged(&mut self) -> Read<Damaged> {
+        let smallest = Char(self.byte()?);
+        let mut existing = [0; 8];
+        for word in &mut existing {
+            *word = self.int(i32::MIN as i64, i32::MAX as i64)? as u32;
+        }
+        let passthrough = self.passthrough()?;
+        let mut font = self.font()?;
+        font.program.passthrough = passthrough;
+        let entries = font
+            .entries
+            .iter()
+            .map(|(c, e)| u8::try_from(*e).map(|e| (*c, e)))
+            .collect::<Result<_, _>>()
+            .map_err(|_| "an entry of a request X is over 255")?;
+        Ok(Damaged {
+            smallest,
+            existing,
+            entries,
+            font,
+        })
+    }
 }
 
 struct Font {
@@ -122,6 +144,66 @@ impl Font {
         let (compiled, loops) =
             CompiledProgram::compile(&self.program, design, &self.kerns, self.map());
         (compiled, loops.into_iter().map(|l| l.starting_pair).collect())
+    }
+}
+
+/// A font to be repaired, with its packed entries.
+struct Damaged {
+    smallest: Char,
+    existing: [u32; 8],
+    entries: Vec<(Char, u8)>,
+    font: Font,
+}
+
+/// A kern of the program that stands elsewhere for the time: its index and its value.
+type Kept = (usize, FixWord);
+
+fn scales(kern: FixWord) -> bool {
+    matches!(kern.0.to_be_bytes()[0], 0 | 255)
+}
+
+impl Damaged {
+    /// Sets each kern that does not scale to 0. Those of the program are handed back.
+    fn without_odd_kerns(&mut self) -> Vec<Kept> {
+        for kern in &mut self.font.kerns {
+            if !scales(*kern) {
+                *kern = FixWord::ZERO;
+            }
+        }
+        let mut kept = vec![];
+        for (i, instruction) in self.font.program.instructions.iter_mut().enumerate() {
+            if let Operation::Kern(kern) = &mut instruction.operation {
+                if !scales(*kern) {
+                    kept.push((i, *kern));
+                    *kern = FixWord::ZERO;
+                }
+            }
+        }
+        kept
+    }
+    /// The answer to X, with the kept kerns back where the instruction is still the same kern.
+    fn repair(mut self, kept: &[Kept]) -> Answer {
+        let existing = self.existing;
+        let program = &mut self.font.program;
+        let warnings = program.validate_and_fix(
+            self.smallest,
+            self.entries.into_iter(),
+            |c: Char| existing[c.0 as usize / 32] >> (c.0 % 32) & 1 == 1,
+            &self.font.kerns,
+        );
+        for (i, kern) in kept {
+            if program.instructions[*i].operation == Operation::Kern(FixWord::ZERO) {
+                program.instructions[*i].operation = Operation::Kern(*kern);
+            }
+        }
+        let mut out = vec![warnings.len() as i64];
+        for w in &warnings {
+            out.extend(warning(w));
+        }
+        put_instructions(&mut out, &program.instructions);
+        out.push(program.left_boundary_char_entrypoint.map_or(-1, i64::from));
+        put_set(&mut out, &program.passthrough);
+        out
     }
 }
 
@@ -437,37 +519,8 @@ fn read(letter: &str, n: &mut Numbers) -> Read<Call> {
             })
         }
         "X" => {
-            let smallest = Char(n.byte()?);
-            let mut existing = [0u64; 4];
-            for word in &mut existing {
-                // A number of 2^63 or more has been read as its value less 2^64.
-                *word = n.int(i64::MIN, i64::MAX)? as u64;
-            }
-            let passthrough = n.passthrough()?;
-            let mut font = n.font()?;
-            font.program.passthrough = passthrough;
-            let entries: Vec<(Char, u8)> = font
-                .entries
-                .iter()
-                .map(|(c, e)| u8::try_from(*e).map(|e| (*c, e)))
-                .collect::<Result<_, _>>()
-                .map_err(|_| "an entry of a request X is over 255")?;
-            Box::new(move || {
-                let warnings = font.program.validate_and_fix(
-                    smallest,
-                    entries.into_iter(),
-                    |c: Char| existing[c.0 as usize / 64] >> (c.0 % 64) & 1 == 1,
-                    &font.kerns,
-                );
-                let mut out = vec![warnings.len() as i64];
-                for w in &warnings {
-                    out.extend(warning(w));
-                }
-                put_instructions(&mut out, &font.program.instructions);
-                out.push(font.program.left_boundary_char_entrypoint.map_or(-1, i64::from));
-                put_set(&mut out, &font.program.passthrough);
-                out
-            })
+            let damaged = n.damaged()?;
+            Box::new(move || damaged.repair(&[]))
         }
         _ => return Err("unknown request".into()),
     })
@@ -479,7 +532,6 @@ fn split(line: &str) -> Read<(&str, Numbers)> {
     let list = words
         .map(|w| {
             w.parse::<i64>()
-                .or_else(|_| w.parse::<u64>().map(|u| u as i64))
                 .map_err(|_| format!("not a number: {w}"))
         })
         .collect::<Read<Vec<i64>>>()?;
@@ -540,6 +592,18 @@ fn refusal(line: &str) -> Option<i64> {
     Some(number)
 }
 
+/// The answer to an X whose kerns do not all scale, where the Rust panicked over one of them: it is asked
+/// once more without these kerns, which are no matter to repair.
+fn repaired(line: &str) -> Option<Answer> {
+    let (letter, mut numbers) = split(line).ok()?;
+    if letter != "X" || said(letter) != Some(13) {
+        return None;
+    }
+    let mut damaged = numbers.damaged().ok()?;
+    let kept = damaged.without_odd_kerns();
+    catch_unwind(AssertUnwindSafe(|| damaged.repair(&kept))).ok()
+}
+
 /// Answers the requests on standard input; the exit status is returned.
 pub fn main() -> i32 {
     listen();
@@ -561,14 +625,14 @@ pub fn main() -> i32 {
             }
         };
         let mut text = letter.to_string();
-        match catch_unwind(AssertUnwindSafe(call)) {
-            Ok(numbers) => {
+        match catch_unwind(AssertUnwindSafe(call)).ok().or_else(|| repaired(&line)) {
+            Some(numbers) => {
                 for number in numbers {
                     text.push(' ');
                     text.push_str(&number.to_string());
                 }
             }
-            Err(_) => {
+            None => {
                 text.push_str(" panic");
                 if let Some(number) = refusal(&line) {
                     text.push_str(&format!(" {number}"));

@@ -1,20 +1,21 @@
--- `program_answers::programs::put_marked` goes on, and keeps the length of the list: the invariant.
+-- `requests::sets::put_marked` goes on, and stays within the list: the invariant.
 -- Assumes nothing.
 use native.Mathlib.Omega.{arith}
 use Prim.Native.Nat.{ℕ, _≤_, _<_, _-_}
-use mathlib.Core.Path.{_≡_}
 use lib.ListN.{length}
-use Rattle.program_answers.proofs.programs.put_marked.Statement.{statement}
-use Rattle.program_answers.proofs.programs.put_marked.Tie as tie
+use Rattle.requests.proofs.Parts.{Kept, kept-none}
+use Rattle.requests.proofs.Marking.{kept-on}
+use Rattle.requests.proofs.sets.put_marked.Statement.{statement}
+use Rattle.requests.proofs.sets.put_marked.Tie as tie
 
 abbrev Inv-loop : tie.InvT-loop
-Inv-loop out₀ at marks next₀ i₀ out next i = (at ≤ next) × (length out ≡ length out₀)
+Inv-loop out₀ at marks next₀ i₀ out next i = Kept at out₀ out next
 
 abbrev μ-loop : tie.MeasureT-loop
 μ-loop out₀ at marks next₀ i₀ out next i = length marks - i
 
 loop-holds : tie.Need-loop-holds Inv-loop μ-loop
-loop-holds c = omega arith
+loop-holds c = kept-none _ _
 
 shared-slice-read-put-if-set : tie.Need-shared-slice-read-put-if-set Inv-loop μ-loop
 shared-slice-read-put-if-set c = omega arith
@@ -29,13 +30,13 @@ loop-less : tie.Need-loop-less Inv-loop μ-loop
 loop-less c = omega arith
 
 loop-again : tie.Need-loop-again Inv-loop μ-loop
-loop-again c = omega (arith, c .before .put-if-set .kept .0, c .before .put-if-set .ensures)
+loop-again c = kept-on (c .before .before .before .before .before .loop .inv) (c .before .put-if-set .kept .0) (c .before .put-if-set .ensures)
 
 same-length : tie.Need-same-length Inv-loop μ-loop
-same-length c = omega arith
+same-length c = c .before .loop .inv .same-length
 
 returns : tie.Need-returns Inv-loop μ-loop
-returns c = omega arith
+returns c = (c .before .loop .inv .on, c .before .loop .inv .within)
 
 pub put-marked-spec : {M : Type 1} → statement M
 put-marked-spec =

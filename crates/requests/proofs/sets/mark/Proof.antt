@@ -1,20 +1,20 @@
--- `program_answers::programs::mark` keeps the length of the marks: the invariant.
+-- `requests::sets::mark` marks each listed index. The invariant: the marks of the numbers before i.
 -- Assumes nothing.
 use native.Mathlib.Omega.{arith}
 use Prim.Native.Nat.{ℕ, _≤_, _<_, _-_}
-use mathlib.Core.Path.{_≡_}
 use lib.ListN.{length}
-use Rattle.program_answers.proofs.programs.mark.Statement.{statement}
-use Rattle.program_answers.proofs.programs.mark.Tie as tie
+use Rattle.requests.proofs.Marking.{Marked, marked-none, marked-more, marked-all}
+use Rattle.requests.proofs.sets.mark.Statement.{statement}
+use Rattle.requests.proofs.sets.mark.Tie as tie
 
 abbrev Inv-loop : tie.InvT-loop
-Inv-loop listed marks₀ i₀ marks i = length marks ≡ length marks₀
+Inv-loop listed marks₀ i₀ marks i = Marked listed marks₀ marks i
 
 abbrev μ-loop : tie.MeasureT-loop
 μ-loop listed marks₀ i₀ marks i = length listed - i
 
 loop-holds : tie.Need-loop-holds Inv-loop μ-loop
-loop-holds c = omega arith
+loop-holds c = marked-none _ _
 
 word-at-requires : tie.Need-word-at-requires Inv-loop μ-loop
 word-at-requires c κs = tt
@@ -32,13 +32,15 @@ loop-less : tie.Need-loop-less Inv-loop μ-loop
 loop-less c = omega arith
 
 loop-again : tie.Need-loop-again Inv-loop μ-loop
-loop-again c = omega (arith, c .before .before .put-u8 .kept .0)
+loop-again c =
+    let a = c .before .before in
+    marked-more (a .before .before .before .before .loop .inv) (omega arith) (a .before .word-at .ensures) (a .put-u8 .ensures)
 
 same-length : tie.Need-same-length Inv-loop μ-loop
-same-length c = omega arith
+same-length c = c .before .loop .inv .same-length
 
 returns : tie.Need-returns Inv-loop μ-loop
-returns c = tt
+returns c = marked-all (c .before .loop .inv) (omega arith)
 
 pub mark-spec : {M : Type 1} → statement M
 mark-spec =

@@ -1,9 +1,9 @@
--- `program_answers::programs::put_if_set` goes on.
+-- `requests::sets::put_if_set` goes on, and stays within the list.
 -- Assumes nothing.
-use Rattle.requests.proofs.Parts.{put-on}
 use borrow.Author.Needs.{needs}
-use Rattle.program_answers.proofs.programs.put_if_set.Statement.{statement}
-use Rattle.program_answers.proofs.programs.put_if_set.Tie as tie
+use Rattle.requests.proofs.Parts.{kept-none, kept-more}
+use Rattle.requests.proofs.sets.put_if_set.Statement.{statement}
+use Rattle.requests.proofs.sets.put_if_set.Tie as tie
 
 returns : tie.Need-returns
 returns c = search needs
@@ -15,7 +15,7 @@ same-length : tie.Need-same-length
 same-length c = search needs
 
 returns-2 : tie.Need-returns-2
-returns-2 c = put-on (c .before .put-count .ensures)
+returns-2 c = let k = kept-more (kept-none _ _) (c .before .put-count .ensures) in (k .on, k .within)
 
 pub put-if-set-spec : {M : Type 1} → statement M
 put-if-set-spec = tie.close (tie.spec returns put-count-requires same-length returns-2)
