@@ -14,7 +14,7 @@ use borrow.Author.Tests.{eq-eqb, ne-eqb}
 use Rattle.words.specs.Lists.{tabulate}
 use Rattle.words.proofs.Lists.{length-tabulate, getD-tabulate}
 use Rattle.words.proofs.Tests.{same-or-not}
-use Rattle.repairs.proofs.Pushing.{sets-append}
+use Rattle.words.proofs.Lists.{sets-append}
 
 module _ {A : Type 0} where
   -- none is stored, and one more, by a function of the index

@@ -16,7 +16,7 @@ use Rattle.lang.specs.Records.{count, field, isKind}
 use Rattle.repairs.specs.declared.Faults.{Faults}
 use Rattle.repairs.specs.Damaged.{programBy}
 use Rattle.repairs.specs.Repaired.{faultsOf}
-use Rattle.faults.specs.Tests.{existsIn, isEdge, skipPasses, redirectPasses, rightMissing, kernPasses, productMissing, tagInvalid}
+use Rattle.faults.specs.Tests.{existsIn, isEdge, skipPastEnd, redirectPastEnd, rightMissing, kernPastList, productMissing, tagInvalid}
 
 -- two tests of order that hold together
 leb-both : (a b c d : ℕ) → (a ≤ b → c ≤ d) → (b < a → d < c) → leb a b ≡ leb c d
@@ -38,36 +38,36 @@ module _ (s : List ℤ) (i k : ℕ) {kind : ℕ} (ks : kind ≡ wordOf (field s 
 -- ---- skips
 
 module _ (s : List ℤ) (marks : List ℕ) (i : ℕ) {m : ℕ} (ms : m ≡ getD marks i 0) where
-  pub skip-unreachable : m ≡ 0 → false ≡ skipPasses s marks i
+  pub skip-unreachable : m ≡ 0 → false ≡ skipPastEnd s marks i
   skip-unreachable h = rw (← ms, h)
 
   module _ (h : m ≡ 0 → ⊥) {w : ℕ} (ws : Word (field s i 0) w) where
-    pub skip-none : 2147483647 < w → false ≡ skipPasses s marks i
+    pub skip-none : 2147483647 < w → false ≡ skipPastEnd s marks i
     skip-none l = rw (← ms, ne-eqb m 0 h, read-neg ws (omega arith))
 
     module _ (l : w ≤ 2147483647) where
-      pub skip-past : count s ≤ i → true ≡ skipPasses s marks i
+      pub skip-past : count s ≤ i → true ≡ skipPastEnd s marks i
       skip-past g = rw (← ms, ne-eqb m 0 h, read-pos ws (omega arith), le-leb (count s) (i + 1 + w) (omega arith))
 
-      pub skip-lands : i < count s → leb (count s - i) (w + 1) ≡ skipPasses s marks i
+      pub skip-lands : i < count s → leb (count s - i) (w + 1) ≡ skipPastEnd s marks i
       skip-lands g =
           rw (← ms, ne-eqb m 0 h, read-pos ws (omega arith)) (leb-both (count s - i) (w + 1) (count s) (i + 1 + w) (λ e. omega arith) (λ e. omega arith))
 
 -- ---- redirects
 
 module _ (s : List ℤ) (marks through : List ℕ) (i : ℕ) {kind : ℕ} (ks : kind ≡ wordOf (field s i 2)) where
-  pub redirect-none : (kind ≡ 3 → ⊥) → false ≡ redirectPasses s marks through i
+  pub redirect-none : (kind ≡ 3 → ⊥) → false ≡ redirectPastEnd s marks through i
   redirect-none h = rw (not-kind s i 3 ks h)
 
   module _ (h : kind ≡ 3) {w : ℕ} (ws : w ≡ wordOf (field s i 3)) where
-    pub redirect-followed : w % 65536 < count s → false ≡ redirectPasses s marks through i
+    pub redirect-followed : w % 65536 < count s → false ≡ redirectPastEnd s marks through i
     redirect-followed l = rw (of-kind s i 3 ks h, ← ws, lt-leb (count s) (w % 65536) l)
 
     module _ (l : count s ≤ w % 65536) {m : ℕ} (ms : m ≡ getD marks i 0) where
-      pub redirect-reached : (m ≡ 0 → ⊥) → true ≡ redirectPasses s marks through i
+      pub redirect-reached : (m ≡ 0 → ⊥) → true ≡ redirectPastEnd s marks through i
       redirect-reached g = rw (of-kind s i 3 ks h, ← ws, le-leb (count s) (w % 65536) l, ← ms, ne-eqb m 0 g)
 
-      pub redirect-unreached : m ≡ 0 → {t : ℕ} → t ≡ getD through i 0 → eqb t 0 ≡ redirectPasses s marks through i
+      pub redirect-unreached : m ≡ 0 → {t : ℕ} → t ≡ getD through i 0 → eqb t 0 ≡ redirectPastEnd s marks through i
       redirect-unreached g {t} ts = rw (of-kind s i 3 ks h, ← ws, le-leb (count s) (w % 65536) l, ← ms, eq-eqb m 0 g, ← ts) (go (eqb t 0))
         where
           go : (b : Bool) → b ≡ not (cond b false true)
@@ -97,10 +97,10 @@ module _ (s : List ℤ) (boundary : ℤ) (existing : List ℕ) (i : ℕ) {kind :
 -- ---- kern indices
 
 module _ (s kerns : List ℤ) (i : ℕ) {kind : ℕ} (ks : kind ≡ wordOf (field s i 2)) where
-  pub kern-none : (kind ≡ 1 → ⊥) → false ≡ kernPasses s kerns i
+  pub kern-none : (kind ≡ 1 → ⊥) → false ≡ kernPastList s kerns i
   kern-none h = rw (not-kind s i 1 ks h)
 
-  pub kern-index : kind ≡ 1 → {w : ℕ} → w ≡ wordOf (field s i 3) → leb (length kerns) w ≡ kernPasses s kerns i
+  pub kern-index : kind ≡ 1 → {w : ℕ} → w ≡ wordOf (field s i 3) → leb (length kerns) w ≡ kernPastList s kerns i
   kern-index h ws = rw (of-kind s i 1 ks h, ← ws)
 
 -- ---- ligatures
@@ -122,5 +122,5 @@ module _ (s : List ℤ) (existing : List ℕ) (i : ℕ) {kind : ℕ} (ks : kind 
 -- ---- all of them
 
 module _ (s kerns : List ℤ) (boundary : ℤ) (existing marks through : List ℕ) (i : ℕ) where
-  pub faults-are : {w : ℕ} → Word boundary w → {skip redirect right kern product tag : Bool} → skip ≡ skipPasses s marks i → redirect ≡ redirectPasses s marks through i → right ≡ rightMissing s (numberOf w) existing i → kern ≡ kernPasses s kerns i → product ≡ productMissing s existing i → tag ≡ tagInvalid s i → (n : ℕ) → _≡_ {A = Faults} (record { skip = skip; redirect = redirect; right = right; kern = kern; product = product; tag = tag }) (faultsOf (programBy s kerns boundary n existing marks through) i)
+  pub faults-are : {w : ℕ} → Word boundary w → {skip redirect right kern product tag : Bool} → skip ≡ skipPastEnd s marks i → redirect ≡ redirectPastEnd s marks through i → right ≡ rightMissing s (numberOf w) existing i → kern ≡ kernPastList s kerns i → product ≡ productMissing s existing i → tag ≡ tagInvalid s i → (n : ℕ) → _≡_ {A = Faults} (record { skip = skip; redirect = redirect; right = right; kern = kern; product = product; tag = tag }) (faultsOf (programBy s kerns boundary n existing marks through) i)
   faults-are ws es fs gs hs ks ls n = rw (es, fs, gs ∙ ap (λ (b : ℤ). rightMissing s b existing i) (number-is ws), hs, ks, ls)

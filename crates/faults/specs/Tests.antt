@@ -12,17 +12,17 @@ existsIn existing c = exists (programBy [] [] (pos 0) 0 existing [] []) c
 abbrev pub isEdge : ℤ → ℤ → Bool
 isEdge boundary right = isBoundary (programBy [] [] boundary 0 [] [] []) right
 
-abbrev pub skipPasses : List ℤ → List ℕ → ℕ → Bool
-skipPasses s marks i = skipGoes (programBy s [] (pos 0) 0 [] marks []) i
+abbrev pub skipPastEnd : List ℤ → List ℕ → ℕ → Bool
+skipPastEnd s marks i = skipGoes (programBy s [] (pos 0) 0 [] marks []) i
 
-abbrev pub redirectPasses : List ℤ → List ℕ → List ℕ → ℕ → Bool
-redirectPasses s marks passthrough i = redirectWarns (programBy s [] (pos 0) 0 [] marks passthrough) i
+abbrev pub redirectPastEnd : List ℤ → List ℕ → List ℕ → ℕ → Bool
+redirectPastEnd s marks passthrough i = redirectWarns (programBy s [] (pos 0) 0 [] marks passthrough) i
 
 abbrev pub rightMissing : List ℤ → ℤ → List ℕ → ℕ → Bool
 rightMissing s boundary existing i = rightGoes (programBy s [] boundary 0 existing [] []) i
 
-abbrev pub kernPasses : List ℤ → List ℤ → ℕ → Bool
-kernPasses s kerns i = kernGoes (programBy s kerns (pos 0) 0 [] [] []) i
+abbrev pub kernPastList : List ℤ → List ℤ → ℕ → Bool
+kernPastList s kerns i = kernGoes (programBy s kerns (pos 0) 0 [] [] []) i
 
 abbrev pub productMissing : List ℤ → List ℕ → ℕ → Bool
 productMissing s existing i = productGoes (programBy s [] (pos 0) 0 existing [] []) i

@@ -6,7 +6,7 @@ ghost use Rattle.words.specs.Words.{numberOf};
 ghost use Rattle.lang.specs.Operations.{isStandard};
 ghost use Rattle.repairs.specs.Damaged.{programBy};
 ghost use Rattle.repairs.specs.Repaired.{faultsOf};
-ghost use Rattle.faults.specs.Tests.{existsIn, isEdge, skipPasses, redirectPasses, rightMissing, kernPasses, productMissing, tagInvalid};
+ghost use Rattle.faults.specs.Tests.{existsIn, isEdge, skipPastEnd, redirectPastEnd, rightMissing, kernPastList, productMissing, tagInvalid};
 use lang::instruction::field_at;
 use repairs::Faults;
 
@@ -34,7 +34,7 @@ fn is_standard(op: u32) -> bool
 
 // TFtoPL 70: step i is reachable, and its skip passes the end.
 fn skip_goes(instructions: &[i32], marks: &[u8], i: usize) -> bool
-    ensures { λ r. ⌜ r ≡ skipPasses (now (instructions .entry)) (now (marks .entry)) i ⌝ }
+    ensures { λ r. ⌜ r ≡ skipPastEnd (now (instructions .entry)) (now (marks .entry)) i ⌝ }
 {
     if words::u8_at(marks, i) == 0 {
         return false;
@@ -52,7 +52,7 @@ fn skip_goes(instructions: &[i32], marks: &[u8], i: usize) -> bool
 
 // Step i is a redirect whose target is past the end, unless it is unreachable and passed over.
 fn redirect_warns(instructions: &[i32], marks: &[u8], passthrough: &[u8], i: usize) -> bool
-    ensures { λ r. ⌜ r ≡ redirectPasses (now (instructions .entry)) (now (marks .entry)) (now (passthrough .entry)) i ⌝ }
+    ensures { λ r. ⌜ r ≡ redirectPastEnd (now (instructions .entry)) (now (marks .entry)) (now (passthrough .entry)) i ⌝ }
 {
     if field_at(instructions, i, 2) != 3 {
         return false;
@@ -93,7 +93,7 @@ fn right_goes(instructions: &[i32], boundary: u32, existing: &[u64; 4], i: usize
 
 // The kern index of step i is past the list.
 fn kern_goes(instructions: &[i32], kerns: &[i32], i: usize) -> bool
-    ensures { λ r. ⌜ r ≡ kernPasses (now (instructions .entry)) (now (kerns .entry)) i ⌝ }
+    ensures { λ r. ⌜ r ≡ kernPastList (now (instructions .entry)) (now (kerns .entry)) i ⌝ }
 {
     if field_at(instructions, i, 2) != 1 {
         return false;

@@ -21,7 +21,7 @@ use Rattle.repairs.specs.Repaired.{skipGoes, faultsOf}
 use Rattle.repairs.specs.Warnings.{warning, warnIf, skipWarnings, stepWarnings, stepsWarnings}
 use Rattle.repairs.specs.Pushed.{Pushed}
 use Rattle.repairs.proofs.Pushing.{pushed-none, pushed-append, pushed-if}
-use Rattle.fixes.specs.Passes.{warningsBy, PushedUpTo}
+use Rattle.fixes.specs.StepFixes.{warningsBy, PushedUpTo}
 
 -- none
 pub none-yet : (w : List ℤ) (n : ℕ) → PushedUpTo 0 w n [] w n

@@ -18,7 +18,7 @@ use Rattle.repairs.specs.Damaged.{Program, programBy}
 use Rattle.repairs.specs.Repaired.{faultsOf}
 use Rattle.repairs.specs.Warnings.{skipWarnings}
 use Rattle.fixes.specs.Fixing.{Fixes}
-use Rattle.fixes.specs.Passes.{warningsBy, stepBy, PushedUpTo, FixesUpto}
+use Rattle.fixes.specs.StepFixes.{warningsBy, stepBy, PushedUpTo, FixesUpto}
 use Rattle.fixes.proofs.Pushes.{and-then, steps-none, steps-more}
 use Rattle.fixes.proofs.Writes.{written-none, written-more}
 

@@ -12,16 +12,15 @@ use lib.Seq.{sets}
 use borrow.Author.Tests.{eq-eqb, ne-eqb}
 use Rattle.words.specs.Words.{Word, wordOf, numberOf}
 use Rattle.words.proofs.Bits.{number-pos, number-is}
-use Rattle.lang.specs.Every.{both}
-use Rattle.lang.specs.Records.{field, within, absentOr, operandFits, isInstruction}
-use Rattle.lang.proofs.Every.{both-right}
+use Rattle.words.proofs.Lists.{sets-append}
+use Rattle.lang.specs.Records.{field, isInstruction}
 use Rattle.lang.proofs.Records.{within-bound}
 use Rattle.repairs.specs.declared.Faults.{Faults}
 use Rattle.repairs.specs.Damaged.{Program}
 use Rattle.repairs.specs.Repaired.{repairedStep, repairedUpto}
-use Rattle.repairs.proofs.Pushing.{sets-append}
+use Rattle.repairs.proofs.Kept.{operand-fits, ligature-fits}
 use Rattle.repairs.proofs.Steps.{length-upto}
-use Rattle.fixes.specs.Passes.{operandBy}
+use Rattle.fixes.specs.StepFixes.{operandBy}
 
 -- ---- one number
 
@@ -38,8 +37,8 @@ picked-most false a b m e h l = rw e l
 -- a ligature's operand has an op byte below 128
 operand-small : (s : List ℤ) (i : ℕ) {kind : ℕ} → kind ≡ wordOf (field s i 2) → kind ≡ 2 → isInstruction s i ≡ true → wordOf (field s i 3) ≤ 32767
 operand-small s i {kind} ks h t =
-    let o : operandFits (wordOf (field s i 2)) (field s i 3) ≡ true = both-right (within 255 (field s i 1)) (operandFits (wordOf (field s i 2)) (field s i 3)) (both-right (absentOr 255 (field s i 0)) (both (within 255 (field s i 1)) (operandFits (wordOf (field s i 2)) (field s i 3))) t) in
-    within-bound 32767 (field s i 3) (rw (sym ks ∙ h) at o)
+    within-bound 32767 (field s i 3)
+    (ligature-fits (wordOf (field s i 2)) (field s i 3) (operand-fits s i t) (eq-eqb (wordOf (field s i 2)) 2 (sym ks ∙ h)))
 
 module _ (s : List ℤ) (replacement : ℕ) (f : Faults) (i : ℕ) {kind operand : ℕ} (ks : kind ≡ wordOf (field s i 2)) (os : Word (field s i 3) operand) where
   pub operand-other : (kind ≡ 2 → ⊥) → {r : ℕ} → r ≡ cond (f .kern) 0 operand → numberOf r ≡ operandBy s replacement f i
@@ -51,15 +50,6 @@ module _ (s : List ℤ) (replacement : ℕ) (f : Faults) (i : ℕ) {kind operand
       let p : a ≤ 127 = picked-most (f .tag) 0 (operand / 256) 127 es (omega arith) (omega arith) in
       let q : b ≤ 255 = picked-most (f .product) replacement (operand % 256) 255 fs (omega arith) (omega arith) in
       number-pos (256 * a + b) (omega arith) ∙ rw (← ks, eq-eqb kind 2 h, ← os .is, ← es, ← fs)
-
--- ---- four stores
-
-pub four-written : (i : ℕ) (l : List ℤ) {l₁ l₂ l₃ l₄ : List ℤ} {a b c d x y z v : ℤ} → a ≡ x → b ≡ y → c ≡ z → d ≡ v → l₁ ≡ set l (4 * i) a → l₂ ≡ set l₁ (4 * i + 1) b → l₃ ≡ set l₂ (4 * i + 2) c → l₄ ≡ set l₃ (4 * i + 3) d → l₄ ≡ sets l (4 * i) (x ∷ y ∷ z ∷ v ∷ [])
-four-written i l p q r t e₁ e₂ e₃ e₄ =
-    let one : 4 * i + 1 ≡ suc (4 * i) = omega arith in
-    let two : 4 * i + 2 ≡ suc (suc (4 * i)) = omega arith in
-    let three : 4 * i + 3 ≡ suc (suc (suc (4 * i))) = omega arith in
-    rw (e₄, e₃, e₂, e₁, p, q, r, t, one, two, three)
 
 -- ---- of the first k steps
 

@@ -10,7 +10,7 @@ ghost use Rattle.lang.specs.Checks.{programRefusal};
 ghost use Rattle.repairs.specs.Damaged.{programBy};
 ghost use Rattle.repairs.specs.Warnings.{skipWarnings};
 ghost use Rattle.fixes.specs.Fixing.{Fixes};
-ghost use Rattle.fixes.specs.Passes.{warningsBy, operandBy, stepBy, PushedUpTo, FixesUpto};
+ghost use Rattle.fixes.specs.StepFixes.{warningsBy, operandBy, stepBy, PushedUpTo, FixesUpto};
 use faults::faults;
 use lang::instruction::field_at;
 use repairs::Faults;

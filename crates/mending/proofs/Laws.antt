@@ -15,6 +15,7 @@ use mir.Val.{SFits}
 use borrow.Author.Tests.{le-leb, leb-true, eq-eqb, eqb-true}
 use Rattle.words.specs.Words.{wordOf, numberOf}
 use Rattle.words.proofs.Bits.{number-word, number-fits}
+use Rattle.words.proofs.Lists.{sets-append}
 use Rattle.lang.specs.declared.Written.{Written}
 use Rattle.lang.specs.declared.Written.the-variants.{Count, Refused}
 use Rattle.lang.specs.Every.{both}
@@ -34,7 +35,7 @@ use Rattle.repairs.specs.Repaired.{repairedInstructions, repairedFont}
 use Rattle.repairs.specs.Warnings.{leftWarning, entryWarnings, skipWarnings, stepsWarnings, repairWarnings, loopWarnings, warningsOf}
 use Rattle.repairs.specs.Repairs.{damagedRefusal, repairedPairsRefusal, validatedReply}
 use Rattle.repairs.specs.Pushed.{Pushed}
-use Rattle.repairs.proofs.Pushing.{sets-append, pushed-append, loop-count}
+use Rattle.repairs.proofs.Pushing.{pushed-append, loop-count}
 use Rattle.repairs.proofs.Steps.{length-upto, same-count}
 use Rattle.entrypoints.specs.Entering.{Enters}
 use Rattle.fixes.specs.Fixing.{Fixes}

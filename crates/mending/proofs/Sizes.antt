@@ -12,13 +12,12 @@ use lib.Seq.{sets, length-sets, take-at, take-all}
 use borrow.Author.Tests.{leb-true}
 use Rattle.words.specs.Words.{wordOf}
 use Rattle.words.specs.Lists.{tabulate}
-use Rattle.words.proofs.Lists.{length-tabulate}
+use Rattle.words.proofs.Lists.{length-tabulate, sets-front}
 use Rattle.lang.specs.Records.{count, field}
 use Rattle.lang.specs.Checks.{programRefusal, kernsRefusal, entriesRefusal, absentRefusal, passthroughRefusal, orElse, unless, charAt}
 use Rattle.lang.proofs.Refusals.{orElse-none, unless-none, program-size}
 use Rattle.lang.proofs.Entered.{entries-few}
 use Rattle.targets.specs.Targets.{standsFor}
-use Rattle.repairs.proofs.Pushing.{sets-front}
 use Rattle.repairs.specs.Damaged.{Damaged, Program, unpacks, packedEntryOf, unpackedUpto, unpackedEntries, leftGoes, repairedPassthrough, passedOver}
 use Rattle.repairs.specs.Repaired.{skipGoes, redirectWarns, isLigature, rightGoes, kernGoes, productGoes, tagGoes, insertedBy}
 use Rattle.repairs.specs.Warnings.{warning, warnIf, leftWarning, entryWarnings, skipWarnings, stepWarnings, stepsWarnings}

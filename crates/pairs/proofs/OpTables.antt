@@ -15,7 +15,7 @@ use lib.Seq.{sets, length-sets, length-take-le, take-suc, take-add, getD-drop}
 use Rattle.words.specs.Words.{numberOf, Word}
 use Rattle.words.specs.Lists.{Appending}
 use Rattle.words.proofs.Bits.{number-pos, number-is, read-is}
-use Rattle.words.proofs.Lists.{drop-replicate, appending-none, appending-length, appending-more, appending-rest}
+use Rattle.words.proofs.Lists.{drop-replicate, appending-none, appending-length, appending-more, appending-rest, sets-append}
 use Rattle.words.proofs.Tests.{same-or-not, less-or-not}
 use Rattle.lang.specs.Answers.{padded}
 use Rattle.reading.specs.Items.{item, code, flag, Out, glyph, kern}
@@ -28,7 +28,7 @@ use Rattle.pairs.specs.SettledRows.{bit, finishedRows, outcome}
 use Rattle.fonts.specs.Numbers.{opsOf, opsBefore, outNumbers, opNumbers, opsTable, leftNumber, flagNumber, pairNumbers, pairTable}
 use Rattle.pairs.specs.OpRows.{rowOps, opTotal, Ready, opsWritten, pairsWritten}
 use Rattle.pairs.specs.OpSteps.{firstPart, secondPart, partOuts, raisedOuts, rowNumbers, Segment, OpsAt, Apart, opsPlace, opsSize, Copies, PartFits, partNumbers, PartWritten, RowWritten, WrittenBefore, ToWrite}
-use Rattle.pairs.proofs.Segments.{getD-apart, part-apart, drop-after, part-stored, part-at, sets-append, sets-over, sets-same, set-within}
+use Rattle.pairs.proofs.Segments.{getD-apart, part-apart, drop-after, part-stored, part-at, sets-over, sets-same, set-within}
 use Rattle.pairs.proofs.OpLaws.{length-numbers, numbers-append, length-raised, opsUpTo, before-more, ops-more, pairs-more, ends-before, ends-within, last-small, Sound, RowParts, finished-row, row-finished, unfinished-row, parts-of, count-parts}
 
 -- ---- a copy of numbers
@@ -52,7 +52,7 @@ module _ (d₀ : List ℤ) (from to count : ℕ) (there : from + count ≤ lengt
       j
       ∙ (λ a. set (e a) (to + i) (v a))
       ∙ ap (λ (x : ℕ). set (sets d₀ to (take i s)) (to + x) (getD s i (pos 0))) (sym l)
-      ∙ sets-append d₀ to (take i s) (getD s i (pos 0) ∷ [])
+      ∙ sym (sets-append (take i s) (getD s i (pos 0) ∷ []) d₀ to)
       ∙ ap (λ (x : List ℤ). sets d₀ to x) (sym (take-suc s i (pos 0) room))
       ∙ ap (λ (x : ℕ). sets d₀ to (take x s)) (sym (add-one i))
 
@@ -294,7 +294,7 @@ module _ (n : ℕ) (w : List ℕ) (k : ℕ) (d : List ℤ) (t : ToWrite n w d k)
           ∙ ap (λ (l : List ℤ). sets l next z) (g .1)
           ∙ sets-over d₁ next y z same (omega arith)
           ∙ (λ i. sets (f .1 i) (f .0 i) z)
-          ∙ sets-append d (opsPlace w k) x z
+          ∙ sym (sets-append x z d (opsPlace w k))
           ∙ ap (λ (l : List ℤ). sets d (opsPlace w k) l) (sym (ap opNumbers (here .outs) ∙ numbers-append firstOuts (raisedOuts secondOuts)))
 
 -- ---- the ops of all rows

@@ -4,7 +4,6 @@ use mathlib.Core.Path.{_≡_, refl, sym, ap, _∙_, subst}
 use mathlib.Core.List.{List, [], _∷_, _++_, append-assoc}
 use mathlib.Core.Logic.{_⊎_, inl, inr}
 use Prim.Native.Nat.{ℕ, suc, _+_, _-_, _<_, _≤_}
-use native.Mathlib.Nat.{add-zero}
 use native.Mathlib.Omega.{arith}
 use lib.ListN.{length, getD, take, drop, set, length-append, take-append-drop}
 use lib.Seq.{length-take-le, drop-drop, drop-set-lt, drop-set-add, take-set-le, getD-set-other, getD-drop, getD-take, getD-at, set-at, take-at, drop-at, sets, length-sets, sets-eq}
@@ -66,13 +65,6 @@ module _ {A : Type 0} where
       ∙ getD-at xs y ys d (length xs) refl
 
   -- ---- two runs of stores
-
-  -- one after the other
-  pub sets-append : (l : List A) (i : ℕ) (vs us : List A) → sets (sets l i vs) (i + length vs) us ≡ sets l i (vs ++ us)
-  sets-append l i [] us = rw add-zero
-  sets-append l i (a ∷ vs) us =
-      let e : i + suc (length vs) ≡ suc i + length vs = omega arith in
-      rw e (sets-append (set l i a) (suc i) vs us)
 
   -- one over the other
   pub sets-over : (l : List A) (i : ℕ) (vs us : List A) → length vs ≡ length us → i + length us ≤ length l → sets (sets l i vs) i us ≡ sets l i us

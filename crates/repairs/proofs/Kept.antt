@@ -28,12 +28,12 @@ pub next-fits : (s : List ℤ) (i : ℕ) → isInstruction s i ≡ true → abse
 next-fits s i t =
     both-left (absentOr 255 (field s i 0)) (both (within 255 (field s i 1)) (operandFits (wordOf (field s i 2)) (field s i 3))) t
 
-operand-fits : (s : List ℤ) (i : ℕ) → isInstruction s i ≡ true → operandFits (wordOf (field s i 2)) (field s i 3) ≡ true
+pub operand-fits : (s : List ℤ) (i : ℕ) → isInstruction s i ≡ true → operandFits (wordOf (field s i 2)) (field s i 3) ≡ true
 operand-fits s i t =
     both-right (within 255 (field s i 1)) (operandFits (wordOf (field s i 2)) (field s i 3))
     (both-right (absentOr 255 (field s i 0)) (both (within 255 (field s i 1)) (operandFits (wordOf (field s i 2)) (field s i 3))) t)
 
-ligature-fits : (kind : ℕ) (z : ℤ) → operandFits kind z ≡ true → eqb kind 2 ≡ true → within 32767 z ≡ true
+pub ligature-fits : (kind : ℕ) (z : ℤ) → operandFits kind z ≡ true → eqb kind 2 ≡ true → within 32767 z ≡ true
 ligature-fits kind z f e = rw (eqb-true kind 2 e) at f
 
 -- ---- a step

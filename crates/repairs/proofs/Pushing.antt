@@ -3,13 +3,14 @@
 use mathlib.Core.Path.{_≡_, refl, sym, ap, _∙_}
 use mathlib.Core.Bool.{Bool, true, false, cond, not}
 use mathlib.Core.List.{List, [], _∷_, _++_}
-use Prim.Native.Nat.{ℕ, zero, suc, _+_, _*_, _/_, _%_, _<_, _≤_}
+use Prim.Native.Nat.{ℕ, zero, suc, _+_, _*_, _/_, _%_, _<_}
 use native.Mathlib.Omega.{arith}
 use lib.IntN.{ℤ, pos}
 use lib.Dec.{ltb}
-use lib.ListN.{length, length-append, set, drop}
-use lib.Seq.{sets, length-sets, sets-eq}
+use lib.ListN.{length, length-append, set}
+use lib.Seq.{sets, length-sets}
 use borrow.Author.Tests.{lt-ltb}
+use Rattle.words.proofs.Lists.{sets-append}
 use Rattle.lang.specs.Every.{both}
 use Rattle.reading.specs.Depth.{Pair}
 use Rattle.lang.specs.Records.{count, field}
@@ -20,19 +21,18 @@ use Rattle.repairs.specs.Repaired.{skipGoes, redirectWarns, isLigature, 
 use Rattle.repairs.specs.Warnings.{warning, warnIf, leftWarning, entryWarnings, skipWarnings, stepWarnings, stepsWarnings, loopWarnings, warningsOf}
 use Rattle.repairs.specs.Pushed.{Pushed}
 
-pub sets-append : {A : Type 0} (xs ys l : List A) (i : ℕ) → sets l i (xs ++ ys) ≡ sets (sets l i xs) (i + length xs) ys
-sets-append [] ys l i = ap (λ (j : ℕ). sets l j ys) (omega arith)
-sets-append (x ∷ xs) ys l i =
-    sets-append xs ys (set l i x) (suc i) ∙ ap (λ (j : ℕ). sets (sets (set l i x) (suc i) xs) j ys) (omega arith)
-
 -- stores after others, which end where they begin
 pub sets-after : {A : Type 0} (xs ys l : List A) (i j : ℕ) {l₁ l₂ : List A} → l₁ ≡ sets l i xs → j ≡ i + length xs → l₂ ≡ sets l₁ j ys → l₂ ≡ sets l i (xs ++ ys)
 sets-after {A} xs ys l i j e f g =
     g ∙ ap (λ (m : List A). sets m j ys) e ∙ ap (λ (k : ℕ). sets (sets l i xs) k ys) f ∙ sym (sets-append xs ys l i)
 
--- stores from the front, in a list that is long enough
-pub sets-front : {A : Type 0} (xs l : List A) → length xs ≤ length l → sets l 0 xs ≡ xs ++ drop (length xs) l
-sets-front xs l h = sets-eq xs l 0 (omega arith) ∙ ap (λ (k : ℕ). xs ++ drop k l) (let e : 0 + length xs ≡ length xs = omega arith in e)
+-- four stores, one after the other
+pub four-written : (i : ℕ) (l : List ℤ) {l₁ l₂ l₃ l₄ : List ℤ} {a b c d x y z v : ℤ} → a ≡ x → b ≡ y → c ≡ z → d ≡ v → l₁ ≡ set l (4 * i) a → l₂ ≡ set l₁ (4 * i + 1) b → l₃ ≡ set l₂ (4 * i + 2) c → l₄ ≡ set l₃ (4 * i + 3) d → l₄ ≡ sets l (4 * i) (x ∷ y ∷ z ∷ v ∷ [])
+four-written i l p q r t e₁ e₂ e₃ e₄ =
+    let one : 4 * i + 1 ≡ suc (4 * i) = omega arith in
+    let two : 4 * i + 2 ≡ suc (suc (4 * i)) = omega arith in
+    let three : 4 * i + 3 ≡ suc (suc (suc (4 * i))) = omega arith in
+    rw (e₄, e₃, e₂, e₁, p, q, r, t, one, two, three)
 
 pub pushed-none : (w : List ℤ) (n : ℕ) → Pushed w n [] w n
 pushed-none w n = record { count = omega arith; list = refl }

@@ -9,7 +9,7 @@ use lib.IntN.{ℤ, pos, negsuc}
 use lib.ListN.{length, replicate, length-replicate}
 use lib.Seq.{sets, length-sets}
 use Rattle.words.specs.Lists.{Appending}
-use Rattle.words.proofs.Lists.{length-tabulate, appending-rest}
+use Rattle.words.proofs.Lists.{length-tabulate, appending-rest, sets-front}
 use Rattle.lang.specs.Records.{count}
 use Rattle.lang.specs.Checks.{orElse}
 use Rattle.lang.specs.Answers.{Reply, replyOf, listOf, roomRefusal}
@@ -21,7 +21,7 @@ use Rattle.repairs.specs.Damaged.{Damaged, programOf, passedOver, repairedLeft,
 use Rattle.repairs.specs.Repaired.{repairedInstructions}
 use Rattle.repairs.specs.Warnings.{warningsOf}
 use Rattle.repairs.specs.Repairs.{RepairRoom, roomFor, damagedRefusal, repairedPairsRefusal, repairRoomRefusal, repairRefusal, validatedReply, Repairs}
-use Rattle.repairs.proofs.Pushing.{sets-front, fours}
+use Rattle.repairs.proofs.Pushing.{fours}
 use Rattle.repairs.proofs.Steps.{length-upto}
 use Rattle.mending.proofs.Laws.{refused-by}
 use Rattle.validate.specs.Finishing.{fitsRefusal, Finishes}

@@ -100,3 +100,15 @@ module _ {A : Type 0} (d₀ : List A) where
   pub appending-rest : {done d : List A} (v : A) (n : ℕ) → d₀ ≡ replicate n v → Appending done d₀ d → d ≡ done ++ replicate (n - length done) v
   appending-rest {done} {d} v n e h =
       rw (h .appended, e) (ap (λ (t : List A). done ++ t) (drop-replicate (length done) n v))
+
+-- ---- runs of stores (`sets` of the logic's library: what passes the end is left off)
+
+-- one after the other
+pub sets-append : {A : Type 0} (xs ys l : List A) (i : ℕ) → sets l i (xs ++ ys) ≡ sets (sets l i xs) (i + length xs) ys
+sets-append [] ys l i = ap (λ (j : ℕ). sets l j ys) (omega arith)
+sets-append (x ∷ xs) ys l i =
+    sets-append xs ys (set l i x) (suc i) ∙ ap (λ (j : ℕ). sets (sets (set l i x) (suc i) xs) j ys) (omega arith)
+
+-- from the front, in a list that is long enough
+pub sets-front : {A : Type 0} (xs l : List A) → length xs ≤ length l → sets l 0 xs ≡ xs ++ drop (length xs) l
+sets-front xs l h = sets-eq xs l 0 (omega arith) ∙ ap (λ (k : ℕ). xs ++ drop k l) (let e : 0 + length xs ≡ length xs = omega arith in e)

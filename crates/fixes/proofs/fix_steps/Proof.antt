@@ -10,7 +10,7 @@ use Rattle.words.specs.Words.{wordOf, numberOf}
 use Rattle.lang.specs.Records.{count}
 use Rattle.repairs.specs.Damaged.{programBy}
 use Rattle.repairs.proofs.Pushing.{pushed-length}
-use Rattle.fixes.specs.Passes.{FixesUpto}
+use Rattle.fixes.specs.StepFixes.{FixesUpto}
 use Rattle.fixes.proofs.Pushes.{at-end}
 use Rattle.fixes.proofs.Whole.{fixes-none, fixes-more}
 use borrow.Author.Needs.{needs}

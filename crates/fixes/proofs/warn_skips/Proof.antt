@@ -9,7 +9,7 @@ use Rattle.lang.specs.Records.{count}
 use Rattle.repairs.specs.Damaged.{programBy}
 use Rattle.repairs.specs.Warnings.{skipWarnings}
 use Rattle.repairs.proofs.Pushing.{pushed-length}
-use Rattle.fixes.specs.Passes.{PushedUpTo}
+use Rattle.fixes.specs.StepFixes.{PushedUpTo}
 use Rattle.fixes.proofs.Pushes.{skip-pushed, skips-none, skips-more, at-end}
 use borrow.Author.Needs.{needs}
 use Rattle.fixes.proofs.warn_skips.Statement.{statement}

@@ -4,8 +4,9 @@ use mathlib.Core.Path.{refl}
 use denote.Ref.{now}
 use Rattle.words.proofs.Bits.{number-pos, number-is}
 use native.Mathlib.Omega.{arith}
-use Rattle.fixes.specs.Passes.{operandBy}
-use Rattle.fixes.proofs.Writes.{picked, four-written}
+use Rattle.fixes.specs.StepFixes.{operandBy}
+use Rattle.repairs.proofs.Pushing.{four-written}
+use Rattle.fixes.proofs.Writes.{picked}
 use borrow.Author.Needs.{needs}
 use Rattle.fixes.proofs.write_step.Statement.{statement}
 use Rattle.fixes.proofs.write_step.Tie as tie

@@ -13,7 +13,7 @@ use Rattle.words.proofs.Bits.{number-pos}
 use Rattle.lang.specs.Every.{both}
 use Rattle.repairs.specs.Warnings.{warning, warnIf}
 use Rattle.repairs.specs.Pushed.{Pushed}
-use Rattle.repairs.proofs.Pushing.{pushed-none}
+use Rattle.repairs.proofs.Pushing.{pushed-none, four-written}
 use denote.Ref.{now}
 use borrow.Author.Needs.{needs}
 use Rattle.warnings.proofs.push_if.Statement.{statement}
@@ -36,14 +36,7 @@ on : (w : List ℤ) (n : ℕ) (t : Bool) (k : ℕ) (a b d : ℤ) (w₁ w₂ w₃
     Pushed w n (warnIf (both t (ltb n 4294967296)) (warning k a b d)) w₄ (n + 1)
 on w n t k a b d w₁ w₂ w₃ w₄ z e h y e₁ e₂ e₃ e₄ =
     let l : ltb n 4294967296 ≡ true = lt-ltb n 4294967296 (omega arith) in
-    let one : 4 * n + 1 ≡ suc (4 * n) = omega arith in
-    let two : 4 * n + 2 ≡ suc (suc (4 * n)) = omega arith in
-    let three : 4 * n + 3 ≡ suc (suc (suc (4 * n))) = omega arith in
-    rw (e, l)
-    (record {
-      count = omega arith;
-      list = rw (e₄, e₃, e₂, e₁, y) (λ i. set (set (set (set w (4 * n) (pos k)) (one i) a) (two i) b) (three i) d);
-    })
+    rw (e, l) (record { count = omega arith; list = four-written n w y refl refl refl e₁ e₂ e₃ e₄ })
 
 returns : tie.Need-returns
 returns c = let a = c .before .args in off (now (a .warnings)) (a .n) (a .test) _ (failed (a .test) (a .n) (not-true (a .test) (c .if1 .taken)))
