@@ -1,4 +1,4 @@
--- Step i of the repaired program, lent again with a replacement that exists: none of its tests holds.
+-- Step i of the repaired program, lent again: with a replacement that exists none of its tests holds; with one that does not, those of characters come back.
 -- Assumes nothing.
 use mathlib.Core.Path.{_≡_, refl, sym, ap, _∙_, subst}
 use mathlib.Core.Bool.{Bool, true, false, cond, not}
@@ -15,7 +15,7 @@ use Rattle.lang.specs.Every.{both}
 use Rattle.lang.specs.Operations.{isStandard}
 use Rattle.lang.specs.Records.{count, field}
 use Rattle.lang.specs.Checks.{programRefusal}
-use Rattle.lang.proofs.Every.{both-false}
+use Rattle.lang.proofs.Every.{both-left, both-false}
 use Rattle.repairs.specs.Damaged.{Damaged, programOf}
 use Rattle.repairs.specs.Repaired.{exists, isReachable, skipGoes, repairedNext, isRedirect, isLigature, isBoundary, rightGoes, repairedRight, kernGoes, opOf, insertedBy, productGoes, tagGoes, repairedKind, repairedOperand, repairedInstructions}
 use Rattle.repairs.specs.Purpose.{again}
@@ -73,66 +73,93 @@ module _ (d : Damaged) (i : ℕ) (within : i < count (d .instructions)) where
       ∙ ap (λ (z : ℤ). both (eqb (wordOf (repairedKind (programOf d) i)) 1) (leb (length (d .kerns)) (wordOf z))) operand-again
       ∙ kern-by (wordOf (field s i 2)) (length (d .kerns)) (field s i 2) _ (field s i 3) (kernGoes (programOf d) i) refl refl
 
-  -- ---- characters that exist
+  -- ---- the right character
 
-  module _ (exist : exists (programOf d) (d .replacement) ≡ true) where
-    pub right-sound : rightGoes (programOf (again d)) i ≡ false
-    right-sound =
-        ap (λ (r : Bool). both (not r) (both (not (exists (programOf d) (wordOf (field s′ i 1)))) (not (isBoundary (programOf d) (field s′ i 1))))) (same-redirect d i)
-        ∙ ap (λ (z : ℤ). both (not (isRedirect (programOf d) i)) (both (not (exists (programOf d) (wordOf z))) (not (isBoundary (programOf d) z)))) right-again
-        ∙ by (rightGoes (programOf d) i) refl
+  -- the test, of the character that the step is for now
+  asked : ℤ → Bool
+  asked z = both (not (isRedirect (programOf d) i)) (both (not (exists (programOf d) (wordOf z))) (not (isBoundary (programOf d) z)))
+
+  right-asked : rightGoes (programOf (again d)) i ≡ asked (cond (rightGoes (programOf d) i) (pos (d .replacement)) (field s i 1))
+  unfolding asked
+  right-asked =
+      ap (λ (r : Bool). both (not r) (both (not (exists (programOf d) (wordOf (field s′ i 1)))) (not (isBoundary (programOf d) (field s′ i 1))))) (same-redirect d i)
+      ∙ ap (λ (z : ℤ). both (not (isRedirect (programOf d) i)) (both (not (exists (programOf d) (wordOf z))) (not (isBoundary (programOf d) z)))) right-again
+
+  pub right-sound : exists (programOf d) (d .replacement) ≡ true → rightGoes (programOf (again d)) i ≡ false
+  unfolding asked
+  right-sound exist = right-asked ∙ by (rightGoes (programOf d) i) refl
+    where
+      by : (t : Bool) → rightGoes (programOf d) i ≡ t → asked (cond t (pos (d .replacement)) (field s i 1)) ≡ false
+      by true e =
+          ap (λ (u : Bool). both (not (isRedirect (programOf d) i)) (both (not u) (not (isBoundary (programOf d) (pos (d .replacement)))))) exist
+          ∙ both-false (not (isRedirect (programOf d) i))
+      by false e = e
+
+  pub right-back : exists (programOf d) (d .replacement) ≡ false → rightGoes (programOf (again d)) i ≡ both (rightGoes (programOf d) i) (not (isBoundary (programOf d) (pos (d .replacement))))
+  unfolding asked
+  right-back none = right-asked ∙ by (rightGoes (programOf d) i) refl
+    where
+      by : (t : Bool) → rightGoes (programOf d) i ≡ t → asked (cond t (pos (d .replacement)) (field s i 1)) ≡ both t (not (isBoundary (programOf d) (pos (d .replacement))))
+      by true e =
+          ap (λ (u : Bool). both u (both (not (exists (programOf d) (d .replacement))) (not (isBoundary (programOf d) (pos (d .replacement)))))) (both-left (not (isRedirect (programOf d) i)) _ e)
+          ∙ ap (λ (u : Bool). both (not u) (not (isBoundary (programOf d) (pos (d .replacement))))) none
+      by false e = e
+
+  -- ---- a ligature's two bytes
+
+  abbrev byte : ℕ
+  byte = cond (tagGoes (programOf d) i) 0 (opOf (programOf d) i)
+
+  abbrev inserted : ℕ
+  inserted = cond (productGoes (programOf d) i) (d .replacement) (insertedBy (programOf d) i)
+
+  same-ligature : isLigature (programOf (again d)) i ≡ isLigature (programOf d) i
+  same-ligature = same-kind d 2 i (λ e. omega (arith, e)) (λ e. omega (arith, e))
+
+  -- a test of the number that they make
+  ligature-by : (f : ℕ → Bool) (t : Bool) (n : ℕ) (z : ℤ) → both t (f (wordOf (cond t (pos n) z))) ≡ both t (f n)
+  ligature-by f true n z = refl
+  ligature-by f false n z = refl
+
+  ligature-again : (f : ℕ → Bool) → both (isLigature (programOf (again d)) i) (f (wordOf (field s′ i 3))) ≡ both (isLigature (programOf d) i) (f (256 * byte + inserted))
+  ligature-again f =
+      ap (λ (t : Bool). both t (f (wordOf (field s′ i 3)))) same-ligature
+      ∙ ap (λ (z : ℤ). both (isLigature (programOf d) i) (f (wordOf z))) operand-again
+      ∙ ligature-by f (isLigature (programOf d) i) (256 * byte + inserted) (cond (kernGoes (programOf d) i) (pos 0) (field s i 3))
+
+  module _ (small : d .replacement < 256) where
+    inserted-small : (t : Bool) → cond t (d .replacement) (insertedBy (programOf d) i) < 256
+    inserted-small true = small
+    inserted-small false = omega arith
+
+    product-again : productGoes (programOf (again d)) i ≡ both (isLigature (programOf d) i) (not (exists (programOf d) inserted))
+    product-again =
+        let e : (256 * byte + inserted) % 256 ≡ inserted = omega (arith, inserted-small (productGoes (programOf d) i)) in
+        ligature-again (λ (w : ℕ). not (exists (programOf d) (w % 256)))
+        ∙ ap (λ (c : ℕ). both (isLigature (programOf d) i) (not (exists (programOf d) c))) e
+
+    pub product-sound : exists (programOf d) (d .replacement) ≡ true → productGoes (programOf (again d)) i ≡ false
+    product-sound exist = product-again ∙ by (productGoes (programOf d) i) refl
       where
-        by : (t : Bool) → rightGoes (programOf d) i ≡ t → both (not (isRedirect (programOf d) i)) (both (not (exists (programOf d) (wordOf (cond t (pos (d .replacement)) (field s i 1))))) (not (isBoundary (programOf d) (cond t (pos (d .replacement)) (field s i 1))))) ≡ false
-        by true e =
-            ap (λ (u : Bool). both (not (isRedirect (programOf d) i)) (both (not u) (not (isBoundary (programOf d) (pos (d .replacement)))))) exist
-            ∙ both-false (not (isRedirect (programOf d) i))
+        by : (t : Bool) → productGoes (programOf d) i ≡ t → both (isLigature (programOf d) i) (not (exists (programOf d) (cond t (d .replacement) (insertedBy (programOf d) i)))) ≡ false
+        by true e = ap (λ (u : Bool). both (isLigature (programOf d) i) (not u)) exist ∙ both-false (isLigature (programOf d) i)
         by false e = e
 
-    -- ---- a ligature's two bytes
+    pub product-back : exists (programOf d) (d .replacement) ≡ false → productGoes (programOf (again d)) i ≡ productGoes (programOf d) i
+    product-back none = product-again ∙ by (productGoes (programOf d) i) refl
+      where
+        by : (t : Bool) → productGoes (programOf d) i ≡ t → both (isLigature (programOf d) i) (not (exists (programOf d) (cond t (d .replacement) (insertedBy (programOf d) i)))) ≡ productGoes (programOf d) i
+        by true e =
+            ap (λ (u : Bool). both (isLigature (programOf d) i) (not u)) none
+            ∙ ap (λ (u : Bool). both u true) (both-left (isLigature (programOf d) i) _ e) ∙ sym e
+        by false e = refl
 
-    abbrev byte : ℕ
-    byte = cond (tagGoes (programOf d) i) 0 (opOf (programOf d) i)
-
-    abbrev inserted : ℕ
-    inserted = cond (productGoes (programOf d) i) (d .replacement) (insertedBy (programOf d) i)
-
-    same-ligature : isLigature (programOf (again d)) i ≡ isLigature (programOf d) i
-    same-ligature = same-kind d 2 i (λ e. omega (arith, e)) (λ e. omega (arith, e))
-
-    inserted-exists : (t : Bool) → isLigature (programOf d) i ≡ true → productGoes (programOf d) i ≡ t → not (exists (programOf d) (cond t (d .replacement) (insertedBy (programOf d) i))) ≡ false
-    inserted-exists true l e = ap not exist
-    inserted-exists false l e = ap (λ (u : Bool). both u (not (exists (programOf d) (insertedBy (programOf d) i)))) (sym l) ∙ e
-
-    byte-standard : (t : Bool) → isLigature (programOf d) i ≡ true → tagGoes (programOf d) i ≡ t → not (isStandard (cond t 0 (opOf (programOf d) i))) ≡ false
-    byte-standard true l e = refl
-    byte-standard false l e = ap (λ (u : Bool). both u (not (isStandard (opOf (programOf d) i)))) (sym l) ∙ e
-
-    module _ (small : d .replacement < 256) where
-      inserted-small : (t : Bool) → cond t (d .replacement) (insertedBy (programOf d) i) < 256
-      inserted-small true = small
-      inserted-small false = omega arith
-
-      -- a test of the two numbers that a ligature's operand is made of
-      ligature-by : (f : ℕ → Bool) (t : Bool) → isLigature (programOf d) i ≡ t → (isLigature (programOf d) i ≡ true → f (256 * byte + inserted) ≡ false) → both t (f (wordOf (cond t (pos (256 * byte + inserted)) (cond (kernGoes (programOf d) i) (pos 0) (field s i 3))))) ≡ false
-      ligature-by f true e h = h e
-      ligature-by f false e h = refl
-
-      ligature-sound : (f : ℕ → Bool) → (isLigature (programOf d) i ≡ true → f (256 * byte + inserted) ≡ false) → both (isLigature (programOf (again d)) i) (f (wordOf (field s′ i 3))) ≡ false
-      ligature-sound f h =
-          ap (λ (t : Bool). both t (f (wordOf (field s′ i 3)))) same-ligature
-          ∙ ap (λ (z : ℤ). both (isLigature (programOf d) i) (f (wordOf z))) operand-again
-          ∙ ligature-by f (isLigature (programOf d) i) refl h
-
-      pub product-sound : productGoes (programOf (again d)) i ≡ false
-      product-sound =
-          ligature-sound (λ (w : ℕ). not (exists (programOf d) (w % 256)))
-          (λ l.
-          let e : (256 * byte + inserted) % 256 ≡ inserted = omega (arith, inserted-small (productGoes (programOf d) i)) in
-          ap (λ (c : ℕ). not (exists (programOf d) c)) e ∙ inserted-exists (productGoes (programOf d) i) l refl)
-
-      pub tag-sound : tagGoes (programOf (again d)) i ≡ false
-      tag-sound =
-          ligature-sound (λ (w : ℕ). not (isStandard (w / 256)))
-          (λ l.
-          let e : (256 * byte + inserted) / 256 ≡ byte = omega (arith, inserted-small (productGoes (programOf d) i)) in
-          ap (λ (b : ℕ). not (isStandard b)) e ∙ byte-standard (tagGoes (programOf d) i) l refl)
+    pub tag-sound : tagGoes (programOf (again d)) i ≡ false
+    tag-sound =
+        let e : (256 * byte + inserted) / 256 ≡ byte = omega (arith, inserted-small (productGoes (programOf d) i)) in
+        ligature-again (λ (w : ℕ). not (isStandard (w / 256)))
+        ∙ ap (λ (b : ℕ). both (isLigature (programOf d) i) (not (isStandard b))) e ∙ by (tagGoes (programOf d) i) refl
+      where
+        by : (t : Bool) → tagGoes (programOf d) i ≡ t → both (isLigature (programOf d) i) (not (isStandard (cond t 0 (opOf (programOf d) i)))) ≡ false
+        by true e = both-false (isLigature (programOf d) i)
+        by false e = e

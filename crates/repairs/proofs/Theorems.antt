@@ -7,12 +7,12 @@ use Rattle.lang.specs.Records.{count}
 use Rattle.fonts.proofs.Theorems.{no-loops, reported-never}
 use Rattle.repairs.specs.Damaged.{Damaged, leftGoes}
 use Rattle.repairs.specs.Repaired.{repairedFont}
-use Rattle.repairs.specs.Purpose.{Untouched, RepairedOnce, again, LoopsTrue}
+use Rattle.repairs.specs.Purpose.{Untouched, RepairedOnce, RepairedInVain, again, LoopsTrue}
 use Rattle.repairs.proofs.Steps.{same-count}
 use Rattle.repairs.proofs.Warned.{none-warned}
 use Rattle.repairs.proofs.Kept.{cond-false, program-kept}
 use Rattle.repairs.proofs.SameReach.{left-sound}
-use Rattle.repairs.proofs.Once.{skip-sound, right-sound, kern-sound, product-sound, tag-sound}
+use Rattle.repairs.proofs.Once.{skip-sound, right-sound, right-back, kern-sound, product-sound, product-back, tag-sound}
 
 -- A program without a warning of kinds 1 to 9 is left as it is.
 pub untouched : Untouched
@@ -28,12 +28,17 @@ repaired-once d taken small exist =
       skips = λ i h. skip-sound d i (below h) taken;
       rights = λ i h. right-sound d i (below h) exist;
       kern-indices = λ i h. kern-sound d i (below h);
-      products = λ i h. product-sound d i (below h) exist small;
-      tags = λ i h. tag-sound d i (below h) exist small;
+      products = λ i h. product-sound d i (below h) small exist;
+      tags = λ i h. tag-sound d i (below h) small;
     }
   where
     below : {i : ℕ} → i < count (again d .instructions) → i < count (d .instructions)
     below h = omega (arith, h, same-count d)
+
+-- With a replacement that does not exist, 4 and 5 come back unless it is the boundary character, and 6 comes back.
+pub repaired-in-vain : RepairedInVain
+repaired-in-vain d small none =
+    record { rights = λ i h. right-back d i h none; products = λ i h. product-back d i h small none }
 
 -- The loops warned of never end in the repaired font, and there are none exactly when every pair of it ends.
 pub loops-true : (d : Damaged) → LoopsTrue d

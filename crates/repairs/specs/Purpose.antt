@@ -1,9 +1,11 @@
 -- What is proved of repair (proofs/Theorems). No contract cites this.
 use mathlib.Core.Path.{_≡_}
-use mathlib.Core.Bool.{true, false}
+use mathlib.Core.Bool.{true, false, not}
 use mathlib.Core.List.{List, [], List·Memᴰ}
 use mathlib.Core.Logic.{_↔_}
 use Prim.Native.Nat.{ℕ, _<_}
+use lib.IntN.{pos}
+use Rattle.lang.specs.Every.{both}
 use Rattle.lang.specs.Checks.{programRefusal}
 use Rattle.lang.specs.Records.{count}
 use Rattle.reading.specs.Items.{Left}
@@ -12,7 +14,7 @@ use Rattle.reading.specs.Depth.{Pair}
 use Rattle.fonts.specs.Fonts.{rulesOf}
 use Rattle.fonts.specs.Compiled.{loopsOfFont}
 use Rattle.repairs.specs.Damaged.{Damaged, programOf, repairedPassthrough, leftGoes, repairedLeft}
-use Rattle.repairs.specs.Repaired.{exists, skipGoes, rightGoes, kernGoes, productGoes, tagGoes, repairedInstructions, repairedFont}
+use Rattle.repairs.specs.Repaired.{exists, isBoundary, skipGoes, rightGoes, kernGoes, productGoes, tagGoes, repairedInstructions, repairedFont}
 use Rattle.repairs.specs.Warnings.{repairWarnings}
 
 -- a program without a warning of kinds 1 to 9 is left as it is
@@ -41,6 +43,15 @@ pub record Sound (d : Damaged) : Type 0 where
 abbrev pub RepairedOnce : Type 0
 RepairedOnce =
     (d : Damaged) → programRefusal (d .instructions) ≡ 0 → d .replacement < 256 → exists (programOf d) (d .replacement) ≡ true → Sound (again d)
+
+-- with one that does not exist, 4 and 5 come back at the steps that had them, unless it is the boundary character, and 6 at those that had it
+pub record ComesBack (d : Damaged) : Type 0 where
+  pub rights : (i : ℕ) → i < count (d .instructions) →
+      rightGoes (programOf (again d)) i ≡ both (rightGoes (programOf d) i) (not (isBoundary (programOf d) (pos (d .replacement))))
+  pub products : (i : ℕ) → i < count (d .instructions) → productGoes (programOf (again d)) i ≡ productGoes (programOf d) i
+
+abbrev pub RepairedInVain : Type 0
+RepairedInVain = (d : Damaged) → d .replacement < 256 → exists (programOf d) (d .replacement) ≡ false → ComesBack d
 
 -- the loops warned of never end in the repaired font, and there are none exactly when every pair of it ends
 pub record LoopsTrue (d : Damaged) : Type 0 where
