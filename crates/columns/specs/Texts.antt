@@ -1,0 +1,119 @@
+-- A text as a font and a word: document 01, 'The column text'. D first and once; then R and L at most once each and I, K and E repeated, in any order; then at
+-- most one W, and nothing after it. At most 65,536 bytes, 512 I, 512 K and 64 characters a word. What does not read so is 16.
+use mathlib.Core.Bool.{Bool, true, false, cond}
+use mathlib.Core.List.{List, [], _∷_, _++_}
+use mathlib.Core.Option.{Option, none, some}
+use Prim.Native.Nat.{ℕ, zero, suc, _*_, _/_}
+use lib.IntN.{ℤ, negsuc}
+use lib.Dec.{leb, eqb}
+use lib.ListN.{length}
+use Rattle.lang.specs.Every.{both}
+use Rattle.fonts.specs.Fonts.{Font, fontOf}
+use Rattle.columns.specs.Lines.{Line, linesOf, readLine}
+
+-- what was read so far: R and L are absent, -1, until their line comes
+pub record Text : Type 0 where
+  pub design : ℤ
+  pub boundary : Option ℤ
+  pub left : Option ℤ
+  pub instructions : List ℤ
+  pub kerns : List ℤ
+  pub entries : List ℤ
+  pub word : Option (List ℤ)
+
+abbrev pub opened : ℤ → Text
+opened design = record { design = design; boundary = none; left = none; instructions = []; kerns = []; entries = []; word = none }
+
+-- ---- one line more
+
+abbrev pub withBoundary : Text → Option ℤ → ℤ → Option Text
+withBoundary t none z = some (record { design = t .design; boundary = some z; left = t .left; instructions = t .instructions; kerns = t .kerns; entries = t .entries; word = t .word })
+withBoundary t (some y) z = none
+
+abbrev pub withLeft : Text → Option ℤ → ℤ → Option Text
+withLeft t none z = some (record { design = t .design; boundary = t .boundary; left = some z; instructions = t .instructions; kerns = t .kerns; entries = t .entries; word = t .word })
+withLeft t (some y) z = none
+
+-- I: four numbers, 512 times at most
+abbrev pub withInstruction : Text → List ℤ → Option Text
+withInstruction t zs =
+    cond (both (eqb (length zs) 4) (leb (suc (length (t .instructions) / 4)) 512))
+    (some (record { design = t .design; boundary = t .boundary; left = t .left; instructions = t .instructions ++ zs; kerns = t .kerns; entries = t .entries; word = t .word }))
+    none
+
+-- K: one number, 512 times at most
+abbrev pub withKern : Text → List ℤ → Option Text
+withKern t zs =
+    cond (both (eqb (length zs) 1) (leb (suc (length (t .kerns))) 512))
+    (some (record { design = t .design; boundary = t .boundary; left = t .left; instructions = t .instructions; kerns = t .kerns ++ zs; entries = t .entries; word = t .word }))
+    none
+
+-- E: two numbers
+abbrev pub withEntry : Text → List ℤ → Option Text
+withEntry t zs =
+    cond (eqb (length zs) 2)
+    (some (record { design = t .design; boundary = t .boundary; left = t .left; instructions = t .instructions; kerns = t .kerns; entries = t .entries ++ zs; word = t .word }))
+    none
+
+-- W: as many numbers as the word has characters, 64 at most
+abbrev pub withWord : Text → List ℤ → Option Text
+withWord t zs =
+    cond (leb (length zs) 64)
+    (some (record { design = t .design; boundary = t .boundary; left = t .left; instructions = t .instructions; kerns = t .kerns; entries = t .entries; word = some zs }))
+    none
+
+-- R and L: one number
+abbrev pub byOne : (ℤ → Option Text) → List ℤ → Option Text
+byOne f [] = none
+byOne f (z ∷ []) = f z
+byOne f (z ∷ y ∷ zs) = none
+
+-- a line other than D, by its letter: E 69, I 73, K 75, L 76, R 82, W 87; nothing after W
+abbrev pub byLetter : Text → ℕ → List ℤ → Option Text
+byLetter t letter zs =
+    cond (eqb letter 73) (withInstruction t zs)
+    (cond (eqb letter 75) (withKern t zs)
+    (cond (eqb letter 69) (withEntry t zs)
+    (cond (eqb letter 82) (byOne (withBoundary t (t .boundary)) zs)
+    (cond (eqb letter 76) (byOne (withLeft t (t .left)) zs)
+    (cond (eqb letter 87) (withWord t zs) none)))))
+
+abbrev pub unlessWord : Option (List ℤ) → Option Text → Option Text
+unlessWord none r = r
+unlessWord (some w) r = none
+
+abbrev pub addLine : Text → Option Line → Option Text
+addLine t none = none
+addLine t (some l) = unlessWord (t .word) (byLetter t (l .letter) (l .numbers))
+
+-- ---- all lines
+
+abbrev pub addTo : Option Text → Option Line → Option Text
+addTo none l = none
+addTo (some t) l = addLine t l
+
+unfoldable pub addLines : List (List ℕ) → Option Text → Option Text
+addLines [] r = r
+addLines (l ∷ ls) r = addLines ls (addTo r (readLine l))
+
+-- D 68: one number
+abbrev pub openedBy : Option Line → Option Text
+openedBy none = none
+openedBy (some l) = cond (eqb (l .letter) 68) (byOne (λ z. some (opened z)) (l .numbers)) none
+
+abbrev pub readLines : Option (List (List ℕ)) → Option Text
+readLines none = none
+readLines (some []) = none
+readLines (some (l ∷ ls)) = addLines ls (openedBy (readLine l))
+
+abbrev pub readText : List ℕ → Option Text
+readText bytes = cond (leb (length bytes) 65536) (readLines (linesOf bytes)) none
+
+-- ---- what it says
+
+abbrev pub orAbsent : Option ℤ → ℤ
+orAbsent none = negsuc 0
+orAbsent (some z) = z
+
+abbrev pub fontOfText : Text → Font
+fontOfText t = fontOf (t .instructions) (t .kerns) (t .entries) (orAbsent (t .boundary)) (orAbsent (t .left)) (t .design)
