@@ -17,7 +17,7 @@ use Rattle.columns.proofs.Options.{none-some, cond-some}
 -- ---- how many digits are enough
 
 -- the least number of more than f digits
-limit : ℕ → ℕ
+unfoldable pub limit : ℕ → ℕ
 limit zero = 1
 limit (suc f) = 10 * limit f
 
@@ -42,7 +42,7 @@ longer (suc f) n d h s l =
 
 -- ---- what is read
 
-digit-is : (b : ℕ) → isDigit b ≡ true → (48 ≤ b) × (b ≤ 57)
+pub digit-is : (b : ℕ) → isDigit b ≡ true → (48 ≤ b) × (b ≤ 57)
 digit-is b t = (leb-true 48 b (both-left (leb 48 b) (leb b 57) t), leb-true b 57 (both-right (leb 48 b) (leb b 57) t))
 
 no-less : (bs : List ℕ) (m n : ℕ) → moreDigits m bs ≡ some n → m ≤ n

@@ -1,4 +1,4 @@
--- A field that is read, written again, is that field; and so are the fields of a line.
+-- A field that is read, written again, is that field; and so are the fields of a line, and the lines of a text.
 -- Assumes nothing.
 use mathlib.Core.Path.{_≡_, refl, sym, ap, _∙_}
 use mathlib.Core.Bool.{Bool, true, false, cond}
@@ -12,7 +12,7 @@ use lib.ListN.{length, take, drop, replicate, length-drop, take-append-drop}
 use lib.Seq.{length-take-le}
 use borrow.Author.Tests.{leb-true, eqb-true}
 use Rattle.columns.specs.Numbers.{unsigned, withSign, withoutSign, readField, digits, spelled, fieldOf}
-use Rattle.columns.specs.Lines.{readFields, fieldsOf}
+use Rattle.columns.specs.Lines.{onFirst, afterFeed, linesOf, readFields, fieldsOf, textOf}
 use Rattle.columns.proofs.Options.{none-some, cond-some, Both, and-some}
 use Rattle.columns.proofs.Digits.{unsigned-written}
 
@@ -72,3 +72,29 @@ fields-written (suc n) bs zs l e =
     ap fieldsOf (sym (g .all))
     ∙ (λ i. field-written (take 12 bs) (g .first) t (g .is-first) i ++ fields-written n (drop 12 bs) (g .others) d (g .are-others) i)
     ∙ take-append-drop 12 bs
+
+-- ---- the lines of a text
+
+feed-written : (bs : List ℕ) (r : Option (List (List ℕ))) (ls : List (List ℕ)) → afterFeed r ≡ some ls → ((ks : List (List ℕ)) → r ≡ some ks → textOf ks ≡ bs) → textOf ls ≡ 10 ∷ bs
+unfolding textOf
+feed-written bs none ls e h = absurd (none-some e)
+feed-written bs (some ks) ls e h =
+    let q : [] ∷ ks ≡ ls = Option·some-injective ([] ∷ ks) ls e in
+    ap textOf (sym q) ∙ ap (λ (l : List ℕ). 10 ∷ l) (h ks refl)
+
+byte-written : (b : ℕ) (bs : List ℕ) (r : Option (List (List ℕ))) (ls : List (List ℕ)) → onFirst b r ≡ some ls → ((ks : List (List ℕ)) → r ≡ some ks → textOf ks ≡ bs) → textOf ls ≡ b ∷ bs
+unfolding textOf
+byte-written b bs none ls e h = absurd (none-some e)
+byte-written b bs (some []) ls e h = absurd (none-some e)
+byte-written b bs (some (k ∷ ks)) ls e h =
+    let q : (b ∷ k) ∷ ks ≡ ls = Option·some-injective ((b ∷ k) ∷ ks) ls e in
+    ap textOf (sym q) ∙ ap (λ (l : List ℕ). b ∷ l) (h (k ∷ ks) refl)
+
+pub lines-written : (bs : List ℕ) (ls : List (List ℕ)) → linesOf bs ≡ some ls → textOf ls ≡ bs
+unfolding linesOf textOf
+lines-written [] ls e = ap textOf (sym (Option·some-injective [] ls e))
+lines-written (b ∷ bs) ls e = by (eqb b 10) refl e (lines-written bs)
+  where
+    by : (t : Bool) → eqb b 10 ≡ t → cond t (afterFeed (linesOf bs)) (onFirst b (linesOf bs)) ≡ some ls → ((ks : List (List ℕ)) → linesOf bs ≡ some ks → textOf ks ≡ bs) → textOf ls ≡ b ∷ bs
+    by true t e h = feed-written bs (linesOf bs) ls e h ∙ ap (λ (x : ℕ). x ∷ bs) (sym (eqb-true b 10 t))
+    by false t e h = byte-written b bs (linesOf bs) ls e h

@@ -9,14 +9,20 @@ use native.Mathlib.Omega.{arith}
 use lib.Dec.{eqb}
 use lib.ListN.{length}
 use borrow.Author.Tests.{eqb-true}
-use Rattle.columns.specs.Lines.{Line, readFields, lettered, readLine, writeLine}
-use Rattle.columns.specs.Purpose.{FieldWritten, LineWritten}
+use Rattle.columns.specs.Lines.{Line, readFields, lettered, readLine, fieldsOf, writeLine}
+use Rattle.columns.specs.Purpose.{FieldWritten, FieldRead, LineWritten, LineRead, LinesWritten}
 use Rattle.columns.proofs.Options.{none-some, cond-some, lettered-some}
 use Rattle.columns.proofs.Fields as fields
+use Rattle.columns.proofs.ReadBack.{field-long, fields-long, fields-read}
+use Rattle.columns.proofs.ReadBack as back
 
 -- A field that is read, written again, is that field byte for byte.
 pub field-written : FieldWritten
 field-written = fields.field-written
+
+-- An i32 that is written in a field is read from it.
+pub field-read : FieldRead
+field-read z t = (field-long z, back.field-read z t)
 
 -- A line that is read, written again from its numbers, is that line byte for byte.
 pub line-written : LineWritten
@@ -28,3 +34,15 @@ line-written (b ∷ bs) l e =
     let k : length bs ≡ 12 * (length bs / 12) = omega arith in
     let f = fields.fields-written (length bs / 12) bs (l .numbers) k (g .0) in
     (λ i. sym (g .1) i ∷ f i)
+
+-- A line that is written, of i32, is read as it was.
+pub line-read : LineRead
+line-read l t =
+    let n = fields-long (l .numbers) in
+    let z : length (fieldsOf (l .numbers)) % 12 ≡ 0 = omega arith in
+    let k : length (fieldsOf (l .numbers)) / 12 ≡ length (l .numbers) = omega arith in
+    rw (z, k) (ap (lettered (l .letter)) (fields-read (l .numbers) t))
+
+-- The lines of a text, written one after the other, are that text.
+pub lines-written : LinesWritten
+lines-written = fields.lines-written

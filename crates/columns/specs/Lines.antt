@@ -59,3 +59,8 @@ fieldsOf (z ∷ zs) = fieldOf z ++ fieldsOf zs
 
 abbrev pub writeLine : Line → List ℕ
 writeLine l = l .letter ∷ fieldsOf (l .numbers)
+
+-- the text of lines: each with its line feed
+unfoldable pub textOf : List (List ℕ) → List ℕ
+textOf [] = []
+textOf (l ∷ ls) = l ++ (10 ∷ textOf ls)

@@ -1,17 +1,40 @@
 -- What is proved of the column text (proofs/Theorems). No contract cites this.
 use mathlib.Core.Path.{_≡_}
-use mathlib.Core.List.{List}
+use mathlib.Core.Bool.{Bool, true}
+use mathlib.Core.List.{List, [], _∷_}
 use mathlib.Core.Option.{some}
 use Prim.Native.Nat.{ℕ}
-use lib.IntN.{ℤ}
+use lib.IntN.{ℤ, pos, negsuc}
+use lib.Dec.{leb}
 use lib.ListN.{length}
+use Rattle.lang.specs.Every.{both}
 use Rattle.columns.specs.Numbers.{readField, fieldOf}
-use Rattle.columns.specs.Lines.{Line, readLine, writeLine}
+use Rattle.columns.specs.Lines.{Line, linesOf, readLine, writeLine, textOf}
 
 -- A field that is read, written again, is that field byte for byte; so no number has two spellings.
 abbrev pub FieldWritten : Type 0
 FieldWritten = (bs : List ℕ) (z : ℤ) → length bs ≡ 12 → readField bs ≡ some z → fieldOf z ≡ bs
 
+-- an i32
+abbrev pub isI32 : ℤ → Bool
+isI32 (pos n) = leb n 2147483647
+isI32 (negsuc n) = leb n 2147483647
+
+unfoldable pub allI32 : List ℤ → Bool
+allI32 [] = true
+allI32 (z ∷ zs) = both (isI32 z) (allI32 zs)
+
+-- And an i32 that is written is read: every number has a spelling.
+abbrev pub FieldRead : Type 0
+FieldRead = (z : ℤ) → isI32 z ≡ true → (length (fieldOf z) ≡ 12) × (readField (fieldOf z) ≡ some z)
+
 -- The same of a line.
 abbrev pub LineWritten : Type 0
 LineWritten = (bs : List ℕ) (l : Line) → readLine bs ≡ some l → writeLine l ≡ bs
+
+abbrev pub LineRead : Type 0
+LineRead = (l : Line) → allI32 (l .numbers) ≡ true → readLine (writeLine l) ≡ some l
+
+-- The lines of a text, written one after the other, are that text; so a text has one reading as lines.
+abbrev pub LinesWritten : Type 0
+LinesWritten = (bs : List ℕ) (ls : List (List ℕ)) → linesOf bs ≡ some ls → textOf ls ≡ bs
