@@ -6,9 +6,11 @@ use mathlib.Core.List.{List, [], _∷_, _++_, append-nil, append-assoc}
 use Prim.Native.Nat.{ℕ, zero, suc, _+_, _-_, _*_, _/_, _<_, _≤_}
 use native.Mathlib.Omega.{arith}
 use lib.IntN.{ℤ, pos}
-use lib.ListN.{length, replicate, length-append}
+use lib.ListN.{length, replicate, length-append, length-replicate}
 use lib.Seq.{sets}
+use Rattle.words.specs.Words.{numberOf}
 use Rattle.words.specs.Lists.{Appending}
+use Rattle.words.proofs.Bits.{number-pos}
 use Rattle.words.proofs.Lists.{appending-none, appending-more, appending-length, appending-rest}
 use Rattle.lang.specs.declared.Written.{Written}
 use Rattle.lang.specs.declared.Written.the-variants as written
@@ -21,7 +23,7 @@ use Rattle.captions.specs.declared.Begun.the-variants as begun
 use Rattle.captions.specs.declared.Answer.{Answer}
 use Rattle.captions.specs.declared.Answer.the-variants.{Char, Ligature, Kern, End, Refused}
 use Rattle.captions.specs.declared.Step.{Step}
-use Rattle.captions.specs.Replies.{answerReply}
+use Rattle.captions.specs.Replies.{bitNumber, answerReply}
 use Rattle.captions.specs.Begin.{beginRefusal, freshState, begunBy, beginOf}
 use Rattle.captions.specs.Steps.{stepOf}
 use Rattle.setting.specs.Setting.{before, andThen, itemsFrom, afterBegin, setReply, Sets}
@@ -30,6 +32,10 @@ use Rattle.setting.proofs.Bounds.{step-small}
 
 no : {A : Type 0} → _≡_ {A = Bool} false true → A
 no e = absurd (let z : _≡_ {A = ℕ} 0 1 = cc in omega arith)
+
+-- a list of zeros is as long as the one that was zeroed
+pub blank : (d₀ d : List ℤ) → d ≡ replicate (length d₀) (pos 0) → d ≡ replicate (length d) (pos 0)
+blank d₀ d e = e ∙ ap (λ (n : ℕ). replicate n (pos 0)) (sym (ap length e ∙ length-replicate (length d₀) (pos 0)))
 
 -- ---- numbers before a reply
 
@@ -67,6 +73,23 @@ item-six (Ligature c p n a b) h = refl
 item-six (Kern k) h = refl
 item-six End h = no h
 item-six (Refused n) h = no h
+
+-- ---- the six numbers of an item, as they are stored
+
+module _ (d d′ : List ℤ) (at : ℕ) where
+  pub put-character : {x : Answer} {c p : ℕ} → x ≡ Char c p → Small x → d′ ≡ sets d at (numberOf 0 ∷ numberOf c ∷ numberOf p ∷ numberOf 1 ∷ numberOf 0 ∷ numberOf 0 ∷ []) → d′ ≡ sets d at (answerReply x .values)
+  put-character {x} {c} {p} e m h =
+      let n = subst Small e m in
+      rw e (h ∙ (λ j. sets d at (pos 0 ∷ number-pos c (omega (arith, n .0)) j ∷ number-pos p (omega (arith, n .1)) j ∷ pos 1 ∷ pos 0 ∷ pos 0 ∷ [])))
+
+  pub put-ligature : {x : Answer} {c p n : ℕ} {a b : Bool} (l r : ℕ) → x ≡ Ligature c p n a b → Small x → numberOf l ≡ bitNumber a → numberOf r ≡ bitNumber b →
+      d′ ≡ sets d at (numberOf 1 ∷ numberOf c ∷ numberOf p ∷ numberOf n ∷ numberOf l ∷ numberOf r ∷ []) → d′ ≡ sets d at (answerReply x .values)
+  put-ligature {x} {c} {p} {n} l r e m f g h =
+      let q = subst Small e m in
+      rw e (h ∙ (λ j. sets d at (pos 1 ∷ number-pos c (omega (arith, q .0)) j ∷ number-pos p (omega (arith, q .1)) j ∷ number-pos n (omega (arith, q .2)) j ∷ f j ∷ g j ∷ [])))
+
+  pub put-kern : {x : Answer} {k : ℤ} (w : ℕ) → x ≡ Kern k → numberOf w ≡ k → d′ ≡ sets d at (numberOf 2 ∷ numberOf w ∷ numberOf 0 ∷ numberOf 0 ∷ numberOf 0 ∷ numberOf 0 ∷ []) → d′ ≡ sets d at (answerReply x .values)
+  put-kern {x} {k} w e q h = rw e (h ∙ (λ j. sets d at (pos 2 ∷ q j ∷ pos 0 ∷ pos 0 ∷ pos 0 ∷ pos 0 ∷ [])))
 
 -- ---- what a reply tells
 
@@ -123,9 +146,6 @@ module _ (pairs ops : List ℤ) (boundary : ℤ) (word : List ℕ) (options : Ru
 
     -- one item more
     module _ (h : isItem (t .answer) ≡ true) where
-      pub item-room : k < length d / 6 → 6 * k + 6 ≤ length d
-      item-room l = omega (arith, l)
-
       pub setting-more : k < length d / 6 → (d′ : List ℤ) → d′ ≡ sets d (6 * k) (answerReply (t .answer) .values) → Setting s₀ d₀ d′ (t .state) (k + 1)
       setting-more l d′ w =
           let v = answerReply (t .answer) .values in
