@@ -224,7 +224,7 @@ module _ (pairs ops : List ℤ) (boundary : ℤ) (word : List ℕ) (options : Ru
       Tells (itemsFrom pairs ops boundary word options (length d / 6) s) d x d′ → Sets pairs ops boundary word options d₀ x d′
   sets-run d₀ d s e l x d′ h =
       let q : itemsFrom pairs ops boundary word options (length d / 6) s ≡ setReply pairs ops boundary word options (length d₀) =
-            ap (λ (n : ℕ). itemsFrom pairs ops boundary word options (n / 6) s) l ∙ sym (set-run s e (length d₀)) in
+      ap (λ (n : ℕ). itemsFrom pairs ops boundary word options (n / 6) s) l ∙ sym (set-run s e (length d₀)) in
       record {
         answer = h .answer ∙ ap (λ (r : Reply). replyOf (r .number) (pos (length (r .values) / 6) ∷ [])) q;
         list = h .list ∙ (λ j. listOf (q j .number) (pos 0) (l j) (q j .values));

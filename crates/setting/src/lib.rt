@@ -70,8 +70,8 @@ fn put_item(items: &mut [i32], at: usize, answer: Answer)
 {
     match answer {
         Answer::Char(c, start) => put_six(items, at, 0, c, start as u32, 1, 0, 0),
-        Answer::Ligature(c, start, n, left, right) => {
-            put_six(items, at, 1, c, start as u32, n as u32, bit(left), bit(right))
+        Answer::Ligature(c, start, n, l, r) => {
+            put_six(items, at, 1, c, start as u32, n as u32, bit(l), bit(r))
         }
         Answer::Kern(value) => put_six(items, at, 2, word_of(value), 0, 0, 0, 0),
         Answer::End => {}
