@@ -27,7 +27,7 @@ use Rattle.captions.specs.declared.Turned.{Turned}
 use Rattle.captions.specs.declared.Turned.the-variants.{Gives, Goes}
 use Rattle.captions.specs.Tables.{opCount, opKind, opValue, opHolds, opFits, keyBy, find}
 use Rattle.captions.specs.Begin.{edgesRefusal, wordRefusal}
-use Rattle.captions.specs.Steps.{refused, taken, takesBoundary, settled, giveItem, giveCharacter, giveLigature, afterOp, endsWord, giveOp, opsFit, readOp, gathered, leftPlaceOf, afterRight, readOn, withNext, giveLeft, entryReads, turnBy, turnAtEnd, turnAtLetter, turn, withNothingNext, runOn, nextFits, placed, rightItem, ranFrom, stepRefusal, handBack, steppedBy, stepOf}
+use Rattle.captions.specs.Steps.{taken, takesBoundary, settled, giveItem, giveCharacter, giveLigature, afterOp, endsWord, giveOp, opsFit, readOp, gathered, leftPlaceOf, afterRight, readOn, withNext, giveLeft, entryReads, turnBy, turnAtEnd, turnAtLetter, turn, withNothingNext, runOn, nextFits, placed, rightItem, ranFrom, stepRefusal, handBack, steppedBy, stepOf}
 use Rattle.turns.specs.Turns.{turnNext, turnOnce, turnsLeft, Within}
 use Rattle.turns.proofs.Laws.{gathered-read}
 use Rattle.turns.proofs.Turning.{Running, running-begin, running-less, running-more, running-end, placed-within}

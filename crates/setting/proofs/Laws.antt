@@ -14,7 +14,7 @@ use Rattle.words.proofs.Bits.{number-pos}
 use Rattle.words.proofs.Lists.{appending-none, appending-more, appending-length, appending-rest}
 use Rattle.lang.specs.declared.Written.{Written}
 use Rattle.lang.specs.declared.Written.the-variants as written
-use Rattle.lang.specs.Answers.{Reply, replyOf, listOf, writtenReply}
+use Rattle.lang.specs.Answers.{Reply, replyOf, listOf}
 use Rattle.lang.proofs.Refusals.{refused-answer}
 use Rattle.lang.proofs.Filled.{refused-list}
 use Rattle.captions.specs.declared.RunOptions.{RunOptions}
@@ -67,7 +67,7 @@ item-then (Kern k) r h = refl
 item-then End r h = no h
 item-then (Refused n) r h = no h
 
-item-six : (a : Answer) → isItem a ≡ true → length (answerReply a .values) ≡ 6
+pub item-six : (a : Answer) → isItem a ≡ true → length (answerReply a .values) ≡ 6
 item-six (Char c p) h = refl
 item-six (Ligature c p n a b) h = refl
 item-six (Kern k) h = refl

@@ -2,7 +2,7 @@
 -- says what they answer. The theorem is `every-word` of proofs/Theorems.
 use mathlib.Core.Path.{_≡_}
 use mathlib.Core.List.{List, [], _∷_, _++_, map}
-use Prim.Native.Nat.{ℕ, _*_, _≤_}
+use Prim.Native.Nat.{ℕ, _*_, _/_, _≤_}
 use lib.IntN.{ℤ}
 use lib.ListN.{length}
 use Rattle.reading.specs.Items.{Out}
@@ -19,13 +19,14 @@ unfoldable pub valuesOf : List Answer → List ℤ
 valuesOf [] = []
 valuesOf (a ∷ others) = answerReply a .values ++ valuesOf others
 
--- these items, by kind and by code or scaled kern, are what is set in a list of `room` numbers: nothing is refused, and the numbers that are
--- written are those of the answers, one after the other
+-- these items, by kind and by code or scaled kern, are what is set in a list of `room` numbers: nothing is refused, the numbers that are
+-- written are those of the answers, one after the other, and the count that is answered is that of the items
 pub record SetAs (f : Font) (pairs ops : List ℤ) (word : List ℕ) (options : RunOptions) (room : ℕ) (items : List Out) : Type 0 where
   pub accepted : setReply pairs ops (f .boundary) word options room .number ≡ 0
   pub answers : List Answer
   pub same : map shown answers ≡ map shows items
   pub numbers : setReply pairs ops (f .boundary) word options room .values ≡ valuesOf answers
+  pub counted : length (setReply pairs ops (f .boundary) word options room .values) / 6 ≡ length items
 
 -- what the steps of a run answer is what is set, where the list has room for it
 abbrev pub EveryWord : Type 0
