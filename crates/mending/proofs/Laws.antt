@@ -67,9 +67,9 @@ taken-by (suc r) n m e =
     absurd (omega arith)
 
 -- what the search for loops answers, and what is answered then
-pub data Tells (left : ℤ) (r : Written) (v : Validated) : Type 0 where
-  refuses : (k : ℕ) → r ≡ Refused k → v ≡ validated.Refused k → Tells left r v
-  counts : (n : ℕ) → r ≡ Count n → v ≡ validated.Fixed left n → Tells left r v
+pub data HandedOn (left : ℤ) (r : Written) (v : Validated) : Type 0 where
+  refuses : (k : ℕ) → r ≡ Refused k → v ≡ validated.Refused k → HandedOn left r v
+  counts : (n : ℕ) → r ≡ Count n → v ≡ validated.Fixed left n → HandedOn left r v
 
 -- ---- after the entries: `unpacked` has 512 places, `through` one for each instruction
 
@@ -138,7 +138,7 @@ module _ (d : Damaged) (ok : damagedRefusal d ≡ 0) where
     said : writtenReply r ≡ replyOf (repairedPairsRefusal d (length work)) (pos (length (warningsOf d) / 4) ∷ [])
     said = g .answer ∙ ap (λ (k : ℕ). replyOf k (pos (c + length (loopsOfFont (repairedFont d))) ∷ [])) (search-refusal work) ∙ ap (λ (m : ℕ). replyOf (repairedPairsRefusal d (length work)) (pos m ∷ [])) counted
 
-    replied : (v : Validated) (left : ℤ) → Tells left r v → left ≡ repairedLeft d → validatedReply v ≡ replyOf (repairedPairsRefusal d (length work)) (repairedLeft d ∷ pos (length (warningsOf d) / 4) ∷ [])
+    replied : (v : Validated) (left : ℤ) → HandedOn left r v → left ≡ repairedLeft d → validatedReply v ≡ replyOf (repairedPairsRefusal d (length work)) (repairedLeft d ∷ pos (length (warningsOf d) / 4) ∷ [])
     replied v left (refuses k a b) e =
         let x = refused-by (repairedPairsRefusal d (length work)) k _ _ (sym (ap writtenReply a) ∙ said) in
         ap validatedReply b ∙ refused-reply _ (x .0) (x .1)
@@ -146,7 +146,7 @@ module _ (d : Damaged) (ok : damagedRefusal d ≡ 0) where
         let x = taken-by (repairedPairsRefusal d (length work)) t _ (sym (ap writtenReply a) ∙ said) in
         ap validatedReply b ∙ (λ i. replyOf 0 (e i ∷ pos (x .1 i) ∷ [])) ∙ taken-reply _ (x .0)
 
-    pub mended : (v : Validated) (left : ℤ) (program : List ℤ) (through : List ℕ) → Tells left r v → left ≡ repairedLeft d → program ≡ repairedInstructions d → through ≡ repairedPassthrough d → Mends d w work v program through w₂ work₁
+    pub mended : (v : Validated) (left : ℤ) (program : List ℤ) (through : List ℕ) → HandedOn left r v → left ≡ repairedLeft d → program ≡ repairedInstructions d → through ≡ repairedPassthrough d → Mends d w work v program through w₂ work₁
     mended v left program through a l p q =
         record {
           answer = replied v left a l;

@@ -21,7 +21,7 @@ use Rattle.repairs.specs.Repairs.{damagedOf, damagedRefusal}
 use Rattle.entrypoints.specs.Entering.{Enters}
 use Rattle.mending.specs.Mending.{Mends}
 use Rattle.mending.proofs.Sizes.{size, few-entries, small, program-taken}
-use Rattle.mending.proofs.Laws.{Tells, refuses, counts, fitting, entries-within, entries-few, entries-are, passthrough-is, few-warned, left-is, steps-are, instructions-are, few-stepped, repair-warned, loops-are, mended}
+use Rattle.mending.proofs.Laws.{HandedOn, refuses, counts, fitting, entries-within, entries-few, entries-are, passthrough-is, few-warned, left-is, steps-are, instructions-are, few-stepped, repair-warned, loops-are, mended}
 use borrow.Author.Needs.{needs}
 use Rattle.mending.proofs.mend.Statement.{statement}
 use Rattle.mending.proofs.mend.Tie as tie
@@ -75,7 +75,7 @@ module _ (c : tie.After-enter) where
   front-long = let n = count (c .before .before .before .before .before .before .before .before .before .before .before .before .args .instructions .now) in omega (arith, length-append (c .enter .last .1 .1 .1 .1 .1 .0) (drop n (c .before .before .before .before .before .mark-places .result)), marks-length)
 
 -- all passes are done
-whole : (c : tie.After-warn-loops) → let k = c .before .before .before .before .before .before .before .before .before .before .before .before .before .before .before .before .before .before .before .before in let a = k .before .before .before .before .before .before .before .before .before .before .before .before .args in let x = c .warn-loops .last .1 .1 .1 .1 in damagedRefusal (font k) ≡ 0 → length (a .program .now) ≡ 4 * count (a .instructions .now) → length (a .through .now) ≡ count (a .instructions .now) → (v : Validated) → Tells (numberOf (wordOf (c .before .before .before .before .before .before .repaired-left .result))) (c .warn-loops .result) v → Mends (font k) (a .warnings .now) (a .work .now) v (c .before .before .before .before .before .before .before .before .before .fix-program .last .1 .1 .1 .1 .1 .1 .1 .0) (k .enter .last .1 .1 .1 .1 .1 .1 .0) (x .0) (x .1 .1 .0)
+whole : (c : tie.After-warn-loops) → let k = c .before .before .before .before .before .before .before .before .before .before .before .before .before .before .before .before .before .before .before .before in let a = k .before .before .before .before .before .before .before .before .before .before .before .before .args in let x = c .warn-loops .last .1 .1 .1 .1 in damagedRefusal (font k) ≡ 0 → length (a .program .now) ≡ 4 * count (a .instructions .now) → length (a .through .now) ≡ count (a .instructions .now) → (v : Validated) → HandedOn (numberOf (wordOf (c .before .before .before .before .before .before .repaired-left .result))) (c .warn-loops .result) v → Mends (font k) (a .warnings .now) (a .work .now) v (c .before .before .before .before .before .before .before .before .before .fix-program .last .1 .1 .1 .1 .1 .1 .1 .0) (k .enter .last .1 .1 .1 .1 .1 .1 .0) (x .0) (x .1 .1 .0)
 whole c ok p t v told =
     let k = c .before .before .before .before .before .before .before .before .before .before .before .before .before .before .before .before .before .before .before .before in
     let s = k .before .before .before .before .before .before .before .before .before .before .before .before in

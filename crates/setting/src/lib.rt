@@ -1,0 +1,144 @@
+// A word set whole: a run from its begin to its end, each item as the six numbers of a T line. Document 01, 'Caption items' and 'The column text'; after the loop
+// over what `run_with_options` of ligkern/mod.rs returns.
+ghost use mathlib.Core.Path.{_≡_};
+ghost use mathlib.Core.List.{[], _∷_};
+ghost use Prim.Native.Nat.{_+_, _/_, _≤_};
+ghost use lib.ListN.{length, replicate};
+ghost use lib.Seq.{sets};
+ghost use lib.IntN.{pos};
+ghost use Rattle.words.specs.Words.{numberOf};
+ghost use Rattle.captions.specs.Replies.{bitNumber, answerReply};
+ghost use Rattle.setting.specs.Setting.{itemsFrom, Sets};
+ghost use Rattle.setting.specs.Writing.{isItem, Small, Stops, Tells};
+use captions::Answer;
+use captions::Begun;
+use captions::RunOptions;
+use captions::State;
+use lang::Written;
+use ligkern::begin::begin;
+use ligkern::steps::step;
+use words::put_word;
+use words::word_of;
+use words::zero::zero_i32;
+
+// Neither the end nor a refusal.
+fn is_item(answer: Answer) -> bool
+    ensures { λ r. ⌜ r ≡ isItem answer ⌝ }
+{
+    match answer {
+        Answer::Char(_, _) => true,
+        Answer::Ligature(_, _, _, _, _) => true,
+        Answer::Kern(_) => true,
+        Answer::End => false,
+        Answer::Refused(_) => false,
+    }
+}
+
+// 1 where a flag is set.
+fn bit(flag: bool) -> u32
+    ensures { λ r. ⌜ numberOf r ≡ bitNumber flag ⌝ }
+{
+    if flag { 1 } else { 0 }
+}
+
+// Six numbers at a place.
+fn put_six(
+    items: &mut [i32],
+    at: usize,
+    kind: u32,
+    value: u32,
+    start: u32,
+    count: u32,
+    left: u32,
+    right: u32,
+)
+    requires { ⌜ at + 6 ≤ length (now items) ⌝ }
+    ensures { λ _. ⌜ now (items .exit) ≡ sets (now (items .entry)) at (numberOf kind ∷ numberOf value ∷ numberOf start ∷ numberOf count ∷ numberOf left ∷ numberOf right ∷ []) ⌝ }
+{
+    put_word(items, at, kind);
+    put_word(items, at + 1, value);
+    put_word(items, at + 2, start);
+    put_word(items, at + 3, count);
+    put_word(items, at + 4, left);
+    put_word(items, at + 5, right);
+}
+
+// The numbers of an item at a place; the end and a refusal have none.
+fn put_item(items: &mut [i32], at: usize, answer: Answer)
+    requires { ⌜ (at + 6 ≤ length (now items)) × (Small answer) ⌝ }
+    ensures { λ _. ⌜ now (items .exit) ≡ sets (now (items .entry)) at (answerReply answer .values) ⌝ }
+{
+    match answer {
+        Answer::Char(c, start) => put_six(items, at, 0, c, start as u32, 1, 0, 0),
+        Answer::Ligature(c, start, n, l, r) => {
+            put_six(items, at, 1, c, start as u32, n as u32, bit(l), bit(r))
+        }
+        Answer::Kern(value) => put_six(items, at, 2, word_of(value), 0, 0, 0, 0),
+        Answer::End => {}
+        Answer::Refused(_) => {}
+    }
+}
+
+// What is answered where a run stops after k items: their count; or the number of a refusal, with zeros for the items.
+fn stopped(items: &mut [i32], k: usize, answer: Answer) -> Written
+    ensures { λ r. ⌜ Stops answer k (now (items .entry)) r (now (items .exit)) ⌝ }
+{
+    match answer {
+        Answer::Char(_, _) => Written::Count(k),
+        Answer::Ligature(_, _, _, _, _) => Written::Count(k),
+        Answer::Kern(_) => Written::Count(k),
+        Answer::End => Written::Count(k),
+        Answer::Refused(n) => {
+            zero_i32(items);
+            Written::Refused(n)
+        }
+    }
+}
+
+// The items from a state on, in a list of zeros.
+fn set_from(
+    pairs: &[i32],
+    ops: &[i32],
+    boundary: i32,
+    word: &[u32],
+    options: RunOptions,
+    state: State,
+    items: &mut [i32],
+) -> Written
+    requires { ⌜ now items ≡ replicate (length (now items)) (pos 0) ⌝ }
+    ensures { λ r. ⌜ Tells (itemsFrom (now (pairs .entry)) (now (ops .entry)) boundary (now (word .entry)) options (length (now (items .entry)) / 6) state) (now (items .entry)) r (now (items .exit)) ⌝ }
+{
+    let mut s = state;
+    let mut k = 0;
+    loop {
+        let stepped = step(pairs, ops, boundary, word, options, s);
+        let answer = stepped.answer;
+        if !is_item(answer) {
+            return stopped(items, k, answer);
+        }
+        if items.len() / 6 <= k {
+            return stopped(items, k, Answer::Refused(15));
+        }
+        put_item(items, 6 * k, answer);
+        s = stepped.state;
+        k += 1;
+    }
+}
+
+// The items of a word up to its end, six numbers each as a T line has them, with zeros after them. Answers how many there are. Begin's numbers, then 15.
+pub fn set_word(
+    pairs: &[i32],
+    ops: &[i32],
+    boundary: i32,
+    word: &[u32],
+    options: RunOptions,
+    items: &mut [i32],
+) -> Written
+    ensures { λ r. ⌜ Sets (now (pairs .entry)) (now (ops .entry)) boundary (now (word .entry)) options (now (items .entry)) r (now (items .exit)) ⌝ }
+{
+    zero_i32(items);
+    match begin(pairs, ops, boundary, word, options) {
+        Begun::Run(state) => set_from(pairs, ops, boundary, word, options, state, items),
+        Begun::Refused(n) => Written::Refused(n),
+    }
+}
