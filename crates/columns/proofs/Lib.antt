@@ -1,12 +1,29 @@
--- What is proved of the column text. Theorems states it (specs/Purpose); the other files prove it:
+-- What is proved of the column text. Theorems (specs/Purpose) and Answered (specs/ReplyRead) state it; the other files prove it:
 --   Example  document 01's example, computed
 --   Options  what is known where a test, or one of two readings, gives something
 --   Digits   digits that are read, written again
 --   Fields   a field, and the fields of a line
 --   ReadBack  what is written is read
+--   FontBegins  a font that compiling accepts: demand 3 holds of its lists, and begin is not refused
+--   LinesBack  lines that are written are read back; a text of lines ends in a line feed
+--   TextLaws  what is known of a text that is read
+--   WordRead  the meter of loops, and the items of a word
+--   Fitting  lists of i32
+--   Reported  a reply, read back, gives the lists that it was written from
+--   KernFits, FontFits, ItemFits  every number of a reply is an i32: kerns, tables, items
 pub mod Example
 pub mod Options
 pub mod Digits
 pub mod Fields
 pub mod ReadBack
+pub mod FontBegins
+pub mod LinesBack
+pub mod TextLaws
+pub mod WordRead
+pub mod Fitting
+pub mod Reported
+pub mod KernFits
+pub mod FontFits
+pub mod ItemFits
+pub mod Answered
 pub mod Theorems

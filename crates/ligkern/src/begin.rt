@@ -13,7 +13,7 @@ use captions::State;
 use form::table_refusal;
 
 // 4: a letter out of range.
-fn letters_refusal(word: &[u32]) -> u32
+pub fn letters_refusal(word: &[u32]) -> u32
     ensures { λ r. ⌜ r ≡ lettersRefusal (now (word .entry)) ⌝ }
 {
     let mut i = 0;
@@ -67,8 +67,8 @@ fn fresh(next_left: NextLeft, read: usize) -> State
     }
 }
 
-// Without the left boundary the first letter stands left of the cursor.
-fn fresh_state(word: &[u32], options: RunOptions) -> State
+// The state of a run that has given nothing. Without the left boundary the first letter stands left of the cursor.
+pub fn fresh_state(word: &[u32], options: RunOptions) -> State
     ensures { λ r. ⌜ r ≡ freshState (now (word .entry)) options ⌝ }
 {
     if !options.disable_left_boundary {

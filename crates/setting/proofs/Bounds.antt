@@ -1,5 +1,6 @@
 -- The numbers of a step's answer are small, whatever the table and the state: a code is a character's, since a step checks what it reads; a start and a length
--- are within the letters that were read; and a refusal is not 0. Assumes nothing.
+-- are within the letters that were read; and a refusal is not 0, and at most 7.
+-- Assumes nothing.
 use mathlib.Core.Path.{_≡_, refl, sym, subst}
 use mathlib.Core.Bool.{Bool, true, false, cond}
 use mathlib.Core.List.{List}
@@ -11,7 +12,8 @@ use lib.Dec.{ltb, leb, eqb}
 use lib.ListN.{length, getD}
 use borrow.Author.Tests.{ltb-true, leb-true, eqb-true}
 use Rattle.words.specs.Words.{wordOf}
-use Rattle.lang.specs.Records.{within}
+use Rattle.lang.specs.Records.{within, absentOr}
+use Rattle.lang.specs.Checks.{unless, orElse, absentRefusal}
 use Rattle.lang.proofs.Every.{both-left, both-right}
 use Rattle.lang.proofs.Records.{within-bound}
 use Rattle.lang.proofs.Refusals.{orElse-none, unless-none}
@@ -40,14 +42,14 @@ data Fit : Step → Type 0 where
   ligature : (c p n : ℕ) (a b : Bool) {s : State} → c ≤ 255 → p ≤ 65535 → n ≤ 65535 → Fit (record { answer = Ligature c p n a b; state = s })
   kern : (k : ℤ) {s : State} → Fit (record { answer = Kern k; state = s })
   over : {s : State} → Fit (record { answer = End; state = s })
-  refusal : (n : ℕ) {s : State} → Fit (record { answer = Refused (suc n); state = s })
+  refusal : (n : ℕ) {s : State} → n ≤ 6 → Fit (record { answer = Refused (suc n); state = s })
 
 small : {t : Step} → Fit t → Small (t .answer)
 small (character c p l h) = (l, h)
 small (ligature c p n a b l h k) = (l, h, k)
 small (kern k) = tt
 small over = tt
-small (refusal n) = omega arith
+small (refusal n l) = (omega arith, omega (arith, l))
 
 either : (b : Bool) {t u : Step} → (b ≡ true → Fit t) → (b ≡ false → Fit u) → Fit (cond b t u)
 either true p q = p refl
@@ -62,7 +64,7 @@ holds-code false k v h l = absurd (omega (arith, eqb-true k 2 h))
 
 module _ (n : ℕ) (few : n ≤ 65535) where
   item-fits : (a : Answer) (k : ℕ) (s : State) → s .read ≤ n → (s .given + k ≤ 65535 → Fit (record { answer = a; state = settled k s })) → Fit (giveItem a k s)
-  item-fits a k s r h = either (leb (s .given + k) (s .read)) (λ e. h (omega (arith, leb-true (s .given + k) (s .read) e, r, few))) (λ _. refusal 6)
+  item-fits a k s r h = either (leb (s .given + k) (s .read)) (λ e. h (omega (arith, leb-true (s .given + k) (s .read) e, r, few))) (λ _. refusal 6 (omega arith))
 
   character-fits : (c : ℕ) (s : State) → c ≤ 255 → s .read ≤ n → Fit (giveCharacter c s)
   character-fits c s l r =
@@ -85,7 +87,7 @@ module _ (n : ℕ) (few : n ≤ 65535) where
         (λ _. either (eqb k 1) (λ e. ligature-fits c (endsWord ops (afterOp s)) (afterOp s) (f (omega (arith, eqb-true k 1 e))) r) (λ _. kern (opValue ops (s .op))))
 
     read-fits : Fit (readOp ops s)
-    read-fits = either (opsFit ops s) op-fits (λ _. refusal 6)
+    read-fits = either (opsFit ops s) op-fits (λ _. refusal 6 (omega arith))
 
 -- ---- a turn that answers
 
@@ -111,10 +113,10 @@ module _ (pairs ops : List ℤ) (o : Option ℕ) (word : List ℕ) (few : length
 
   with-given : (x : NextLeft) (letter : Bool) (y : ℕ) (s : State) → nextFits x ≡ true → readOn letter (s .read) ≤ length word → (k : Option ℕ) → Given (turnBy pairs ops x letter y s k)
   with-given x letter y s f r none = left-given x (withNext (afterRight letter (plain y)) (readOn letter (s .read)) s) f r
-  with-given x letter y s f r (some k) = given-either (entryReads pairs ops x k) (λ _. goes) (λ _. gives (refusal 6))
+  with-given x letter y s f r (some k) = given-either (entryReads pairs ops x k) (λ _. goes) (λ _. gives (refusal 6 (omega arith)))
 
   letter-given : (x : NextLeft) (y : ℕ) (s : State) → nextFits x ≡ true → suc (s .read) ≤ length word → Given (turnAtLetter pairs ops x y s)
-  letter-given x y s f r = given-either (leb y 255) (λ _. with-given x true y s f r (find pairs (keyBy (leftPlaceOf x) y))) (λ _. gives (refusal 3))
+  letter-given x y s f r = given-either (leb y 255) (λ _. with-given x true y s f r (find pairs (keyBy (leftPlaceOf x) y))) (λ _. gives (refusal 3 (omega arith)))
 
   end-given : (q : Option ℕ) (x : NextLeft) (s : State) → nextFits x ≡ true → s .read ≤ length word → Given (turnAtEnd pairs ops q x s)
   end-given q next.Boundary s f r = gives over
@@ -164,7 +166,7 @@ module _ (pairs ops : List ℤ) (o : Option ℕ) (word : List ℕ) (few : length
     ran-fits =
         either (placed ops word s)
         (λ e. ran-in (suc (turnsLeft (length word) s)) s (omega arith) (running-begin (length word) (opCount ops) run s (placed-within ops word s (omega (arith, few)) e)))
-        (λ _. refusal 6)
+        (λ _. refusal 6 (omega arith))
 
 -- ---- the step
 
@@ -173,18 +175,34 @@ handed s (character c p l h) = character c p l h
 handed s (ligature c p n a b l h k) = ligature c p n a b l h k
 handed s (kern k) = kern k
 handed s over = over
-handed s (refusal n) = refusal n
+handed s (refusal n l) = refusal n l
 
-stepped : (n : ℕ) (s : State) (t : Step) → (n ≡ 0 → Fit t) → Fit (steppedBy n s t)
-stepped zero s t h = handed s (h refl)
-stepped (suc n) s t h = refusal n
+stepped : (n : ℕ) (s : State) (t : Step) → n ≤ 7 → (n ≡ 0 → Fit t) → Fit (steppedBy n s t)
+stepped zero s t l h = handed s (h refl)
+stepped (suc n) s t l h = refusal n (omega (arith, l))
+
+-- the lowest of numbers that are all small
+unless-few : (m n : ℕ) (t : Bool) → n ≤ m → unless n t ≤ m
+unless-few m n true l = omega arith
+unless-few m n false l = l
+
+orElse-few : (m a b : ℕ) → a ≤ m → b ≤ m → orElse a b ≤ m
+orElse-few m zero b la lb = lb
+orElse-few m (suc a) b la lb = la
 
 module _ (pairs ops : List ℤ) (boundary : ℤ) (word : List ℕ) (options : RunOptions) (s : State) where
   short : stepRefusal boundary word options ≡ 0 → length word ≤ 65535
   short z = leb-true (length word) 65535 (unless-none 5 (leb (length word) 65535) (orElse-none (edgesRefusal boundary options) (wordRefusal word) z .1))
 
+  few : stepRefusal boundary word options ≤ 7
+  few =
+      orElse-few 7 (edgesRefusal boundary options) (wordRefusal word)
+      (orElse-few 7 (absentRefusal 255 boundary) (absentRefusal 255 (options .«right_boundary_override»)) (unless-few 7 4 (absentOr 255 boundary) (omega arith)) (unless-few 7 4 (absentOr 255 (options .«right_boundary_override»)) (omega arith)))
+      (unless-few 7 6 (leb (length word) 65535) (omega arith))
+
   pub step-small : Small (stepOf pairs ops boundary word options s .answer)
   step-small =
       small
       (stepped (stepRefusal boundary word options) s (ranFrom pairs ops (rightItem boundary (options .«right_boundary_override»)) word s)
+      few
       (λ z. ran-fits pairs ops (rightItem boundary (options .«right_boundary_override»)) word (short z) s))

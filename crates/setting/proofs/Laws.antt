@@ -220,6 +220,16 @@ module _ (pairs ops : List ℤ) (boundary : ℤ) (word : List ℕ) (options : Ru
       let m = begun-run (beginRefusal pairs ops boundary word options) (freshState word options) s e in
       λ j. afterBegin (m .0 j) (itemsFrom pairs ops boundary word options (room / 6) (m .1 j))
 
+  -- items in a list that was zeroed, from a state that is this one
+  pub tells-zeroed : (d₀ d : List ℤ) (s t : State) → s ≡ t → length d ≡ length d₀ → (x : Written) (d′ : List ℤ) →
+      Tells (itemsFrom pairs ops boundary word options (length d / 6) s) d x d′ → Tells (itemsFrom pairs ops boundary word options (length d₀ / 6) t) d₀ x d′
+  tells-zeroed d₀ d s t e l x d′ h =
+      let q : itemsFrom pairs ops boundary word options (length d / 6) s ≡ itemsFrom pairs ops boundary word options (length d₀ / 6) t = λ j. itemsFrom pairs ops boundary word options (l j / 6) (e j) in
+      record {
+        answer = h .answer ∙ ap (λ (r : Reply). replyOf (r .number) (pos (length (r .values) / 6) ∷ [])) q;
+        list = h .list ∙ (λ j. listOf (q j .number) (pos 0) (l j) (q j .values));
+      }
+
   pub sets-run : (d₀ d : List ℤ) (s : State) → begun.Run s ≡ beginOf pairs ops boundary word options → length d ≡ length d₀ → (x : Written) (d′ : List ℤ) →
       Tells (itemsFrom pairs ops boundary word options (length d / 6) s) d x d′ → Sets pairs ops boundary word options d₀ x d′
   sets-run d₀ d s e l x d′ h =

@@ -20,13 +20,13 @@ isItem (Kern k) = true
 isItem End = false
 isItem (Refused k) = false
 
--- a code is a character's, and a start and a length are within the longest word; a refusal is not 0
+-- a code is a character's, and a start and a length are within the longest word; a refusal is not 0, and at most 7
 abbrev pub Small : Answer → Type 0
 Small (Char c start) = (c ≤ 255) × (start ≤ 65535)
 Small (Ligature c start n left right) = (c ≤ 255) × (start ≤ 65535) × (n ≤ 65535)
 Small (Kern k) = Unit {0}
 Small End = Unit {0}
-Small (Refused k) = 0 < k
+Small (Refused k) = (0 < k) × (k ≤ 7)
 
 -- the run stops after k items: they stay, and are counted; or the number of a refusal, and zeros
 abbrev pub Stops : Answer → ℕ → List ℤ → Written → List ℤ → Type 0

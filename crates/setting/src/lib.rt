@@ -7,6 +7,7 @@ ghost use lib.ListN.{length, replicate};
 ghost use lib.Seq.{sets};
 ghost use lib.IntN.{pos};
 ghost use Rattle.words.specs.Words.{numberOf};
+ghost use Rattle.captions.specs.Begin.{freshState};
 ghost use Rattle.captions.specs.Replies.{bitNumber, answerReply};
 ghost use Rattle.setting.specs.Setting.{itemsFrom, Sets};
 ghost use Rattle.setting.specs.Writing.{isItem, Small, Stops, Tells};
@@ -16,6 +17,7 @@ use captions::RunOptions;
 use captions::State;
 use lang::Written;
 use ligkern::begin::begin;
+use ligkern::begin::fresh_state;
 use ligkern::steps::step;
 use words::put_word;
 use words::word_of;
@@ -123,6 +125,22 @@ fn set_from(
         s = stepped.state;
         k += 1;
     }
+}
+
+// The items that a fresh run gives over a table that is taken as it stands, which begin would check: what `set_word` gives where begin refuses nothing.
+pub fn set_fresh(
+    pairs: &[i32],
+    ops: &[i32],
+    boundary: i32,
+    word: &[u32],
+    options: RunOptions,
+    items: &mut [i32],
+) -> Written
+    ensures { λ r. ⌜ Tells (itemsFrom (now (pairs .entry)) (now (ops .entry)) boundary (now (word .entry)) options (length (now (items .entry)) / 6) (freshState (now (word .entry)) options)) (now (items .entry)) r (now (items .exit)) ⌝ }
+{
+    zero_i32(items);
+    let fresh = fresh_state(word, options);
+    set_from(pairs, ops, boundary, word, options, fresh, items)
 }
 
 // The items of a word up to its end, six numbers each as a T line has them, with zeros after them. Answers how many there are. Begin's numbers, then 15.

@@ -1,0 +1,79 @@
+-- What a text is answered with: THE contract of `ligcols`, the function that a host calls. Document 01, 'The column text' and the table of numbers. The whole text is judged
+-- first (16); then comes the lowest number of compiling and of the word; then 15, where the items or the bytes of the reply are too many.
+use mathlib.Core.Path.{_≡_}
+use mathlib.Core.Bool.{false, cond}
+use mathlib.Core.List.{List, [], _∷_, map}
+use mathlib.Core.Option.{Option, none, some}
+use Prim.Native.Nat.{ℕ, zero, suc, _*_}
+use lib.IntN.{ℤ, pos, negsuc}
+use lib.Dec.{leb}
+use lib.ListN.{length}
+use Rattle.words.specs.Words.{wordOf}
+use Rattle.lang.specs.Checks.{orElse}
+use Rattle.lang.specs.Answers.{Reply, replyOf, listOf}
+use Rattle.fonts.specs.Fonts.{Font}
+use Rattle.fonts.specs.Compiled.{Room, roomOf, compileRefusal, fontTable, fontOps, fontLoops}
+use Rattle.captions.specs.declared.RunOptions.{RunOptions}
+use Rattle.captions.specs.Begin.{lettersRefusal}
+use Rattle.setting.specs.Setting.{setReply}
+use Rattle.columns.specs.Texts.{Text, readText, fontOfText}
+use Rattle.columns.specs.Scanned.{lettersOf, lengthOfWord}
+use Rattle.columns.specs.Replying.{replyBytes, replyRefusal}
+
+-- ---- a font and a word
+
+-- 512 pairs, 2,048 ops, 64 loops, and the work of 512 pairs
+abbrev pub columnRoom : Room
+columnRoom = roomOf (6 * 512) (2 * 2048) (2 * 64) (16 * 512)
+
+-- a word is set with the left boundary and no override
+abbrev pub columnOptions : RunOptions
+columnOptions = record { «disable_left_boundary» = false; «right_boundary_override» = negsuc 0 }
+
+-- room for 885 items, six numbers each: a reply of 65,536 bytes has room for the lines of no more, 74 bytes each
+abbrev pub itemRoom : ℕ
+itemRoom = 6 * 885
+
+-- the items of a word of so many characters; none where there is no word, which a negative length says
+abbrev pub columnItems : Font → ℤ → List ℕ → Reply
+columnItems f (pos n) word = setReply (fontTable f) (fontOps f) (f .boundary) word columnOptions itemRoom
+columnItems f (negsuc n) word = replyOf 0 []
+
+-- the bytes of the reply, where nothing is refused
+abbrev pub columnBytes : Font → ℤ → List ℕ → List ℕ
+columnBytes f letters word = replyBytes (fontTable f) (fontOps f) (fontLoops f) letters (columnItems f letters word .values)
+
+-- the lower of two numbers of which 0 is none
+abbrev pub lower : ℕ → ℕ → ℕ
+lower zero n = n
+lower (suc m) zero = suc m
+lower (suc m) (suc n) = cond (leb m n) (suc m) (suc n)
+
+-- the lowest number of compiling and of the word; else that of setting; else 15 of the reply
+abbrev pub columnNumber : Font → ℤ → List ℕ → ℕ → ℕ
+columnNumber f letters word room =
+    orElse (lower (compileRefusal f columnRoom) (lettersRefusal word))
+    (orElse (columnItems f letters word .number) (replyRefusal (columnBytes f letters word) room))
+
+-- ---- a text
+
+abbrev pub wordOfText : Text → List ℕ
+wordOfText t = map wordOf (lettersOf (t .word))
+
+abbrev pub numberOfText : Option Text → ℕ → ℕ
+numberOfText none room = 16
+numberOfText (some t) room = columnNumber (fontOfText t) (lengthOfWord (t .word)) (wordOfText t) room
+
+abbrev pub bytesOfText : Option Text → List ℕ
+bytesOfText none = []
+bytesOfText (some t) = columnBytes (fontOfText t) (lengthOfWord (t .word)) (wordOfText t)
+
+-- the length, or minus the number
+abbrev pub lengthOr : ℕ → ℕ → ℤ
+lengthOr zero n = pos n
+lengthOr (suc k) n = negsuc k
+
+-- THE contract of ligcols, for every text and every length of reply: the reply's length, or minus the number; and the reply's bytes and zeros, or zeros
+pub record AnswersText (text reply : List ℕ) (r : ℤ) (reply′ : List ℕ) : Type 0 where
+  pub answer : r ≡ lengthOr (numberOfText (readText text) (length reply)) (length (bytesOfText (readText text)))
+  pub list : reply′ ≡ listOf (numberOfText (readText text) (length reply)) 0 (length reply) (bytesOfText (readText text))

@@ -1,0 +1,109 @@
+-- A reply read back, and what is proved of every text that is answered (proofs/Answered): nothing is lost in the format, the X lines are a true meter of loops, and where there is
+-- none the T lines are the reading of the word. No contract cites this.
+use mathlib.Core.Path.{_≡_}
+use mathlib.Core.Bool.{true, false, cond}
+use mathlib.Core.List.{List, [], _∷_, _++_}
+use mathlib.Core.Logic.{_⊎_, _↔_}
+use mathlib.Core.Option.{Option, none, some}
+use Prim.Native.Nat.{ℕ, _/_}
+use lib.IntN.{ℤ, pos, negsuc}
+use lib.Dec.{eqb}
+use lib.ListN.{length, getD, take, drop}
+use Rattle.reading.specs.Items.{Left, Out}
+use Rattle.reading.specs.Reading.{Ends}
+use Rattle.fonts.specs.Fonts.{rulesOf}
+use Rattle.fonts.specs.Compiled.{fontTable, fontOps, fontLoops}
+use Rattle.captions.specs.Demand3.{Reads}
+use Rattle.setting.specs.Purpose.{SetAs}
+use Rattle.columns.specs.Lines.{Line, linesOf, readLine}
+use Rattle.columns.specs.Texts.{Text, readText, fontOfText}
+use Rattle.columns.specs.Scanned.{lengthOfWord}
+use Rattle.columns.specs.Ligcols.{columnOptions, itemRoom, columnItems, wordOfText, numberOfText, bytesOfText}
+
+-- ---- a reply read back
+
+-- the pair table, the ops and the loop list, the word's length (-1 where there is no W) and the items, six numbers each
+pub record Reported : Type 0 where
+  pub pairs : List ℤ
+  pub ops : List ℤ
+  pub loops : List ℤ
+  pub letters : ℤ
+  pub items : List ℤ
+
+abbrev pub nothingReported : Reported
+nothingReported = record { pairs = []; ops = []; loops = []; letters = negsuc 0; items = [] }
+
+-- P, five numbers: a pair's ops are the next ones, so its first op is how many O lines came before
+abbrev pub withPair : Reported → List ℤ → Option Reported
+withPair r zs =
+    cond (eqb (length zs) 5)
+    (some (record { pairs = r .pairs ++ take 4 zs ++ (pos (length (r .ops) / 2) ∷ drop 4 zs); ops = r .ops; loops = r .loops; letters = r .letters; items = r .items }))
+    none
+
+-- O and X, two numbers; T, six
+abbrev pub withOp : Reported → List ℤ → Option Reported
+withOp r zs = cond (eqb (length zs) 2) (some (record { pairs = r .pairs; ops = r .ops ++ zs; loops = r .loops; letters = r .letters; items = r .items })) none
+
+abbrev pub withLoop : Reported → List ℤ → Option Reported
+withLoop r zs = cond (eqb (length zs) 2) (some (record { pairs = r .pairs; ops = r .ops; loops = r .loops ++ zs; letters = r .letters; items = r .items })) none
+
+abbrev pub withItem : Reported → List ℤ → Option Reported
+withItem r zs = cond (eqb (length zs) 6) (some (record { pairs = r .pairs; ops = r .ops; loops = r .loops; letters = r .letters; items = r .items ++ zs })) none
+
+-- W, one number
+abbrev pub withLength : Reported → List ℤ → Option Reported
+withLength r zs =
+    cond (eqb (length zs) 1) (some (record { pairs = r .pairs; ops = r .ops; loops = r .loops; letters = getD zs 0 (pos 0); items = r .items })) none
+
+-- one line more: P 80, O 79, X 88, W 87, T 84
+abbrev pub report : Reported → Option Line → Option Reported
+report r none = none
+report r (some l) =
+    cond (eqb (l .letter) 80) (withPair r (l .numbers))
+    (cond (eqb (l .letter) 79) (withOp r (l .numbers))
+    (cond (eqb (l .letter) 88) (withLoop r (l .numbers))
+    (cond (eqb (l .letter) 87) (withLength r (l .numbers))
+    (cond (eqb (l .letter) 84) (withItem r (l .numbers)) none))))
+
+abbrev pub reportTo : Option Reported → Option Line → Option Reported
+reportTo none l = none
+reportTo (some r) l = report r l
+
+unfoldable pub reportLines : List (List ℕ) → Option Reported → Option Reported
+reportLines [] r = r
+reportLines (l ∷ ls) r = reportLines ls (reportTo r (readLine l))
+
+abbrev pub reportAll : Option (List (List ℕ)) → Option Reported
+reportAll none = none
+reportAll (some ls) = reportLines ls (some nothingReported)
+
+abbrev pub readReply : List ℕ → Option Reported
+readReply bytes = reportAll (linesOf bytes)
+
+-- ---- what is proved
+
+-- Every reply is empty or ends in a line feed.
+abbrev pub EndsInFeed : Type 0
+EndsInFeed = (r : Option Text) → (bytesOfText r ≡ []) ⊎ ((bs : List ℕ) × (bytesOfText r ≡ bs ++ (10 ∷ [])))
+
+-- of a text that is answered
+pub record AnsweredText (t : Text) : Type 0 where
+  -- nothing is lost in the format: the reply, read back, gives the table, the ops, the loops and the items
+  pub read-back : readReply (bytesOfText (some t)) ≡
+      some (record {
+        pairs = fontTable (fontOfText t);
+        ops = fontOps (fontOfText t);
+        loops = fontLoops (fontOfText t);
+        letters = lengthOfWord (t .word);
+        items = columnItems (fontOfText t) (lengthOfWord (t .word)) (wordOfText t) .values;
+      })
+  -- no X line is written exactly when every pair ends
+  pub meter : (fontLoops (fontOfText t) ≡ []) ↔ ((x : Left) (y : ℕ) → Ends (rulesOf (fontOfText t)) x y)
+  -- where none is written, the reading of the word ends, and the T lines are its items
+  pub word-read : fontLoops (fontOfText t) ≡ [] → (letters : List ℤ) → t .word ≡ some letters →
+      (items : List Out) × Reads (fontOfText t) (wordOfText t) columnOptions items
+      × SetAs (fontOfText t) (fontTable (fontOfText t)) (fontOps (fontOfText t)) (wordOfText t) columnOptions itemRoom items
+
+-- Whatever text is lent, with whatever room, if it is read and none of the numbers refuses it then that holds of it.
+abbrev pub EveryAnsweredText : Type 0
+EveryAnsweredText = (text : List ℕ) (t : Text) (room : ℕ) → readText text ≡ some t → numberOfText (some t) room ≡ 0 → AnsweredText t
