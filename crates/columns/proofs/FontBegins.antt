@@ -23,7 +23,7 @@ use Rattle.captions.specs.declared.Begun.the-variants.{Run}
 use Rattle.captions.specs.Begin.{lettersRefusal, beginRefusal, freshState, begunBy}
 use Rattle.captions.specs.Demand3.{Caption, Demand3}
 use Rattle.captions.proofs.Decoding.{kept, length-table, whole-table}
-use Rattle.captions.proofs.Theorems.{demand-3}
+use Rattle.captions.proofs.Theorems.{accepted, demand-3}
 use Rattle.columns.specs.Ligcols.{columnOptions}
 
 -- ---- how long the lists are
@@ -55,6 +55,38 @@ taken-list n (suc m) xs e = absurd (omega arith)
 -- what is written, without the zeros
 written : (n m : ℕ) (xs : List ℤ) → length xs ≡ n → take n (padded (pos 0) m xs) ≡ xs
 written n m xs e = take-at xs (replicate (m - length xs) (pos 0)) n e
+
+-- what an accepted font wrote, whatever it was lent: the lists of its definitions, and how long they are
+pub record FontLists (f : Font) (p o l : ℕ) (pairs ops loops : List ℤ) : Type 0 where
+  pub table : take (6 * p) pairs ≡ fontTable f
+  pub op-table : take (2 * o) ops ≡ fontOps f
+  pub loop-table : take (2 * l) loops ≡ fontLoops f
+  pub table-long : length (fontTable f) ≡ 6 * p
+  pub op-table-long : length (fontOps f) ≡ 2 * o
+  pub loop-table-long : length (fontLoops f) ≡ 2 * l
+
+taken-front : (m n k : ℕ) (xs ys : List ℤ) → ys ≡ listOf m (pos 0) n xs → m ≡ 0 → length xs ≡ k → take k ys ≡ xs
+taken-front zero n k xs ys e z l = ap (take k) e ∙ written k n xs l
+taken-front (suc m) n k xs ys e z l = absurd (omega (arith, z))
+
+pub lists-of : {f : Font} {pairs ops loops pairs′ ops′ loops′ : List ℤ} {work work′ : List ℕ} {p o l : ℕ} → Compiles f pairs ops loops work (Tables p o l) pairs′ ops′ loops′ work′ →
+    (compileRefusal f (roomIn pairs ops loops work) ≡ 0) × FontLists f p o l pairs′ ops′ loops′
+lists-of {f} {pairs} {ops} {loops} {pairs′} {ops′} {loops′} {work} {work′} {p} {o} {l} c =
+    let m = compileRefusal f (roomIn pairs ops loops work) in
+    let a = accepted m f p o l (c .answer) in
+    let six : length (fontTable f) ≡ 6 * p = omega (arith, a .1, table-long f) in
+    let two : length (fontOps f) ≡ 2 * o = omega (arith, a .2, ops-long (finishedOf f) (pairsOf f) (length (pairsOf f))) in
+    let pair : length (fontLoops f) ≡ 2 * l = omega (arith, a .3, loops-long (loopsOfFont f)) in (
+      a .0,
+      record {
+        table = taken-front m (length pairs) (6 * p) (fontTable f) pairs′ (c .lists .table) (a .0) six;
+        op-table = taken-front m (length ops) (2 * o) (fontOps f) ops′ (c .lists .ops-table) (a .0) two;
+        loop-table = taken-front m (length loops) (2 * l) (fontLoops f) loops′ (c .lists .loop-list) (a .0) pair;
+        table-long = six;
+        op-table-long = two;
+        loop-table-long = pair;
+      },
+    )
 
 module _ (f : Font) (pairs ops loops : List ℤ) (work : List ℕ) (taken : compileRefusal f (roomIn pairs ops loops work) ≡ 0) where
   -- whatever is lent, this is what compiling answers and leaves

@@ -66,9 +66,10 @@ textHeads t =
     t .design ∷ orAbsent (t .boundary) ∷ orAbsent (t .left)
     ∷ pos (length (t .instructions)) ∷ pos (length (t .kerns)) ∷ pos (length (t .entries)) ∷ lengthOfWord (t .word) ∷ []
 
--- THE contract of read_text: the heads, or 16; and the lists with zeros after them, or zeros
+-- THE contract of read_text: the heads, or 16; and the lists, as long as they were, with zeros after them, or zeros
 pub record ReadsText (bytes : List ℕ) (r : TextRead) (instructions′ kerns′ entries′ : List ℤ) (word′ : List ℕ) : Type 0 where
   pub answer : textReadReply r ≡ replyOf (textRefusal (readText bytes)) (textHeads (saidBy (readText bytes)))
+  pub long : (length instructions′ ≡ 2048) × (length kerns′ ≡ 512) × (length entries′ ≡ 5040) × (length word′ ≡ 64)
   pub instructions : instructions′ ≡ listOf (textRefusal (readText bytes)) (pos 0) 2048 (saidBy (readText bytes) .instructions)
   pub kerns : kerns′ ≡ listOf (textRefusal (readText bytes)) (pos 0) 512 (saidBy (readText bytes) .kerns)
   pub entries : entries′ ≡ listOf (textRefusal (readText bytes)) (pos 0) 5040 (saidBy (readText bytes) .entries)

@@ -182,11 +182,11 @@ stepped zero s t l h = handed s (h refl)
 stepped (suc n) s t l h = refusal n (omega (arith, l))
 
 -- the lowest of numbers that are all small
-unless-few : (m n : ℕ) (t : Bool) → n ≤ m → unless n t ≤ m
+pub unless-few : (m n : ℕ) (t : Bool) → n ≤ m → unless n t ≤ m
 unless-few m n true l = omega arith
 unless-few m n false l = l
 
-orElse-few : (m a b : ℕ) → a ≤ m → b ≤ m → orElse a b ≤ m
+pub orElse-few : (m a b : ℕ) → a ≤ m → b ≤ m → orElse a b ≤ m
 orElse-few m zero b la lb = lb
 orElse-few m (suc a) b la lb = la
 

@@ -1,14 +1,17 @@
--- The number of a word set whole is at most 15.
+-- The number of a word set whole is at most 15, and it has six numbers an item.
 -- Assumes nothing.
-use mathlib.Core.List.{List, []}
-use Prim.Native.Nat.{ℕ, zero, suc, _≤_}
+use mathlib.Core.Path.{_≡_, refl}
+use mathlib.Core.List.{List, [], _++_}
+use Prim.Native.Nat.{ℕ, zero, suc, _%_, _≤_}
 use native.Mathlib.Omega.{arith}
 use lib.IntN.{ℤ}
+use lib.ListN.{length}
 use Rattle.lang.specs.Answers.{Reply, replyOf}
 use Rattle.captions.specs.declared.RunOptions.{RunOptions}
 use Rattle.captions.specs.declared.State.{State}
 use Rattle.captions.specs.declared.Answer.{Answer}
 use Rattle.captions.specs.declared.Answer.the-variants.{Char, Ligature, Kern, End, Refused}
+use Rattle.captions.specs.Replies.{answerReply}
 use Rattle.captions.specs.Steps.{stepOf}
 use Rattle.setting.specs.Setting.{andThen, itemsFrom}
 use Rattle.setting.specs.Writing.{Small}
@@ -25,6 +28,17 @@ then-few (Kern k) r m l = same (r .number) _ l
 then-few End r m l = omega arith
 then-few (Refused k) r m l = omega (arith, m)
 
+sixes : (n : ℕ) (vs : List ℤ) → length vs % 6 ≡ 0 → length (replyOf n vs .values) % 6 ≡ 0
+sixes zero vs h = h
+sixes (suc n) vs h = refl
+
+then-sixes : (a : Answer) (r : Reply) → length (r .values) % 6 ≡ 0 → length (andThen a r .values) % 6 ≡ 0
+then-sixes (Char c p) r h = sixes (r .number) (answerReply (Char c p) .values ++ r .values) (omega (arith, h))
+then-sixes (Ligature c p n a b) r h = sixes (r .number) (answerReply (Ligature c p n a b) .values ++ r .values) (omega (arith, h))
+then-sixes (Kern k) r h = sixes (r .number) (answerReply (Kern k) .values ++ r .values) (omega (arith, h))
+then-sixes End r h = refl
+then-sixes (Refused k) r h = refl
+
 module _ (pairs ops : List ℤ) (boundary : ℤ) (word : List ℕ) (options : RunOptions) where
   pub items-few : (n : ℕ) (s : State) → itemsFrom pairs ops boundary word options n s .number ≤ 15
   unfolding itemsFrom
@@ -32,3 +46,10 @@ module _ (pairs ops : List ℤ) (boundary : ℤ) (word : List ℕ) (options : Ru
   items-few (suc n) s =
       then-few (stepOf pairs ops boundary word options s .answer) (itemsFrom pairs ops boundary word options n (stepOf pairs ops boundary word options s .state))
       (step-small pairs ops boundary word options s) (items-few n (stepOf pairs ops boundary word options s .state))
+
+  pub items-sixes : (n : ℕ) (s : State) → length (itemsFrom pairs ops boundary word options n s .values) % 6 ≡ 0
+  unfolding itemsFrom
+  items-sixes zero s = then-sixes (stepOf pairs ops boundary word options s .answer) (replyOf 15 []) refl
+  items-sixes (suc n) s =
+      then-sixes (stepOf pairs ops boundary word options s .answer) (itemsFrom pairs ops boundary word options n (stepOf pairs ops boundary word options s .state))
+      (items-sixes n (stepOf pairs ops boundary word options s .state))

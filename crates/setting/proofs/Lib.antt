@@ -1,7 +1,7 @@
 -- The laws of a word set whole.
 --   Bounds    whatever the table and the state, the numbers of a step's answer are small
 --   Laws      the items up to the end, one step after the other, and the list that they are written to
---   Few       its number is at most 15
+--   Few       its number is at most 15, and it has six numbers an item
 --   Theorems  what is set is what demand 3 promises: specs/Purpose
 pub mod Bounds
 pub mod Laws

@@ -1,0 +1,2 @@
+-- Steps: what the steps of reading a field promise.
+pub mod Steps

@@ -1,0 +1,80 @@
+-- `lines::put_fields` meets its contract. The loop's invariant: the fields of the first j numbers are written.
+-- Assumes nothing.
+use mathlib.Core.Path.{_≡_, ap, _∙_}
+use Prim.Native.Nat.{ℕ, _-_, _≤_}
+use native.Mathlib.Omega.{arith}
+use lib.ListN.{length}
+use lib.Seq.{sets, length-sets}
+use Rattle.columns.specs.Lines.{fieldsOf}
+use Rattle.lines.specs.Writing.{numbersFrom}
+use Rattle.lines.proofs.Steps.{fields-none, fields-more}
+use Rattle.lines.proofs.put_fields.Statement.{statement}
+use Rattle.lines.proofs.put_fields.Tie as tie
+
+abbrev Inv-loop : tie.InvT-loop
+Inv-loop numbers from n out₀ at j₀ out j = (j ≤ n) × (out ≡ sets out₀ at (fieldsOf (numbersFrom numbers from j)))
+
+abbrev μ-loop : tie.MeasureT-loop
+μ-loop numbers from n out₀ at j₀ out j = n - j
+
+kept : (l : tie.At-loop Inv-loop μ-loop) → length (l .loop .out) ≡ length (l .before .before .args .out .now)
+kept l = let a = l .before .before .args in ap length (l .loop .inv .1) ∙ length-sets (a .out .now) (a .at) (fieldsOf (numbersFrom (a .numbers .now) (a .from) (l .loop .j)))
+
+loop-holds : tie.Need-loop-holds Inv-loop μ-loop
+loop-holds c = let a = c .before .args in (omega arith, fields-none (a .numbers .now) (a .from) (a .out .now) (a .at))
+
+mul-put-field : tie.Need-mul-put-field Inv-loop μ-loop
+mul-put-field c = omega arith
+
+add-put-field : tie.Need-add-put-field Inv-loop μ-loop
+add-put-field c = omega arith
+
+add-word-at : tie.Need-add-word-at Inv-loop μ-loop
+add-word-at c = omega arith
+
+word-at-requires : tie.Need-word-at-requires Inv-loop μ-loop
+word-at-requires c κs = tt
+
+put-field-requires : tie.Need-put-field-requires Inv-loop μ-loop
+put-field-requires c κs = let l = c .before .before .before in omega (arith, kept l, l .before .before .pre .1, c .before .before .loop-test .taken)
+
+add-j : tie.Need-add-j Inv-loop μ-loop
+add-j c = omega arith
+
+loop-less : tie.Need-loop-less Inv-loop μ-loop
+loop-less c = omega arith
+
+loop-again : tie.Need-loop-again Inv-loop μ-loop
+loop-again c =
+    let x = c .before .before .put-field in
+    let w = c .before .before .before .word-at in
+    let l = c .before .before .before .before .before .before in
+    let a = l .before .before .args in
+    (omega arith, fields-more (a .numbers .now) (a .from) (a .out .now) (a .at) (l .loop .j) (l .loop .inv .1) (w .ensures) (x .ensures))
+
+same-length : tie.Need-same-length Inv-loop μ-loop
+same-length c = kept (c .before)
+
+returns : tie.Need-returns Inv-loop μ-loop
+returns c =
+    let a = c .before .before .before .args in
+    let e : c .before .loop .j ≡ a .n = omega arith in
+    c .before .loop .inv .1 ∙ ap (λ (n : ℕ). sets (a .out .now) (a .at) (fieldsOf (numbersFrom (a .numbers .now) (a .from) n))) e
+
+pub put-fields-spec : {M : Type 1} → statement M
+put-fields-spec =
+    tie.close
+    (tie.spec
+    Inv-loop
+    μ-loop
+    loop-holds
+    mul-put-field
+    add-put-field
+    add-word-at
+    word-at-requires
+    put-field-requires
+    add-j
+    loop-less
+    loop-again
+    same-length
+    returns)
