@@ -1,20 +1,20 @@
 -- What stands in a field after its blanks: a sign, and digits one by one.
 -- Assumes nothing.
 use mathlib.Core.Path.{_≡_, refl, sym, ap, _∙_}
-use mathlib.Core.Bool.{Bool, true, false, cond}
+use mathlib.Core.Bool.{cond}
 use mathlib.Core.List.{List, [], _∷_}
-use mathlib.Core.Option.{Option, none, some}
+use mathlib.Core.Option.{none, some}
 use Prim.Native.Nat.{ℕ, zero, suc, _+_, _-_, _*_, _^_, _<_, _≤_}
 use native.Mathlib.Numerals.{add-one}
 use native.Mathlib.Omega.{arith}
-use lib.IntN.{ℤ, pos, negsuc}
+use lib.IntN.{ℤ, negsuc}
 use lib.ListN.{length, getD}
 use lib.Seq.{slice, slice-cons, slice-empty}
-use borrow.Author.Tests.{lt-ltb, le-leb, lt-leb, eq-eqb, ne-eqb}
+use borrow.Author.Tests.{le-leb, lt-leb, ne-eqb}
 use Rattle.words.specs.Words.{wordOf, numberOf}
 use Rattle.words.proofs.Bits.{number-word, number-fits, number-pos, number-neg}
 use Rattle.lang.specs.Answers.{replyOf}
-use Rattle.columns.specs.Numbers.{isDigit, moreDigits, ifNone, unsigned, withSign, withoutSign, readField}
+use Rattle.columns.specs.Numbers.{isDigit, moreDigits, unsigned, withSign, withoutSign, readField}
 use Rattle.columns.specs.Scanned.{numberReply}
 use Rattle.columns.proofs.Digits.{limit}
 use Rattle.fields.specs.declared.numbers.Decimal.{Decimal}

@@ -1,13 +1,13 @@
 -- The blanks that a field starts with, and where it ends.
 -- Assumes nothing.
 use mathlib.Core.Path.{_≡_, refl, sym, ap, subst, _∙_}
-use mathlib.Core.List.{List, [], _∷_, _++_}
+use mathlib.Core.List.{List}
 use mathlib.Core.Option.{none}
-use Prim.Native.Nat.{ℕ, suc, _+_, _-_, _*_, _<_, _≤_}
+use Prim.Native.Nat.{ℕ, _+_, _-_, _*_, _<_, _≤_}
 use native.Mathlib.Numerals.{add-one}
 use native.Mathlib.Omega.{arith}
 use lib.ListN.{length, getD, take, drop, length-drop, drop-of-length-le}
-use lib.Seq.{slice, slice-cons, take-add, take-all, take-length, length-take-le, drop-at}
+use lib.Seq.{slice-cons, take-add, take-all, take-length, length-take-le, drop-at}
 use Rattle.columns.specs.Numbers.{readField}
 use Rattle.fields.specs.Steps.{Within, EndsField, Blank, Blanks, BlanksEnd, Unblank}
 

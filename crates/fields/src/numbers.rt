@@ -1,7 +1,6 @@
 // Decimal digits, and an i32 of them with and without a sign.
 ghost use mathlib.Core.Path.{_≡_};
-ghost use Prim.Native.Nat.{_+_, _≤_};
-ghost use lib.ListN.{length};
+ghost use Prim.Native.Nat.{_+_};
 ghost use lib.Seq.{slice};
 ghost use Rattle.columns.specs.Numbers.{moreDigits, unsigned, withSign, withoutSign};
 ghost use Rattle.columns.specs.Scanned.{fieldReply, numberReply};

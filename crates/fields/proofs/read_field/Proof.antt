@@ -1,6 +1,5 @@
 -- `fields::read_field` meets its contract. Assumes nothing.
 use mathlib.Core.Path.{sym, ap, _∙_}
-use native.Mathlib.Omega.{arith}
 use borrow.Author.Needs.{needs}
 use Rattle.columns.specs.Scanned.{numberReply}
 use Rattle.columns.specs.Numbers.{readField}

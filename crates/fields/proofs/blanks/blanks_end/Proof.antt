@@ -1,5 +1,4 @@
 -- `fields::blanks::blanks_end` meets its contract. Assumes nothing.
-use Prim.Native.Nat.{_≤_, _+_}
 use native.Mathlib.Omega.{arith}
 use borrow.Author.Needs.{needs}
 use Rattle.fields.proofs.Leading.{blanks-before}

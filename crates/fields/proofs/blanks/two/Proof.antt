@@ -1,10 +1,7 @@
 -- `fields::blanks::two` meets its contract. Assumes nothing.
-use mathlib.Core.Path.{_≡_, subst, sym}
-use Prim.Native.Nat.{ℕ, _+_, _*_, _<_}
+use Prim.Native.Nat.{_+_, _<_}
 use native.Mathlib.Omega.{arith}
-use lib.ListN.{getD}
 use borrow.Author.Needs.{needs}
-use Rattle.fields.specs.Steps.{Blanks}
 use Rattle.fields.proofs.Leading.{two-are}
 use Rattle.fields.proofs.blanks.two.Statement.{statement}
 use Rattle.fields.proofs.blanks.two.Tie as tie

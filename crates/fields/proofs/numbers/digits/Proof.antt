@@ -1,8 +1,7 @@
 -- `fields::numbers::digits` meets its contract. The loop's invariant: n is the value of the digits passed, of which there are at most 12. Assumes nothing.
-use mathlib.Core.Path.{_≡_, sym, subst}
-use Prim.Native.Nat.{ℕ, _≤_, _-_, _+_, _*_, _<_}
+use mathlib.Core.Path.{sym}
+use Prim.Native.Nat.{_-_, _<_}
 use native.Mathlib.Omega.{arith}
-use lib.ListN.{getD}
 use Rattle.fields.proofs.Decimals.{Counting, counting-none, counting-few, counting-more, counting-low, counting-high, counting-all}
 use Rattle.fields.proofs.numbers.digits.Statement.{statement}
 use Rattle.fields.proofs.numbers.digits.Tie as tie
