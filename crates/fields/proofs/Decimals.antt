@@ -119,6 +119,10 @@ module _ (text : List ℕ) (from end : ℕ) (few : end ≤ from + 12) (inside : 
 
 -- ---- a number
 
+-- neither none nor one
+pub two-at-least : (from end : ℕ) → from ≤ end → (from ≡ end → ⊥) → (end - from ≡ 1 → ⊥) → from + 1 < end
+two-at-least from end h n o = omega arith
+
 module _ (text : List ℕ) (from end : ℕ) (inside : end ≤ length text) where
   opens : from < end → slice from end text ≡ getD text from 0 ∷ slice (from + 1) end text
   opens h = slice-cons from end text 0 h inside ∙ rw add-one

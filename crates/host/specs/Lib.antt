@@ -1,2 +1,2 @@
--- What the functions below `ligcols` are held to. Its own contract is `AnswersText` of crate columns (specs/Ligcols).
-pub mod Answering
+-- What `length_of` is held to (Letters). The contract of `ligcols` is `AnswersText` of crate columns (specs/Ligcols).
+pub mod Letters

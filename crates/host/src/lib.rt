@@ -1,22 +1,15 @@
-// The column text for a host: a text in, the reply in bytes out. Document 01, 'The column text'. Crate `scan` reads the text, `compiler` compiles its font, `setting` sets its
-// word, `reply` writes the reply; what compiling wrote has the form of a table, so nothing checks it again.
+// The column text for a host: a text in, the reply in bytes out. Document 01, 'The column text'. Crate `scan` reads the text, and `font_reply` answers for the font and the word that
+// it says.
 ghost use mathlib.Core.Path.{_≡_};
-ghost use mathlib.Core.List.{[]};
-ghost use Prim.Native.Nat.{_≤_, _<_};
 ghost use lib.ListN.{length};
-ghost use Rattle.fonts.specs.Fonts.{fontOf};
-ghost use Rattle.columns.specs.Ligcols.{lower, columnBytes, columnNumber, lengthOr, numberOfText, bytesOfText, AnswersText};
+ghost use Rattle.columns.specs.Ligcols.{numberOfText, bytesOfText, AnswersText};
 ghost use Rattle.columns.specs.Texts.{readText};
-ghost use Rattle.host.specs.Answering.{AnswersBytes, freshBytes, freshNumber, lettersIn};
-use captions::RunOptions;
+ghost use Rattle.font_reply.specs.Answering.{AnswersBytes};
+ghost use Rattle.host.specs.Letters.{lettersIn};
 use columns::TextRead;
-use compiler::compile;
-use fonts::Compiled;
+use font_reply::answer_font;
 use lang::Written;
-use ligkern::begin::letters_refusal;
-use reply::write_reply;
 use scan::read_text;
-use setting::set_fresh;
 use words::number_of;
 use words::word_of;
 use words::zero::zero_u8;
@@ -46,136 +39,6 @@ fn letter_list() -> [u32; 64]
     [0; 64]
 }
 
-// Room for what compiling writes: six numbers a pair, two an op, two a loop, and sixteen numbers of work a pair.
-fn pair_list() -> [i32; 3072]
-    ensures { λ r. ⌜ 3072 ≡ length r ⌝ }
-{
-    [0; 3072]
-}
-
-fn op_list() -> [i32; 4096]
-    ensures { λ r. ⌜ 4096 ≡ length r ⌝ }
-{
-    [0; 4096]
-}
-
-fn loop_list() -> [i32; 128]
-    ensures { λ r. ⌜ 128 ≡ length r ⌝ }
-{
-    [0; 128]
-}
-
-fn rows() -> [u32; 8192]
-    ensures { λ r. ⌜ 8192 ≡ length r ⌝ }
-{
-    [0; 8192]
-}
-
-// Room for the items of a word: six numbers an item.
-fn item_list() -> [i32; 5310]
-    ensures { λ r. ⌜ 5310 ≡ length r ⌝ }
-{
-    [0; 5310]
-}
-
-// A number, with the reply all zeros.
-fn refuse(reply: &mut [u8], number: u32) -> Written
-    requires { ⌜ 0 < number ⌝ }
-    ensures { λ r. ⌜ AnswersBytes number [] (now (reply .entry)) r (now (reply .exit)) ⌝ }
-{
-    zero_u8(reply);
-    Written::Refused(number)
-}
-
-// The lower of two numbers of which 0 is none.
-fn lower_of(a: u32, b: u32) -> u32
-    ensures { λ r. ⌜ r ≡ lower a b ⌝ }
-{
-    if a == 0 {
-        return b;
-    }
-    if b == 0 {
-        return a;
-    }
-    if a <= b { a } else { b }
-}
-
-// The table, the loops and the items of a word, as a reply. A negative count of letters says that there is no word.
-fn answer_table(
-    pairs: &[i32],
-    ops: &[i32],
-    loops: &[i32],
-    boundary: i32,
-    letters: i32,
-    word: &[u32],
-    reply: &mut [u8],
-) -> Written
-    ensures { λ r. ⌜ AnswersBytes (freshNumber (now (pairs .entry)) (now (ops .entry)) (now (loops .entry)) boundary letters (now (word .entry)) (length (now (reply .entry)))) (freshBytes (now (pairs .entry)) (now (ops .entry)) (now (loops .entry)) boundary letters (now (word .entry))) (now (reply .entry)) r (now (reply .exit)) ⌝ }
-{
-    let mut items = item_list();
-    if 2147483648 <= word_of(letters) {
-        return write_reply(pairs, ops, loops, letters, &items[..0], reply);
-    }
-    let options = RunOptions {
-        disable_left_boundary: false,
-        right_boundary_override: -1,
-    };
-    match set_fresh(pairs, ops, boundary, word, options, &mut items) {
-        Written::Count(n) => write_reply(pairs, ops, loops, letters, &items[..6 * n], reply),
-        Written::Refused(n) => refuse(reply, n),
-    }
-}
-
-// A font compiled, and its word set: the lowest number of the two, or the reply.
-fn answer_font(
-    instructions: &[i32],
-    kerns: &[i32],
-    entries: &[i32],
-    boundary: i32,
-    left_entry: i32,
-    design_size: i32,
-    letters: i32,
-    word: &[u32],
-    reply: &mut [u8],
-) -> Written
-    requires { ⌜ length (now word) ≤ 65535 ⌝ }
-    ensures { λ r. ⌜ AnswersBytes (columnNumber (fontOf (now (instructions .entry)) (now (kerns .entry)) (now (entries .entry)) boundary «left_entry» «design_size») letters (now (word .entry)) (length (now (reply .entry)))) (columnBytes (fontOf (now (instructions .entry)) (now (kerns .entry)) (now (entries .entry)) boundary «left_entry» «design_size») letters (now (word .entry))) (now (reply .entry)) r (now (reply .exit)) ⌝ }
-{
-    let mut pairs = pair_list();
-    let mut ops = op_list();
-    let mut loops = loop_list();
-    let mut work = rows();
-    let bad = letters_refusal(word);
-    match compile(
-        instructions,
-        kerns,
-        entries,
-        boundary,
-        left_entry,
-        design_size,
-        &mut pairs,
-        &mut ops,
-        &mut loops,
-        &mut work,
-    ) {
-        Compiled::Refused(n) => refuse(reply, lower_of(n, bad)),
-        Compiled::Tables(p, o, l) => {
-            if bad != 0 {
-                return refuse(reply, bad);
-            }
-            answer_table(
-                &pairs[..6 * p],
-                &ops[..2 * o],
-                &loops[..2 * l],
-                boundary,
-                letters,
-                word,
-                reply,
-            )
-        }
-    }
-}
-
 // How many letters there are: none where there is no word.
 fn length_of(letters: i32) -> usize
     ensures { λ r. ⌜ r ≡ lettersIn letters ⌝ }
@@ -193,7 +56,10 @@ fn answer(text: &[u8], reply: &mut [u8]) -> Written
     let mut entries = entry_list();
     let mut word = letter_list();
     match read_text(text, &mut instructions, &mut kerns, &mut entries, &mut word) {
-        TextRead::Unreadable => refuse(reply, 16),
+        TextRead::Unreadable => {
+            zero_u8(reply);
+            Written::Refused(16)
+        }
         TextRead::Text(heads) => {
             let i = heads.instructions;
             let k = heads.kerns;

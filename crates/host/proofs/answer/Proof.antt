@@ -19,8 +19,9 @@ use Rattle.columns.specs.declared.TextRead.the-variants as text
 use Rattle.columns.specs.Texts.{Text, readText}
 use Rattle.columns.specs.Scanned.{ReadsText}
 use Rattle.columns.specs.Ligcols.{columnNumber, columnBytes, numberOfText, bytesOfText}
-use Rattle.host.specs.Answering.{AnswersBytes, lettersIn}
-use Rattle.host.proofs.Laws.{refused-as}
+use Rattle.font_reply.specs.Answering.{AnswersBytes}
+use Rattle.host.specs.Letters.{lettersIn}
+use Rattle.font_reply.proofs.Laws.{refused, refused-as}
 use Rattle.host.proofs.TextLaws.{answers-as, not-read, Said, text-said, said-answer}
 use Rattle.host.proofs.answer.Statement.{statement}
 use Rattle.host.proofs.answer.Tie as tie
@@ -59,8 +60,8 @@ read-text-requires c κs = search needs
 enum-told : tie.Need-enum-told
 enum-told c = search needs
 
-refuse-requires : tie.Need-refuse-requires
-refuse-requires c κs = search needs
+zero-u8-requires : tie.Need-zero-u8-requires
+zero-u8-requires c κs = search needs
 
 enum-known-heads : tie.Need-enum-known-heads
 enum-known-heads c = search needs
@@ -116,20 +117,19 @@ slice-aggregate-answer-font-4 c =
     sym (length-take-le (l .length-of .result) (l .before .before .before .before .before .read-text .last .1 .1 .1 .1 .0) (omega (arith, few-letters l, long (l .before .before .before) .3)))
 
 answer-font-requires : tie.Need-answer-font-requires
-answer-font-requires c κs =
-    let l = c .before .before .before .before .before .before .before .before in
-    omega (arith, few-letters l, length-take-le (l .length-of .result) (l .before .before .before .before .before .read-text .last .1 .1 .1 .1 .0) (omega (arith, few-letters l, long (l .before .before .before) .3)))
+answer-font-requires c κs = search needs
 
 same-length : tie.Need-same-length
 same-length c = search needs
 
 returns : tie.Need-returns
 returns c =
-    let x = c .before .before .refuse in
+    let x = c .before .before .zero-u8 in
     let t = c .before .before .before .before .before .before in
     let s = start t in
     let e = not-read (read-as t text.Unreadable (sym (c .before .before .before .before .enum-told .given .1))) in
-    refused-as (numberOfText (readText (s .args .text .now)) (length (s .args .reply .now))) 16 (ap (λ (o : Option Text). numberOfText o (length (s .args .reply .now))) e) (omega arith) (x .ensures)
+    refused-as (numberOfText (readText (s .args .text .now)) (length (s .args .reply .now))) 16 (ap (λ (o : Option Text). numberOfText o (length (s .args .reply .now))) e) (omega arith)
+    (refused 16 (s .args .reply .now) (x .last .0) (omega arith) (x .ensures))
 
 same-length-2 : tie.Need-same-length-2
 same-length-2 c = search needs
@@ -169,7 +169,7 @@ answer-spec =
     letter-list-requires
     read-text-requires
     enum-told
-    refuse-requires
+    zero-u8-requires
     enum-known-heads
     length-of-requires
     array-share-prefix-instructions

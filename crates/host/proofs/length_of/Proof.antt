@@ -2,7 +2,7 @@
 -- Assumes nothing.
 use borrow.Author.Needs.{needs}
 use Rattle.lang.proofs.Records.{word-passed}
-use Rattle.host.proofs.Laws.{letters-word, letters-none}
+use Rattle.host.proofs.TextLaws.{letters-word, letters-none}
 use Rattle.host.proofs.length_of.Statement.{statement}
 use Rattle.host.proofs.length_of.Tie as tie
 

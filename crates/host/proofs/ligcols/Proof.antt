@@ -15,7 +15,7 @@ use Rattle.lang.specs.declared.Written.{Written}
 use Rattle.lang.specs.declared.Written.the-variants as written
 use Rattle.columns.specs.Texts.{readText}
 use Rattle.columns.specs.Ligcols.{numberOfText, bytesOfText, AnswersText}
-use Rattle.host.specs.Answering.{AnswersBytes}
+use Rattle.font_reply.specs.Answering.{AnswersBytes}
 use Rattle.host.proofs.TextLaws.{length-answer, number-answer}
 use Rattle.host.proofs.ligcols.Statement.{statement}
 use Rattle.host.proofs.ligcols.Tie as tie

@@ -2,7 +2,7 @@
 use mathlib.Core.Path.{sym, _∙_}
 use native.Mathlib.Omega.{arith}
 use borrow.Author.Needs.{needs}
-use Rattle.fields.proofs.Decimals.{unsigned-none, unsigned-zero, unsigned-zeros, unsigned-digits}
+use Rattle.fields.proofs.Decimals.{two-at-least, unsigned-none, unsigned-zero, unsigned-zeros, unsigned-digits}
 use Rattle.fields.proofs.numbers.unsigned.Statement.{statement}
 use Rattle.fields.proofs.numbers.unsigned.Tie as tie
 
@@ -27,7 +27,7 @@ returns-3 : tie.Need-returns-3
 returns-3 c =
     let i = c .before in
     let s = i .before .before .before .before in
-    sym (unsigned-zeros (s .args .text .now) (s .args .from) (s .args .end) (s .pre .inside) (omega (arith, c .if3 .left, i .before .before .if1 .left)) (i .if2 .taken))
+    sym (unsigned-zeros (s .args .text .now) (s .args .from) (s .args .end) (s .pre .inside) (two-at-least (s .args .from) (s .args .end) (s .pre .order) (i .before .before .if1 .left) (c .if3 .left)) (i .if2 .taken))
 
 digits-requires : tie.Need-digits-requires
 digits-requires c κs = search needs

@@ -1,5 +1,6 @@
 -- `scan::whole::word_line` meets its contract. Assumes nothing.
 use mathlib.Core.Path.{sym, _∙_}
+use native.Mathlib.Omega.{arith}
 use borrow.Author.Tests.{not-true, not-false}
 use Rattle.scan.proofs.WordLine.{word-unended, word-long, word-unfed, word-unread, word-all}
 use borrow.Author.Needs.{needs}
@@ -15,12 +16,12 @@ sub-rest c = search needs
 returns : tie.Need-returns
 returns c =
     let a = c .before .before .before .args in
-    word-unended (a .text .now) (a .p) (a .word .now) (a .word .now) (c .if1 .taken)
+    word-unended (a .text .now) (a .p) (a .word .now) (a .word .now) (λ e. omega (arith, e, c .if1 .taken))
 
 returns-2 : tie.Need-returns-2
 returns-2 c =
     let a = c .before .before .before .before .args in
-    word-long (a .text .now) (a .p) (a .word .now) (a .word .now) (c .before .if1 .left) (c .if2 .taken)
+    word-long (a .text .now) (a .p) (a .word .now) (a .word .now) (omega (arith, c .before .if1 .left)) (c .if2 .taken)
 
 line-ends-requires : tie.Need-line-ends-requires
 line-ends-requires c κs = search needs
@@ -30,7 +31,7 @@ returns-3 c =
     let x = c .before in
     let i = x .before in
     let a = i .before .before .before .before .args in
-    word-unfed (a .text .now) (a .p) (a .word .now) (a .word .now) (i .before .if1 .left) (i .if2 .left) (sym (x .line-ends .ensures) ∙ not-true _ (c .if3 .taken))
+    word-unfed (a .text .now) (a .p) (a .word .now) (a .word .now) (omega (arith, i .before .if1 .left)) (i .if2 .left) (sym (x .line-ends .ensures) ∙ not-true _ (c .if3 .taken))
 
 read-letters-requires : tie.Need-read-letters-requires
 read-letters-requires c κs = search needs
@@ -42,7 +43,7 @@ returns-4 c =
     let x = f .before in
     let i = x .before in
     let a = i .before .before .before .before .args in
-    word-unread (a .text .now) (a .p) (a .word .now) (y .read-letters .last .1 .1 .1 .0) (i .before .if1 .left) (i .if2 .left) (sym (x .line-ends .ensures) ∙ not-false _ (f .if3 .left)) (y .read-letters .result) (y .read-letters .ensures) (not-true _ (c .if4 .taken))
+    word-unread (a .text .now) (a .p) (a .word .now) (y .read-letters .last .1 .1 .1 .0) (omega (arith, i .before .if1 .left)) (i .if2 .left) (sym (x .line-ends .ensures) ∙ not-false _ (f .if3 .left)) (y .read-letters .result) (y .read-letters .ensures) (not-true _ (c .if4 .taken))
 
 cast-heads-of : tie.Need-cast-heads-of
 cast-heads-of c = search needs
@@ -58,7 +59,7 @@ returns-5 c =
     let x = f .before in
     let i = x .before in
     let a = i .before .before .before .before .args in
-    word-all (a .text .now) (a .p) (a .word .now) (y .read-letters .last .1 .1 .1 .0) (i .before .if1 .left) (i .if2 .left) (sym (x .line-ends .ensures) ∙ not-false _ (f .if3 .left)) (y .read-letters .result) (y .read-letters .ensures) (not-false _ (g .if4 .left)) (c .heads-of .result) (c .heads-of .ensures)
+    word-all (a .text .now) (a .p) (a .word .now) (y .read-letters .last .1 .1 .1 .0) (omega (arith, i .before .if1 .left)) (i .if2 .left) (sym (x .line-ends .ensures) ∙ not-false _ (f .if3 .left)) (y .read-letters .result) (y .read-letters .ensures) (not-false _ (g .if4 .left)) (c .heads-of .result) (c .heads-of .ensures)
 
 pub word-line-spec : {M : Type 1} → statement M
 word-line-spec =

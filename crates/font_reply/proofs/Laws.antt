@@ -3,7 +3,7 @@
 use mathlib.Core.Path.{_≡_, refl, sym, ap, subst, _∙_}
 use mathlib.Core.Bool.{Bool, true, false, cond}
 use mathlib.Core.List.{List, [], _∷_, _++_, map}
-use mathlib.Core.Option.{Option, none, some}
+use mathlib.Core.Logic.{_⊎_, inl, inr}
 use Prim.Native.Nat.{ℕ, zero, suc, _+_, _-_, _*_, _/_, _%_, _<_, _≤_}
 use native.Mathlib.Omega.{arith}
 use lib.IntN.{ℤ, pos, negsuc}
@@ -15,9 +15,10 @@ use mir.Val.{SFits}
 use borrow.Author.Tests.{le-leb, lt-leb, leb-true}
 use Rattle.words.specs.Words.{Word, wordOf, numberOf}
 use Rattle.words.proofs.Bits.{read-pos, read-neg}
+use Rattle.words.proofs.Tests.{less-or-not}
 use Rattle.lang.specs.declared.Written.{Written}
 use Rattle.lang.specs.declared.Written.the-variants as written
-use Rattle.lang.specs.Every.{both}
+use Rattle.lang.specs.Every.{both, every}
 use Rattle.lang.specs.Checks.{orElse, unless}
 use Rattle.lang.specs.Answers.{Reply, replyOf, writtenReply, padded, listOf}
 use Rattle.lang.proofs.Every.{both-left, both-right}
@@ -26,14 +27,19 @@ use Rattle.fonts.specs.Fonts.{Font}
 use Rattle.fonts.specs.declared.Compiled.the-variants as compiled
 use Rattle.fonts.specs.Compiled.{roomOf, roomIn, loopsOfFont, totalOps, fontTable, tablePairs, fontOps, fontLoops, compileRefusal, Compiles}
 use Rattle.columns.proofs.FontBegins.{lists-of}
-use Rattle.captions.specs.Begin.{freshState, beginRefusal, lettersRefusal}
-use Rattle.setting.specs.Setting.{itemsFrom, afterBegin, setReply}
+use Rattle.captions.specs.declared.State.{State}
+use Rattle.captions.specs.declared.Answer.{Answer}
+use Rattle.captions.specs.declared.Answer.the-variants.{Refused}
+use Rattle.captions.specs.Form.{tableRefusal}
+use Rattle.captions.specs.Begin.{freshState, edgesRefusal, lettersRefusal, wordRefusal, beginRefusal}
+use Rattle.captions.specs.Steps.{rightItem, ranFrom, stepRefusal, steppedBy, stepOf}
+use Rattle.setting.specs.Setting.{andThen, itemsFrom, afterBegin, setReply}
 use Rattle.setting.specs.Writing.{Tells}
 use Rattle.setting.proofs.Few.{items-few, items-sixes}
 use Rattle.columns.specs.Replying.{replyBytes, replyRefusal, WritesReply}
 use Rattle.columns.proofs.FontBegins.{font-begins}
 use Rattle.columns.specs.Ligcols.{columnRoom, columnOptions, itemRoom, columnItems, columnBytes, lower, columnNumber, lengthOr}
-use Rattle.host.specs.Answering.{AnswersBytes, freshItems, freshBytes, freshNumber, lettersIn}
+use Rattle.font_reply.specs.Answering.{AnswersBytes, freshItems, freshBytes, freshNumber}
 
 -- ---- numbers
 
@@ -82,14 +88,6 @@ refused-as m zero e h a = absurd (omega (arith, h))
 refused-as zero (suc n) e h a = absurd (omega (arith, e))
 refused-as {reply = reply} {reply′ = reply′} (suc m) (suc n) e h a =
     record { answer = a .answer ∙ ap (λ (k : ℕ). record { number = k; values = [] }) (sym e); list = a .list }
-
--- ---- letters
-
-pub letters-word : {z : ℤ} {w : ℕ} → Word z w → w < 2147483648 → w ≡ lettersIn z
-letters-word {z} {w} h l = sym (ap lettersIn (read-pos h l))
-
-pub letters-none : {z : ℤ} {w : ℕ} → Word z w → 2147483648 ≤ w → 0 ≡ lettersIn z
-letters-none {z} {w} h l = sym (ap lettersIn (read-neg h l))
 
 -- ---- what a function that fills a list answered
 
@@ -198,6 +196,31 @@ module _ (f : Font) (pairs ops loops : List ℤ) (work : List ℕ) (a : 3072 ≡
 
 -- ---- a font with its word
 
+no-letters : lettersRefusal [] ≡ 0
+unfolding every
+no-letters = refl
+
+-- a word over 65,535 is 6: at the first step of a run, and at begin
+module _ (pairs ops : List ℤ) (boundary : ℤ) (word : List ℕ) (edges : edgesRefusal boundary columnOptions ≡ 0) (long : 65535 < length word) where
+  word-long : wordRefusal word ≡ 6
+  word-long = rw (lt-leb (length word) 65535 long)
+
+  step-long : (s : State) → stepOf pairs ops boundary word columnOptions s .answer ≡ Refused 6
+  step-long s =
+      let e : stepRefusal boundary word columnOptions ≡ 6 = second-is (edgesRefusal boundary columnOptions) (wordRefusal word) edges ∙ word-long in
+      ap (λ (n : ℕ). steppedBy n s (ranFrom pairs ops (rightItem boundary (negsuc 0)) word s) .answer) e
+
+  run-long : (n : ℕ) (s : State) → itemsFrom pairs ops boundary word columnOptions n s ≡ replyOf 6 []
+  unfolding itemsFrom
+  run-long zero s = ap (λ (x : Answer). andThen x (replyOf 15 [])) (step-long s)
+  run-long (suc n) s = ap (λ (x : Answer). andThen x (itemsFrom pairs ops boundary word columnOptions n (stepOf pairs ops boundary word columnOptions s .state))) (step-long s)
+
+  begin-long : lettersRefusal word ≡ 0 → beginRefusal pairs ops boundary word columnOptions ≡ 6
+  begin-long e =
+      second-is (edgesRefusal boundary columnOptions) (orElse (lettersRefusal word) (orElse (wordRefusal word) (tableRefusal pairs ops))) edges
+      ∙ second-is (lettersRefusal word) (orElse (wordRefusal word) (tableRefusal pairs ops)) e
+      ∙ ap (λ (n : ℕ). orElse n (tableRefusal pairs ops)) word-long
+
 module _ (f : Font) (letters : ℤ) (word reply : List ℕ) (r : Written) (reply′ : List ℕ) where
   abbrev Font-answered : Type 0
   Font-answered = AnswersBytes (columnNumber f letters word (length reply)) (columnBytes f letters word) reply r reply′
@@ -210,15 +233,24 @@ module _ (f : Font) (letters : ℤ) (word reply : List ℕ) (r : Written) (reply
       h
       a
 
-  -- items of a table that begin would take
-  fresh-items : (z : ℤ) → beginRefusal (fontTable f) (fontOps f) (f .boundary) word columnOptions ≡ 0 → freshItems (fontTable f) (fontOps f) (f .boundary) z word ≡ columnItems f z word
-  fresh-items (pos n) e = sym (ap (λ (k : ℕ). afterBegin k (freshRun (fontTable f) (fontOps f) (f .boundary) word)) e)
-  fresh-items (negsuc n) e = refl
+  -- the items of a table that compiling wrote, which begin would take, but for a word that is too long
+  items-by : compileRefusal f columnRoom ≡ 0 → lettersRefusal word ≡ 0 → (length word < 65536) ⊎ (65536 ≤ length word) → freshRun (fontTable f) (fontOps f) (f .boundary) word ≡ setReply (fontTable f) (fontOps f) (f .boundary) word columnOptions itemRoom
+  items-by c n (inl h) = sym (ap (λ (k : ℕ). afterBegin k (freshRun (fontTable f) (fontOps f) (f .boundary) word)) (font-begins f columnRoom word c n (omega (arith, h))))
+  items-by c n (inr h) =
+      let e : edgesRefusal (f .boundary) columnOptions ≡ 0 =
+      orElse-none (edgesRefusal (f .boundary) columnOptions) (orElse (lettersRefusal []) (orElse (wordRefusal []) (tableRefusal (fontTable f) (fontOps f)))) (font-begins f columnRoom [] c no-letters (omega arith)) .0 in
+      let l : 65535 < length word = omega (arith, h) in
+      run-long (fontTable f) (fontOps f) (f .boundary) word e l 885 (freshState word columnOptions)
+      ∙ sym (ap (λ (k : ℕ). afterBegin k (freshRun (fontTable f) (fontOps f) (f .boundary) word)) (begin-long (fontTable f) (fontOps f) (f .boundary) word e l n))
 
-  pub font-set : compileRefusal f columnRoom ≡ 0 → lettersRefusal word ≡ 0 → length word ≤ 65535 → (pairs ops loops : List ℤ) → pairs ≡ fontTable f → ops ≡ fontOps f → loops ≡ fontLoops f →
+  fresh-items : (z : ℤ) → compileRefusal f columnRoom ≡ 0 → lettersRefusal word ≡ 0 → freshItems (fontTable f) (fontOps f) (f .boundary) z word ≡ columnItems f z word
+  fresh-items (pos n) c e = items-by c e (less-or-not (length word) 65536)
+  fresh-items (negsuc n) c e = refl
+
+  pub font-set : compileRefusal f columnRoom ≡ 0 → lettersRefusal word ≡ 0 → (pairs ops loops : List ℤ) → pairs ≡ fontTable f → ops ≡ fontOps f → loops ≡ fontLoops f →
       AnswersBytes (freshNumber pairs ops loops (f .boundary) letters word (length reply)) (freshBytes pairs ops loops (f .boundary) letters word) reply r reply′ → Font-answered
-  font-set c n l pairs ops loops p o x a =
-      let q = fresh-items letters (font-begins f columnRoom word c n l) in
+  font-set c n pairs ops loops p o x a =
+      let q = fresh-items letters c n in
       let b : AnswersBytes (freshNumber (fontTable f) (fontOps f) (fontLoops f) (f .boundary) letters word (length reply)) (freshBytes (fontTable f) (fontOps f) (fontLoops f) (f .boundary) letters word) reply r reply′ =
       subst (λ (xs : List ℤ). AnswersBytes (freshNumber xs (fontOps f) (fontLoops f) (f .boundary) letters word (length reply)) (freshBytes xs (fontOps f) (fontLoops f) (f .boundary) letters word) reply r reply′) p
       (subst (λ (xs : List ℤ). AnswersBytes (freshNumber pairs xs (fontLoops f) (f .boundary) letters word (length reply)) (freshBytes pairs xs (fontLoops f) (f .boundary) letters word) reply r reply′) o

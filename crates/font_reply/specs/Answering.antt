@@ -1,4 +1,4 @@
--- What the functions below `ligcols` are held to: the bytes that are written, or a number.
+-- What answer_font and the functions below it are held to: the bytes that are written, or a number.
 use mathlib.Core.Path.{_≡_}
 use mathlib.Core.List.{List, [], _∷_}
 use Prim.Native.Nat.{ℕ}
@@ -28,8 +28,3 @@ freshBytes pairs ops loops boundary letters word = replyBytes pairs ops loops le
 abbrev pub freshNumber : List ℤ → List ℤ → List ℤ → ℤ → ℤ → List ℕ → ℕ → ℕ
 freshNumber pairs ops loops boundary letters word room =
     orElse (freshItems pairs ops boundary letters word .number) (replyRefusal (freshBytes pairs ops loops boundary letters word) room)
-
--- how many letters there are: none where there is no word
-abbrev pub lettersIn : ℤ → ℕ
-lettersIn (pos n) = n
-lettersIn (negsuc n) = 0

@@ -1,9 +1,9 @@
--- `host::lower_of` meets its contract.
+-- `font_reply::lower_of` meets its contract.
 -- Assumes nothing.
 use borrow.Author.Needs.{needs}
-use Rattle.host.proofs.Laws.{lower-first, lower-less, lower-more}
-use Rattle.host.proofs.lower_of.Statement.{statement}
-use Rattle.host.proofs.lower_of.Tie as tie
+use Rattle.font_reply.proofs.Laws.{lower-first, lower-less, lower-more}
+use Rattle.font_reply.proofs.lower_of.Statement.{statement}
+use Rattle.font_reply.proofs.lower_of.Tie as tie
 
 returns : tie.Need-returns
 returns c = search needs

@@ -1,9 +1,9 @@
--- `host::refuse` meets its contract.
+-- `font_reply::refuse` meets its contract.
 -- Assumes nothing.
 use borrow.Author.Needs.{needs}
-use Rattle.host.proofs.Laws.{refused}
-use Rattle.host.proofs.refuse.Statement.{statement}
-use Rattle.host.proofs.refuse.Tie as tie
+use Rattle.font_reply.proofs.Laws.{refused}
+use Rattle.font_reply.proofs.refuse.Statement.{statement}
+use Rattle.font_reply.proofs.refuse.Tie as tie
 
 zero-u8-requires : tie.Need-zero-u8-requires
 zero-u8-requires c κs = search needs

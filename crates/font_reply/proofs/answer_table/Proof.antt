@@ -1,4 +1,4 @@
--- `host::answer_table` meets its contract: without a word the table and the loops alone, else with the items, or the number of the run.
+-- `font_reply::answer_table` meets its contract: without a word the table and the loops alone, else with the items, or the number of the run.
 -- Assumes nothing.
 use mathlib.Core.Path.{_≡_, sym, ap, subst, _∙_}
 use mathlib.Core.List.{List, []}
@@ -18,10 +18,10 @@ use Rattle.setting.specs.Setting.{itemsFrom}
 use Rattle.setting.specs.Writing.{Tells}
 use Rattle.columns.specs.Ligcols.{columnOptions}
 use Rattle.columns.specs.Replying.{replyBytes, WritesReply}
-use Rattle.host.specs.Answering.{AnswersBytes, freshBytes, freshNumber}
-use Rattle.host.proofs.Laws.{refused-known, freshRun, items-room, table-alone, table-set, table-refused}
-use Rattle.host.proofs.answer_table.Statement.{statement}
-use Rattle.host.proofs.answer_table.Tie as tie
+use Rattle.font_reply.specs.Answering.{AnswersBytes, freshBytes, freshNumber}
+use Rattle.font_reply.proofs.Laws.{refused-known, freshRun, items-room, table-alone, table-set, table-refused}
+use Rattle.font_reply.proofs.answer_table.Statement.{statement}
+use Rattle.font_reply.proofs.answer_table.Tie as tie
 
 item-list-requires : tie.Need-item-list-requires
 item-list-requires c κs = search needs

@@ -1,4 +1,4 @@
--- `host::answer_font` meets its contract: the lowest number of compiling and of the word, or what `answer_table` answers for what compiling wrote.
+-- `font_reply::answer_font` meets its contract: the lowest number of compiling and of the word, or what `answer_table` answers for what compiling wrote.
 -- Assumes nothing.
 use mathlib.Core.Path.{_≡_, sym, ap, subst, subst₃, _∙_}
 use mathlib.Core.List.{List}
@@ -18,10 +18,10 @@ use Rattle.fonts.specs.Compiled.{compileRefusal, Compiles}
 use Rattle.captions.specs.Begin.{lettersRefusal}
 use Rattle.columns.proofs.FontBegins.{lists-of}
 use Rattle.columns.specs.Ligcols.{columnRoom, lower}
-use Rattle.host.specs.Answering.{AnswersBytes, freshBytes, freshNumber}
-use Rattle.host.proofs.Laws.{lower-some, not-compiled, compiled-taken, pairs-fit, ops-fit, loops-fit, number-first, font-set}
-use Rattle.host.proofs.answer_font.Statement.{statement}
-use Rattle.host.proofs.answer_font.Tie as tie
+use Rattle.font_reply.specs.Answering.{AnswersBytes, freshBytes, freshNumber}
+use Rattle.font_reply.proofs.Laws.{lower-some, not-compiled, compiled-taken, pairs-fit, ops-fit, loops-fit, number-first, font-set}
+use Rattle.font_reply.proofs.answer_font.Statement.{statement}
+use Rattle.font_reply.proofs.answer_font.Tie as tie
 
 -- the font that is lent
 abbrev font : tie.Start → Font
@@ -216,7 +216,7 @@ returns-3 c =
     let ps = take (6 * v .p .given .0 .0) (m .compile .last .1 .1 .1 .1 .1 .1 .0) in
     let os = take (2 * v .p .given .0 .1 .0) (m .compile .last .1 .1 .1 .1 .1 .1 .1 .0) in
     let ls = take (2 * v .p .given .0 .1 .1 .0) (m .compile .last .1 .1 .1 .1 .1 .1 .1 .1 .0) in
-    font-set (font s) (a .letters) (a .word .now) (a .reply .now) (x .result) (x .last .1 .1 .1 .1 .1 .1 .0) (taken v) (sym (l .ensures) ∙ n) (s .pre) ps os ls (w .table) (w .op-table) (w .loop-table)
+    font-set (font s) (a .letters) (a .word .now) (a .reply .now) (x .result) (x .last .1 .1 .1 .1 .1 .1 .0) (taken v) (sym (l .ensures) ∙ n) ps os ls (w .table) (w .op-table) (w .loop-table)
     (subst (λ (z : ℤ). AnswersBytes (freshNumber ps os ls z (a .letters) (a .word .now) (length (a .reply .now))) (freshBytes ps os ls z (a .letters) (a .word .now)) (a .reply .now) (x .result) (x .last .1 .1 .1 .1 .1 .1 .0)) (number-word (a .boundary) (s .fits .boundary))
     (subst (λ (z : ℤ). AnswersBytes (freshNumber ps os ls (numberOf (wordOf (a .boundary))) z (a .word .now) (length (a .reply .now))) (freshBytes ps os ls (numberOf (wordOf (a .boundary))) z (a .word .now)) (a .reply .now) (x .result) (x .last .1 .1 .1 .1 .1 .1 .0)) (number-word (a .letters) (s .fits .letters)) (x .ensures)))
 
