@@ -9,7 +9,7 @@ use native.Mathlib.Omega.{arith}
 use lib.ListN.{length, getD, take, drop, length-drop, drop-of-length-le}
 use lib.Seq.{slice-cons, take-add, take-all, take-length, length-take-le, drop-at}
 use Rattle.columns.specs.Numbers.{readField}
-use Rattle.fields.specs.Steps.{Within, EndsField, Blank, Blanks, BlanksEnd, Unblank}
+use Rattle.fields.specs.Steps.{WithinText, EndsField, Blank, Blanks, BlanksEnd, Unblank}
 
 module _ (text : List ℕ) where
   -- ---- where a field ends
@@ -72,7 +72,7 @@ module _ (text : List ℕ) where
   blanks-before o p e = record { after = omega (arith, e .after); before = e .before; blank = blank-join (e .after) p (e .blank); other = e .other }
 
   -- after the blanks of a field
-  pub unblank : {at end r : ℕ} → Within text at end → BlanksEnd text at end r → Unblank text r end
+  pub unblank : {at end r : ℕ} → WithinText text at end → BlanksEnd text at end r → Unblank text r end
   unblank w e =
       record {
         part = record { order = e .before; few = omega (arith, w .few, e .after); inside = w .inside };

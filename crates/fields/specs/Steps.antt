@@ -14,14 +14,14 @@ digitsOf (decimal.Value n) = some n
 digitsOf decimal.Nothing = none
 
 -- a part of a field: of 12 columns at most
-pub record Within (text : List ℕ) (from end : ℕ) : Type 0 where
+pub record WithinText (text : List ℕ) (from end : ℕ) : Type 0 where
   pub order : from ≤ end
   pub few : end ≤ from + 12
   pub inside : end ≤ length text
 
 -- the field from a place on ends here
 pub record EndsField (text : List ℕ) (at r : ℕ) : Type 0 where
-  pub part : Within text at r
+  pub part : WithinText text at r
   pub is : take 12 (drop at text) ≡ slice at r text
 
 -- only blanks stand between two places: a field reads from the second as from the first
@@ -42,5 +42,5 @@ pub record BlanksEnd (text : List ℕ) (from end r : ℕ) : Type 0 where
 
 -- a part of a field that does not start with a blank
 pub record Unblank (text : List ℕ) (from end : ℕ) : Type 0 where
-  pub part : Within text from end
+  pub part : WithinText text from end
   pub other : from < end → getD text from 0 ≡ 32 → ⊥

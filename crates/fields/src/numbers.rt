@@ -4,7 +4,7 @@ ghost use Prim.Native.Nat.{_+_};
 ghost use lib.Seq.{slice};
 ghost use Rattle.columns.specs.Numbers.{moreDigits, unsigned, withSign, withoutSign};
 ghost use Rattle.columns.specs.Scanned.{fieldReply, numberReply};
-ghost use Rattle.fields.specs.Steps.{digitsOf, Within};
+ghost use Rattle.fields.specs.Steps.{digitsOf, WithinText};
 use columns::FieldRead;
 use words::number_of;
 
@@ -22,7 +22,7 @@ pub(crate) fn wide(b: u8) -> u64
 
 // The value of the digits of a part of a text.
 fn digits(text: &[u8], from: usize, end: usize) -> Decimal
-    requires { ⌜ Within (now text) from end ⌝ }
+    requires { ⌜ WithinText (now text) from end ⌝ }
     ensures { λ r. ⌜ digitsOf r ≡ moreDigits 0 (slice from end (now (text .entry))) ⌝ }
 {
     let mut n: u64 = 0;
@@ -43,7 +43,7 @@ fn digits(text: &[u8], from: usize, end: usize) -> Decimal
 
 // The same where there is one at least, and 0 leads only where it is alone.
 pub(crate) fn unsigned(text: &[u8], from: usize, end: usize) -> Decimal
-    requires { ⌜ Within (now text) from end ⌝ }
+    requires { ⌜ WithinText (now text) from end ⌝ }
     ensures { λ r. ⌜ digitsOf r ≡ unsigned (slice from end (now (text .entry))) ⌝ }
 {
     if from == end {

@@ -17,36 +17,36 @@ use Rattle.captions.specs.Tables.{pairCount, number}
 use Rattle.columns.specs.Lines.{Line, textOf}
 use Rattle.columns.specs.Replying.{lineOf, loopLine, itemLine, tableLines, wordLines, bytesOf, replyBytes}
 use Rattle.lines.specs.Writing.{lineBytes}
-use Rattle.reply.specs.Sizes.{capped, tableBytes}
+use Rattle.reply.specs.Sizes.{cappedSize, tableBytes}
 use Rattle.lines.proofs.Bytes.{bytes-append, bytes-none, bytes-first, line-length}
 use Rattle.reply.proofs.Shapes.{loops-length, items-length}
 use Rattle.reply.proofs.Pairs.{pairs-length, pairs-room}
 
 -- ---- the smaller of a number and 65,537
 
-pub capped-below : (n : ℕ) → n < 65537 → capped n ≡ n
-capped-below n h = rw (lt-ltb n 65537 h)
+pub cappedSize-below : (n : ℕ) → n < 65537 → cappedSize n ≡ n
+cappedSize-below n h = rw (lt-ltb n 65537 h)
 
-pub capped-over : (n : ℕ) → 65537 ≤ n → capped n ≡ 65537
-capped-over n h = rw (le-ltb n 65537 h)
+pub cappedSize-over : (n : ℕ) → 65537 ≤ n → cappedSize n ≡ 65537
+cappedSize-over n h = rw (le-ltb n 65537 h)
 
-pub capped-most : (n : ℕ) → capped n ≤ 65537
-capped-most n = by (less-or-not n 65537)
+pub cappedSize-most : (n : ℕ) → cappedSize n ≤ 65537
+cappedSize-most n = by (less-or-not n 65537)
   where
-    by : (n < 65537) ⊎ (65537 ≤ n) → capped n ≤ 65537
+    by : (n < 65537) ⊎ (65537 ≤ n) → cappedSize n ≤ 65537
     by (inl h) = rw (lt-ltb n 65537 h) (omega arith)
     by (inr h) = rw (le-ltb n 65537 h) (omega arith)
 
 -- more after a number that is counted so
-capped-more : (m n : ℕ) → capped (capped m + n) ≡ capped (m + n)
-capped-more m n = by (less-or-not m 65537)
+cappedSize-more : (m n : ℕ) → cappedSize (cappedSize m + n) ≡ cappedSize (m + n)
+cappedSize-more m n = by (less-or-not m 65537)
   where
-    by : (m < 65537) ⊎ (65537 ≤ m) → capped (capped m + n) ≡ capped (m + n)
+    by : (m < 65537) ⊎ (65537 ≤ m) → cappedSize (cappedSize m + n) ≡ cappedSize (m + n)
     by (inl h) = rw (lt-ltb m 65537 h)
-    by (inr h) = rw (le-ltb m 65537 h) (capped-over (65537 + n) (omega arith) ∙ sym (capped-over (m + n) (omega arith)))
+    by (inr h) = rw (le-ltb m 65537 h) (cappedSize-over (65537 + n) (omega arith) ∙ sym (cappedSize-over (m + n) (omega arith)))
 
-pub capped-next : (m n : ℕ) {r s : ℕ} → r ≡ capped m → s ≡ capped (r + n) → s ≡ capped (m + n)
-capped-next m n e g = g ∙ ap (λ (x : ℕ). capped (x + n)) e ∙ capped-more m n
+pub cappedSize-next : (m n : ℕ) {r s : ℕ} → r ≡ cappedSize m → s ≡ cappedSize (r + n) → s ≡ cappedSize (m + n)
+cappedSize-next m n e g = g ∙ ap (λ (x : ℕ). cappedSize (x + n)) e ∙ cappedSize-more m n
 
 -- ---- so many lines of a size
 
@@ -63,17 +63,17 @@ unfolding tableLines textOf
 none-counted pairs ops = refl
 
 module _ (pairs : List ℤ) (k size : ℕ) (e : (ops : List ℤ) → size ≡ length (bytesOf (tableLines pairs ops k))) where
-  pub table-counted : size ≤ 65536 → k ≡ pairCount pairs → (ops : List ℤ) → size ≡ capped (length (tableBytes pairs ops))
+  pub table-counted : size ≤ 65536 → k ≡ pairCount pairs → (ops : List ℤ) → size ≡ cappedSize (length (tableBytes pairs ops))
   table-counted h q ops =
       let s : size ≡ length (tableBytes pairs ops) = e ops ∙ ap (λ (j : ℕ). length (bytesOf (tableLines pairs ops j))) q in
-      sym (capped-below (length (tableBytes pairs ops)) (omega arith) ∙ sym s)
+      sym (cappedSize-below (length (tableBytes pairs ops)) (omega arith) ∙ sym s)
 
   module _ (w : ℕ) (c : Word (number pairs k 5) w) where
     pub count-more : (ops : List ℤ) → size + (62 + 26 * w) ≡ length (bytesOf (tableLines pairs ops (k + 1)))
     count-more ops = omega (arith, e ops, c .is, pairs-length pairs ops k, ap (λ (j : ℕ). length (bytesOf (tableLines pairs ops j))) (add-one k))
 
-    pub count-over : k < pairCount pairs → 65536 < size + (62 + 26 * w) → (ops : List ℤ) → 65537 ≡ capped (length (tableBytes pairs ops))
-    count-over l h ops = sym (capped-over (length (tableBytes pairs ops)) (omega (arith, e ops, c .is, pairs-room pairs ops k (pairCount pairs) l)))
+    pub count-over : k < pairCount pairs → 65536 < size + (62 + 26 * w) → (ops : List ℤ) → 65537 ≡ cappedSize (length (tableBytes pairs ops))
+    count-over l h ops = sym (cappedSize-over (length (tableBytes pairs ops)) (omega (arith, e ops, c .is, pairs-room pairs ops k (pairCount pairs) l)))
 
 -- ---- the parts of a reply
 
@@ -113,23 +113,23 @@ module _ (pairs ops loops : List ℤ) (letters : ℤ) (items : List ℤ) where
         loops-length loops (length loops / 2),
       )
 
-  module _ (t a : ℕ) (e : t ≡ capped (length (tableBytes pairs ops))) (g : a ≡ capped (t + length loops / 2 * 26)) where
+  module _ (t a : ℕ) (e : t ≡ cappedSize (length (tableBytes pairs ops))) (g : a ≡ cappedSize (t + length loops / 2 * 26)) where
     abbrev table-bytes : ℕ
     table-bytes = length (tableBytes pairs ops) + length loops / 2 * 26
 
-    table-next : a ≡ capped table-bytes
-    table-next = capped-next (length (tableBytes pairs ops)) (length loops / 2 * 26) e g
+    table-next : a ≡ cappedSize table-bytes
+    table-next = cappedSize-next (length (tableBytes pairs ops)) (length loops / 2 * 26) e g
 
     -- without a word
-    pub size-plain : (n : ℕ) → letters ≡ negsuc n → a ≡ capped (length (replyBytes pairs ops loops letters items))
+    pub size-plain : (n : ℕ) → letters ≡ negsuc n → a ≡ cappedSize (length (replyBytes pairs ops loops letters items))
     size-plain n z =
         let q : length (replyBytes pairs ops loops letters items) ≡ length (tableBytes pairs ops) + length loops / 2 * 26 =
         omega (arith, reply-length, ap (λ (y : ℤ). length (bytesOf (wordLines y items))) z, no-word-length items n) in
-        table-next ∙ ap capped (sym q)
+        table-next ∙ ap cappedSize (sym q)
 
     -- with one
-    pub size-word : (n : ℕ) → letters ≡ pos n → (b r : ℕ) → b ≡ capped (a + 14) → r ≡ capped (b + length items / 6 * 74) → r ≡ capped (length (replyBytes pairs ops loops letters items))
+    pub size-word : (n : ℕ) → letters ≡ pos n → (b r : ℕ) → b ≡ cappedSize (a + 14) → r ≡ cappedSize (b + length items / 6 * 74) → r ≡ cappedSize (length (replyBytes pairs ops loops letters items))
     size-word n z b r p s =
         let q : length (replyBytes pairs ops loops letters items) ≡ length (tableBytes pairs ops) + length loops / 2 * 26 + 14 + length items / 6 * 74 =
         omega (arith, reply-length, ap (λ (y : ℤ). length (bytesOf (wordLines y items))) z, word-length items n) in
-        capped-next (table-bytes + 14) (length items / 6 * 74) (capped-next table-bytes 14 table-next p) s ∙ ap capped (sym q)
+        cappedSize-next (table-bytes + 14) (length items / 6 * 74) (cappedSize-next table-bytes 14 table-next p) s ∙ ap cappedSize (sym q)

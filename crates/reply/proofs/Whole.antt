@@ -30,9 +30,9 @@ use Rattle.lines.specs.Writing.{linesFrom, lineBytes, HasRoom, Puts, linesFit, 
 use Rattle.lines.proofs.Stores.{sets-after}
 use Rattle.lines.proofs.Bytes.{bytes-none, bytes-first, line-length}
 use Rattle.lines.proofs.Steps.{puts-both, puts-length}
-use Rattle.reply.specs.Sizes.{capped, tableBytes}
+use Rattle.reply.specs.Sizes.{cappedSize, tableBytes}
 use Rattle.reply.proofs.Shapes.{loop-lines, item-lines, one-line, puts-lines}
-use Rattle.reply.proofs.Counts.{capped-below, capped-over, reply-is}
+use Rattle.reply.proofs.Counts.{cappedSize-below, cappedSize-over, reply-is}
 
 -- ---- W and T
 
@@ -101,10 +101,10 @@ rest-zeroed bytes l d zs size h s e z =
 
 -- ---- what is answered
 
-module _ (bytes l : List ℕ) (size : ℕ) (s : size ≡ capped (length bytes)) (t : Bool) (e : t ≡ both (leb size 65536) (leb size (length l))) where
-  test-by : (n : ℕ) → (n < 65537) ⊎ (65537 ≤ n) → both (leb (capped n) 65536) (leb (capped n) (length l)) ≡ both (leb n 65536) (leb n (length l))
-  test-by n (inl h) = rw (capped-below n h)
-  test-by n (inr h) = rw (capped-over n h, lt-leb n 65536 h)
+module _ (bytes l : List ℕ) (size : ℕ) (s : size ≡ cappedSize (length bytes)) (t : Bool) (e : t ≡ both (leb size 65536) (leb size (length l))) where
+  test-by : (n : ℕ) → (n < 65537) ⊎ (65537 ≤ n) → both (leb (cappedSize n) 65536) (leb (cappedSize n) (length l)) ≡ both (leb n 65536) (leb n (length l))
+  test-by n (inl h) = rw (cappedSize-below n h)
+  test-by n (inr h) = rw (cappedSize-over n h, lt-leb n 65536 h)
 
   test-is : both (leb (length bytes) 65536) (leb (length bytes) (length l)) ≡ t
   test-is =
@@ -125,7 +125,7 @@ module _ (bytes l : List ℕ) (size : ℕ) (s : size ≡ capped (length bytes)) 
     reply-fits = leb-true (length bytes) (length l) (both-right (leb (length bytes) 65536) (leb (length bytes) (length l)) (test-is ∙ f))
 
     pub size-is : size ≡ length bytes
-    size-is = s ∙ capped-below (length bytes) (omega (arith, small))
+    size-is = s ∙ cappedSize-below (length bytes) (omega (arith, small))
 
     pub reply-taken : (d : List ℕ) → d ≡ bytes ++ replicate (length l - length bytes) 0 → WritesReply bytes l (Count size) d
     reply-taken d z =

@@ -8,8 +8,8 @@ use Rattle.captions.specs.Tables.{pairCount}
 use Rattle.columns.specs.Replying.{tableLines, bytesOf}
 
 -- the smaller of a number and 65,537
-abbrev pub capped : ℕ → ℕ
-capped n = cond (ltb n 65537) n 65537
+abbrev pub cappedSize : ℕ → ℕ
+cappedSize n = cond (ltb n 65537) n 65537
 
 -- P and O, all of them
 abbrev pub tableBytes : List ℤ → List ℤ → List ℕ

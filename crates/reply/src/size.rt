@@ -6,13 +6,13 @@ ghost use lib.IntN.{ℤ};
 ghost use lib.ListN.{length};
 ghost use Rattle.words.specs.Words.{numberOf};
 ghost use Rattle.columns.specs.Replying.{replyBytes};
-ghost use Rattle.reply.specs.Sizes.{capped, tableBytes};
+ghost use Rattle.reply.specs.Sizes.{cappedSize, tableBytes};
 use words::word_at;
 
 // So many lines of a size after so many bytes.
 fn with_lines(size: usize, count: usize, each: usize) -> usize
     requires { ⌜ (size ≤ 65537) × (0 < each) × (each ≤ 74) ⌝ }
-    ensures { λ r. ⌜ r ≡ capped (size + count * each) ⌝ }
+    ensures { λ r. ⌜ r ≡ cappedSize (size + count * each) ⌝ }
 {
     if 65536 < count {
         return 65537;
@@ -23,7 +23,7 @@ fn with_lines(size: usize, count: usize, each: usize) -> usize
 
 // The bytes of every pair and its ops.
 fn table_size(pairs: &[i32]) -> usize
-    ensures { λ r. ⌜ ((ops : List ℤ) → r ≡ capped (length (tableBytes (now (pairs .entry)) ops))) ⌝ }
+    ensures { λ r. ⌜ ((ops : List ℤ) → r ≡ cappedSize (length (tableBytes (now (pairs .entry)) ops))) ⌝ }
 {
     let mut size = 0;
     let mut k = 0;
@@ -39,7 +39,7 @@ fn table_size(pairs: &[i32]) -> usize
 
 // The bytes of a whole reply; the word's length is given by its 32 bits.
 pub(crate) fn reply_size(pairs: &[i32], loops: &[i32], letters: u32, items: &[i32]) -> usize
-    ensures { λ r. ⌜ ((ops : List ℤ) → r ≡ capped (length (replyBytes (now (pairs .entry)) ops (now (loops .entry)) (numberOf letters) (now (items .entry))))) ⌝ }
+    ensures { λ r. ⌜ ((ops : List ℤ) → r ≡ cappedSize (length (replyBytes (now (pairs .entry)) ops (now (loops .entry)) (numberOf letters) (now (items .entry))))) ⌝ }
 {
     let size = with_lines(table_size(pairs), loops.len() / 2, 26);
     if letters < 2147483648 {

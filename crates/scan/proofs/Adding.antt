@@ -25,7 +25,7 @@ use Rattle.scan.specs.declared.progress.Progress.{Progress}
 use Rattle.scan.specs.declared.progress.Next.{Next}
 use Rattle.scan.specs.declared.progress.Next.the-variants as next
 use Rattle.scan.specs.Following.{restOf, lineOf, lineEnds, numbersOn, numbersIn, numberOn}
-use Rattle.scan.specs.Standing.{zeros, Head, Tells, Scanning, Before, nextBy, TakesLine, headBy, headLine, Goes}
+use Rattle.scan.specs.Standing.{zeros, HeadSaid, TellsText, Scanning, Before, nextBy, TakesLine, headBy, headLine, Goes}
 use Rattle.scan.proofs.Feeds.{fields-count}
 use Rattle.scan.proofs.Following.{numbered, rest-on, rest-short, rest-refused}
 use Rattle.scan.proofs.Storing.{field-fits}
@@ -86,7 +86,7 @@ module _ (text : List ℕ) (p : Progress) (instructions kerns entries : List ℤ
 
 -- ---- one line
 
-module _ (text : List ℕ) (p : Progress) (t : Text) (tells : Tells text p t) (before : Before text p) (b : ℕ) (is : getD text (p .at) 0 ≡ b) where
+module _ (text : List ℕ) (p : Progress) (t : Text) (tells : TellsText text p t) (before : Before text p) (b : ℕ) (is : getD text (p .at) 0 ≡ b) where
   stands : drop (p .at) text ≡ b ∷ drop (p .at + 1) text
   stands = drop-cons text (p .at) 0 (before .inside) ∙ rw (is, add-one)
 
@@ -139,7 +139,7 @@ module _ (text : List ℕ) (p : Progress) (t : Text) (tells : Tells text p t) (b
     line-goes r h k = by-read r (numbersIn (limit - place) n (drop (p .at + 1) text)) refl h (k .answer) (k .stored)
 
   -- one number, once: `once o u` is u where there is none yet
-  module _ (read : Bool) (w : ℕ) (v : Option ℤ) (f : ℕ → Progress) (more : ℤ → Text) (instructions kerns entries : List ℤ) (o : b ≡ 10 → ⊥) (head : Head v read w)
+  module _ (read : Bool) (w : ℕ) (v : Option ℤ) (f : ℕ → Progress) (more : ℤ → Text) (instructions kerns entries : List ℤ) (o : b ≡ 10 → ⊥) (head : HeadSaid v read w)
       (add : (zs : List ℤ) → addLine t (some (lineOf b zs)) ≡ byOne (λ z. once v (more z)) zs) (ahead : (z : ℤ) → p .at < f (wordOf z) .at)
       (then : (z : ℤ) → SFits w32 z → p .at + 14 ≤ length text → restOf (drop (p .at + 14) text) (some (more z)) ≡ readText text → Scanning text (f (wordOf z)) instructions kerns entries) where
     again : read ≡ true → readText text ≡ none

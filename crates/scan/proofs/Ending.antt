@@ -23,7 +23,7 @@ use Rattle.columns.specs.Scanned.{lettersOf, headNumbers, textReadReply, textHe
 use Rattle.columns.proofs.Options.{none-some, cond-some}
 use Rattle.scan.specs.declared.progress.Progress.{Progress}
 use Rattle.scan.specs.Following.{restOf, lineOf, numbersOn, wordOn}
-use Rattle.scan.specs.Standing.{zeros, headsOf, Tells, Scanning, Before, wordReply, EndsWord, Reads}
+use Rattle.scan.specs.Standing.{zeros, headsOf, TellsText, Scanning, Before, wordReply, EndsWord, ReadsLists}
 use Rattle.scan.proofs.Feeds.{fields-count}
 use Rattle.scan.proofs.Following.{Opened, numbered, rest-stuck, rest-added, rest-after-word, rest-none-left}
 use Rattle.scan.proofs.Adding.{zeros-long, from-here, further}
@@ -59,22 +59,22 @@ module _ (text : List ℕ) (t : Text) (is : readText text ≡ some t) (instructi
         word = rw is w;
       }
 
-  pub reads-all : (r : TextRead) → ReadsText text r instructions kerns entries word → textReadReply r .number ≡ 0 → Reads text instructions kerns entries word r
+  pub reads-all : (r : TextRead) → ReadsText text r instructions kerns entries word → textReadReply r .number ≡ 0 → ReadsLists text instructions kerns entries word r
   reads-all whole.Unreadable s e = absurd (omega (arith, e))
   reads-all (whole.Text h) s e = record { on = λ _ _. s; stuck = λ i. absurd (let o : _≡_ {A = ℕ} 0 1 = cc in omega arith) }
 
-pub reads-none : (text : List ℕ) (instructions kerns entries : List ℤ) (word : List ℕ) (r : TextRead) → readText text ≡ none → textReadReply r .number ≡ 16 → Reads text instructions kerns entries word r
+pub reads-none : (text : List ℕ) (instructions kerns entries : List ℤ) (word : List ℕ) (r : TextRead) → readText text ≡ none → textReadReply r .number ≡ 16 → ReadsLists text instructions kerns entries word r
 reads-none text instructions kerns entries word whole.Unreadable n e = record { on = λ h i. absurd (let o : _≡_ {A = ℕ} 0 1 = cc in omega arith); stuck = λ _. n }
 reads-none text instructions kerns entries word (whole.Text h) n e = absurd (omega (arith, e))
 
 -- the heads are those of the text
-heads-are : (text : List ℕ) (p : Progress) (t : Text) (l : ℤ) → Tells text p t → headsOf p l ≡ (t .design ∷ orAbsent (t .boundary) ∷ orAbsent (t .left) ∷ pos (length (t .instructions)) ∷ pos (length (t .kerns)) ∷ pos (length (t .entries)) ∷ l ∷ [])
+heads-are : (text : List ℕ) (p : Progress) (t : Text) (l : ℤ) → TellsText text p t → headsOf p l ≡ (t .design ∷ orAbsent (t .boundary) ∷ orAbsent (t .left) ∷ pos (length (t .instructions)) ∷ pos (length (t .kerns)) ∷ pos (length (t .entries)) ∷ l ∷ [])
 heads-are text p t l c = rw (c .design, c .boundary .said, c .left .said, c .instructions, c .kerns, c .entries)
 
 module _ (text : List ℕ) (p : Progress) (instructions kerns entries : List ℤ) (s : Scanning text p instructions kerns entries) where
   -- ---- without a word
 
-  pub ends-plain : (h : TextHeads) (w : List ℕ) → length text ≤ p .at → headNumbers h ≡ headsOf p (numberOf 4294967295) → w ≡ zeros 0 64 → Reads text instructions kerns entries w (whole.Text h)
+  pub ends-plain : (h : TextHeads) (w : List ℕ) → length text ≤ p .at → headNumbers h ≡ headsOf p (numberOf 4294967295) → w ≡ zeros 0 64 → ReadsLists text instructions kerns entries w (whole.Text h)
   ends-plain h w l e z =
       let t = s .says in
       let c = s .tells in
@@ -131,7 +131,7 @@ module _ (text : List ℕ) (p : Progress) (instructions kerns entries : List ℤ
         let l : length text ≤ p .at + (12 * n + 2) = omega (arith, length-drop (p .at + 1) text, before .inside) in
         (f, sym g ∙ ap (λ (cs : List ℕ). restOf cs (some (worded zs))) (drop-of-length-le text {i = p .at + (12 * n + 2)} l) ∙ rest-none-left (worded zs))
 
-    by-word : (v : Option (List ℤ)) → wordOn bs ≡ v → (r : TextRead) (w w′ : List ℕ) → w ≡ zeros 0 64 → textReadReply r ≡ wordReply p v → ((zs : List ℤ) → v ≡ some zs → w′ ≡ sets w 0 (map wordOf zs)) → Reads text instructions kerns entries w′ r
+    by-word : (v : Option (List ℤ)) → wordOn bs ≡ v → (r : TextRead) (w w′ : List ℕ) → w ≡ zeros 0 64 → textReadReply r ≡ wordReply p v → ((zs : List ℤ) → v ≡ some zs → w′ ≡ sets w 0 (map wordOf zs)) → ReadsLists text instructions kerns entries w′ r
     by-word none i r w w′ z a k = reads-none text instructions kerns entries w′ r (word-none i) (ap (λ (x : Reply). x .number) a)
     by-word (some zs) i r w w′ z a k =
         let x = word-some zs i in
@@ -143,5 +143,5 @@ module _ (text : List ℕ) (p : Progress) (instructions kerns entries : List ℤ
         (said text (worded zs) (x .1) instructions kerns entries w′ r (a ∙ heads) (s .in-instructions) (s .in-kerns) (s .in-entries) long front)
         (ap (λ (y : Reply). y .number) a)
 
-    pub ends-word : (r : TextRead) (w w′ : List ℕ) → w ≡ zeros 0 64 → EndsWord (wordOn bs) p w r w′ → Reads text instructions kerns entries w′ r
+    pub ends-word : (r : TextRead) (w w′ : List ℕ) → w ≡ zeros 0 64 → EndsWord (wordOn bs) p w r w′ → ReadsLists text instructions kerns entries w′ r
     ends-word r w w′ z e = by-word (wordOn bs) refl r w w′ z (e .answer) (e .stored)

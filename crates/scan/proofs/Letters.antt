@@ -21,7 +21,7 @@ use Rattle.scan.specs.declared.progress.Progress.{Progress}
 use Rattle.scan.specs.declared.progress.Next.{Next}
 use Rattle.scan.specs.declared.progress.Next.the-variants as next
 use Rattle.scan.specs.Following.{lineOf, numbersIn}
-use Rattle.scan.specs.Standing.{Head, Scanning, Before, TakesLine, pastInstruction, pastKern, pastEntry, pastBoundary, pastLeft, headLine, Goes}
+use Rattle.scan.specs.Standing.{HeadSaid, Scanning, Before, TakesLine, pastInstruction, pastKern, pastEntry, pastBoundary, pastLeft, headLine, Goes}
 use Rattle.scan.proofs.Adding.{zeros-long, once, same-by-one, goes-nowhere, none-short, none-refused, line-goes, head-goes}
 
 -- ---- a text with a line more
@@ -57,7 +57,7 @@ module _ (t : Text) (u : Text) (zs : List ℤ) where
   entry-only e = eqb-true (length zs) 2 (cond-some _ (some (moreEntries t zs)) u e .0)
 
 -- a head that was read
-head-is : (z : ℤ) → SFits w32 z → Head (some z) true (wordOf z)
+head-is : (z : ℤ) → SFits w32 z → HeadSaid (some z) true (wordOf z)
 head-is z f = let e = number-word z f in record { is = ap some (sym e); said = sym e }
 
 module _ (text : List ℕ) (p : Progress) (instructions kerns entries : List ℤ) (s : Scanning text p instructions kerns entries) (before : Before text p) where

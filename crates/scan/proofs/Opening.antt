@@ -19,7 +19,7 @@ use Rattle.columns.proofs.Options.{none-some}
 use Rattle.scan.specs.declared.progress.Progress.{Progress}
 use Rattle.scan.specs.declared.progress.Next.the-variants as next
 use Rattle.scan.specs.Following.{restOf, firstBy, lineOf, numbersOn, numberOn}
-use Rattle.scan.specs.Standing.{Tells, Opens}
+use Rattle.scan.specs.Standing.{TellsText, Opens}
 use Rattle.scan.proofs.Following.{numbered, first-on, first-stuck, rest-added}
 use Rattle.scan.proofs.Storing.{number-some, number-none}
 use Rattle.scan.proofs.Telling.{word-read}
@@ -92,7 +92,7 @@ module _ (text : List ℕ) (short : length text ≤ 65536) where
       let q : w ≡ wordOf z = word-read (drop 1 text) z w n k in
       let v : numberOf w ≡ z = ap numberOf q ∙ number-word z (fits-one (drop 1 text) z n) in
       let g = read-first text z short i n in
-      let t : Tells text (firstAt w) (opened (numberOf w)) = record {
+      let t : TellsText text (firstAt w) (opened (numberOf w)) = record {
         within = g .0;
         rest = rw v (g .1);
         word = refl;
@@ -106,6 +106,6 @@ module _ (text : List ℕ) (short : length text ≤ 65536) where
         few = omega arith;
       } in
       record {
-        on = λ x j. let y : firstAt w ≡ x = cc in subst (λ (x : Progress). Tells text x (opened (numberOf (x .design)))) y t;
+        on = λ x j. let y : firstAt w ≡ x = cc in subst (λ (x : Progress). TellsText text x (opened (numberOf (x .design)))) y t;
         stuck = λ j. absurd (let o : _≡_ {A = ℕ} 0 1 = cc in omega arith);
       }

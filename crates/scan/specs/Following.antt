@@ -11,6 +11,7 @@ use lib.Seq.{sets}
 use Rattle.words.specs.Words.{wordOf}
 use Rattle.lang.specs.Every.{both}
 use Rattle.columns.specs.Numbers.{readField}
+pub use Rattle.columns.specs.Replying.{lineOf}
 use Rattle.columns.specs.Lines.{Line, linesOf, readFields, readLine}
 use Rattle.columns.specs.Texts.{Text, addLines}
 
@@ -29,9 +30,6 @@ abbrev pub firstBy : (Option Line → Option Text) → Option (List (List ℕ)) 
 firstBy f none = none
 firstBy f (some []) = none
 firstBy f (some (l ∷ ls)) = addLines ls (f (readLine l))
-
-abbrev pub lineOf : ℕ → List ℤ → Line
-lineOf letter zs = record { letter = letter; numbers = zs }
 
 -- ---- a line of n numbers
 

@@ -33,18 +33,18 @@ headsOf p letters =
 -- ---- what was read
 
 -- of R or L: its number, if its line was read, and -1 else
-pub record Head (o : Option ℤ) (read : Bool) (w : ℕ) : Type 0 where
+pub record HeadSaid (o : Option ℤ) (read : Bool) (w : ℕ) : Type 0 where
   pub is : o ≡ cond read (some (numberOf w)) none
   pub said : orAbsent o ≡ numberOf w
 
 -- the lines so far say t, and the rest added to it is what the text says
-pub record Tells (text : List ℕ) (p : Progress) (t : Text) : Type 0 where
+pub record TellsText (text : List ℕ) (p : Progress) (t : Text) : Type 0 where
   pub within : p .at ≤ length text
   pub rest : restOf (drop (p .at) text) (some t) ≡ readText text
   pub word : t .word ≡ none
   pub design : t .design ≡ numberOf (p .design)
-  pub boundary : Head (t .boundary) (p .bounded) (p .boundary)
-  pub left : Head (t .left) (p .entered) (p .left)
+  pub boundary : HeadSaid (t .boundary) (p .bounded) (p .boundary)
+  pub left : HeadSaid (t .left) (p .entered) (p .left)
   pub instructions : length (t .instructions) ≡ p .instructions
   pub kerns : length (t .kerns) ≡ p .kerns
   pub entries : length (t .entries) ≡ p .entries
@@ -54,7 +54,7 @@ pub record Tells (text : List ℕ) (p : Progress) (t : Text) : Type 0 where
 -- .. and the lists hold its numbers, with zeros after them
 pub record Scanning (text : List ℕ) (p : Progress) (instructions kerns entries : List ℤ) : Type 0 where
   pub says : Text
-  pub tells : Tells text p says
+  pub tells : TellsText text p says
   pub in-instructions : Appending (says .instructions) (zeros (pos 0) 2048) instructions
   pub in-kerns : Appending (says .kerns) (zeros (pos 0) 512) kerns
   pub in-entries : Appending (says .entries) (zeros (pos 0) 5040) entries
@@ -109,7 +109,7 @@ pub record Goes (text : List ℕ) (p : Progress) (instructions kerns entries : L
 
 -- D read: further on; or the text is unreadable
 pub record Opens (text : List ℕ) (r : Next) : Type 0 where
-  pub on : (q : Progress) → r ≡ next.At q → Tells text q (opened (numberOf (q .design)))
+  pub on : (q : Progress) → r ≡ next.At q → TellsText text q (opened (numberOf (q .design)))
   pub stuck : r ≡ next.Unreadable → readText text ≡ none
 
 -- W read
@@ -122,7 +122,7 @@ pub record EndsWord (o : Option (List ℤ)) (p : Progress) (word : List ℕ) (r 
   pub stored : (zs : List ℤ) → o ≡ some zs → word′ ≡ sets word 0 (map wordOf zs)
 
 -- the whole read: its numbers in every list; or the text is unreadable
-pub record Reads (text : List ℕ) (instructions kerns entries : List ℤ) (word : List ℕ) (r : TextRead) : Type 0 where
+pub record ReadsLists (text : List ℕ) (instructions kerns entries : List ℤ) (word : List ℕ) (r : TextRead) : Type 0 where
   pub on : (h : TextHeads) → r ≡ whole.Text h → ReadsText text r instructions kerns entries word
   pub stuck : r ≡ whole.Unreadable → readText text ≡ none
 

@@ -1,7 +1,7 @@
 // A column text read: document 01, 'The column text'. Its numbers go to lists that have room for as many as its limits allow; of entries a text of 65,536 bytes has no
 // more than 5,040 numbers.
 ghost use Rattle.columns.specs.Scanned.{ReadsText};
-ghost use Rattle.scan.specs.Standing.{Zeroed, Reads};
+ghost use Rattle.scan.specs.Standing.{Zeroed, ReadsLists};
 use columns::TextRead;
 use progress::Next;
 use whole::first_line;
@@ -37,7 +37,7 @@ fn read_zeroed(
     word: &mut [u32; 64],
 ) -> TextRead
     requires { ⌜ Zeroed (now instructions) (now kerns) (now entries) (now word) ⌝ }
-    ensures { λ r. ⌜ Reads (now (text .entry)) (now (instructions .exit)) (now (kerns .exit)) (now (entries .exit)) (now (word .exit)) r ⌝ }
+    ensures { λ r. ⌜ ReadsLists (now (text .entry)) (now (instructions .exit)) (now (kerns .exit)) (now (entries .exit)) (now (word .exit)) r ⌝ }
 {
     if 65536 < text.len() {
         return TextRead::Unreadable;

@@ -3,7 +3,7 @@ ghost use mathlib.Core.Path.{_≡_};
 ghost use Prim.Native.Nat.{_+_, _≤_};
 ghost use lib.ListN.{length, drop};
 ghost use Rattle.scan.specs.Following.{wordOn};
-ghost use Rattle.scan.specs.Standing.{zeros, Scanning, Before, Opens, EndsWord, Reads};
+ghost use Rattle.scan.specs.Standing.{zeros, Scanning, Before, Opens, EndsWord, ReadsLists};
 use crate::lines::next_line;
 use crate::numbers::line_ends;
 use crate::numbers::read_letters;
@@ -74,7 +74,7 @@ pub(crate) fn read_lines(
 ) -> TextRead
     requires { ⌜ (length (now text) ≤ 65536) × (now word ≡ zeros 0 64) ⌝ }
     requires { ⌜ Scanning (now text) first (now instructions) (now kerns) (now entries) ⌝ }
-    ensures { λ r. ⌜ Reads (now (text .entry)) (now (instructions .exit)) (now (kerns .exit)) (now (entries .exit)) (now (word .exit)) r ⌝ }
+    ensures { λ r. ⌜ ReadsLists (now (text .entry)) (now (instructions .exit)) (now (kerns .exit)) (now (entries .exit)) (now (word .exit)) r ⌝ }
 {
     let mut p = first;
     while p.at < text.len() {

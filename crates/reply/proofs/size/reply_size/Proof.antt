@@ -8,7 +8,7 @@ use lib.ListN.{length}
 use Rattle.words.specs.Words.{numberOf}
 use Rattle.words.proofs.Bits.{number-pos, number-neg}
 use Rattle.reply.specs.Sizes.{tableBytes}
-use Rattle.reply.proofs.Counts.{capped-most, size-plain, size-word}
+use Rattle.reply.proofs.Counts.{cappedSize-most, size-plain, size-word}
 use borrow.Author.Needs.{needs}
 use Rattle.reply.proofs.size.reply_size.Statement.{statement}
 use Rattle.reply.proofs.size.reply_size.Tie as tie
@@ -19,18 +19,18 @@ table-size-requires c κs = search needs
 with-lines-requires : tie.Need-with-lines-requires
 with-lines-requires c κs =
     let a = c .before .args in
-    (subst (λ (n : ℕ). n ≤ 65537) (sym (c .table-size .ensures [])) (capped-most (length (tableBytes (a .pairs .now) []))), omega arith, omega arith)
+    (subst (λ (n : ℕ). n ≤ 65537) (sym (c .table-size .ensures [])) (cappedSize-most (length (tableBytes (a .pairs .now) []))), omega arith, omega arith)
 
 with-lines-requires-2 : tie.Need-with-lines-requires-2
 with-lines-requires-2 c κs =
     let x = c .before in
     let t = x .before in
-    (subst (λ (n : ℕ). n ≤ 65537) (sym (x .with-lines .ensures)) (capped-most (t .table-size .result + length (t .before .args .loops .now) / 2 * 26)), omega arith, omega arith)
+    (subst (λ (n : ℕ). n ≤ 65537) (sym (x .with-lines .ensures)) (cappedSize-most (t .table-size .result + length (t .before .args .loops .now) / 2 * 26)), omega arith, omega arith)
 
 with-lines-requires-3 : tie.Need-with-lines-requires-3
 with-lines-requires-3 c κs =
     let x = c .before .before in
-    (subst (λ (n : ℕ). n ≤ 65537) (sym (c .with-lines2 .ensures)) (capped-most (x .with-lines .result + 14)), omega arith, omega arith)
+    (subst (λ (n : ℕ). n ≤ 65537) (sym (c .with-lines2 .ensures)) (cappedSize-most (x .with-lines .result + 14)), omega arith, omega arith)
 
 returns : tie.Need-returns
 returns c =

@@ -1,0 +1,8 @@
+// The calls about programs and tables for a host in C, which can lend slices of numbers and pass integers and nothing else: each answers a number, 0 or a refusal
+// of document 01, and writes the values of its answer to the list `values`. A refusal, 15 for a short `values` among them, leaves zeros in every list that is
+// written. Crate `c_changes` has the calls that write a program anew, `c_repair` repair.
+//   programs   chains, unpacking, the program's seven-bit test, reach
+//   questions  the questions about a table
+mod answers;
+pub mod programs;
+pub mod questions;

@@ -1,0 +1,2 @@
+-- Laws: Repairing, what repair tells from what its function answers.
+pub mod Repairing

@@ -1,0 +1,2 @@
+-- Laws: Telling, what a call tells from what its function answers.
+pub mod Telling
