@@ -32,13 +32,13 @@ module _ (numbers : List ℤ) (from : ℕ) where
     unfolding tabulate fieldsOf
     fields-none = refl
 
-    pub fields-more : (j : ℕ) {d d′ : List ℕ} {w : ℕ} → d ≡ sets l at (fieldsOf (numbersFrom numbers from j)) → Word (getD numbers (from + j) (pos 0)) w → d′ ≡ sets d (at + 12 * j) (fieldOf (numberOf w)) → d′ ≡ sets l at (fieldsOf (numbersFrom numbers from (j + 1)))
+    pub fields-more : (j : ℕ) {d d′ : List ℕ} {w next : ℕ} → next ≡ at + 12 * j → d ≡ sets l at (fieldsOf (numbersFrom numbers from j)) → Word (getD numbers (from + j) (pos 0)) w → d′ ≡ sets d next (fieldOf (numberOf w)) → d′ ≡ sets l at (fieldsOf (numbersFrom numbers from (j + 1)))
     unfolding tabulate
-    fields-more j {d} {d′} {w} e r g =
+    fields-more j {d} {d′} {w} {next} h e r g =
         let z = getD numbers (from + j) (pos 0) in
         let fs = fieldsOf (numbersFrom numbers from j) in
-        let p : at + 12 * j ≡ at + length fs = omega (arith, from-length j) in
-        sets-after fs (fieldOf z) l d d′ at (at + 12 * j) e p (g ∙ ap (λ (y : ℤ). sets d (at + 12 * j) (fieldOf y)) (number-is r))
+        let p : next ≡ at + length fs = omega (arith, from-length j) in
+        sets-after fs (fieldOf z) l d d′ at next e p (g ∙ ap (λ (y : ℤ). sets d next (fieldOf y)) (number-is r))
         ∙ ap (sets l at)
         (ap (λ (t : List ℕ). fs ++ t) (sym (fields-one z)) ∙ sym (fields-append (numbersFrom numbers from j) (z ∷ []))
         ∙ ap (λ (k : ℕ). fieldsOf (numbersFrom numbers from k)) (sym (add-one j)))

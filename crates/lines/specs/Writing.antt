@@ -2,7 +2,7 @@
 use mathlib.Core.Path.{_≡_}
 use mathlib.Core.Bool.{Bool, cond}
 use mathlib.Core.List.{List, [], _∷_, _++_}
-use Prim.Native.Nat.{ℕ, _+_, _-_, _*_, _/_, _^_, _≤_}
+use Prim.Native.Nat.{ℕ, _+_, _-_, _*_, _/_, _^_, _<_, _≤_}
 use lib.IntN.{ℤ, pos}
 use lib.Dec.{leb}
 use lib.ListN.{length, getD}
@@ -27,6 +27,11 @@ linesFrom letter n numbers k count = tabulate count (λ i. lineAt letter n numbe
 -- a line with its line feed
 abbrev pub lineBytes : Line → List ℕ
 lineBytes l = writeLine l ++ (10 ∷ [])
+
+-- the size of the number whose 32 bits are w
+pub record Sizes (w n : ℕ) : Type 0 where
+  pub positive : (w < 2 ^ 31 → n ≡ w)
+  pub negative : (2 ^ 31 ≤ w → n ≡ 4294967295 - w + 1)
 
 -- there is room for bytes at a place
 abbrev pub HasRoom : List ℕ → List ℕ → ℕ → Type 0

@@ -16,9 +16,11 @@ fn put_fields(numbers: &[i32], from: usize, n: usize, out: &mut [u8], at: usize)
     requires { ⌜ (from + n < 2 ^ 64) × (at + 12 * n ≤ length (now out)) ⌝ }
     ensures { λ _. ⌜ now (out .exit) ≡ sets (now (out .entry)) at (fieldsOf (numbersFrom (now (numbers .entry)) from n)) ⌝ }
 {
+    let mut next = at;
     let mut j = 0;
     while j < n {
-        put_field(out, at + 12 * j, word_at(numbers, from + j));
+        put_field(out, next, word_at(numbers, from + j));
+        next += 12;
         j += 1;
     }
 }

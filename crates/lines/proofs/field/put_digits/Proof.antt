@@ -1,7 +1,7 @@
 -- `lines::field::put_digits` meets its contract. The loop's invariant: the last digits are stored, and m has the others.
 -- Assumes nothing.
 use mathlib.Core.Path.{_≡_, ap, _∙_}
-use Prim.Native.Nat.{_+_, _-_}
+use Prim.Native.Nat.{_+_, _-_, _*_, _/_, _%_}
 use native.Mathlib.Omega.{arith}
 use lib.ListN.{length, length-set}
 use lib.Seq.{length-sets}
@@ -24,11 +24,17 @@ loop-holds c = let a = c .args in written-none (a .n) (a .end) (a .out .now) (c 
 sub-i : tie.Need-sub-i Inv-loop μ-loop
 sub-i c = omega arith
 
-cast-out : tie.Need-cast-out Inv-loop μ-loop
-cast-out c = omega arith
+mul-out : tie.Need-mul-out Inv-loop μ-loop
+mul-out c = let l = c .before in omega (arith, l .loop .inv .less, l .before .fits .n .fits)
+
+sub-out : tie.Need-sub-out Inv-loop μ-loop
+sub-out c = omega arith
 
 add-out : tie.Need-add-out Inv-loop μ-loop
 add-out c = omega arith
+
+cast-out : tie.Need-cast-out Inv-loop μ-loop
+cast-out c = omega arith
 
 slice-write-out : tie.Need-slice-write-out Inv-loop μ-loop
 slice-write-out c = let l = c .before in let p = written-place (l .loop .inv) (l .before .pre .0) in omega (arith, kept l, p, l .before .pre .1)
@@ -37,7 +43,10 @@ loop-less : tie.Need-loop-less Inv-loop μ-loop
 loop-less c = omega arith
 
 loop-again : tie.Need-loop-again Inv-loop μ-loop
-loop-again c = written-more (c .before .loop .inv) (c .before .before .pre .0) (c .loop-test .taken)
+loop-again c =
+    let m = c .before .loop .m in
+    let e : m - 10 * (m / 10) + 48 ≡ 48 + m % 10 = omega arith in
+    rw e (written-more (c .before .loop .inv) (c .before .before .pre .0) (c .loop-test .taken))
 
 sub-i-2 : tie.Need-sub-i-2 Inv-loop μ-loop
 sub-i-2 c = omega arith
@@ -67,8 +76,10 @@ put-digits-spec =
     μ-loop
     loop-holds
     sub-i
-    cast-out
+    mul-out
+    sub-out
     add-out
+    cast-out
     slice-write-out
     loop-less
     loop-again
