@@ -1,0 +1,7 @@
+-- What the calls for a host in C are held to, in the order in which to read it:
+--   Begin    the contract of begin_run
+--   Whole    the contract of set_caption
+--   Purpose  what a host sees through the lists is what demand 3 speaks of
+pub mod Begin
+pub mod Whole
+pub mod Purpose

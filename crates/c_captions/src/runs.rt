@@ -1,0 +1,31 @@
+// A fresh run, whose state stands in a list. Its steps are crate c_steps.
+ghost use Rattle.c_captions.specs.Begin.{BeginsRun};
+ghost use Rattle.c_states.specs.States.{optionsOf};
+use c_states::states::put_state;
+use c_values::zero_u64;
+use captions::Begun;
+use captions::RunOptions;
+use ligkern::begin::begin;
+
+// The state of a fresh run, nine numbers with zeros after them. Begin's numbers, then 15 where the list has no room for it.
+pub fn begin_run(
+    pairs: &[i32],
+    ops: &[i32],
+    boundary: i32,
+    word: &[u32],
+    disable_left_boundary: bool,
+    right_boundary_override: i32,
+    state: &mut [u64],
+) -> u32
+    ensures { λ r. ⌜ BeginsRun (now (pairs .entry)) (now (ops .entry)) boundary (now (word .entry)) (optionsOf «disable_left_boundary» «right_boundary_override») (now (state .entry)) r (now (state .exit)) ⌝ }
+{
+    zero_u64(state);
+    let options = RunOptions {
+        disable_left_boundary: disable_left_boundary,
+        right_boundary_override: right_boundary_override,
+    };
+    match begin(pairs, ops, boundary, word, options) {
+        Begun::Refused(n) => n,
+        Begun::Run(fresh) => put_state(state, fresh),
+    }
+}

@@ -1,0 +1,39 @@
+// A word set whole, and how many items it has in a list of one number.
+ghost use Rattle.c_captions.specs.Whole.{SetsCaption};
+ghost use Rattle.c_states.specs.States.{optionsOf};
+use c_values::zero_u64;
+use captions::RunOptions;
+use lang::Written;
+use setting::set_word;
+use words::zero::zero_i32;
+
+// The items of a word up to its end, six numbers each, with zeros after them, and their count. set_word's numbers, then 15 where the count has no room.
+pub fn set_caption(
+    pairs: &[i32],
+    ops: &[i32],
+    boundary: i32,
+    word: &[u32],
+    disable_left_boundary: bool,
+    right_boundary_override: i32,
+    items: &mut [i32],
+    count: &mut [u64],
+) -> u32
+    ensures { λ r. ⌜ SetsCaption (now (pairs .entry)) (now (ops .entry)) boundary (now (word .entry)) (optionsOf «disable_left_boundary» «right_boundary_override») (now (items .entry)) (now (count .entry)) r (now (items .exit)) (now (count .exit)) ⌝ }
+{
+    zero_u64(count);
+    let options = RunOptions {
+        disable_left_boundary: disable_left_boundary,
+        right_boundary_override: right_boundary_override,
+    };
+    match set_word(pairs, ops, boundary, word, options, items) {
+        Written::Refused(n) => n,
+        Written::Count(k) => {
+            if count.len() < 1 {
+                zero_i32(items);
+                return 15;
+            }
+            count[0] = k as u64;
+            0
+        }
+    }
+}

@@ -1,0 +1,43 @@
+-- `c_states::numbers::put_nine` meets its contract: nine stores in a row.
+-- Assumes nothing.
+use native.Mathlib.Omega.{arith}
+use lib.ListN.{length-set}
+use borrow.Author.Needs.{needs}
+use Rattle.c_states.proofs.numbers.put_nine.Statement.{statement}
+use Rattle.c_states.proofs.numbers.put_nine.Tie as tie
+
+slice-write-s : tie.Need-slice-write-s
+slice-write-s c = search needs
+
+slice-write-s-2 : tie.Need-slice-write-s-2
+slice-write-s-2 c = simp length-set (omega arith)
+
+slice-write-s-3 : tie.Need-slice-write-s-3
+slice-write-s-3 c = simp length-set (omega arith)
+
+slice-write-s-4 : tie.Need-slice-write-s-4
+slice-write-s-4 c = simp length-set (omega arith)
+
+slice-write-s-5 : tie.Need-slice-write-s-5
+slice-write-s-5 c = simp length-set (omega arith)
+
+slice-write-s-6 : tie.Need-slice-write-s-6
+slice-write-s-6 c = simp length-set (omega arith)
+
+slice-write-s-7 : tie.Need-slice-write-s-7
+slice-write-s-7 c = simp length-set (omega arith)
+
+slice-write-s-8 : tie.Need-slice-write-s-8
+slice-write-s-8 c = simp length-set (omega arith)
+
+slice-write-s-9 : tie.Need-slice-write-s-9
+slice-write-s-9 c = simp length-set (omega arith)
+
+same-length : tie.Need-same-length
+same-length c = simp length-set
+
+returns : tie.Need-returns
+returns c = search needs
+
+pub put-nine-spec : {M : Type 1} → statement M
+put-nine-spec = tie.close (tie.spec slice-write-s slice-write-s-2 slice-write-s-3 slice-write-s-4 slice-write-s-5 slice-write-s-6 slice-write-s-7 slice-write-s-8 slice-write-s-9 same-length returns)

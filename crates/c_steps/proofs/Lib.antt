@@ -1,0 +1,2 @@
+-- Laws of a step whose state stands in a list: Stepping.
+pub mod Stepping

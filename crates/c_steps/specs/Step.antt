@@ -1,0 +1,49 @@
+-- One step of a run whose state stands in a list: the contract of `step_run`. Document 01, 'Caption items'.
+use mathlib.Core.Path.{_≡_}
+use mathlib.Core.List.{List, [], _∷_}
+use mathlib.Core.Option.{Option, none, some}
+use Prim.Native.Nat.{ℕ}
+use lib.IntN.{ℤ, pos}
+use lib.ListN.{length}
+use Rattle.lang.specs.Checks.{orElse}
+use Rattle.lang.specs.Answers.{listOf, roomRefusal}
+use Rattle.captions.specs.declared.RunOptions.{RunOptions}
+use Rattle.captions.specs.declared.State.{State}
+use Rattle.captions.specs.declared.Answer.{Answer}
+use Rattle.captions.specs.declared.Answer.the-variants.{Char, Ligature, Kern, End, Refused}
+use Rattle.captions.specs.declared.Step.{Step}
+use Rattle.captions.specs.Replies.{answerReply}
+use Rattle.captions.specs.Steps.{refused, stepRefusal, stepOf}
+use Rattle.c_states.specs.States.{stateRead, outside, movedTo}
+
+-- a step from the state that was read; numbers that are no state are 7, after 4 and 6 of the call's own arguments
+abbrev pub stepRunFrom : List ℤ → List ℤ → ℤ → List ℕ → RunOptions → Option State → Step
+stepRunFrom pairs ops boundary word options none = refused (orElse (stepRefusal boundary word options) 7) outside
+stepRunFrom pairs ops boundary word options (some s) = stepOf pairs ops boundary word options s
+
+-- .. from the state that stands in a list
+abbrev pub stepIn : List ℤ → List ℤ → ℤ → List ℕ → RunOptions → List ℕ → Step
+stepIn pairs ops boundary word options state = stepRunFrom pairs ops boundary word options (stateRead state)
+
+-- the number of that step, then 15 where n places do not hold an item
+abbrev pub stepNumber : List ℤ → List ℤ → ℤ → List ℕ → RunOptions → List ℕ → ℕ → ℕ
+stepNumber pairs ops boundary word options state n =
+    orElse (answerReply (stepIn pairs ops boundary word options state .answer) .number) (roomRefusal 7 n)
+
+-- 1 and the six numbers of an item as a T line has them; the end has none, so that zeros stand for it
+abbrev pub itemNumbers : Answer → List ℤ
+itemNumbers (Char c start) = pos 1 ∷ answerReply (Char c start) .values
+itemNumbers (Ligature c start n left right) = pos 1 ∷ answerReply (Ligature c start n left right) .values
+itemNumbers (Kern k) = pos 1 ∷ answerReply (Kern k) .values
+itemNumbers End = []
+itemNumbers (Refused n) = []
+
+-- the number, and what the two lists hold; what is left in place of a state is read back as the state that the step leaves
+pub record StepsRun (pairs ops : List ℤ) (boundary : ℤ) (word : List ℕ) (options : RunOptions) (state : List ℕ) (item : List ℤ) (r : ℕ) (state′ : List ℕ) (item′ : List ℤ) : Type 0 where
+  pub number : r ≡ stepNumber pairs ops boundary word options state (length item)
+  pub moved : state′ ≡
+      movedTo (stepNumber pairs ops boundary word options state (length item)) state (stepIn pairs ops boundary word options state .state)
+  pub told : item′ ≡
+      listOf (stepNumber pairs ops boundary word options state (length item)) (pos 0) (length item)
+      (itemNumbers (stepIn pairs ops boundary word options state .answer))
+  pub again : r ≡ 0 → stateRead state′ ≡ some (stepIn pairs ops boundary word options state .state)
