@@ -1,4 +1,4 @@
-/* The letter setter for a host in C: one function. Link target/staticlib/libhost.a, which `rt staticlib host` writes
+/* The letter setter for a host in C: one function. Link target/staticlib/libligkern.a, which c/build writes
    for x86-64 Linux. c/host.c is an example. */
 #ifndef LIGCOLS_H
 #define LIGCOLS_H

@@ -1,4 +1,4 @@
--- A fresh run whose state stands in a list: the contract of `begin_run`. Document 01, 'Caption items'.
+-- A fresh run whose state stands in a list: the contract of `ligkern_begin`. Document 01, 'Caption items'.
 use mathlib.Core.Path.{_≡_}
 use mathlib.Core.List.{List}
 use mathlib.Core.Option.{some}

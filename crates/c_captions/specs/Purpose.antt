@@ -31,7 +31,7 @@ ReadsBack = (s : State) (rest : List ℕ) → nextCode (s .«next_left») ≤ 42
 
 -- ---- any number of calls
 
--- what a host sees of a call of step_run: its number, and what the list of the item then holds
+-- what a host sees of a call of ligkern_step: its number, and what the list of the item then holds
 pub record Call : Type 0 where
   pub number : ℕ
   pub item : List ℤ
@@ -40,7 +40,7 @@ pub record Call : Type 0 where
 abbrev pub seen : ℕ → Answer → Call
 seen room a = record { number = answerReply a .number; item = listOf (answerReply a .number) (pos 0) room (itemNumbers a) }
 
--- n calls of step_run, each on the list that the last one left, and each lent `room` numbers for its item
+-- n calls of ligkern_step, each on the list that the last one left, and each lent `room` numbers for its item
 pub data HostCalls (pairs ops : List ℤ) (boundary : ℤ) (word : List ℕ) (options : RunOptions) (room : ℕ) : ℕ → List ℕ → List Call → Type 0 where
   done : {state : List ℕ} → HostCalls pairs ops boundary word options room 0 state []
   call : {n r : ℕ} {state state′ : List ℕ} {item item′ : List ℤ} {calls : List Call} →
@@ -58,7 +58,7 @@ HostCallsAnswer =
 
 -- ---- demand 3
 
--- a font that compile_counts accepts: demand 3 holds of what the host reads in the counts and cuts its lists to
+-- a font that ligkern_compile accepts: demand 3 holds of what the host reads in the counts and cuts its lists to
 abbrev pub EveryHostFont : Type 0
 EveryHostFont =
     (f : Font) (pairs ops loops : List ℤ) (work counts : List ℕ) (pairs′ ops′ loops′ : List ℤ) (work′ counts′ : List ℕ) →
@@ -71,7 +71,7 @@ pub record Sees (pairs ops : List ℤ) (boundary : ℤ) (word : List ℕ) (optio
   pub seen-as : calls ≡ map (seen room) answers
   pub same : map shown answers ≡ thenEnds n items
 
--- where demand 3 says that a run answers these items, begin_run, lent a list with room for a state, is not refused, and any number of calls of step_run on that list,
+-- where demand 3 says that a run answers these items, ligkern_begin, lent a list with room for a state, is not refused, and any number of calls of ligkern_step on that list,
 -- each lent a list with room for an item, see them and then the end
 abbrev pub EveryRun : Type 0
 EveryRun =

@@ -1,4 +1,4 @@
--- A word set whole, with the count of its items in a list: the contract of `set_caption`. Document 01, 'Caption items' and 'The column text'.
+-- A word set whole, with the count of its items in a list: the contract of `ligkern_set_word`. Document 01, 'Caption items' and 'The column text'.
 use mathlib.Core.Path.{_≡_}
 use mathlib.Core.List.{List, [], _∷_}
 use Prim.Native.Nat.{ℕ, _/_}

@@ -8,7 +8,8 @@ use captions::RunOptions;
 use ligkern::begin::begin;
 
 // The state of a fresh run, nine numbers with zeros after them. Begin's numbers, then 15 where the list has no room for it.
-pub fn begin_run(
+#[no_mangle]
+pub extern "C" fn ligkern_begin(
     pairs: &[i32],
     ops: &[i32],
     boundary: i32,

@@ -8,7 +8,8 @@ use setting::set_word;
 use words::zero::zero_i32;
 
 // The items of a word up to its end, six numbers each, with zeros after them, and their count. set_word's numbers, then 15 where the count has no room.
-pub fn set_caption(
+#[no_mangle]
+pub extern "C" fn ligkern_set_word(
     pairs: &[i32],
     ops: &[i32],
     boundary: i32,

@@ -31,9 +31,10 @@ fn tell_sizes(packed: Packed, values: &mut [u64]) -> u32
     }
 }
 
-// The instructions with redirects in front and the left boundary's entry at the end; the entries, packed, in the lent order. TellsHost the count of instructions
+// The instructions with redirects in front and the left boundary's entry at the end; the entries, packed, in the lent order. Tells the count of instructions
 // now, the offset of the old ones, and the number of redirects.
-pub fn pack_entrypoints(
+#[no_mangle]
+pub extern "C" fn ligkern_pack_entrypoints(
     instructions: &[i32],
     entries: &[i32],
     boundary: i32,
@@ -58,8 +59,14 @@ pub fn pack_entrypoints(
     number
 }
 
-// Each kern index becomes the kern there, or past the list a kern of zero. TellsHost the count of instructions.
-pub fn pack_kerns(instructions: &[i32], kerns: &[i32], out: &mut [i32], values: &mut [u64]) -> u32
+// Each kern index becomes the kern there, or past the list a kern of zero. Tells the count of instructions.
+#[no_mangle]
+pub extern "C" fn ligkern_pack_kerns(
+    instructions: &[i32],
+    kerns: &[i32],
+    out: &mut [i32],
+    values: &mut [u64],
+) -> u32
     ensures { λ r. ⌜ Gives (pos 0) (packKernsReply (now (instructions .entry)) (now (kerns .entry)) (length (now (out .entry)))) (packed (now (instructions .entry)) (now (kerns .entry))) (now (out .entry)) (now (values .entry)) r (now (out .exit)) (now (values .exit)) ⌝ }
 {
     let written = kerns::pack_kerns(instructions, kerns, out);
@@ -68,8 +75,9 @@ pub fn pack_kerns(instructions: &[i32], kerns: &[i32], out: &mut [i32], values: 
     number
 }
 
-// Each kern value becomes its index in the list of kerns, which holds each value once. TellsHost the count of kerns.
-pub fn unpack_kerns(
+// Each kern value becomes its index in the list of kerns, which holds each value once. Tells the count of kerns.
+#[no_mangle]
+pub extern "C" fn ligkern_unpack_kerns(
     instructions: &[i32],
     out: &mut [i32],
     kerns: &mut [i32],

@@ -1,4 +1,4 @@
--- A font compiled for a host in C: the contract of `compile_counts`. Document 01, 'The pair table' and the table of numbers.
+-- A font compiled for a host in C: the contract of `ligkern_compile`. Document 01, 'The pair table' and the table of numbers.
 use mathlib.Core.Path.{_≡_}
 use mathlib.Core.List.{List, [], _∷_}
 use Prim.Native.Nat.{ℕ}

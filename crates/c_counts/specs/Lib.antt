@@ -1,2 +1,2 @@
--- A font compiled for a host in C, the contract of compile_counts: Counts.
+-- A font compiled for a host in C, the contract of ligkern_compile: Counts.
 pub mod Counts

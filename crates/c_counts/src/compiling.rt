@@ -8,7 +8,8 @@ use fonts::Compiled;
 use words::zero::zero_i32;
 
 // The counts: pairs, ops, loops. Compile's numbers, then 15 where the counts have no room.
-pub fn compile_counts(
+#[no_mangle]
+pub extern "C" fn ligkern_compile(
     instructions: &[i32],
     kerns: &[i32],
     entries: &[i32],

@@ -1,4 +1,4 @@
--- The replies of the calls about programs and tables: each is the reply that the contract of the port's own function states.
+-- The replies of the calls about programs: each is the reply that the contract of the port's own function states.
 use mathlib.Core.List.{List, [], _∷_}
 use Prim.Native.Nat.{ℕ}
 use lib.IntN.{ℤ, pos}
@@ -8,8 +8,6 @@ use Rattle.lang.specs.Records.{count}
 use Rattle.lang.specs.Answers.{Reply, replyOf}
 use Rattle.chain.specs.Chains.{chainOf, walkRefusal}
 use Rattle.reach.specs.Reach.{reachRefusal}
-use Rattle.captions.specs.Tables.{pairCount}
-use Rattle.captions.specs.Queries.{keysRefusal}
 
 -- instructions_for_entrypoint: how many instructions the chain has
 abbrev pub walkReply : List ℤ → ℤ → ℕ → Reply
@@ -18,7 +16,3 @@ walkReply s entry room = replyOf (walkRefusal s entry room) (pos (length (chainO
 -- reachable_iter: how many instructions there are
 abbrev pub reachReply : List ℤ → List ℤ → ℤ → List ℕ → ℕ → Reply
 reachReply s es left p room = replyOf (reachRefusal s es left p room) (pos (count s) ∷ [])
-
--- all_pairs_with_replacements: how many pairs there are
-abbrev pub pairsReply : List ℤ → ℕ → Reply
-pairsReply pairs room = replyOf (keysRefusal pairs room) (pos (pairCount pairs) ∷ [])

@@ -2,8 +2,6 @@
 ghost use mathlib.Core.Path.{_≡_};
 ghost use Rattle.lang.specs.Answers.{writtenReply};
 ghost use Rattle.unpack.specs.Unpacking.{unpackedReply, sevenBitReply};
-ghost use Rattle.captions.specs.Replies.{toldReply};
-use captions::Told;
 use lang::Written;
 use unpack::SevenBit;
 use unpack::Unpacked;
@@ -19,31 +17,17 @@ pub(crate) fn entry_of(answer: Unpacked) -> Written
     }
 }
 
-// A yes or a no, of a program or of a table.
-fn answer_of(yes: bool) -> Written
-    ensures { λ r. ⌜ (writtenReply r ≡ sevenBitReply (SevenBit.Safe yes)) × (writtenReply r ≡ toldReply (Told.Is yes)) ⌝ }
-{
-    if yes {
-        Written::Count(1)
-    } else {
-        Written::Count(0)
-    }
-}
-
 pub(crate) fn safety_of(answer: SevenBit) -> Written
     ensures { λ r. ⌜ writtenReply r ≡ sevenBitReply answer ⌝ }
 {
     match answer {
         SevenBit::Refused(n) => Written::Refused(n),
-        SevenBit::Safe(safe) => answer_of(safe),
-    }
-}
-
-pub(crate) fn reply_of(answer: Told) -> Written
-    ensures { λ r. ⌜ writtenReply r ≡ toldReply answer ⌝ }
-{
-    match answer {
-        Told::Refused(n) => Written::Refused(n),
-        Told::Is(yes) => answer_of(yes),
+        SevenBit::Safe(safe) => {
+            if safe {
+                Written::Count(1)
+            } else {
+                Written::Count(0)
+            }
+        }
     }
 }

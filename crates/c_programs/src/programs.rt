@@ -14,8 +14,9 @@ use c_values::keep_u8;
 use c_values::keep_u32;
 use c_values::tell;
 
-// The indices of the whole chain from an entry, then zeros. TellsHost how many.
-pub fn instructions_for_entrypoint(
+// The indices of the whole chain from an entry, then zeros. Tells how many.
+#[no_mangle]
+pub extern "C" fn ligkern_instructions_for_entrypoint(
     instructions: &[i32],
     entry: i32,
     out: &mut [u32],
@@ -29,8 +30,9 @@ pub fn instructions_for_entrypoint(
     number
 }
 
-// The passthrough after an entry is unpacked, as 0 and 1, then zeros. TellsHost the entry that the packed one stands for.
-pub fn unpack_entrypoint(
+// The passthrough after an entry is unpacked, as 0 and 1, then zeros. Tells the entry that the packed one stands for.
+#[no_mangle]
+pub extern "C" fn ligkern_unpack_entrypoint(
     instructions: &[i32],
     entry: i32,
     passthrough: &[u8],
@@ -45,16 +47,22 @@ pub fn unpack_entrypoint(
     number
 }
 
-// The program's seven-bit test. TellsHost 1 where no instruction for two characters below 128 inserts one above 127.
-pub fn is_seven_bit_safe(instructions: &[i32], entries: &[i32], values: &mut [u64]) -> u32
+// The program's seven-bit test. Tells 1 where no instruction for two characters below 128 inserts one above 127.
+#[no_mangle]
+pub extern "C" fn ligkern_program_is_seven_bit_safe(
+    instructions: &[i32],
+    entries: &[i32],
+    values: &mut [u64],
+) -> u32
     ensures { λ r. ⌜ TellsHost (sevenBit (now (instructions .entry)) (now (entries .entry))) (now (values .entry)) r (now (values .exit)) ⌝ }
 {
     let tested = unpack::is_seven_bit_safe(instructions, entries);
     tell(safety_of(tested), values)
 }
 
-// Two numbers an instruction: its state (0 unreachable, 1 reachable, 2 passthrough) and its adjusted skip or -1. TellsHost the count of instructions.
-pub fn reachable_iter(
+// Two numbers an instruction: its state (0 unreachable, 1 reachable, 2 passthrough) and its adjusted skip or -1. Tells the count of instructions.
+#[no_mangle]
+pub extern "C" fn ligkern_reachable_iter(
     instructions: &[i32],
     entries: &[i32],
     left_entry: i32,

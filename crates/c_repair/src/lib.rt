@@ -31,9 +31,10 @@ fn tell_fixed(validated: Validated, left: &mut [i32], values: &mut [u64]) -> u32
     }
 }
 
-// Repairs a font. The existing characters are 256 bits: those from 0, 64, 128 and 192 on. TellsHost the repaired left entry in `left`, and in `values` how many
+// Repairs a font. The existing characters are 256 bits: those from 0, 64, 128 and 192 on. Tells the repaired left entry in `left`, and in `values` how many
 // warnings there are, four numbers each. Work is left zero.
-pub fn validate_and_fix(
+#[no_mangle]
+pub extern "C" fn ligkern_validate_and_fix(
     instructions: &[i32],
     kerns: &[i32],
     entries: &[i32],

@@ -1,2 +1,2 @@
--- One step of a run whose state stands in a list, the contract of step_run: Step.
+-- One step of a run whose state stands in a list, the contract of ligkern_step: Step.
 pub mod Step

@@ -1,4 +1,4 @@
--- One step of a run whose state stands in a list: the contract of `step_run`. Document 01, 'Caption items'.
+-- One step of a run whose state stands in a list: the contract of `ligkern_step`. Document 01, 'Caption items'.
 use mathlib.Core.Path.{_≡_}
 use mathlib.Core.List.{List, [], _∷_}
 use mathlib.Core.Option.{Option, none, some}

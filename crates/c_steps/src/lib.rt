@@ -14,7 +14,8 @@ mod items;
 
 // One step: 1 and the six numbers of its item, or zeros at the end; the next state in place of the last. A refused step leaves the state as it was. A step's
 // numbers, with 7 for numbers that are no state, then 15 where the item has no room.
-pub fn step_run(
+#[no_mangle]
+pub extern "C" fn ligkern_step(
     pairs: &[i32],
     ops: &[i32],
     boundary: i32,

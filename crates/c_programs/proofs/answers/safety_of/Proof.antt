@@ -10,17 +10,14 @@ enum-known-answer c = search needs
 enum-known-answer-2 : tie.Need-enum-known-answer-2
 enum-known-answer-2 c = search needs
 
-answer-of-requires : tie.Need-answer-of-requires
-answer-of-requires c κs = search needs
-
 returns : tie.Need-returns
-returns c =
-    rw (c .before .answer .given .1) refl
+returns c = rw (c .before .answer .given .1) refl
 
 returns-2 : tie.Need-returns-2
-returns-2 c =
-    rw (c .before .before .answer2 .given .1) (c .answer-of .ensures .0)
+returns-2 c = rw (c .before .before .answer2 .given .1, c .if1 .taken) refl
+
+returns-3 : tie.Need-returns-3
+returns-3 c = rw (c .before .before .answer2 .given .1, c .if1 .left) refl
 
 pub safety-of-spec : {M : Type 1} → statement M
-safety-of-spec =
-    tie.close (tie.spec enum-known-answer enum-known-answer-2 answer-of-requires returns returns-2)
+safety-of-spec = tie.close (tie.spec enum-known-answer enum-known-answer-2 returns returns-2 returns-3)
