@@ -10,7 +10,7 @@ use lib.Dec.{eqb}
 use lib.ListN.{length}
 use borrow.Author.Tests.{eqb-true}
 use Rattle.columns.specs.Lines.{Line, readFields, lettered, readLine, fieldsOf, writeLine}
-use Rattle.columns.specs.Purpose.{FieldWritten, FieldRead, LineWritten, LineRead, LinesWritten}
+use Rattle.columns.specs.Purpose.{FieldWritten, FieldReadsBack, LineWritten, LineRead, LinesWritten}
 use Rattle.columns.proofs.Options.{none-some, cond-some, lettered-some}
 use Rattle.columns.proofs.Fields as fields
 use Rattle.columns.proofs.ReadBack.{field-long, fields-long, fields-read}
@@ -21,7 +21,7 @@ pub field-written : FieldWritten
 field-written = fields.field-written
 
 -- An i32 that is written in a field is read from it.
-pub field-read : FieldRead
+pub field-read : FieldReadsBack
 field-read z t = (field-long z, back.field-read z t)
 
 -- A line that is read, written again from its numbers, is that line byte for byte.

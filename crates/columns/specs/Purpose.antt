@@ -25,8 +25,8 @@ allI32 [] = true
 allI32 (z ∷ zs) = both (isI32 z) (allI32 zs)
 
 -- And an i32 that is written is read: every number has a spelling.
-abbrev pub FieldRead : Type 0
-FieldRead = (z : ℤ) → isI32 z ≡ true → (length (fieldOf z) ≡ 12) × (readField (fieldOf z) ≡ some z)
+abbrev pub FieldReadsBack : Type 0
+FieldReadsBack = (z : ℤ) → isI32 z ≡ true → (length (fieldOf z) ≡ 12) × (readField (fieldOf z) ≡ some z)
 
 -- The same of a line.
 abbrev pub LineWritten : Type 0

@@ -16,7 +16,7 @@ use Rattle.words.proofs.Bits.{number-pos, number-is, number-word}
 use Rattle.lang.specs.Every.{both}
 use Rattle.lang.specs.Records.{field, isKind}
 use Rattle.repairs.specs.declared.Faults.{Faults}
-use Rattle.repairs.specs.Damaged.{Program}
+use Rattle.repairs.specs.Damaged.{DamagedProgram}
 use Rattle.repairs.specs.Repaired.{skipGoes, faultsOf}
 use Rattle.repairs.specs.Warnings.{warning, warnIf, skipWarnings, stepWarnings, stepsWarnings}
 use Rattle.repairs.specs.Pushed.{Pushed}
@@ -49,7 +49,7 @@ one-pushed t a b d {w} {n} {k} {w′} {r} {kind} {at} {old} {new} h i e f g p =
 -- ---- of one step
 
 -- the warning of its skip
-pub skip-pushed : (p : Program) (i : ℕ) {f : Faults} {w : List ℤ} {n : ℕ} {w′ : List ℤ} {r : ℕ} → f ≡ faultsOf p i → i < 32767 → n < 4294967296 → Pushes w n (f .skip) 3 i 0 0 w′ r → PushedUpTo 1 w n (warnIf (skipGoes p i) (warning 3 (pos i) (pos 0) (pos 0))) w′ r
+pub skip-pushed : (p : DamagedProgram) (i : ℕ) {f : Faults} {w : List ℤ} {n : ℕ} {w′ : List ℤ} {r : ℕ} → f ≡ faultsOf p i → i < 32767 → n < 4294967296 → Pushes w n (f .skip) 3 i 0 0 w′ r → PushedUpTo 1 w n (warnIf (skipGoes p i) (warning 3 (pos i) (pos 0) (pos 0))) w′ r
 skip-pushed p i {f} {w} {n} {w′} {r} e h l q =
     let o : PushedUpTo 1 w n (warnIf (f .skip) (warning 3 (pos i) (pos 0) (pos 0))) w′ r = one-pushed (f .skip) i 0 0 l refl (number-pos i (omega arith)) refl refl q in
     subst (λ (t : Bool). PushedUpTo 1 w n (warnIf t (warning 3 (pos i) (pos 0) (pos 0))) w′ r) (ap (λ (g : Faults). g .skip) e) o
@@ -74,7 +74,7 @@ module _ (s : List ℤ) (replacement : ℕ) (f : Faults) (i : ℕ) (small : repl
 one-more : {i j k : ℕ} {w : List ℤ} {n : ℕ} {xs w₁ : List ℤ} {m : ℕ} {ys w₂ : List ℤ} {r : ℕ} {zs : List ℤ} → zs ≡ xs ++ ys → k ≡ i + j → PushedUpTo i w n xs w₁ m → PushedUpTo j w₁ m ys w₂ r → PushedUpTo k w n zs w₂ r
 one-more e f a b = rw (e, f) (and-then a b)
 
-module _ (p : Program) where
+module _ (p : DamagedProgram) where
   pub skips-none : (w : List ℤ) (n : ℕ) → PushedUpTo 0 w n (skipWarnings p 0) w n
   unfolding skipWarnings
   skips-none w n = none-yet w n

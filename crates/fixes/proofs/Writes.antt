@@ -16,7 +16,7 @@ use Rattle.words.proofs.Lists.{sets-append}
 use Rattle.lang.specs.Records.{field, isInstruction}
 use Rattle.lang.proofs.Records.{within-bound}
 use Rattle.repairs.specs.declared.Faults.{Faults}
-use Rattle.repairs.specs.Damaged.{Program}
+use Rattle.repairs.specs.Damaged.{DamagedProgram}
 use Rattle.repairs.specs.Repaired.{repairedStep, repairedUpto}
 use Rattle.repairs.proofs.Kept.{operand-fits, ligature-fits}
 use Rattle.repairs.proofs.Steps.{length-upto}
@@ -53,7 +53,7 @@ module _ (s : List ℤ) (replacement : ℕ) (f : Faults) (i : ℕ) {kind operand
 
 -- ---- of the first k steps
 
-module _ (p : Program) where
+module _ (p : DamagedProgram) where
   pub written-none : (l : List ℤ) → l ≡ sets l 0 (repairedUpto p 0)
   unfolding repairedUpto
   written-none l = refl

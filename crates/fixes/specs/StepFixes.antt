@@ -9,7 +9,7 @@ use Rattle.words.specs.Words.{wordOf}
 use Rattle.lang.specs.Records.{field, isKind}
 use Rattle.lang.specs.Checks.{programRefusal}
 use Rattle.repairs.specs.declared.Faults.{Faults}
-use Rattle.repairs.specs.Damaged.{Program}
+use Rattle.repairs.specs.Damaged.{DamagedProgram}
 use Rattle.repairs.specs.Repaired.{repairedUpto}
 use Rattle.repairs.specs.Warnings.{warning, warnIf, stepsWarnings}
 use Rattle.repairs.specs.Pushed.{Pushed}
@@ -30,8 +30,8 @@ operandBy s replacement f i =
     (pos (256 * cond (f .tag) 0 (wordOf (field s i 3) / 256) + cond (f .product) replacement (wordOf (field s i 3) % 256)))
     (cond (f .kern) (pos 0) (field s i 3))
 
-abbrev pub stepBy : List ℤ → ℕ → Faults → ℕ → List ℤ
-stepBy s replacement f i =
+abbrev pub fixedStepBy : List ℤ → ℕ → Faults → ℕ → List ℤ
+fixedStepBy s replacement f i =
     cond (f .skip) (negsuc 0) (field s i 0)
     ∷ cond (f .right) (pos replacement) (field s i 1)
     ∷ cond (f .kern) (pos 0) (field s i 2)
@@ -46,6 +46,6 @@ pub record PushedUpTo (room : ℕ) (warnings : List ℤ) (n : ℕ) (ws warnings�
 
 -- ---- the first k steps
 
-pub record FixesUpto (p : Program) (k n : ℕ) (fixed warnings : List ℤ) (r : ℕ) (fixed′ warnings′ : List ℤ) : Type 0 where
+pub record FixesUpto (p : DamagedProgram) (k n : ℕ) (fixed warnings : List ℤ) (r : ℕ) (fixed′ warnings′ : List ℤ) : Type 0 where
   pub instructions : programRefusal (p .instructions) ≡ 0 → fixed′ ≡ sets fixed 0 (repairedUpto p k)
   pub warned : PushedUpTo (5 * k) warnings n (stepsWarnings p k) warnings′ r

@@ -10,7 +10,7 @@ ghost use Rattle.lang.specs.Checks.{programRefusal};
 ghost use Rattle.repairs.specs.Damaged.{programBy};
 ghost use Rattle.repairs.specs.Warnings.{skipWarnings};
 ghost use Rattle.fixes.specs.Fixing.{Fixes};
-ghost use Rattle.fixes.specs.StepFixes.{warningsBy, operandBy, stepBy, PushedUpTo, FixesUpto};
+ghost use Rattle.fixes.specs.StepFixes.{warningsBy, operandBy, fixedStepBy, PushedUpTo, FixesUpto};
 use faults::faults;
 use lang::instruction::field_at;
 use repairs::Faults;
@@ -72,7 +72,7 @@ fn repaired_operand(instructions: &[i32], replacement: u32, f: Faults, i: usize)
 // The four numbers of step i repaired, at its place.
 fn write_step(instructions: &[i32], replacement: u32, f: Faults, i: usize, fixed: &mut [i32])
     requires { ⌜ (replacement < 256) × (i < 32767) ⌝ }
-    ensures { λ _. ⌜ (isInstruction (now (instructions .entry)) i ≡ true → now (fixed .exit) ≡ sets (now (fixed .entry)) (4 * i) (stepBy (now (instructions .entry)) replacement f i)) ⌝ }
+    ensures { λ _. ⌜ (isInstruction (now (instructions .entry)) i ≡ true → now (fixed .exit) ≡ sets (now (fixed .entry)) (4 * i) (fixedStepBy (now (instructions .entry)) replacement f i)) ⌝ }
 {
     let next = pick(f.skip, 4294967295, field_at(instructions, i, 0));
     let right = pick(f.right, replacement, field_at(instructions, i, 1));

@@ -30,7 +30,7 @@ use Rattle.marks.specs.Marks.{reachable}
 use Rattle.repairs.specs.declared.Entered.{Entered}
 use Rattle.repairs.specs.declared.Validated.{Validated}
 use Rattle.repairs.specs.declared.Validated.the-variants as validated
-use Rattle.repairs.specs.Damaged.{Damaged, Program, programBy, programOf, unpackedEntries, leftGoes, repairedLeft, repairedPassthrough}
+use Rattle.repairs.specs.Damaged.{Damaged, DamagedProgram, programBy, programOf, unpackedEntries, leftGoes, repairedLeft, repairedPassthrough}
 use Rattle.repairs.specs.Repaired.{repairedInstructions, repairedFont}
 use Rattle.repairs.specs.Warnings.{leftWarning, entryWarnings, skipWarnings, stepsWarnings, repairWarnings, loopWarnings, warningsOf}
 use Rattle.repairs.specs.Repairs.{damagedRefusal, repairedPairsRefusal, validatedReply}
@@ -166,7 +166,7 @@ module _ (d : Damaged) (ok : damagedRefusal d ≡ 0) where
 pub steps-are : (d : Damaged) (boundary : ℤ) (replacement n c : ℕ) (marks through : List ℕ) (fixed w fixed₁ w₁ : List ℤ) → boundary ≡ d .boundary → replacement ≡ d .replacement → marks ≡ reachable (d .instructions) (unpackedEntries d) (repairedLeft d) → through ≡ repairedPassthrough d → Fixes (programBy (d .instructions) (d .kerns) boundary replacement (d .existing) marks through) n fixed w c fixed₁ w₁ → Fixes (programOf d) n fixed w c fixed₁ w₁
 steps-are d boundary replacement n c marks through fixed w fixed₁ w₁ x y z t g =
     let p : programBy (d .instructions) (d .kerns) boundary replacement (d .existing) marks through ≡ programOf d = (λ i. programBy (d .instructions) (d .kerns) (x i) (y i) (d .existing) (z i) (t i)) in
-    subst (λ (q : Program). Fixes q n fixed w c fixed₁ w₁) p g
+    subst (λ (q : DamagedProgram). Fixes q n fixed w c fixed₁ w₁) p g
 
 pub loops-are : (d : Damaged) (s es : List ℤ) (left : ℤ) (n : ℕ) (w w₁ : List ℤ) (work work₁ : List ℕ) (r : Written) → s ≡ repairedInstructions d → es ≡ unpackedEntries d → left ≡ repairedLeft d → WarnsLoops (fontOf s (d .kerns) es (d .boundary) left (pos 10485760)) n w work r w₁ work₁ → WarnsLoops (repairedFont d) n w work r w₁ work₁
 loops-are d s es left n w w₁ work work₁ r x y z g =

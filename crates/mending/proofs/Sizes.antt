@@ -18,7 +18,7 @@ use Rattle.lang.specs.Checks.{programRefusal, kernsRefusal, entriesRefusal, abs
 use Rattle.lang.proofs.Refusals.{orElse-none, unless-none, program-size}
 use Rattle.lang.proofs.Entered.{entries-few}
 use Rattle.targets.specs.Targets.{standsFor}
-use Rattle.repairs.specs.Damaged.{Damaged, Program, unpacks, packedEntryOf, unpackedUpto, unpackedEntries, leftGoes, repairedPassthrough, passedOver}
+use Rattle.repairs.specs.Damaged.{Damaged, DamagedProgram, unpacks, packedEntryOf, unpackedUpto, unpackedEntries, leftGoes, repairedPassthrough, passedOver}
 use Rattle.repairs.specs.Repaired.{skipGoes, redirectWarns, isLigature, rightGoes, kernGoes, productGoes, tagGoes, insertedBy}
 use Rattle.repairs.specs.Warnings.{warning, warnIf, leftWarning, entryWarnings, skipWarnings, stepWarnings, stepsWarnings}
 use Rattle.repairs.specs.Repairs.{damagedRefusal}
@@ -59,12 +59,12 @@ unfolding entryWarnings
 entry-few d zero = omega arith
 entry-few d (suc k) = omega (arith, length-append (entryWarnings d k) (warnIf (not (unpacks d k)) (warning 2 (charAt (d .entries) k) (pos 0) (pos 0))), entry-few d k, warn-few (not (unpacks d k)) 2 (charAt (d .entries) k) (pos 0) (pos 0))
 
-skip-few : (p : Program) (k : ℕ) → length (skipWarnings p k) ≤ 4 * k
+skip-few : (p : DamagedProgram) (k : ℕ) → length (skipWarnings p k) ≤ 4 * k
 unfolding skipWarnings
 skip-few p zero = omega arith
 skip-few p (suc k) = omega (arith, length-append (skipWarnings p k) (warnIf (skipGoes p k) (warning 3 (pos k) (pos 0) (pos 0))), skip-few p k, warn-few (skipGoes p k) 3 (pos k) (pos 0) (pos 0))
 
-step-few : (p : Program) (i : ℕ) → length (stepWarnings p i) ≤ 20
+step-few : (p : DamagedProgram) (i : ℕ) → length (stepWarnings p i) ≤ 20
 step-few p i =
     let a = warnIf (redirectWarns p i) (warning 9 (pos i) (pos 0) (pos 0)) in
     let b = warnIf (rightGoes p i) (warning (cond (isLigature p i) 4 5) (pos i) (field (p .instructions) i 1) (pos (p .replacement))) in
@@ -73,7 +73,7 @@ step-few p i =
     let f = warnIf (tagGoes p i) (warning 8 (pos i) (pos 0) (pos 0)) in
     omega (arith, length-append (a ++ b ++ c ++ e) f, length-append (a ++ b ++ c) e, length-append (a ++ b) c, length-append a b, warn-few (redirectWarns p i) 9 (pos i) (pos 0) (pos 0), warn-few (rightGoes p i) (cond (isLigature p i) 4 5) (pos i) (field (p .instructions) i 1) (pos (p .replacement)), warn-few (kernGoes p i) 7 (pos i) (pos 0) (pos 0), warn-few (productGoes p i) 6 (pos i) (pos (insertedBy p i)) (pos (p .replacement)), warn-few (tagGoes p i) 8 (pos i) (pos 0) (pos 0))
 
-steps-few : (p : Program) (k : ℕ) → length (stepsWarnings p k) ≤ 20 * k
+steps-few : (p : DamagedProgram) (k : ℕ) → length (stepsWarnings p k) ≤ 20 * k
 unfolding stepsWarnings
 steps-few p zero = omega arith
 steps-few p (suc k) = omega (arith, length-append (stepsWarnings p k) (stepWarnings p k), steps-few p k, step-few p k)
@@ -107,7 +107,7 @@ module _ (d : Damaged) (ok : damagedRefusal d ≡ 0) where
       let r = orElse-none (absentRefusal 65535 (d .left)) _ (orElse-none (absentRefusal 255 (d .boundary)) _ (orElse-none (entriesRefusal 255 (d .entries)) _ after-kerns .1) .1) .1 in
       omega (arith, leb-true (d .replacement) 255 (unless-none 3 (leb (d .replacement) 255) (orElse-none (unless 4 (leb (d .replacement) 255)) _ r .0)))
 
-  pub stepped-few : (p : Program) → length (skipWarnings p (count (d .instructions)) ++ stepsWarnings p (count (d .instructions))) ≤ 786408
+  pub stepped-few : (p : DamagedProgram) → length (skipWarnings p (count (d .instructions)) ++ stepsWarnings p (count (d .instructions))) ≤ 786408
   stepped-few p = omega (arith, length-append (skipWarnings p (count (d .instructions))) (stepsWarnings p (count (d .instructions))), skip-few p (count (d .instructions)), steps-few p (count (d .instructions)), size)
 
 pub length-passthrough : (d : Damaged) → length (repairedPassthrough d) ≡ count (d .instructions)

@@ -25,7 +25,7 @@ use Rattle.chain.specs.declared.Next.{Next}
 use Rattle.chain.specs.declared.Next.the-variants.{At}
 use Rattle.chain.specs.Chains.{Program, stepAt, chain, firstFor, ruleIndex, found}
 use Rattle.chain.proofs.Walks.{Stepped, step-on, chain-end, length-chain, rule-here, rule-later, rule-nowhere}
-use Rattle.records.specs.declared.steps.Walk.{Walk}
+use Rattle.records.specs.declared.steps.ChainWalk.{ChainWalk}
 use Rattle.records.specs.RecordChains.{recordAt, recordsRefusal, WalksRecords}
 use Rattle.records.specs.WalkSteps.{searchesOn, onwardOf, ruleWhere, earlyRefusal, refusalBy, startOf, stepIndex, movedBy, putBy, FinishesWalk}
 
@@ -65,7 +65,7 @@ module _ (n : ℕ) (program : Program) (right entry at : ℕ) where
 -- ---- a walk into a list
 
 -- a walk that has come to an index: the indices before it are written at the front of the list, as long as there is room for them
-pub record Walked (n : ℕ) (program : Program) (entry : ℤ) (out₀ out : List ℕ) (walk : Walk) : Type 0 where
+pub record Walked (n : ℕ) (program : Program) (entry : ℤ) (out₀ out : List ℕ) (walk : ChainWalk) : Type 0 where
   pub done : List ℕ
   pub reached : walk .count ≡ length done
   pub split : done ++ chain n program (walk .at) ≡ chain n program (startOf n entry)
@@ -87,7 +87,7 @@ start-refused n entry h = rw (ne-eqb (earlyRefusal n entry) 0 h)
 pub start-taken : (n : ℕ) (entry : ℤ) → earlyRefusal n entry ≡ 0 → startOf n entry ≡ wordOf entry
 start-taken n entry h = rw (eq-eqb (earlyRefusal n entry) 0 h)
 
-module _ (n : ℕ) (program : Program) (entry : ℤ) (out₀ out : List ℕ) (walk : Walk) (h : Walked n program entry out₀ out walk) where
+module _ (n : ℕ) (program : Program) (entry : ℤ) (out₀ out : List ℕ) (walk : ChainWalk) (h : Walked n program entry out₀ out walk) where
   module _ (inside : walk .at < n) where
     abbrev on : ℕ
     on = onwardOf (stepAt n program (walk .at))
@@ -144,7 +144,7 @@ module _ (n : ℕ) (program : Program) (entry : ℤ) (out₀ out : List ℕ) (wa
     walked-more = goes-by (stepAt n program (walk .at)) walked-on
 
 -- the end of a walk
-module _ (xs : List Instruction) (entry : ℤ) (out₀ out : List ℕ) (walk : Walk) (h : Walked (length xs) (recordAt xs) entry out₀ out walk) (past : length xs ≤ walk .at) where
+module _ (xs : List Instruction) (entry : ℤ) (out₀ out : List ℕ) (walk : ChainWalk) (h : Walked (length xs) (recordAt xs) entry out₀ out walk) (past : length xs ≤ walk .at) where
   abbrev n : ℕ
   n = length xs
 

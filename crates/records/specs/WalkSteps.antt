@@ -15,7 +15,7 @@ use Rattle.chain.specs.declared.Next.{Next}
 use Rattle.chain.specs.declared.Next.the-variants.{At, End}
 use Rattle.chain.specs.declared.FoundRule.{FoundRule}
 use Rattle.chain.specs.declared.FoundRule.the-variants.{Rule, Nothing}
-use Rattle.records.specs.declared.steps.Walk.{Walk}
+use Rattle.records.specs.declared.steps.ChainWalk.{ChainWalk}
 use Rattle.records.specs.RecordChains.{recordsRefusal}
 
 -- ---- a search
@@ -53,12 +53,12 @@ stepIndex (At i on) = i
 stepIndex End = 0
 
 -- a walk after a step
-abbrev pub movedBy : Walk → Next → Walk
+abbrev pub movedBy : ChainWalk → Next → ChainWalk
 movedBy walk (At i on) = record { at = on; count = walk .count + 1 }
 movedBy walk End = walk
 
 -- the list after a step
-abbrev pub putBy : Walk → Next → List ℕ → List ℕ
+abbrev pub putBy : ChainWalk → Next → List ℕ → List ℕ
 putBy walk (At i on) out = set out (walk .count) i
 putBy walk End out = out
 

@@ -15,7 +15,7 @@ use tfm::Char;
 use tfm::FixWord;
 
 // Where a walk is, and how many indices it has passed.
-pub(crate) struct Walk {
+pub(crate) struct ChainWalk {
     pub at: usize,
     pub count: usize,
 }
@@ -102,20 +102,20 @@ fn refusal(n: usize, entry: i32, count: usize, room: usize) -> u32
 }
 
 // A walk begins at its entry; where it is refused it begins past the last record, and is over.
-pub(crate) fn begin(n: usize, entry: i32) -> Walk
+pub(crate) fn begin(n: usize, entry: i32) -> ChainWalk
     ensures { λ r. ⌜ r ≡ record { at = startOf n entry; count = 0 } ⌝ }
 {
     if early_refusal(n, entry) != 0 {
-        return Walk { at: n, count: 0 };
+        return ChainWalk { at: n, count: 0 };
     }
-    Walk {
+    ChainWalk {
         at: words::word_of(entry) as usize,
         count: 0,
     }
 }
 
 // The index that a step passes is written at the end of those before it, where there is room, and the walk goes on.
-pub(crate) fn put(walk: Walk, next: Next, out: &mut [u32]) -> Walk
+pub(crate) fn put(walk: ChainWalk, next: Next, out: &mut [u32]) -> ChainWalk
     requires { ⌜ (stepIndex next < 2 ^ 32) × (walk .count < 2 ^ 32) ⌝ }
     ensures { λ r. ⌜ (r ≡ movedBy walk next) × (now (out .exit) ≡ putBy walk next (now (out .entry))) ⌝ }
 {
@@ -123,7 +123,7 @@ pub(crate) fn put(walk: Walk, next: Next, out: &mut [u32]) -> Walk
     match next {
         Next::At(i, on) => {
             words::put_u32(out, k, i as u32);
-            Walk {
+            ChainWalk {
                 at: on,
                 count: k + 1,
             }

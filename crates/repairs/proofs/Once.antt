@@ -17,7 +17,7 @@ use Rattle.lang.specs.Records.{count, field}
 use Rattle.lang.specs.Checks.{programRefusal}
 use Rattle.lang.proofs.Every.{both-left, both-false}
 use Rattle.repairs.specs.Damaged.{Damaged, programOf}
-use Rattle.repairs.specs.Repaired.{exists, isReachable, skipGoes, repairedNext, isRedirect, isLigature, isBoundary, rightGoes, repairedRight, kernGoes, opOf, insertedBy, productGoes, tagGoes, repairedKind, repairedOperand, repairedInstructions}
+use Rattle.repairs.specs.Repaired.{exists, isReachable, skipGoes, repairedNext, isRedirect, isLigature, isBoundary, rightGoes, repairedRight, kernGoes, opByteAt, insertedBy, productGoes, tagGoes, repairedKind, repairedOperand, repairedInstructions}
 use Rattle.repairs.specs.Purpose.{again}
 use Rattle.repairs.proofs.Steps.{same-count, field-repaired}
 use Rattle.repairs.proofs.SameReach.{same-kind, same-redirect, same-reachable}
@@ -108,7 +108,7 @@ module _ (d : Damaged) (i : ℕ) (within : i < count (d .instructions)) where
   -- ---- a ligature's two bytes
 
   abbrev byte : ℕ
-  byte = cond (tagGoes (programOf d) i) 0 (opOf (programOf d) i)
+  byte = cond (tagGoes (programOf d) i) 0 (opByteAt (programOf d) i)
 
   abbrev inserted : ℕ
   inserted = cond (productGoes (programOf d) i) (d .replacement) (insertedBy (programOf d) i)
@@ -160,6 +160,6 @@ module _ (d : Damaged) (i : ℕ) (within : i < count (d .instructions)) where
         ligature-again (λ (w : ℕ). not (isStandard (w / 256)))
         ∙ ap (λ (b : ℕ). both (isLigature (programOf d) i) (not (isStandard b))) e ∙ by (tagGoes (programOf d) i) refl
       where
-        by : (t : Bool) → tagGoes (programOf d) i ≡ t → both (isLigature (programOf d) i) (not (isStandard (cond t 0 (opOf (programOf d) i)))) ≡ false
+        by : (t : Bool) → tagGoes (programOf d) i ≡ t → both (isLigature (programOf d) i) (not (isStandard (cond t 0 (opByteAt (programOf d) i)))) ≡ false
         by true e = both-false (isLigature (programOf d) i)
         by false e = e

@@ -16,7 +16,7 @@ use Rattle.reading.specs.Depth.{Pair}
 use Rattle.lang.specs.Records.{count, field}
 use Rattle.lang.specs.Checks.{charAt}
 use Rattle.fonts.specs.Compiled.{loopsOfFont}
-use Rattle.repairs.specs.Damaged.{Damaged, Program, programOf, unpacks, leftGoes}
+use Rattle.repairs.specs.Damaged.{Damaged, DamagedProgram, programOf, unpacks, leftGoes}
 use Rattle.repairs.specs.Repaired.{skipGoes, redirectWarns, isLigature, rightGoes, kernGoes, productGoes, tagGoes, insertedBy, repairedFont}
 use Rattle.repairs.specs.Warnings.{warning, warnIf, leftWarning, entryWarnings, skipWarnings, stepWarnings, stepsWarnings, loopWarnings, warningsOf}
 use Rattle.repairs.specs.Pushed.{Pushed}
@@ -75,12 +75,12 @@ unfolding entryWarnings
 four-entries d zero = refl
 four-entries d (suc k) = four-append (entryWarnings d k) (warnIf (not (unpacks d k)) (warning 2 (charAt (d .entries) k) (pos 0) (pos 0))) (four-entries d k) (four-warn (not (unpacks d k)) 2 (charAt (d .entries) k) (pos 0) (pos 0))
 
-four-skips : (p : Program) (k : ℕ) → length (skipWarnings p k) % 4 ≡ 0
+four-skips : (p : DamagedProgram) (k : ℕ) → length (skipWarnings p k) % 4 ≡ 0
 unfolding skipWarnings
 four-skips p zero = refl
 four-skips p (suc k) = four-append (skipWarnings p k) (warnIf (skipGoes p k) (warning 3 (pos k) (pos 0) (pos 0))) (four-skips p k) (four-warn (skipGoes p k) 3 (pos k) (pos 0) (pos 0))
 
-four-step : (p : Program) (i : ℕ) → length (stepWarnings p i) % 4 ≡ 0
+four-step : (p : DamagedProgram) (i : ℕ) → length (stepWarnings p i) % 4 ≡ 0
 four-step p i =
     let a = warnIf (redirectWarns p i) (warning 9 (pos i) (pos 0) (pos 0)) in
     let b = warnIf (rightGoes p i) (warning (cond (isLigature p i) 4 5) (pos i) (field (p .instructions) i 1) (pos (p .replacement))) in
@@ -95,7 +95,7 @@ four-step p i =
     (four-warn (productGoes p i) 6 (pos i) (pos (insertedBy p i)) (pos (p .replacement))))
     (four-warn (tagGoes p i) 8 (pos i) (pos 0) (pos 0))
 
-four-steps : (p : Program) (k : ℕ) → length (stepsWarnings p k) % 4 ≡ 0
+four-steps : (p : DamagedProgram) (k : ℕ) → length (stepsWarnings p k) % 4 ≡ 0
 unfolding stepsWarnings
 four-steps p zero = refl
 four-steps p (suc k) = four-append (stepsWarnings p k) (stepWarnings p k) (four-steps p k) (four-step p k)

@@ -10,15 +10,15 @@ use lib.Seq.{getD-append-add}
 use borrow.Author.Count.{below-more}
 use borrow.Author.Tests.{lt-ltb}
 use Rattle.lang.specs.Records.{count, field}
-use Rattle.repairs.specs.Damaged.{Damaged, Program, programOf}
+use Rattle.repairs.specs.Damaged.{Damaged, DamagedProgram, programOf}
 use Rattle.repairs.specs.Repaired.{repairedStep, repairedUpto, repairedInstructions}
 
-pub length-upto : (p : Program) (k : ℕ) → length (repairedUpto p k) ≡ 4 * k
+pub length-upto : (p : DamagedProgram) (k : ℕ) → length (repairedUpto p k) ≡ 4 * k
 unfolding repairedUpto
 length-upto p zero = refl
 length-upto p (suc k) = length-append (repairedUpto p k) (repairedStep p k) ∙ omega (arith, length-upto p k)
 
-pub step-number : (p : Program) (k i j : ℕ) → i < k → j < 4 → getD (repairedUpto p k) (4 * i + j) (pos 0) ≡ getD (repairedStep p i) j (pos 0)
+pub step-number : (p : DamagedProgram) (k i j : ℕ) → i < k → j < 4 → getD (repairedUpto p k) (4 * i + j) (pos 0) ≡ getD (repairedStep p i) j (pos 0)
 unfolding repairedUpto
 step-number p zero i j h l = absurd (omega arith)
 step-number p (suc k) i j h l =

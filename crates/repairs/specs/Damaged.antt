@@ -68,7 +68,7 @@ repairedLeft d = cond (leftGoes d) (negsuc 0) (d .left)
 -- ---- TFtoPL 68 to 70: the program whose steps are looked at one by one
 
 -- What is reachable and what is passed over: a byte an instruction, nonzero meaning that it is.
-pub record Program : Type 0 where
+pub record DamagedProgram : Type 0 where
   pub instructions : List ℤ
   pub kerns : List ℤ
   pub boundary : ℤ
@@ -80,12 +80,12 @@ pub record Program : Type 0 where
 abbrev pub repairedPassthrough : Damaged → List ℕ
 repairedPassthrough d = tabulate (count (d .instructions)) (λ i. cond (passedOver d i) 1 0)
 
-abbrev pub programBy : List ℤ → List ℤ → ℤ → ℕ → List ℕ → List ℕ → List ℕ → Program
+abbrev pub programBy : List ℤ → List ℤ → ℤ → ℕ → List ℕ → List ℕ → List ℕ → DamagedProgram
 programBy instructions kerns boundary replacement existing marks passthrough =
     record { instructions = instructions; kerns = kerns; boundary = boundary; replacement = replacement; existing = existing; marks = marks; passthrough = passthrough }
 
 -- reachable is what crate `marks` says of the font as lent, with the entries that unpack
-abbrev pub programOf : Damaged → Program
+abbrev pub programOf : Damaged → DamagedProgram
 programOf d =
     programBy (d .instructions) (d .kerns) (d .boundary) (d .replacement) (d .existing)
     (reachable (d .instructions) (unpackedEntries d) (repairedLeft d)) (repairedPassthrough d)

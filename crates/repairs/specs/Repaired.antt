@@ -13,97 +13,97 @@ use Rattle.lang.specs.Records.{count, field, isKind}
 use Rattle.targets.specs.Targets.{targetAt}
 use Rattle.fonts.specs.Fonts.{Font, fontOf}
 use Rattle.repairs.specs.declared.Faults.{Faults}
-use Rattle.repairs.specs.Damaged.{Damaged, Program, programOf, unpackedEntries, repairedLeft}
+use Rattle.repairs.specs.Damaged.{Damaged, DamagedProgram, programOf, unpackedEntries, repairedLeft}
 
 -- character c exists
-abbrev pub exists : Program → ℕ → Bool
+abbrev pub exists : DamagedProgram → ℕ → Bool
 exists p c = eqb (getD (p .existing) (c / 64) 0 / 2 ^ (c % 64) % 2) 1
 
-abbrev pub isReachable : Program → ℕ → Bool
+abbrev pub isReachable : DamagedProgram → ℕ → Bool
 isReachable p i = cond (eqb (getD (p .marks) i 0) 0) false true
 
-abbrev pub isPassedOver : Program → ℕ → Bool
+abbrev pub isPassedOver : DamagedProgram → ℕ → Bool
 isPassedOver p i = cond (eqb (getD (p .passthrough) i 0) 0) false true
 
 -- ---- TFtoPL 70: skips
 
 -- the skip of step i, which is reachable, passes the end
-abbrev pub skipGoes : Program → ℕ → Bool
+abbrev pub skipGoes : DamagedProgram → ℕ → Bool
 skipGoes p i =
     both (isReachable p i)
     (both (nonNeg (field (p .instructions) i 0)) (leb (count (p .instructions)) (i + 1 + wordOf (field (p .instructions) i 0))))
 
-abbrev pub repairedNext : Program → ℕ → ℤ
+abbrev pub repairedNext : DamagedProgram → ℕ → ℤ
 repairedNext p i = cond (skipGoes p i) (negsuc 0) (field (p .instructions) i 0)
 
 -- ---- TFtoPL 71 to 77: steps
 
-abbrev pub isRedirect : Program → ℕ → Bool
+abbrev pub isRedirect : DamagedProgram → ℕ → Bool
 isRedirect p i = isKind 3 (p .instructions) i
 
-abbrev pub isLigature : Program → ℕ → Bool
+abbrev pub isLigature : DamagedProgram → ℕ → Bool
 isLigature p i = isKind 2 (p .instructions) i
 
 -- 9: a redirect whose target is past the end, unless it is unreachable and passed over
-abbrev pub redirectWarns : Program → ℕ → Bool
+abbrev pub redirectWarns : DamagedProgram → ℕ → Bool
 redirectWarns p i =
     both (isRedirect p i)
     (both (leb (count (p .instructions)) (targetAt (p .instructions) i)) (cond (isReachable p i) true (not (isPassedOver p i))))
 
 -- a step is for a right character that neither exists nor is the boundary character
-abbrev pub isBoundary : Program → ℤ → Bool
+abbrev pub isBoundary : DamagedProgram → ℤ → Bool
 isBoundary p right = both (nonNeg (p .boundary)) (eqb (wordOf (p .boundary)) (wordOf right))
 
-abbrev pub rightGoes : Program → ℕ → Bool
+abbrev pub rightGoes : DamagedProgram → ℕ → Bool
 rightGoes p i =
     both (not (isRedirect p i))
     (both (not (exists p (wordOf (field (p .instructions) i 1)))) (not (isBoundary p (field (p .instructions) i 1))))
 
-abbrev pub repairedRight : Program → ℕ → ℤ
+abbrev pub repairedRight : DamagedProgram → ℕ → ℤ
 repairedRight p i = cond (rightGoes p i) (pos (p .replacement)) (field (p .instructions) i 1)
 
 -- a kern index is past the list
-abbrev pub kernGoes : Program → ℕ → Bool
+abbrev pub kernGoes : DamagedProgram → ℕ → Bool
 kernGoes p i = both (isKind 1 (p .instructions) i) (leb (length (p .kerns)) (wordOf (field (p .instructions) i 3)))
 
 -- a ligature's op byte and inserted character
-abbrev pub opOf : Program → ℕ → ℕ
-opOf p i = wordOf (field (p .instructions) i 3) / 256
+abbrev pub opByteAt : DamagedProgram → ℕ → ℕ
+opByteAt p i = wordOf (field (p .instructions) i 3) / 256
 
-abbrev pub insertedBy : Program → ℕ → ℕ
+abbrev pub insertedBy : DamagedProgram → ℕ → ℕ
 insertedBy p i = wordOf (field (p .instructions) i 3) % 256
 
 -- it inserts a character that does not exist
-abbrev pub productGoes : Program → ℕ → Bool
+abbrev pub productGoes : DamagedProgram → ℕ → Bool
 productGoes p i = both (isLigature p i) (not (exists p (insertedBy p i)))
 
 -- its op byte is not standard
-abbrev pub tagGoes : Program → ℕ → Bool
-tagGoes p i = both (isLigature p i) (not (isStandard (opOf p i)))
+abbrev pub tagGoes : DamagedProgram → ℕ → Bool
+tagGoes p i = both (isLigature p i) (not (isStandard (opByteAt p i)))
 
-abbrev pub repairedOperand : Program → ℕ → ℤ
+abbrev pub repairedOperand : DamagedProgram → ℕ → ℤ
 repairedOperand p i =
     cond (isLigature p i)
-    (pos (256 * cond (tagGoes p i) 0 (opOf p i) + cond (productGoes p i) (p .replacement) (insertedBy p i)))
+    (pos (256 * cond (tagGoes p i) 0 (opByteAt p i) + cond (productGoes p i) (p .replacement) (insertedBy p i)))
     (cond (kernGoes p i) (pos 0) (field (p .instructions) i 3))
 
 -- a kern of zero in the place of a kern index past the list
-abbrev pub repairedKind : Program → ℕ → ℤ
+abbrev pub repairedKind : DamagedProgram → ℕ → ℤ
 repairedKind p i = cond (kernGoes p i) (pos 0) (field (p .instructions) i 2)
 
 -- all that is wrong with step i
-abbrev pub faultsOf : Program → ℕ → Faults
+abbrev pub faultsOf : DamagedProgram → ℕ → Faults
 faultsOf p i =
     record { skip = skipGoes p i; redirect = redirectWarns p i; right = rightGoes p i; kern = kernGoes p i; product = productGoes p i; tag = tagGoes p i }
 
 -- the four numbers of step i
-abbrev pub repairedStep : Program → ℕ → List ℤ
+abbrev pub repairedStep : DamagedProgram → ℕ → List ℤ
 repairedStep p i = repairedNext p i ∷ repairedRight p i ∷ repairedKind p i ∷ repairedOperand p i ∷ []
 
 -- ---- the font repaired
 
 -- the first k steps
-unfoldable pub repairedUpto : Program → ℕ → List ℤ
+unfoldable pub repairedUpto : DamagedProgram → ℕ → List ℤ
 repairedUpto p zero = []
 repairedUpto p (suc k) = repairedUpto p k ++ repairedStep p k
 

@@ -11,7 +11,7 @@ use Rattle.lang.specs.Checks.{charAt}
 use Rattle.reading.specs.Depth.{Pair}
 use Rattle.fonts.specs.Numbers.{leftNumber}
 use Rattle.fonts.specs.Compiled.{loopsOfFont}
-use Rattle.repairs.specs.Damaged.{Damaged, Program, programOf, unpacks, leftGoes}
+use Rattle.repairs.specs.Damaged.{Damaged, DamagedProgram, programOf, unpacks, leftGoes}
 use Rattle.repairs.specs.Repaired.{skipGoes, redirectWarns, isLigature, rightGoes, kernGoes, insertedBy, productGoes, tagGoes, repairedFont}
 
 abbrev pub warning : ℕ → ℤ → ℤ → ℤ → List ℤ
@@ -30,12 +30,12 @@ entryWarnings d zero = []
 entryWarnings d (suc k) = entryWarnings d k ++ warnIf (not (unpacks d k)) (warning 2 (charAt (d .entries) k) (pos 0) (pos 0))
 
 -- 3: of the first k steps, those that are reachable and skip past the end
-unfoldable pub skipWarnings : Program → ℕ → List ℤ
+unfoldable pub skipWarnings : DamagedProgram → ℕ → List ℤ
 skipWarnings p zero = []
 skipWarnings p (suc k) = skipWarnings p k ++ warnIf (skipGoes p k) (warning 3 (pos k) (pos 0) (pos 0))
 
 -- of step i: 9; or 4 (a ligature step) or 5 (a kern step), then 7, or 6 and 8
-abbrev pub stepWarnings : Program → ℕ → List ℤ
+abbrev pub stepWarnings : DamagedProgram → ℕ → List ℤ
 stepWarnings p i =
     warnIf (redirectWarns p i) (warning 9 (pos i) (pos 0) (pos 0))
     ++ warnIf (rightGoes p i) (warning (cond (isLigature p i) 4 5) (pos i) (field (p .instructions) i 1) (pos (p .replacement)))
@@ -44,7 +44,7 @@ stepWarnings p i =
     ++ warnIf (tagGoes p i) (warning 8 (pos i) (pos 0) (pos 0))
 
 -- of the first k steps, reachable or not
-unfoldable pub stepsWarnings : Program → ℕ → List ℤ
+unfoldable pub stepsWarnings : DamagedProgram → ℕ → List ℤ
 stepsWarnings p zero = []
 stepsWarnings p (suc k) = stepsWarnings p k ++ stepWarnings p k
 

@@ -58,11 +58,11 @@ use Rattle.chain.specs.declared.Next.{Next}
 use Rattle.chain.proofs.Next as N
 use Rattle.chain.proofs.Next.Laws as N′
 use Rattle.chain.specs.Chains.{stepAt}
-use Rattle.records.specs.declared.steps.Walk.{Walk}
+use Rattle.records.specs.declared.steps.ChainWalk.{ChainWalk}
 use Rattle.records.specs.RecordChains.{recordAt, WalksRecords}
 use Rattle.records.specs.WalkSteps.{startOf, stepIndex, movedBy, putBy, FinishesWalk}
-use Rattle.records.proofs.steps.Walk as P
-use Rattle.records.proofs.steps.Walk.Laws as P′
+use Rattle.records.proofs.steps.ChainWalk as P
+use Rattle.records.proofs.steps.ChainWalk.Laws as P′
 use Rattle.records.proofs.Calls.{asks, answers, decides}
 use Rattle.records.proofs.LentRecords.{slice, sliceV, sliceOf, Own, lends}
 use Rattle.records.proofs.Again.{LentAgain, lends-again, comes-back}
@@ -134,7 +134,7 @@ module _ (b o : ℕ) where
 -- ---- the calls that are lent the list
 module _ {M : Type 1} (𝓤 : URA M) (H : Heap 𝓤) (A : Atoms 𝓤) (W : Given 𝓤 H A) (mem : Memory → SProp 𝓤) (run : Routine → Fun 𝓤) (b o : ℕ) where
   -- ---- `put`, at the walk w and the step next, whose machine value is v, for the lifetime ν
-  module _ (w : Walk) (next : Next) (v : Val) (out : List ℕ) (ν : ℕ) (δ : GName) where
+  module _ (w : ChainWalk) (next : Next) (v : Val) (out : List ℕ) (ν : ℕ) (δ : GName) where
     abbrev to-put : Put 𝓤 H A mem run .Ghost
     to-put = (((ν ∷ [], tt), (fullShare, tt), tt, (w, (next, (list b o δ out, tt))), (P′.lowered w ∷ [], (v ∷ [], (listV b o out ∷ [], tt)))), tt)
 
@@ -148,14 +148,14 @@ module _ {M : Type 1} (𝓤 : URA M) (H : Heap 𝓤) (A : Atoms 𝓤) (W : Given
     gives-put : (u : Val) → ent 𝓤 (Put 𝓤 H A mem run .post to-put u)
         (H .⇛ (guard 𝓤 (Is P.the-row (movedBy w next) (u ∷ []) × (length (putBy w next out) ≡ length out)) (sep 𝓤 (A .lft (ν ∷ []) fullShare) (sem 𝓤 H A (finally u32 δ (putBy w next out))))))
     gives-put u =
-        qed W (later (some (λ (r : Walk). ((‵ (flft (ν ∷ []) fullShare) ⊛ ‵ ftrue) ⊛ ‵ (P.the-row .own r (u ∷ []))) ⊛ raw (ensured 𝓤 H A put.ended (put.clauses 𝓤 H A mem run) (ν ∷ [], tt) (w, (next, (list b o δ out, tt))) tt r))) ∷ []) ∵ updating ! $ await ! tt $ pick ! (λ r. split ! $ move ! (1 ∷ []) $
+        qed W (later (some (λ (r : ChainWalk). ((‵ (flft (ν ∷ []) fullShare) ⊛ ‵ ftrue) ⊛ ‵ (P.the-row .own r (u ∷ []))) ⊛ raw (ensured 𝓤 H A put.ended (put.clauses 𝓤 H A mem run) (ν ∷ [], tt) (w, (next, (list b o δ out, tt))) tt r))) ∷ []) ∵ updating ! $ await ! tt $ pick ! (λ r. split ! $ move ! (1 ∷ []) $
         use1 W (some (λ (ws : Unit {0} × (Unit {0} × (List ℕ × Unit {0}))). ‵ (lasts put.ended (ν ∷ [], tt) (w, (next, (list b o δ out, tt))) ws) ⊛ raw (fact 𝓤 ((r ≡ movedBy w next) × (ws .1 .1 .0 ≡ putBy w next out))))) (id⊢ 𝓤 _) $ pick ! (λ ws.
         split ! $ move ! (1 ∷ []) $ heard ! ((r ≡ movedBy w next) × (ws .1 .1 .0 ≡ putBy w next out)) (λ e.
         -- [what is said of the last values; the token and the result]
         fsplit ! $ move ! (1 ∷ []) $ fsplit ! $ move ! (1 ∷ []) $ fsplit ! $ fsplit ! $ move ! (1 ∷ []) $ feqL ! (λ l.
         move ! (4 ∷ []) $ split ! $ move ! (1 ∷ []) $ facts ! P.the-row (Is P.the-row) (shows 𝓤 H A P.the-row) r (u ∷ []) (λ is.
         split ! $ keep ! (0 ∷ 2 ∷ []) $ rewrite ! 1 (λ (zs : List ℕ). ‵ (finally u32 δ zs)) (e .1) refl $
-        at-once ! $ check ! (subst (λ (z : Walk). Is P.the-row z (u ∷ [])) (e .0) is, subst (λ (zs : List ℕ). length zs ≡ length out) (e .1) l) $ done !)))))
+        at-once ! $ check ! (subst (λ (z : ChainWalk). Is P.the-row z (u ∷ [])) (e .0) is, subst (λ (zs : List ℕ). length zs ≡ length out) (e .1) l) $ done !)))))
 
   -- ---- `finish`, for the list's own lifetime κ, under its own name γ
   module _ (n : ℕ) (entry : ℤ) (count : ℕ) (out : List ℕ) (κ : Lft) (q : Share) (γ : GName) where
@@ -209,7 +209,7 @@ module _ {M : Type 1} (𝓤 : URA M) (H : Heap 𝓤) (A : Atoms 𝓤) (W : Given
 
   -- a walk and its list, ordered by what is left
   abbrev State : Type 0
-  State = (w : Walk) × (out : List ℕ) × Is P.the-row w (P′.lowered w ∷ []) × Walked n (recordAt xs) entry out₀ out w
+  State = (w : ChainWalk) × (out : List ℕ) × Is P.the-row w (P′.lowered w ∷ []) × Walked n (recordAt xs) entry out₀ out w
 
   abbrev Nearer : State → State → Type 0
   Nearer j i = n - j .0 .at < n - i .0 .at
@@ -242,7 +242,7 @@ module _ {M : Type 1} (𝓤 : URA M) (H : Heap 𝓤) (A : Atoms 𝓤) (W : Given
     Last out = ‵ (fat fullShare (tyInt w64) l₄ 0 (vint w64 n)) ∷ ‵ (fdies (tyInt w64) l₄) ∷ ‵ (fat fullShare listOf l₃ 0 (listV b₂ o₂ out)) ∷ ‵ (fdies listOf l₃)
         ∷ ‵ (fat fullShare (tyInt w32) l₂ 0 (vint w32 (ofZ w32 entry))) ∷ ‵ (fdies (tyInt w32) l₂) ∷ ‵ (fat fullShare sliceOf l₁ 0 (sliceV b o γ xs)) ∷ ‵ (fdies sliceOf l₁) ∷ ‵ (froom R′.mir l₀ 0) ∷ ‵ (fdies R′.mir l₀) ∷ []
 
-    abbrev Kept : Walk → List ℕ → List (Item 𝓤)
+    abbrev Kept : ChainWalk → List ℕ → List (Item 𝓤)
     Kept w out = ‵ (fat fullShare P′.mir l₅ 0 (P′.lowered w)) ∷ ‵ (fdies P′.mir l₅) ∷ Last out
 
     -- the tokens and what the slices own, and room for _11 to _7
@@ -258,7 +258,7 @@ module _ {M : Type 1} (𝓤 : URA M) (H : Heap 𝓤) (A : Atoms 𝓤) (W : Given
     Turned i = afterTurn 𝓤 H (Below 𝓤 H A Nearer At i) (afterBlock 𝓤 H (afterSeq 𝓤 H (Wp 𝓤 H C Λ E pieces.t-4 (atReturn 𝓤 H E Post)) (atReturn 𝓤 H E Post)))
 
     -- the walk is over: the list goes to `finish`
-    leaves : (w : Walk) (out : List ℕ) (t : Bool) → Is P.the-row w (P′.lowered w ∷ []) → Walked n (recordAt xs) entry out₀ out w → n ≤ w .at
+    leaves : (w : ChainWalk) (out : List ℕ) (t : Bool) → Is P.the-row w (P′.lowered w ∷ []) → Walked n (recordAt xs) entry out₀ out w → n ≤ w .at
         → Sq W (Front out (‵ (fat fullShare tyBool l₆ 0 (vbool t)) ∷ ‵ (fdies tyBool l₆) ∷ Kept w out)) (runs C Λ E pieces.t-4 (atRet E Post))
     leaves w out t is h past =
         let room-now : length out < 2 ^ 64 = rw (h .kept) (room .0) in
@@ -312,7 +312,7 @@ module _ {M : Type 1} (𝓤 : URA M) (H : Heap 𝓤) (A : Atoms 𝓤) (W : Given
     loops-on : (i : State) → Sq W (At i) (runs C Λ E pieces.t-3 (atRet E Post))
     loops-on i = first ! $ blocks ! $ loops ! 𝓣 Nearer Nearer-wf At turns i
 
-    abbrev start : Walk
+    abbrev start : ChainWalk
     start = record { at = startOf n entry; count = 0 }
 
     begins : Sq W (Front out₀ (‵ (froom tyBool l₆ 0) ∷ ‵ (fdies tyBool l₆) ∷ ‵ (froom P′.mir l₅ 0) ∷ ‵ (fdies P′.mir l₅) ∷ Last out₀)) (runs C Λ E pieces.t-2 (atRet E Post))

@@ -8,13 +8,13 @@ use mir.Val.{ofZ, toZ, SFits}
 use mir.ValLaws.{toZ-ofZ}
 use borrow.Author.Needs.{needs}
 use Rattle.words.specs.Words.{wordOf}
-use Rattle.records.specs.declared.steps.Walk.{Walk}
+use Rattle.records.specs.declared.steps.ChainWalk.{ChainWalk}
 use Rattle.records.specs.WalkSteps.{earlyRefusal, startOf}
 use Rattle.records.proofs.RecordTurns.{early-passed, start-refused, start-taken}
 use Rattle.records.proofs.steps.begin.Statement.{statement}
 use Rattle.records.proofs.steps.begin.Tie as tie
 
-abbrev begun : ℕ → Walk
+abbrev begun : ℕ → ChainWalk
 begun i = record { at = i; count = 0 }
 
 -- the entry was passed on as its 32 bits

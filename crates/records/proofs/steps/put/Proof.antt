@@ -8,16 +8,16 @@ use borrow.Author.Needs.{needs}
 use denote.Ref.{now}
 use Rattle.chain.specs.declared.Next.{Next}
 use Rattle.chain.specs.declared.Next.the-variants.{At}
-use Rattle.records.specs.declared.steps.Walk.{Walk}
+use Rattle.records.specs.declared.steps.ChainWalk.{ChainWalk}
 use Rattle.records.specs.WalkSteps.{stepIndex, movedBy, putBy}
 use Rattle.records.proofs.steps.put.Statement.{statement}
 use Rattle.records.proofs.steps.put.Tie as tie
 
-module _ (walk : Walk) (next : Next) (i on : ℕ) (e : next ≡ At i on) where
+module _ (walk : ChainWalk) (next : Next) (i on : ℕ) (e : next ≡ At i on) where
   fits : stepIndex next < 2 ^ 32 → i < 2 ^ 32
   fits h = rw e at h
 
-  written : (out out′ : List ℕ) → out′ ≡ set out (walk .count) i → (_≡_ {A = Walk} (record { at = on; count = walk .count + 1 }) (movedBy walk next)) × (out′ ≡ putBy walk next out)
+  written : (out out′ : List ℕ) → out′ ≡ set out (walk .count) i → (_≡_ {A = ChainWalk} (record { at = on; count = walk .count + 1 }) (movedBy walk next)) × (out′ ≡ putBy walk next out)
   written out out′ h = (rw e, rw e h)
 
 enum-known-next : tie.Need-enum-known-next
