@@ -1,7 +1,7 @@
 """TeX's answers: words set in boxes by iniTeX, and the boxes read from its log (TeX 176, 184 to 193, 1030, 1034 to 1040, 1296).
 
 A word stands alone in an \\hbox, so that TeX reads the left boundary before it and the boundary character after it; \\noboundary before it takes the left
-boundary away. Nothing but primitives is used, so that no format is needed."""
+boundary away, and after it the right one. Nothing but primitives is used, so that no format is needed."""
 import os
 import subprocess
 from dataclasses import dataclass, field
@@ -25,9 +25,10 @@ def token(code):
     return letter if letter.isascii() and letter.isalnum() else f'\\char{code} '
 
 
-def box(word, left_boundary):
-    start = '\\f ' if left_boundary else '\\f\\noboundary '
-    return f'\\setbox0\\hbox{{{start}{"".join(map(token, word))}}}\\showbox0'
+def box(word):
+    start = '\\f ' if word.left else '\\f\\noboundary '
+    end = '' if word.right else '\\noboundary'
+    return f'\\setbox0\\hbox{{{start}{"".join(map(token, word.letters))}{end}}}\\showbox0'
 
 
 def source(asked):
@@ -35,7 +36,7 @@ def source(asked):
     lines = [HEAD]
     for index, (name, words) in enumerate(asked):
         lines += [f'\\immediate\\write-1{{@font {index}}}', f'\\font\\f={name}']
-        lines += [box(word, left_boundary) for word, left_boundary in words]
+        lines += [box(word) for word in words]
     return '\n'.join(lines) + '\n\\end\n'
 
 
@@ -82,5 +83,5 @@ def read_log(lines, count):
 
 
 def show(folder, asked):
-    """What TeX shows of a list of fonts, each a file's name and its words with whether the left boundary is read."""
+    """What TeX shows of a list of fonts, each a file's name and its words."""
     return read_log(run(folder, source(asked)), len(asked))

@@ -35,11 +35,6 @@ def arguments():
     return parser.parse_args()
 
 
-def both_ways(letters):
-    """Each word with the left boundary and without it."""
-    return [(word, left_boundary) for word in letters for left_boundary in (True, False)]
-
-
 def silent_program(rng, folder, name, counts):
     """A random program that pltotf says nothing of."""
     while True:
@@ -57,7 +52,7 @@ def random_subject(seed, folder, number, counts):
     program = silent_program(rng, folder, name, counts)
     font = tfm.read(os.path.join(folder, name + '.tfm'))
     counts['fonts with redirects'] += any(kind == tfm.REDIRECT for _, _, kind, _ in font.instructions[1:-1])
-    return trial.Subject(name, font, both_ways(words.words(rng, font, WORDS_OF_RANDOM_FONT)), program)
+    return trial.Subject(name, font, words.words(rng, font, WORDS_OF_RANDOM_FONT), program)
 
 
 def own_subject(seed, folder, number, path):
@@ -65,7 +60,7 @@ def own_subject(seed, folder, number, path):
     name = f'o{number}'
     shutil.copyfile(path, os.path.join(folder, name + '.tfm'))
     font = tfm.read(path)
-    return trial.Subject(name, font, both_ways(words.words(rng, font, WORDS_OF_OWN_FONT)), path)
+    return trial.Subject(name, font, words.words(rng, font, WORDS_OF_OWN_FONT), path)
 
 
 def random_batch(task):
@@ -90,6 +85,7 @@ def loop_difference(subject, said, answer, counts):
     """Whether pltotf and the loop list part over a font."""
     named = plfiles.loop_named(said)
     counts['fonts with a loop' if named else 'fonts without a loop'] += 1
+    counts['fonts with another message'] += bool(said) and not named
     counts['pairs listed'] += len(answer.loops)
     if named and named in answer.loops:
         counts['pairs named that are in the list'] += 1
@@ -159,8 +155,7 @@ def report(difference):
     is_program = isinstance(subject.origin, programs.Program)
     print(programs.property_list(subject.origin) if is_program else f'the font {subject.origin}')
     if difference.word:
-        letters, left_boundary = difference.word
-        print(f'the word {letters}', 'with the left boundary' if left_boundary else 'without the left boundary')
+        print(f'the word {difference.word.letters} {difference.word.way()}')
     print('TeX or pltotf:', *difference.tex, sep='\n    ')
     print('the library:', *difference.library, sep='\n    ', flush=True)
 

@@ -3,7 +3,7 @@
    A request is a letter and decimal numbers, with any white space between them.
      F boundary left_entry design_size, counts of instructions, kerns and entries, then their numbers (four, one and two each)
        compiles a font and keeps it. Answer: F, the number of the refusal or 0, counts of pairs, ops and loops, then the loops, two numbers each.
-     W disable_left_boundary override, count of letters, then the letters
+     W 1 or 0 for the left boundary, 1 or 0 for the right one, count of letters, then the letters
        sets a word with the font kept. Answer: W, the number of the refusal or 0, count of items, then the items, six numbers each.
    A list that proves too short is lent again at twice its length, up to OPS_MOST ops or ITEMS_MOST items; past these the refusal stands. */
 #include <inttypes.h>
@@ -119,24 +119,24 @@ static void answer_font(struct table *t) {
     drop_program(&p);
 }
 
-static uint32_t set_word(const struct table *t, const uint32_t *word, size_t length, bool disable_left, int32_t override, int32_t **items, uint64_t *count) {
+static uint32_t set_word(const struct table *t, const uint32_t *word, size_t length, bool left, bool right, int32_t **items, uint64_t *count) {
+    int32_t boundary = right ? t->boundary : -1;
     for (size_t most = 2 * length + 16;; most *= 2) {
         *items = lend(6 * most, sizeof **items);
-        uint32_t r = ligkern_set_word(t->pairs, 6 * t->pair_count, t->ops, 2 * t->op_count, t->boundary, word, length, disable_left, override, *items,
-                                      6 * most, count, 1);
+        uint32_t r = ligkern_set_word(t->pairs, 6 * t->pair_count, t->ops, 2 * t->op_count, boundary, word, length, !left, -1, *items, 6 * most, count, 1);
         if (r != 15 || most >= ITEMS_MOST) return r;
         free(*items);
     }
 }
 
 static void answer_word(const struct table *t) {
-    bool disable_left = read_number() != 0;
-    int32_t override = read_number(), *items;
+    bool left = read_number() != 0, right = read_number() != 0;
+    int32_t *items;
     size_t length = (size_t)read_number();
     uint32_t *word = lend(length, sizeof *word);
     uint64_t count = 0;
     for (size_t i = 0; i < length; i++) word[i] = (uint32_t)read_number();
-    uint32_t r = set_word(t, word, length, disable_left, override, &items, &count);
+    uint32_t r = set_word(t, word, length, left, right, &items, &count);
     printf("W %" PRIu32 " %" PRIu64, r, count);
     write_numbers(items, 6 * (size_t)count);
     free(items);

@@ -24,8 +24,8 @@ def font_request(font):
     return 'F ' + numbers(head + body)
 
 
-def word_request(word, left_boundary):
-    return 'W ' + numbers([0 if left_boundary else 1, -1, len(word)] + word)
+def word_request(word):
+    return 'W ' + numbers([int(word.left), int(word.right), len(word.letters)] + word.letters)
 
 
 def by(size, values):
@@ -46,11 +46,11 @@ def read_answers(lines):
 
 
 def ask(driver, asked):
-    """The answers to a list of fonts, each with its words: pairs of the letters and whether the left boundary is read."""
+    """The answers to a list of fonts, each with its words."""
     lines = []
     for font, words in asked:
         lines.append(font_request(font))
-        lines += [word_request(word, left_boundary) for word, left_boundary in words]
+        lines += [word_request(word) for word in words]
     done = subprocess.run([driver], input='\n'.join(lines) + '\n', stdout=subprocess.PIPE, check=True, text=True, timeout=600)
     return read_answers(done.stdout.splitlines())
 
@@ -79,21 +79,24 @@ def shown_scaled(scaled):
             return out
 
 
-def shown_item(item, word):
+def shown_item(item, letters):
     """An item as a line of a box (TeX 176, 191, 193)."""
     kind, value, start, length, left, right = item
     if kind == KERN:
         return f'.\\kern{shown_scaled(value)}'
     if kind == CHARACTER:
         return f'.\\f {shown_code(value)}'
-    original = ''.join(map(shown_code, word[start:start + length]))
+    original = ''.join(map(shown_code, letters[start:start + length]))
     return f'.\\f {shown_code(value)} (ligature {"|" * left}{original}{"|" * right})'
 
 
 def shown(items, word):
-    return [shown_item(item, word) for item in items]
+    """The items as lines of a box, and a line more where a bar is set for a boundary that was not read: TeX 1040 has none."""
+    lines = [shown_item(item, word.letters) for item in items]
+    astray = any(item[4] and not word.left or item[5] and not word.right for item in items)
+    return lines + (['a bar for a boundary that was not read'] if astray else [])
 
 
 def is_one_bar(item):
-    """A ligature made of nothing with one boundary: TeX shows the same bar for either."""
+    """A ligature made of nothing with one boundary: TeX shows the same bar for the left as for the right."""
     return item[0] == LIGATURE and item[3] == 0 and item[4] != item[5]

@@ -28,9 +28,9 @@ def file_case(driver, folder, path, word):
 
 def shorter_words(word):
     """The word without one of its letters, but for an empty one."""
-    if not word or len(word[0]) < 2:
+    if not word or len(word.letters) < 2:
         return []
-    return [(word[0][:k] + word[0][k + 1:], word[1]) for k in range(len(word[0]))]
+    return [word._replace(letters=word.letters[:k] + word.letters[k + 1:]) for k in range(len(word.letters))]
 
 
 def smaller_programs(program):

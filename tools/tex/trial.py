@@ -1,7 +1,7 @@
 """Fonts with their words set by TeX and by the library, and the two compared: characters, kerns, ligatures, what they are made of and their bars.
 
 Both answers are compared as the lines in which TeX shows a box. Codes, lengths and bars can be read back from such a line, but for one case: a ligature
-made of nothing shows one bar for either boundary. It is counted."""
+made of nothing shows one bar for either boundary. It is counted; where one boundary alone is read, the bar must be that one's."""
 from dataclasses import dataclass
 
 import boxes
@@ -11,7 +11,7 @@ from tfm import Font
 
 @dataclass
 class Subject:
-    """A font in a folder, under a name of its own, with words: pairs of the letters and whether the left boundary is read. Origin is where it is from."""
+    """A font in a folder, under a name of its own, with words. Origin is its program, or the path of a file."""
     name: str
     font: Font
     words: list
@@ -27,7 +27,7 @@ class Difference:
     library: list
 
     def size(self):
-        return (len(self.subject.font.instructions), len(self.word[0]) if self.word else 0)
+        return (len(self.subject.font.instructions), len(self.word.letters) if self.word else 0)
 
 
 def font_difference(subject, answer, shown):
@@ -38,7 +38,7 @@ def font_difference(subject, answer, shown):
     return Difference(subject, None, said, [f'refusal {answer.refusal}', f'loops {answer.loops}'])
 
 
-def count_items(counts, items):
+def count_items(counts, word, items):
     counts['items'] += len(items)
     counts['kerns'] += sum(item[0] == setter.KERN for item in items)
     ligatures = [item for item in items if item[0] == setter.LIGATURE]
@@ -46,16 +46,17 @@ def count_items(counts, items):
     counts['ligatures with a left bar'] += sum(item[4] for item in ligatures)
     counts['ligatures with a right bar'] += sum(item[5] for item in ligatures)
     counts['ligatures made of nothing'] += sum(item[3] == 0 for item in ligatures)
-    counts['ligatures made of nothing, one bar'] += sum(map(setter.is_one_bar, ligatures))
+    one_bar = 'one bar, of either boundary' if word.left and word.right else 'one bar, of the only boundary read'
+    counts[f'ligatures made of nothing, {one_bar}'] += sum(map(setter.is_one_bar, ligatures))
 
 
 def compare_words(subject, answer, shown, counts):
     """The words of a font that both set differently."""
     found = []
     for word, (refusal, items), lines in zip(subject.words, answer.words, shown.boxes):
-        counts['words with the left boundary' if word[1] else 'words without the left boundary'] += 1
-        count_items(counts, items)
-        ours = setter.shown(items, word[0]) if refusal == 0 else [f'refusal {refusal}']
+        counts[f'words {word.way()}'] += 1
+        count_items(counts, word, items)
+        ours = setter.shown(items, word) if refusal == 0 else [f'refusal {refusal}']
         if ours != lines:
             found.append(Difference(subject, word, lines, ours))
     return found

@@ -1,10 +1,23 @@
 """Random words of a font's own characters, with many pairs that have a rule.
 
 The letters ^ and | stand in no word: in what TeX shows of a ligature they would be read as ^^ and as a boundary's bar."""
+from typing import NamedTuple
+
 from tfm import LEFT_BOUNDARY
 
 UNREADABLE = {ord('^'), ord('|')}
 LONGEST = 10
+WAYS = {'with both boundaries': (True, True), 'without the left boundary': (False, True), 'without the right boundary': (True, False)}
+
+
+class Word(NamedTuple):
+    """Letters to set, and whether the left and the right boundary are read."""
+    letters: list
+    left: bool
+    right: bool
+
+    def way(self):
+        return next(name for name, way in WAYS.items() if way == (self.left, self.right))
 
 
 class Letters:
@@ -28,8 +41,8 @@ class Letters:
         return rng.choice(rights) if rights and rng.random() < 0.7 else self.any(rng)
 
 
-def word(rng, letters):
-    """A random word of 1 to LONGEST letters; its last letter has often a rule for the right boundary."""
+def random_letters(rng, letters):
+    """1 to LONGEST random letters; the last has often a rule for the right boundary."""
     left, out = LEFT_BOUNDARY, []
     for _ in range(rng.randint(1, LONGEST)):
         left = letters.following(rng, left)
@@ -40,6 +53,7 @@ def word(rng, letters):
 
 
 def words(rng, font, count):
-    """So many random words, or none where the font has no letter to show."""
+    """So many random words, each in every way, or none where the font has no letter to show."""
     letters = Letters(font)
-    return [word(rng, letters) for _ in range(count)] if letters.all else []
+    chosen = [random_letters(rng, letters) for _ in range(count)] if letters.all else []
+    return [Word(word, left, right) for word in chosen for left, right in WAYS.values()]
