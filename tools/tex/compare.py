@@ -50,16 +50,16 @@ def random_subject(seed, folder, number, counts):
     rng = random.Random(f'{seed} words {number}')
     name = f'r{number}'
     program = silent_program(rng, folder, name, counts)
-    font = tfm.read(os.path.join(folder, name + '.tfm'))
-    counts['fonts with redirects'] += any(kind == tfm.REDIRECT for _, _, kind, _ in font.instructions[1:-1])
+    font = trial.read(os.path.join(folder, name + '.tfm'), counts)
+    counts['fonts with an entry past 255'] += any(at > 255 for at in font.entries.values())
     return trial.Subject(name, font, words.words(rng, font, WORDS_OF_RANDOM_FONT), program)
 
 
-def own_subject(seed, folder, number, path):
+def own_subject(seed, folder, number, path, counts):
     rng = random.Random(f'{seed} own {path}')
     name = f'o{number}'
     shutil.copyfile(path, os.path.join(folder, name + '.tfm'))
-    font = tfm.read(path)
+    font = trial.read(path, counts)
     return trial.Subject(name, font, words.words(rng, font, WORDS_OF_OWN_FONT), path)
 
 
@@ -75,7 +75,7 @@ def own_batch(task):
     driver, folder, seed, paths = task
     counts = Counter()
     with tempfile.TemporaryDirectory(dir=folder) as place:
-        subjects = [own_subject(seed, place, number, path) for number, path in enumerate(paths)]
+        subjects = [own_subject(seed, place, number, path, counts) for number, path in enumerate(paths)]
         counts['fonts with a boundary character'] += sum(subject.font.boundary >= 0 for subject in subjects)
         counts['fonts with a left boundary'] += sum(subject.font.left_entry >= 0 for subject in subjects)
         return counts, trial.compare(driver, place, subjects, counts)

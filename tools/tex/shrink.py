@@ -5,7 +5,6 @@ from collections import Counter
 
 import plfiles
 import programs
-import tfm
 import trial
 
 
@@ -13,7 +12,7 @@ def program_case(driver, folder, program, word):
     """The difference of one word on one program, or None; None too where pltotf says something."""
     if program.left_entry < 0 and not program.entries or plfiles.pltotf(folder, 'one', program):
         return None
-    subject = trial.Subject('one', tfm.read(os.path.join(folder, 'one.tfm')), [word] if word else [], program)
+    subject = trial.Subject('one', trial.read(os.path.join(folder, 'one.tfm'), Counter()), [word] if word else [], program)
     found = trial.compare(driver, folder, [subject], Counter())
     return found[0] if found else None
 
@@ -21,7 +20,7 @@ def program_case(driver, folder, program, word):
 def file_case(driver, folder, path, word):
     """The difference of one word on the font of a file, or None."""
     shutil.copyfile(path, os.path.join(folder, 'one.tfm'))
-    subject = trial.Subject('one', tfm.read(path), [word] if word else [], path)
+    subject = trial.Subject('one', trial.read(path, Counter()), [word] if word else [], path)
     found = trial.compare(driver, folder, [subject], Counter())
     return found[0] if found else None
 

@@ -3,7 +3,7 @@
 A redirect that a character's entry meets first is followed, as TeX 1039 does; the boundary character and the left entry are taken from the first and
 the last instruction, as TeX 573 does."""
 import struct
-from dataclasses import dataclass
+from dataclasses import dataclass, replace
 
 KERN_VALUE, KERN_INDEX, LIGATURE, REDIRECT = range(4)
 LEFT_BOUNDARY = -1
@@ -50,9 +50,24 @@ class Font:
         """The lefts that have a chain, the boundary last."""
         return sorted(self.entries) + ([LEFT_BOUNDARY] if self.left_entry != NO_LEFT_ENTRY else [])
 
+    def is_redirect(self, at):
+        return 0 <= at < len(self.instructions) and self.instructions[at][2] == REDIRECT
+
     def has_redirect_on_chain(self):
         """Does a chain meet a redirect? There TeX stops, and the library acts on it (docs/DIFFERENCES.md)."""
-        return any(self.instructions[at][2] == REDIRECT for left in self.lefts() for at in self.chain(left))
+        return any(self.is_redirect(at) for left in self.lefts() for at in self.chain(left))
+
+    def has_redirect_as_rule(self):
+        """Is a redirect the rule of a pair that a word may have?"""
+        rights = set(self.characters) | {self.boundary}
+        return any(right in rights and rule[2] == REDIRECT for left in self.lefts() for right, rule in self.rules(left).items())
+
+    def as_tex_reads(self):
+        """The font with every chain ended before a redirect (TeX 545)."""
+        instructions = [(-1 if self.is_redirect(at + 1 + skip) else skip, *rest) for at, (skip, *rest) in enumerate(self.instructions)]
+        entries = {c: at for c, at in self.entries.items() if not self.is_redirect(at)}
+        left_entry = NO_LEFT_ENTRY if self.is_redirect(self.left_entry) else self.left_entry
+        return replace(self, instructions=instructions, entries=entries, left_entry=left_entry)
 
 
 def instruction(word):

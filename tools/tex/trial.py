@@ -6,14 +6,14 @@ from dataclasses import dataclass
 
 import boxes
 import setter
-from tfm import Font
+import tfm
 
 
 @dataclass
 class Subject:
     """A font in a folder, under a name of its own, with words. Origin is its program, or the path of a file."""
     name: str
-    font: Font
+    font: tfm.Font
     words: list
     origin: object
 
@@ -28,6 +28,14 @@ class Difference:
 
     def size(self):
         return (len(self.subject.font.instructions), len(self.word.letters) if self.word else 0)
+
+
+def read(path, counts):
+    """The font of a file. Where a chain meets a redirect, TeX and the library are known to part: such a font is counted, and taken as TeX reads it."""
+    font = tfm.read(path)
+    counts['fonts with a redirect on a chain'] += font.has_redirect_on_chain()
+    counts['fonts with a redirect as the rule of a pair'] += font.has_redirect_as_rule()
+    return font.as_tex_reads()
 
 
 def font_difference(subject, answer, shown):
@@ -71,21 +79,16 @@ def drop_long_words(subjects, answers, counts):
         answer.words = [word for word, kept in zip(answer.words, keep) if kept]
 
 
-def usable(subject, answer, counts):
-    """Is this font one to ask TeX of? One with a loop TeX would set for ever; one with a redirect on a chain is a known difference."""
-    if subject.font.has_redirect_on_chain():
-        counts['fonts left out: a redirect on a chain'] += 1
-        return False
-    if answer.refusal == setter.TOO_MANY_OPS:
-        counts['fonts left out: too many ops'] += 1
-        return False
-    return True
+def fits(answer, counts):
+    """Does the table of this font fit into what set.c lends?"""
+    counts['fonts left out: too many ops'] += answer.refusal == setter.TOO_MANY_OPS
+    return answer.refusal != setter.TOO_MANY_OPS
 
 
 def ask_both(driver, folder, subjects, counts):
     """Triples of a subject and what the library and TeX say of it. A font with a loop is not shown to TeX, which would set it for ever."""
     answers = setter.ask(driver, [(subject.font, subject.words) for subject in subjects])
-    pairs = [(s, a) for s, a in zip(subjects, answers) if usable(s, a, counts)]
+    pairs = [(s, a) for s, a in zip(subjects, answers) if fits(a, counts)]
     drop_long_words([s for s, _ in pairs], [a for _, a in pairs], counts)
     asked = [(s.name, [] if a.loops else s.words) for s, a in pairs]
     return [(s, a, t) for (s, a), t in zip(pairs, boxes.show(folder, asked))]
