@@ -2,13 +2,14 @@
 
 A word stands alone in an \\hbox, so that TeX reads the left boundary before it and the boundary character after it; \\noboundary before it takes the left
 boundary away, and after it the right one. Nothing but primitives is used, so that no format is needed."""
+import contextlib
 import os
 import subprocess
 from dataclasses import dataclass, field
 
 HEAD = r'''\catcode`\{=1 \catcode`\}=2 \newlinechar=-1 \tracinglostchars=1 \showboxbreadth=1000000 \showboxdepth=1 \errorcontextlines=-1
 '''
-LIMIT_SECONDS = 300
+LIMIT_SECONDS = 60
 
 
 @dataclass
@@ -41,12 +42,13 @@ def source(asked):
 
 
 def run(folder, text):
-    """The lines of TeX's log; its fonts are the files of the folder."""
+    """The lines of TeX's log; its fonts are the files of the folder. A run that does not end is broken off, and its boxes are missing."""
     with open(os.path.join(folder, 'boxes.tex'), 'w', encoding='ascii') as file:
         file.write(text)
     env = dict(os.environ, TEXFONTS='.', TEXINPUTS='.', MKTEXTFM='0', max_print_line='10000')
-    subprocess.run(['tex', '-ini', '-interaction=batchmode', 'boxes.tex'], cwd=folder, env=env, stdin=subprocess.DEVNULL, stdout=subprocess.DEVNULL,
-                   stderr=subprocess.DEVNULL, timeout=LIMIT_SECONDS, check=False)
+    with contextlib.suppress(subprocess.TimeoutExpired):
+        subprocess.run(['tex', '-ini', '-interaction=batchmode', 'boxes.tex'], cwd=folder, env=env, stdin=subprocess.DEVNULL,
+                       stdout=subprocess.DEVNULL, stderr=subprocess.DEVNULL, timeout=LIMIT_SECONDS, check=False)
     with open(os.path.join(folder, 'boxes.log'), encoding='latin-1') as file:
         return file.read().split('\n')
 

@@ -1,73 +1,57 @@
-"""pltotf's own word on loops beside compile's loop list.
+"""pltotf's own word on loops beside compile's loop list, on random fonts.
 
 pltotf names one pair, the one that it found last (PLtoTF 124 and 125); the list has one pair of each cycle. Where one of the two speaks of a loop the
-other must, and the pair named must be in the list or wait for a pair of it. What a pair waits for is worked out here from TFtoPL 89 to 95 alone."""
-from tfm import LIGATURE
+other must, and the pair named must be in the list or wait for a pair of it. Of a font with a loop pltotf writes no program, so that the library gets the
+program of the property list itself."""
+import random
+import tempfile
+from collections import Counter
 
-LEFT_Z, RIGHT_Z, BOTH_Z, SIMPLE = 'left_z', 'right_z', 'both_z', 'simple'
-CLASSES = {1: LEFT_Z, 7: LEFT_Z, 2: RIGHT_Z, 3: BOTH_Z}
+import plfiles
+import programs
+import setter
+import trial
+import waits
 
-
-def classes(font):
-    """Of each pair that has a rule its class and its z (TFtoPL 93, PLtoTF 122)."""
-    found = {}
-    for left in font.lefts():
-        for right, (_, _, kind, operand) in font.rules(left).items():
-            op, z = (operand // 256, operand % 256) if kind == LIGATURE else (5, right)
-            found[left, right] = (CLASSES.get(op, SIMPLE), right if op in (5, 11) else z)
-    return found
+TITLE = 'loops on random fonts'
 
 
-def waited(pair, rule, values):
-    """The pair that this one's value is asked of next, given the values known so far; None where it has a value by itself."""
-    (left, right), (kind, z) = pair, rule
-    if kind == SIMPLE:
+def part(subject, said, answer, counts):
+    """The difference between what pltotf said of a font and its loop list, or None."""
+    named = plfiles.loop_named(said)
+    counts['fonts with a loop' if named else 'fonts without a loop'] += 1
+    counts['fonts with another message'] += bool(said) and not named
+    counts['pairs listed'] += len(answer.loops)
+    listed = named is not None and named in answer.loops
+    waiting = named is not None and not listed and waits.reaches(subject.font, named, answer.loops)
+    counts['pairs named that are in the list'] += listed
+    counts['pairs named that wait for a pair of the list'] += waiting
+    if answer.refusal == 0 and (listed or waiting or named is None and not answer.loops):
         return None
-    if kind == LEFT_Z:
-        return z, right
-    first = (left, z)
-    if kind == RIGHT_Z or first not in values:
-        return first
-    return values[first], right
+    return trial.Difference(subject, None, [said or 'nothing said'], [f'refusal {answer.refusal}', f'loops {answer.loops}'])
 
 
-class Values(dict):
-    """The values of pairs: a pair without a rule has its right as its value, and one with a rule has what was found."""
-
-    def __init__(self, rules):
-        super().__init__()
-        self.rules = rules
-
-    def __contains__(self, pair):
-        return pair not in self.rules or super().__contains__(pair)
-
-    def __missing__(self, pair):
-        return pair[1]
+def compare(driver, place, subjects, counts):
+    """The differences over these fonts."""
+    said = [plfiles.pltotf(place, subject.name, subject.origin) for subject in subjects]
+    answers = setter.ask(driver, [(subject.font, []) for subject in subjects])
+    counts['fonts'] += len(subjects)
+    found = [part(*three, counts) for three in zip(subjects, said, answers)]
+    return [difference for difference in found if difference]
 
 
-def settle(rules):
-    """The values of all pairs that have one."""
-    values, changed = Values(rules), True
-    while changed:
-        changed = False
-        for pair, rule in rules.items():
-            if pair in values:
-                continue
-            on = waited(pair, rule, values)
-            if on is None or on in values:
-                values[pair] = rule[1] if on is None else values[on]
-                changed = True
-    return values
+def batch(task):
+    """The counts and the differences of the fonts of these numbers."""
+    driver, folder, seed, numbers = task
+    counts, subjects = Counter(), []
+    for number in numbers:
+        program = programs.loop_program(random.Random(f'{seed} loops {number}'))
+        subjects.append(trial.Subject(f'l{number}', program.font(), [], program))
+    with tempfile.TemporaryDirectory(dir=folder) as place:
+        return counts, compare(driver, place, subjects, counts)
 
 
-def reaches(font, pair, listed):
-    """Does this pair wait, by way of others or not, for a pair of the list?"""
-    rules = classes(font)
-    values = settle(rules)
-    seen = set()
-    while pair not in values and pair not in seen:
-        seen.add(pair)
-        pair = waited(pair, rules[pair], values)
-        if pair in listed:
-            return True
-    return False
+def case(driver, place, program, _):
+    """The difference on one program, or None."""
+    found = compare(driver, place, [trial.Subject('one', program.font(), [], program)], Counter())
+    return found[0] if found else None

@@ -7,6 +7,7 @@ from dataclasses import dataclass, replace
 from tfm import KERN_VALUE, LIGATURE, Font
 
 LIGATURE_NAMES = {0: 'LIG', 1: 'LIG/', 2: '/LIG', 3: '/LIG/', 5: 'LIG/>', 6: '/LIG>', 7: '/LIG/>', 11: '/LIG/>>'}
+ALL_OPS, BOTH_Z_OPS = list(LIGATURE_NAMES), [3]
 PLAIN_LETTERS = [c for c in range(33, 127) if chr(c) not in '^|']
 CONTROL_CODES = list(range(0, 33)) + [127]
 HIGH_CODES = list(range(128, 256))
@@ -45,11 +46,11 @@ def kern(rng, size):
     return rng.choice([rng.randint(-300_000, 300_000), rng.randint(-3, 3), rng.randint(-most, most)])
 
 
-def step(rng, rights, results, size, kern_share):
-    """A random kern or ligature, without its next."""
+def step(rng, rights, results, size, kern_share, ops):
+    """A random kern or ligature with one of these op bytes, without its next."""
     if rng.random() < kern_share:
         return (rng.choice(rights), KERN_VALUE, kern(rng, size))
-    return (rng.choice(rights), LIGATURE, 256 * rng.choice(list(LIGATURE_NAMES)) + rng.choice(results))
+    return (rng.choice(rights), LIGATURE, 256 * rng.choice(ops) + rng.choice(results))
 
 
 def next_of(rng, index, count):
@@ -60,12 +61,12 @@ def next_of(rng, index, count):
     return rng.randint(1, min(room, 4)) if room > 0 and rng.random() < 0.2 else 0
 
 
-def program(rng, letters, count, kern_share, label_share):
-    """A random program over these letters, with both boundaries."""
+def program(rng, letters, count, kern_share, label_share, ops):
+    """A random program over these letters with these op bytes, with both boundaries."""
     size = design_size(rng)
     boundary = rng.choice(letters) if rng.random() < 0.6 else rng.randrange(256)
     rights = letters + [boundary]
-    steps = [(next_of(rng, k, count),) + step(rng, rights, letters, size, kern_share) for k in range(count)]
+    steps = [(next_of(rng, k, count),) + step(rng, rights, letters, size, kern_share, ops) for k in range(count)]
     entries = {c: rng.randrange(count) for c in sorted(letters) if rng.random() < label_share}
     return Program(steps, entries, rng.randrange(count), boundary, size, sorted(letters))
 
@@ -73,13 +74,15 @@ def program(rng, letters, count, kern_share, label_share):
 def word_program(rng):
     """A program to set words with; one of twenty is so long that pltotf needs redirects."""
     if rng.random() < 0.05:
-        return program(rng, alphabet(rng, 12, 24), rng.randint(257, 400), 0.7, 0.8)
-    return program(rng, alphabet(rng, 2, 8), rng.randint(1, 24), rng.choice([0.2, 0.4, 0.6]), 0.75)
+        return program(rng, alphabet(rng, 12, 24), rng.randint(257, 400), 0.7, 0.8, ALL_OPS)
+    return program(rng, alphabet(rng, 2, 8), rng.randint(1, 24), rng.choice([0.2, 0.4, 0.6]), 0.75, ALL_OPS)
 
 
 def loop_program(rng):
-    """A program of few letters and many ligatures, of which a good share loops."""
-    return program(rng, alphabet(rng, 2, 5), rng.randint(1, 10), 0.15, 0.8)
+    """A program of few letters and many ligatures, of which a good share loops; one of four has only /LIG/, where a pair waits for two others in turn."""
+    if rng.random() < 0.25:
+        return program(rng, alphabet(rng, 2, 3), rng.randint(2, 6), 0.15, 0.8, BOTH_Z_OPS)
+    return program(rng, alphabet(rng, 2, 5), rng.randint(1, 8), 0.15, 0.8, ALL_OPS)
 
 
 def octal(code):

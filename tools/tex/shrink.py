@@ -1,28 +1,5 @@
-"""A smaller case of a difference: steps, labels and letters are taken away as long as the two still part, and pltotf still says nothing."""
-import os
-import shutil
-from collections import Counter
-
-import plfiles
+"""A smaller case of a difference: letters, steps and labels are taken away as long as the two still part."""
 import programs
-import trial
-
-
-def program_case(driver, folder, program, word):
-    """The difference of one word on one program, or None; None too where pltotf says something."""
-    if program.left_entry < 0 and not program.entries or plfiles.pltotf(folder, 'one', program):
-        return None
-    subject = trial.Subject('one', trial.read(os.path.join(folder, 'one.tfm'), Counter()), [word] if word else [], program)
-    found = trial.compare(driver, folder, [subject], Counter())
-    return found[0] if found else None
-
-
-def file_case(driver, folder, path, word):
-    """The difference of one word on the font of a file, or None."""
-    shutil.copyfile(path, os.path.join(folder, 'one.tfm'))
-    subject = trial.Subject('one', trial.read(path, Counter()), [word] if word else [], path)
-    found = trial.compare(driver, folder, [subject], Counter())
-    return found[0] if found else None
 
 
 def shorter_words(word):
@@ -33,11 +10,10 @@ def shorter_words(word):
 
 
 def smaller_programs(program):
-    """The program without one of its steps or labels."""
-    for k in range(len(program.steps)):
-        yield programs.without_step(program, k)
-    for character in program.entries:
-        yield programs.without_entry(program, character)
+    """The program without one of its steps or labels, but for one without steps."""
+    if len(program.steps) > 1:
+        yield from (programs.without_step(program, k) for k in range(len(program.steps)))
+    yield from (programs.without_entry(program, character) for character in program.entries)
 
 
 def smaller(difference):
@@ -48,11 +24,10 @@ def smaller(difference):
         yield from ((program, word) for program in smaller_programs(origin))
 
 
-def shrink(driver, folder, difference):
-    """A case from which nothing can be taken away."""
-    case = program_case if isinstance(difference.subject.origin, programs.Program) else file_case
+def shrink(case, difference):
+    """A difference from which nothing can be taken away. A case is a function from an origin and a word to their difference, or None."""
     found = difference
     while found is not None:
         difference = found
-        found = next(filter(None, (case(driver, folder, *less) for less in smaller(difference))), None)
+        found = next(filter(None, (case(*less) for less in smaller(difference))), None)
     return difference
