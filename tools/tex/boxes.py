@@ -1,7 +1,7 @@
 """TeX's answers: words set in boxes by iniTeX, and the boxes read from its log (TeX 176, 184 to 193, 1030, 1034 to 1040, 1296).
 
-A word stands alone in an \\hbox, so that TeX reads the left boundary before it and the boundary character after it; \\noboundary before it takes the left
-boundary away, and after it the right one. Nothing but primitives is used, so that no format is needed."""
+A word stands alone in an \\hbox, so that TeX reads the left boundary before it and the boundary character after it; \\noboundary before it takes the
+left boundary away, and after it the right one. Nothing but primitives is used, so that no format is needed."""
 import contextlib
 import os
 import subprocess

@@ -1,4 +1,4 @@
-"""The comparison with TeX: words on random fonts, words on the machine's own fonts, loops on random fonts; counts, and the smallest case of a difference.
+"""The comparison with TeX: words on random fonts, words on the machine's own fonts, loops on random fonts; counts, and the smallest difference.
 
 Every font has a random generator of its own, made from the seed and the font's number, so that a run is the same on any number of cores."""
 import argparse

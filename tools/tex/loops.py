@@ -1,8 +1,8 @@
 """pltotf's own word on loops beside compile's loop list, on random fonts.
 
 pltotf names one pair, the one that it found last (PLtoTF 124 and 125); the list has one pair of each cycle. Where one of the two speaks of a loop the
-other must, and the pair named must be in the list or wait for a pair of it. Of a font with a loop pltotf writes no program, so that the library gets the
-program of the property list itself."""
+other must, and the pair named must be in the list or wait for a pair of it. Of a font with a loop pltotf writes no program, so that the library gets
+the program of the property list itself."""
 import random
 import tempfile
 from collections import Counter

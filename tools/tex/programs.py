@@ -79,7 +79,7 @@ def word_program(rng):
 
 
 def loop_program(rng):
-    """A program of few letters and many ligatures, of which a good share loops; one of four has only /LIG/, where a pair waits for two others in turn."""
+    """A program of few letters and many ligatures, of which a good share loops; one of four has /LIG/ alone: its pairs wait for two in turn."""
     if rng.random() < 0.25:
         return program(rng, alphabet(rng, 2, 3), rng.randint(2, 6), 0.15, 0.8, BOTH_Z_OPS)
     return program(rng, alphabet(rng, 2, 5), rng.randint(1, 8), 0.15, 0.8, ALL_OPS)

@@ -93,7 +93,8 @@ static uint32_t compile_into(const struct program *p, size_t ops_most, struct ta
     t->ops = lend(2 * ops_most, sizeof *t->ops);
     t->loops = lend(2 * most, sizeof *t->loops);
     uint32_t r = ligkern_compile(p->instructions, 4 * p->instruction_count, p->kerns, p->kern_count, p->entries, 2 * p->entry_count, p->boundary,
-                                 p->left_entry, p->design_size, t->pairs, 6 * most, t->ops, 2 * ops_most, t->loops, 2 * most, work, 16 * most, counts, 3);
+                                 p->left_entry, p->design_size, t->pairs, 6 * most, t->ops, 2 * ops_most, t->loops, 2 * most, work, 16 * most,
+                                 counts, 3);
     free(work);
     t->pair_count = (size_t)counts[0];
     t->op_count = (size_t)counts[1];
@@ -123,7 +124,8 @@ static uint32_t set_word(const struct table *t, const uint32_t *word, size_t len
     int32_t boundary = right ? t->boundary : -1;
     for (size_t most = 2 * length + 16;; most *= 2) {
         *items = lend(6 * most, sizeof **items);
-        uint32_t r = ligkern_set_word(t->pairs, 6 * t->pair_count, t->ops, 2 * t->op_count, boundary, word, length, !left, -1, *items, 6 * most, count, 1);
+        uint32_t r = ligkern_set_word(t->pairs, 6 * t->pair_count, t->ops, 2 * t->op_count, boundary, word, length, !left, -1, *items, 6 * most,
+                                      count, 1);
         if (r != 15 || most >= ITEMS_MOST) return r;
         free(*items);
     }

@@ -1,7 +1,7 @@
 """Fonts with their words set by TeX and by the library, and the two compared: characters, kerns, ligatures, what they are made of and their bars.
 
-Both answers are compared as the lines in which TeX shows a box. Codes, lengths and bars can be read back from such a line, but for one case: a ligature
-made of nothing shows one bar for either boundary. It is counted; where one boundary alone is read, the bar must be that one's."""
+Both answers are compared as the lines in which TeX shows a box. Codes, lengths and bars can be read back from such a line, but for one case: a
+ligature made of nothing shows one bar for either boundary. It is counted; where one boundary alone is read, the bar must be that one's."""
 from dataclasses import dataclass
 
 import boxes
@@ -31,7 +31,7 @@ class Difference:
 
 
 def read(path, counts):
-    """The font of a file. Where a chain meets a redirect, TeX and the library are known to part: such a font is counted, and taken as TeX reads it."""
+    """The font of a file. Where a chain meets a redirect, TeX and the library are known to part: the font is counted, and taken as TeX reads it."""
     font = tfm.read(path)
     counts['fonts with a redirect on a chain'] += font.has_redirect_on_chain()
     counts['fonts with a redirect as the rule of a pair'] += font.has_redirect_as_rule()
