@@ -7,9 +7,9 @@ import subprocess
 import tempfile
 from collections import Counter
 
+import random_words
 import tfm
 import trial
-import words
 
 TITLE = "words on the machine's own fonts"
 WORDS_OF_A_FONT = 30
@@ -45,7 +45,7 @@ def subject(seed, place, number, path, counts):
     font = trial.read(path, counts)
     counts['fonts with a boundary character'] += font.boundary >= 0
     counts['fonts with a left boundary'] += font.left_entry >= 0
-    return trial.Subject(name, font, words.words(random.Random(f'{seed} own {path}'), font, WORDS_OF_A_FONT), path)
+    return trial.Subject(name, font, random_words.words(random.Random(f'{seed} own {path}'), font, WORDS_OF_A_FONT), path)
 
 
 def batch(task):

@@ -6,8 +6,8 @@ from collections import Counter
 
 import plfiles
 import programs
+import random_words
 import trial
-import words
 
 TITLE = 'words on random fonts'
 WORDS_OF_A_FONT = 24
@@ -31,7 +31,7 @@ def subject(seed, place, number, counts):
     program = silent_program(rng, place, name, counts)
     font = trial.read(os.path.join(place, name + '.tfm'), counts)
     counts['fonts with an entry past 255'] += any(at > 255 for at in font.entries.values())
-    return trial.Subject(name, font, words.words(rng, font, WORDS_OF_A_FONT), program)
+    return trial.Subject(name, font, random_words.words(rng, font, WORDS_OF_A_FONT), program)
 
 
 def batch(task):
