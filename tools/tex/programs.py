@@ -1,4 +1,4 @@
-"""Random programs, and the property lists that have them (PLtoTF 14, 26 to 30, 94 to 103).
+"""Random programs, and the property lists that have them (PLtoTF 9 to 13, 94 to 104).
 
 A program is a list of steps (next, right, kind, operand) in the library's numbers, its kerns being values in millionths of the design size, with the
 entries of characters and of the left boundary. Every chain ends with STOP inside the list, so that none runs into the words that pltotf adds."""
