@@ -13,7 +13,6 @@ use common::font::TextItem;
 use std::collections::{HashMap, HashSet};
 use std::hint::black_box;
 use std::io::Write;
-use std::time::{Duration, Instant};
 
 /// callgrind begins and stops to count here.
 #[no_mangle]
@@ -208,36 +207,64 @@ fn put_answer(font: &Font, compiled: &CompiledProgram, loops: &[InfiniteLoopErro
     }
 }
 
-/// Counts or times calls that are set up one by one.
+/// The clocks of driver/meter.h. The standard library has no clock of a thread.
+#[repr(C)]
+struct Timespec {
+    seconds: i64,
+    nanoseconds: i64,
+}
+
+extern "C" {
+    fn clock_gettime(clock: i32, time: *mut Timespec) -> i32;
+}
+
+const MONOTONIC: i32 = 1;
+const THREAD_CPUTIME: i32 = 3;
+
+fn now_ns(clock: i32) -> i64 {
+    let mut t = Timespec { seconds: 0, nanoseconds: 0 };
+    unsafe { clock_gettime(clock, &mut t) };
+    t.seconds * 1_000_000_000 + t.nanoseconds
+}
+
+/// Counts or times calls that are set up one by one, as driver/meter.h does.
 struct Meter {
     counting: bool,
-    n: u64,
-    done: u64,
-    end: Instant,
-    least: Option<Duration>,
+    n: i64,
+    done: i64,
+    end: i64,
+    clock: i32,
+    least: i64,
 }
 
 impl Meter {
-    fn new(how: &str, n: u64) -> Meter {
+    fn new(how: &str, n: i64) -> Meter {
         assert!(how == "count" || how == "time");
-        Meter { counting: how == "count", n, done: 0, end: Instant::now() + Duration::from_millis(n), least: None }
+        Meter { counting: how == "count", n, done: 0, end: now_ns(MONOTONIC) + n * 1_000_000, clock: MONOTONIC, least: i64::MAX }
     }
     fn more(&self) -> bool {
-        self.done <= if self.counting { self.n } else { 3 } || !self.counting && Instant::now() < self.end
+        self.done <= if self.counting { self.n } else { 3 } || !self.counting && now_ns(MONOTONIC) < self.end
     }
     /// The first call is neither counted nor timed.
     fn call(&mut self, call: &mut dyn FnMut()) {
-        let start = Instant::now();
+        let start = now_ns(self.clock);
         if self.counting && self.done > 0 {
             measured(call);
         } else {
             call();
         }
-        let took = start.elapsed();
+        let took = now_ns(self.clock) - start;
         if self.done > 0 {
-            self.least = Some(self.least.map_or(took, |least| least.min(took)));
+            self.least = self.least.min(took);
+        } else if took > 100_000 {
+            self.clock = THREAD_CPUTIME;
         }
         self.done += 1;
+    }
+    fn say(&self) {
+        if !self.counting {
+            println!("{}", self.least);
+        }
     }
 }
 
@@ -257,7 +284,7 @@ pub fn main() {
             reply.clear();
             meter.call(&mut || answer_text(&text, &mut reply));
         }
-        return say(&meter);
+        return meter.say();
     }
     let font = read_font(&text, letters);
     let compile = |entries| CompiledProgram::compile(&font.program, font.design, &font.kerns, entries);
@@ -281,11 +308,5 @@ pub fn main() {
             _ => panic!("no such call"),
         }
     }
-    say(&meter);
-}
-
-fn say(meter: &Meter) {
-    if let (false, Some(least)) = (meter.counting, meter.least) {
-        println!("{}", least.as_nanos());
-    }
+    meter.say();
 }

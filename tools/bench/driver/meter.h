@@ -34,16 +34,19 @@ __attribute__((noinline)) void measured(void (*call)(void)) {
     __asm__ volatile("");
 }
 
-static inline long long now_ns(void) {
+static inline long long now_ns(clockid_t clock) {
     struct timespec t;
-    clock_gettime(CLOCK_MONOTONIC, &t);
+    clock_gettime(clock, &t);
     return (long long)t.tv_sec * 1000000000 + t.tv_nsec;
 }
 
-/* `count N`: one call that is not counted, then N that are. `time MS`: calls for so many milliseconds, at least three; writes the least time in nanoseconds. */
+/* `count N`: one call that is not counted, then N that are. `time MS`: calls for so many milliseconds, at least three; writes the least time in nanoseconds. A call that takes over 0.1 ms is timed by the thread's
+   own clock, which stops while other work has the processor; for shorter ones that clock is too slow. */
 static inline void meter(const char *how, long n, void (*prepare)(void), void (*call)(void)) {
+    long long first = now_ns(CLOCK_MONOTONIC), end = first + n * 1000000, least = -1;
     prepare();
     call();
+    clockid_t clock = now_ns(CLOCK_MONOTONIC) - first > 100000 ? CLOCK_THREAD_CPUTIME_ID : CLOCK_MONOTONIC;
     if (!strcmp(how, "count")) {
         for (long i = 0; i < n; i++) {
             prepare();
@@ -51,12 +54,11 @@ static inline void meter(const char *how, long n, void (*prepare)(void), void (*
         }
         return;
     }
-    long long least = -1, end = now_ns() + n * 1000000;
-    for (int i = 0; i < 3 || now_ns() < end; i++) {
+    for (int i = 0; i < 3 || now_ns(CLOCK_MONOTONIC) < end; i++) {
         prepare();
-        long long t = now_ns();
+        long long t = now_ns(clock);
         call();
-        t = now_ns() - t;
+        t = now_ns(clock) - t;
         if (least < 0 || t < least) least = t;
     }
     printf("%lld\n", least);
