@@ -1,5 +1,5 @@
 -- The laws of form.
---   FormLaws    the form of a table: the pair before, and a pair's ops from the front
---   Entries     a pair's ops and last, from the words that were read
-pub mod FormLaws
+--   KeyLaws  a pair's place in the order, by the pair before it
+--   Entries  a record that fits: the end of its ops
+pub mod KeyLaws
 pub mod Entries

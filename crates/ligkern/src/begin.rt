@@ -12,18 +12,17 @@ use captions::RunOptions;
 use captions::State;
 use form::table_refusal;
 
-// 4: a letter out of range.
+// 4: a letter out of range. The letters are or-ed together, since 255 is all of the low eight bits.
 pub fn letters_refusal(word: &[u32]) -> u32
     ensures { λ r. ⌜ r ≡ lettersRefusal (now (word .entry)) ⌝ }
 {
+    let mut all: u32 = 0;
     let mut i = 0;
     while i < word.len() {
-        if 255 < word[i] {
-            return 4;
-        }
+        all = all | word[i];
         i += 1;
     }
-    0
+    if 255 < all { 4 } else { 0 }
 }
 
 // 4, 6 or 7, the lowest that holds.

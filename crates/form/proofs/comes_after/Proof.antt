@@ -1,7 +1,7 @@
 -- `form::comes_after` meets its contract: the keys of the pair before and of the pair.
 -- Assumes nothing.
 use denote.Ref.{now}
-use Rattle.form.proofs.FormLaws.{after-other}
+use Rattle.form.proofs.KeyLaws.{after-other}
 use borrow.Author.Needs.{needs}
 use Rattle.form.proofs.comes_after.Statement.{statement}
 use Rattle.form.proofs.comes_after.Tie as tie

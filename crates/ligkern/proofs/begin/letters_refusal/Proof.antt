@@ -1,7 +1,7 @@
--- `ligkern::begin::letters_refusal` meets its contract. The loop's invariant: every letter passed is in range. The measure is what is left of the word.
+-- `ligkern::begin::letters_refusal` meets its contract. The loop's invariant: the letters passed, or-ed together, are in range exactly when each of
+-- them is. The measure is what is left of the word.
 -- Assumes nothing.
-use mathlib.Core.Path.{_≡_, sym, ap}
-use mathlib.Core.Bool.{true}
+use mathlib.Core.Path.{_≡_, sym}
 use Prim.Native.Nat.{_-_, _≤_}
 use native.Mathlib.Omega.{arith}
 use lib.Dec.{leb}
@@ -9,31 +9,25 @@ use lib.ListN.{length, getD}
 use denote.Ref.{now}
 use borrow.Author.Tests.{le-leb, lt-leb}
 use Rattle.lang.specs.Every.{every}
-use Rattle.lang.specs.Checks.{unless}
-use Rattle.lang.proofs.Every.{every-none, every-more, every-fails, every-to}
+use Rattle.lang.proofs.Every.{every-none}
+use Rattle.ligkern.proofs.BeginLaws.{letters-more, letters-all}
 use Rattle.ligkern.proofs.begin.letters_refusal.Statement.{statement}
 use Rattle.ligkern.proofs.begin.letters_refusal.Tie as tie
 
 abbrev Inv-loop : tie.InvT-loop
-Inv-loop word i₀ i = (i ≤ length word) × (every i (λ j. leb (getD word j 0) 255) ≡ true)
+Inv-loop word all₀ i₀ all i = (i ≤ length word) × (leb all 255 ≡ every i (λ j. leb (getD word j 0) 255))
 
 abbrev μ-loop : tie.MeasureT-loop
-μ-loop word i₀ i = length word - i
+μ-loop word all₀ i₀ all i = length word - i
 
 loop-holds : tie.Need-loop-holds Inv-loop μ-loop
-loop-holds c = (omega arith, every-none (λ j. leb (getD (now (c .args .word)) j 0) 255))
+loop-holds c = (omega arith, sym (every-none (λ j. leb (getD (now (c .args .word)) j 0) 255)))
 
-mul-if1 : tie.Need-mul-if1 Inv-loop μ-loop
-mul-if1 c = omega arith
+mul-all : tie.Need-mul-all Inv-loop μ-loop
+mul-all c = omega arith
 
-shared-slice-read-if1 : tie.Need-shared-slice-read-if1 Inv-loop μ-loop
-shared-slice-read-if1 c = omega arith
-
-returns : tie.Need-returns Inv-loop μ-loop
-returns c =
-    let l = c .before .before .before in
-    let s = now (l .before .args .word) in
-    ap (unless 4) (sym (every-fails (length s) (l .loop .i) (λ j. leb (getD s j 0) 255) (c .before .before .loop-test .taken) (lt-leb (getD s (l .loop .i) 0) 255 (c .if1 .taken))))
+shared-slice-read-all : tie.Need-shared-slice-read-all Inv-loop μ-loop
+shared-slice-read-all c = omega arith
 
 add-i : tie.Need-add-i Inv-loop μ-loop
 add-i c = omega arith
@@ -43,15 +37,18 @@ loop-less c = omega arith
 
 loop-again : tie.Need-loop-again Inv-loop μ-loop
 loop-again c =
-    let l = c .before .before .before in
-    let s = now (l .before .args .word) in
-    (omega arith, every-more (l .loop .i) (λ j. leb (getD s j 0) 255) (l .loop .inv .1) (le-leb (getD s (l .loop .i) 0) 255 (c .if1 .left)))
+    let l = c .before .before in
+    (omega arith, letters-more (now (l .before .args .word)) (l .loop .i) (l .loop .all) (l .loop .inv .1))
+
+returns : tie.Need-returns Inv-loop μ-loop
+returns c =
+    let l = c .before .before in
+    letters-all (now (l .before .args .word)) (l .loop .i) (l .loop .all) _ (l .loop .inv .1) (l .loop .inv .0) (c .before .loop-test .left) (lt-leb (l .loop .all) 255 (c .if1 .taken))
 
 returns-2 : tie.Need-returns-2 Inv-loop μ-loop
 returns-2 c =
-    let l = c .before in
-    let s = now (l .before .args .word) in
-    ap (unless 4) (sym (every-to (length s) (l .loop .i) (λ j. leb (getD s j 0) 255) (l .loop .inv .1) (l .loop .inv .0) (c .loop-test .left)))
+    let l = c .before .before in
+    letters-all (now (l .before .args .word)) (l .loop .i) (l .loop .all) _ (l .loop .inv .1) (l .loop .inv .0) (c .before .loop-test .left) (le-leb (l .loop .all) 255 (c .if1 .left))
 
 pub letters-refusal-spec : {M : Type 1} → statement M
 letters-refusal-spec =
@@ -60,10 +57,10 @@ letters-refusal-spec =
     Inv-loop
     μ-loop
     loop-holds
-    mul-if1
-    shared-slice-read-if1
-    returns
+    mul-all
+    shared-slice-read-all
     add-i
     loop-less
     loop-again
+    returns
     returns-2)

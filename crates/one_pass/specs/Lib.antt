@@ -1,0 +1,2 @@
+-- Definitions of crate one_pass: Parts (what is tested in one pass over the pairs).
+pub mod Parts
