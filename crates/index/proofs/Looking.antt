@@ -1,18 +1,18 @@
 -- A pair looked up, by the tests of the code.
 -- Assumes nothing.
 use mathlib.Core.Path.{_≡_, refl, sym, _∙_}
-use mathlib.Core.Bool.{Bool, true, false}
+use mathlib.Core.Bool.{Bool, true, false, cond}
 use mathlib.Core.List.{List}
 use Prim.Native.Nat.{ℕ, _+_, _*_, _/_, _%_, _^_, _<_, _≤_}
 use native.Mathlib.Nat.{one-mul, mod-lt}
 use native.Mathlib.Numerals.{add-one}
 use native.Mathlib.Omega.{arith}
 use lib.IntN.{ℤ, pos}
-use lib.Dec.{eqb, leb, lit<}
+use lib.Dec.{eqb, ltb, leb, lit<}
 use lib.Count.{ones, ones-le}
 use lib.Pow.{pow-pos, shl-exact}
 use lib.ListN.{getD}
-use borrow.Author.Tests.{ne-eqb, lt-ltb, le-ltb, leb-true, le-leb, lt-leb}
+use borrow.Author.Tests.{ne-eqb, ltb-true, lt-ltb, le-ltb, leb-true, le-leb, lt-leb}
 use Rattle.words.specs.Words.{Word, wordOf}
 use Rattle.words.proofs.Bits.{word-lt}
 use Rattle.lang.specs.Every.{both}
@@ -21,7 +21,7 @@ use Rattle.lang.proofs.Records.{eqb-both}
 use Rattle.captions.specs.Tables.{pairCount, number, keyBy, leftPlace, keyAt}
 use Rattle.index.specs.declared.Looked.{Looked}
 use Rattle.index.specs.declared.Looked.the-variants.{Missing, At, Wrong}
-use Rattle.index.specs.Index.{hasBit, onesFrom, placeIn, lookedUp}
+use Rattle.index.specs.Index.{hasBit, onesFrom, placeIn, standsAt, lookedUp}
 
 -- ---- ones
 
@@ -86,3 +86,17 @@ module _ (index : List ℕ) (pairs : List ℤ) (l r : ℕ) {bit : Bool} (b : bit
 
       pub other-pair : t ≡ false → Wrong ≡ lookedUp index pairs l r
       other-pair g = rw (sym b ∙ e, ← ks, lt-ltb k (pairCount pairs) h, ← ts, g)
+
+-- ---- a place that a look-up answers is among the pairs
+
+looked-by : (b t : Bool) (p k : ℕ) → cond b (cond t (At p) Wrong) Missing ≡ At k → (t ≡ true) × (p ≡ k)
+looked-by true true p k e = (refl, cc)
+looked-by true false p k e = absurd (let z : _≡_ {A = ℕ} 0 1 = cc in omega arith)
+looked-by false t p k e = absurd (let z : _≡_ {A = ℕ} 0 1 = cc in omega arith)
+
+pub looked-inside : (index : List ℕ) (pairs : List ℤ) (l r k : ℕ) → lookedUp index pairs l r ≡ At k → k < pairCount pairs
+looked-inside index pairs l r k e =
+    let p = placeIn index l r in
+    let w = looked-by (hasBit index l r) (standsAt pairs (keyBy l r) p) p k e in
+    let h = ltb-true p (pairCount pairs) (both-left (ltb p (pairCount pairs)) (eqb (keyAt pairs p) (keyBy l r)) (w .0)) in
+    omega (arith, w .1, h)
