@@ -1,0 +1,2 @@
+-- Laws: an index while it is filled.
+pub mod Laws

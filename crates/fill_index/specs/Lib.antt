@@ -1,0 +1,2 @@
+-- An index while it is filled: Filling.
+pub mod Filling
