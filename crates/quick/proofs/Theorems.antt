@@ -29,7 +29,7 @@ use Rattle.captions.specs.Tables.{pairCount, opCount, number, opKind, opValue, 
 use Rattle.captions.specs.Steps.{refused, afterOp, afterRight, settled, giveCharacter, giveOp, opsFit, readOp, withNext, enteredAt, givesNothing, entryReads, turnBy, rightItem, turn, goesOn, byNext, runOn, opsPlaced, nextFits, placed, ranFrom, stepRefusal, handBack, steppedBy, stepOf}
 use Rattle.captions.proofs.Finding.{find-inside}
 use Rattle.items.proofs.Laws.{item-given, character-plain, op-character, op-kern, op-fit, step-with}
-use Rattle.quick.specs.Quick.{plainCode, nextLetter, isCalm, isPlain, hasLetter, isQuick, isKern, placeOr, foundPlace, firstPlain, isEntered, isReady, movedOn, givenPlain, givenFirst, quickStep, givenKern}
+use Rattle.quick.specs.Quick.{plainCode, nextLetter, isCalm, isPlain, hasLetter, isQuick, quickLeft, isKern, placeOr, foundPlace, firstPlain, isEntered, isReady, movedOn, givenPlain, givenFirst, quickStep, givenKern}
 use Rattle.quick.specs.Purpose.{QuickPasses, QuickEnters, QuickSteps, QuickKerns}
 
 no : {A : Type 0} → _≡_ {A = Bool} false true → A
@@ -253,3 +253,12 @@ quick-steps = steps
 
 pub quick-kerns : QuickKerns
 quick-kerns = kern-gives
+
+-- a left that is not 0 is a quick state's
+pub left-quick : (ops : List ℤ) (boundary : ℤ) (word : List ℕ) (options : RunOptions) (s : State) (l : ℕ) →
+    l ≡ quickLeft ops boundary word options s → (l ≡ 0 → ⊥) → (isQuick ops boundary word options s ≡ true) × (l ≡ suc (plainCode (s .«next_left»)))
+left-quick ops boundary word options s l e h = go (isQuick ops boundary word options s) e
+  where
+    go : (b : Bool) → l ≡ cond b (suc (plainCode (s .«next_left»))) 0 → (b ≡ true) × (l ≡ suc (plainCode (s .«next_left»)))
+    go true f = (refl, f)
+    go false f = absurd (h f)
