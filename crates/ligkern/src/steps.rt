@@ -74,7 +74,7 @@ fn turned_step(
 }
 
 // A last kern at once, and else the step by turns.
-fn kern_step(
+pub fn kern_step(
     pairs: &[i32],
     ops: &[i32],
     boundary: i32,
