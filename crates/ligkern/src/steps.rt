@@ -1,14 +1,20 @@
-// One step of a run, after `RunIter::next` of ligkern/mod.rs: what is checked of the call, the right item, and the turns. Each function is the
-// definition of the same name in captions/specs/Steps.antt.
+// One step of a run, after `RunIter::next` of ligkern/mod.rs: the quick path of crate quick, and else what is checked of the call, the right item, and the
+// turns. Each function is the definition of the same name in captions/specs/Steps.antt.
 ghost use mathlib.Core.Path.{_≡_};
 ghost use Rattle.words.specs.Words.{numberOf};
-ghost use Rattle.captions.specs.Steps.{orBoundary, rightItem, handBack, Stepped};
+ghost use Rattle.captions.specs.Steps.{orBoundary, rightItem, handBack, stepOf, Stepped};
 use crate::edges::edges_refusal;
 use crate::edges::word_refusal;
 use captions::Answer;
 use captions::RunOptions;
 use captions::State;
 use captions::Step;
+use quick::first::is_ready;
+use quick::first::quick_step;
+use quick::kern::give_kern;
+use quick::kern::is_kern;
+use quick::left::quick_left;
+use quick::place::found_place;
 use words::word_of;
 
 // The right item of a word, as its bits: the override, else the boundary character.
@@ -36,8 +42,8 @@ fn hand_back(s: State, t: Step) -> Step
     }
 }
 
-// One step: its answer and the state that it leaves.
-pub fn step(
+// The step by turns.
+fn turned_step(
     pairs: &[i32],
     ops: &[i32],
     boundary: i32,
@@ -45,7 +51,7 @@ pub fn step(
     options: RunOptions,
     state: State,
 ) -> Step
-    ensures { λ r. ⌜ Stepped (now (pairs .entry)) (now (ops .entry)) boundary (now (word .entry)) options state r ⌝ }
+    ensures { λ r. ⌜ r ≡ stepOf (now (pairs .entry)) (now (ops .entry)) boundary (now (word .entry)) options state ⌝ }
 {
     let edges = edges_refusal(boundary, options);
     if edges != 0 {
@@ -65,4 +71,44 @@ pub fn step(
     let right = right_item(boundary, over);
     let given = turns::run(pairs, ops, right, word, state);
     hand_back(state, given)
+}
+
+// A last kern at once, and else the step by turns.
+pub fn kern_step(
+    pairs: &[i32],
+    ops: &[i32],
+    boundary: i32,
+    word: &[u32],
+    options: RunOptions,
+    state: State,
+) -> Step
+    ensures { λ r. ⌜ r ≡ stepOf (now (pairs .entry)) (now (ops .entry)) boundary (now (word .entry)) options state ⌝ }
+{
+    if is_kern(ops, boundary, word, options, state) {
+        return give_kern(ops, state);
+    }
+    turned_step(pairs, ops, boundary, word, options, state)
+}
+
+// One step: its answer and the state that it leaves.
+pub fn step(
+    pairs: &[i32],
+    ops: &[i32],
+    boundary: i32,
+    word: &[u32],
+    options: RunOptions,
+    state: State,
+) -> Step
+    ensures { λ r. ⌜ Stepped (now (pairs .entry)) (now (ops .entry)) boundary (now (word .entry)) options state r ⌝ }
+{
+    let left = quick_left(ops, boundary, word, options, state);
+    if left == 0 {
+        return kern_step(pairs, ops, boundary, word, options, state);
+    }
+    let read = state.read;
+    let k = found_place(pairs, left, word[read]);
+    if is_ready(pairs, ops, k) {
+        return quick_step(pairs, ops, word, k, state);
+    }
+    turned_step(pairs, ops, boundary, word, options, state)
 }

@@ -9,7 +9,7 @@ use native.Mathlib.Omega.{arith}
 use lib.IntN.{ℤ}
 use lib.Dec.{ltb, leb, eqb}
 use lib.ListN.{length, getD}
-use borrow.Author.Tests.{ltb-true, lt-ltb, leb-true, le-ltb, lt-leb, eqb-true, eq-eqb, ne-eqb}
+use borrow.Author.Tests.{ltb-true, lt-ltb, leb-true, le-ltb, le-leb, lt-leb, eqb-true, eq-eqb, ne-eqb}
 use Rattle.words.specs.Words.{wordOf}
 use Rattle.lang.specs.Every.{both}
 use Rattle.lang.specs.Records.{within}
@@ -29,7 +29,7 @@ use Rattle.captions.specs.Tables.{pairCount, opCount, number, opKind, opValue, 
 use Rattle.captions.specs.Steps.{refused, afterOp, afterRight, settled, giveCharacter, giveOp, opsFit, readOp, withNext, enteredAt, givesNothing, entryReads, turnBy, rightItem, turn, goesOn, byNext, runOn, opsPlaced, nextFits, placed, ranFrom, stepRefusal, handBack, steppedBy, stepOf}
 use Rattle.captions.proofs.Finding.{find-inside}
 use Rattle.items.proofs.Laws.{item-given, character-plain, op-character, op-kern, op-fit, step-with}
-use Rattle.quick.specs.Quick.{plainCode, nextLetter, isCalm, isPlain, hasLetter, isQuick, isKern, placeOr, foundPlace, firstPlain, isEntered, isReady, movedOn, givenPlain, givenFirst, quickStep, givenKern}
+use Rattle.quick.specs.Quick.{plainCode, nextLetter, isCalm, isPlain, hasLetter, isQuick, quickLeft, isKern, placeOr, foundPlace, firstPlain, isEntered, isReady, movedOn, givenPlain, givenFirst, quickStep, givenKern}
 use Rattle.quick.specs.Purpose.{QuickPasses, QuickEnters, QuickSteps, QuickKerns}
 
 no : {A : Type 0} → _≡_ {A = Bool} false true → A
@@ -81,6 +81,14 @@ module _ (ops : List ℤ) (boundary : ℤ) (word : List ℕ) (options : RunOptio
       (both-left (opsPlaced ops s) (nextFits (s .«next_left»))
       (both-right (leb (s .pending) (s .read)) _
       (both-right (leb (s .given) (s .read)) _ (both-right (leb (s .read) (length word)) _ (d .inside))))))
+
+  -- an i32 counts the ops
+  placed-few : Calm ops boundary word options s → leb (opCount ops) 2147483647 ≡ true
+  placed-few d =
+      both-left (leb (opCount ops) 2147483647) _
+      (both-left (opsPlaced ops s) (nextFits (s .«next_left»))
+      (both-right (leb (s .pending) (s .read)) _
+      (both-right (leb (s .given) (s .read)) _ (both-right (leb (s .read) (length word)) _ (d .inside)))))
 
   pub quick-is : isQuick ops boundary word options s ≡ true → Quick ops boundary word options s
   quick-is h =
@@ -253,3 +261,23 @@ quick-steps = steps
 
 pub quick-kerns : QuickKerns
 quick-kerns = kern-gives
+
+-- a left that is not 0 is a quick state's
+pub left-quick : (ops : List ℤ) (boundary : ℤ) (word : List ℕ) (options : RunOptions) (s : State) (l : ℕ) →
+    l ≡ quickLeft ops boundary word options s → (l ≡ 0 → ⊥) → (isQuick ops boundary word options s ≡ true) × (l ≡ suc (plainCode (s .«next_left»)))
+left-quick ops boundary word options s l e h = go (isQuick ops boundary word options s) e
+  where
+    go : (b : Bool) → l ≡ cond b (suc (plainCode (s .«next_left»))) 0 → (b ≡ true) × (l ≡ suc (plainCode (s .«next_left»)))
+    go true f = (refl, f)
+    go false f = absurd (h f)
+
+-- a quick state that gives its character as it stands leaves a quick state, where another letter in range comes next
+pub quick-moves : (ops : List ℤ) (boundary : ℤ) (word : List ℕ) (options : RunOptions) (s : State) →
+    isQuick ops boundary word options s ≡ true → suc (s .read) < length word → leb (getD word (suc (s .read)) 0) 255 ≡ true →
+    isQuick ops boundary word options (givenPlain word s .state) ≡ true
+quick-moves ops boundary word options s h l e =
+    let q = quick-is ops boundary word options s h in
+    let d = q .calm in
+    rw (lt-ltb (suc (s .read)) (length word) l, lt-ltb (suc (s .given)) (suc (s .read)) (omega (arith, q .waits)), e, q .letter,
+    le-leb (suc (s .read)) (length word) (omega arith), le-leb (suc (s .given)) (suc (s .read)) (omega (arith, q .waits)), le-leb 0 (suc (s .read)) (omega arith),
+    placed-few ops boundary word options s d, le-leb (s .op + 0) (opCount ops) (omega (arith, placed-among ops boundary word options s d)), d .taken)

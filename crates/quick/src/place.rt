@@ -26,20 +26,21 @@ fn left_in(pairs: &[i32], k: usize) -> u32
     std::num::wrapping_add_u32(word_in(pairs, 6 * k), 1)
 }
 
-// Pair k, which is there, comes before a left and a right.
+// Pair k, which is there, comes before a left and a right. That its right is a word is learnt by reading it, which compiling leaves out; it is compared only
+// where the left does not decide.
 fn comes_before(pairs: &[i32], k: usize, left: u32, right: u32) -> bool
     requires { ⌜ k < pairCount (now pairs) ⌝ }
     ensures { λ r. ⌜ r ≡ ltb (keyAt (now (pairs .entry)) k) (keyBy left right) ⌝ }
 {
     let place = left_in(pairs, k);
-    let letter = word_in(pairs, 6 * k + 1);
+    word_in(pairs, 6 * k + 1);
     if place < left {
         return true;
     }
-    if left < place {
+    if place != left {
         return false;
     }
-    letter < right
+    word_in(pairs, 6 * k + 1) < right
 }
 
 // Where bisection for a left and a right ends.

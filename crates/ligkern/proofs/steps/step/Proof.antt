@@ -1,72 +1,88 @@
--- `ligkern::steps::step` meets its contract: it is refused, or runs.
+-- `ligkern::steps::step` meets its contract: a quick step is the step, and else it is the step by turns.
 -- Assumes nothing.
-use mathlib.Core.Path.{_≡_, _∙_}
+use mathlib.Core.Path.{_≡_, refl, sym, ap, _∙_}
+use mathlib.Core.Bool.{true}
+use Prim.Native.Nat.{ℕ, suc, _<_}
+use native.Mathlib.Omega.{arith}
+use lib.IntN.{ℤ}
+use lib.ListN.{length}
 use denote.Ref.{now}
-use Rattle.words.specs.Words.{numberOf}
+use Rattle.words.specs.Words.{wordOf, numberOf}
 use Rattle.words.proofs.Bits.{number-word}
-use Rattle.captions.specs.Steps.{rightItem, orBoundary}
+use Rattle.captions.specs.declared.Step.{Step}
+use Rattle.captions.specs.Steps.{stepOf, Stepped}
 use Rattle.captions.proofs.Replies.{stepped-as}
-use Rattle.ligkern.proofs.StepLaws.{refused-edges, refused-word, step-given}
+use Rattle.quick.specs.Quick.{plainCode, nextLetter, isQuick, foundPlace}
+use Rattle.quick.proofs.Theorems.{left-quick, quick-is, quick-steps}
 use borrow.Author.Needs.{needs}
 use Rattle.ligkern.proofs.steps.step.Statement.{statement}
 use Rattle.ligkern.proofs.steps.step.Tie as tie
 
-right : (c : tie.After-right-item) → let a = c .before .before .before .before .before .before .before .args in orBoundary (numberOf (c .right-item .result)) ≡ rightItem (a .boundary) (a .options .«right_boundary_override»)
-right c =
-    let a = c .before .before .before .before .before .before .before in
-    c .right-item .ensures ∙ (λ i. rightItem (number-word (a .args .boundary) (a .fits .boundary) i) (number-word (a .args .options .«right_boundary_override») (record { sfits = search needs }) i))
+-- what is `stepOf` with the boundary character passed as its bits
+answered : (c : tie.Start) → let a = c .args in (r : Step) → r ≡ stepOf (now (a .pairs)) (now (a .ops)) (numberOf (wordOf (a .boundary))) (now (a .word)) (a .options) (a .state) → Stepped (now (a .pairs)) (now (a .ops)) (a .boundary) (now (a .word)) (a .options) (a .state) r
+answered c r e =
+    let a = c .args in
+    stepped-as (now (a .pairs)) (now (a .ops)) (a .boundary) (now (a .word)) (a .options) (a .state)
+    (e ∙ ap (λ (z : ℤ). stepOf (now (a .pairs)) (now (a .ops)) z (now (a .word)) (a .options) (a .state)) (number-word (a .boundary) (c .fits .boundary)))
 
-edges-refusal-requires : tie.Need-edges-refusal-requires
-edges-refusal-requires c κs = search needs
+quick : (c : tie.Else1) → let a = c .before .before .before .args in (isQuick (now (a .ops)) (numberOf (wordOf (a .boundary))) (now (a .word)) (a .options) (a .state) ≡ true) × (c .before .quick-left .result ≡ suc (plainCode (a .state .«next_left»)))
+quick c =
+    let a = c .before .before .before .args in
+    left-quick (now (a .ops)) (numberOf (wordOf (a .boundary))) (now (a .word)) (a .options) (a .state) (c .before .quick-left .result) (c .before .quick-left .ensures) (c .if1 .left)
+
+there : (c : tie.Else1) → let a = c .before .before .before .args in a .state .read < length (now (a .word))
+there c = let a = c .before .before .before .args in quick-is (now (a .ops)) (numberOf (wordOf (a .boundary))) (now (a .word)) (a .options) (a .state) (quick c .0) .there
+
+quick-left-requires : tie.Need-quick-left-requires
+quick-left-requires c κs = search needs
+
+kern-step-requires : tie.Need-kern-step-requires
+kern-step-requires c κs = search needs
 
 returns : tie.Need-returns
-returns c =
-    let e = c .before in
-    let a = e .before .before in
-    stepped-as (now (a .args .pairs)) (now (a .args .ops)) (a .args .boundary) (now (a .args .word)) (a .args .options) (a .args .state)
-    (refused-edges (now (a .args .pairs)) (now (a .args .ops)) (a .args .boundary) (now (a .args .word)) (a .args .options) (a .args .state) (a .fits .boundary) (e .edges-refusal .result) (e .edges-refusal .ensures) (c .if1 .taken))
+returns c = answered (c .before .before .before .before) (c .kern-step .result) (c .kern-step .ensures)
 
-word-refusal-requires : tie.Need-word-refusal-requires
-word-refusal-requires c κs = search needs
+mul-found-place : tie.Need-mul-found-place
+mul-found-place c = omega (arith, there c)
+
+shared-slice-read-found-place : tie.Need-shared-slice-read-found-place
+shared-slice-read-found-place c = there (c .before)
+
+found-place-requires : tie.Need-found-place-requires
+found-place-requires c κs = search needs
+
+is-ready-requires : tie.Need-is-ready-requires
+is-ready-requires c κs = search needs
+
+quick-step-requires : tie.Need-quick-step-requires
+quick-step-requires c κs = search needs
 
 returns-2 : tie.Need-returns-2
 returns-2 c =
-    let w = c .before in
-    let e = w .before .before in
-    let a = e .before .before in
-    stepped-as (now (a .args .pairs)) (now (a .args .ops)) (a .args .boundary) (now (a .args .word)) (a .args .options) (a .args .state)
-    (refused-word (now (a .args .pairs)) (now (a .args .ops)) (a .args .boundary) (now (a .args .word)) (a .args .options) (a .args .state) (a .fits .boundary) (e .edges-refusal .result) (e .edges-refusal .ensures)
-    (w .before .if1 .left) (w .word-refusal .result) (w .word-refusal .ensures) (c .if2 .taken))
+    let a = c .before .before .before .before .before .before .before .before .args in
+    let q = quick (c .before .before .before .before .before) in
+    answered (c .before .before .before .before .before .before .before .before) (c .quick-step .result)
+    (c .quick-step .ensures
+    ∙ sym (quick-steps (now (a .pairs)) (now (a .ops)) (numberOf (wordOf (a .boundary))) (now (a .word)) (a .options) (a .state) (c .before .before .before .found-place .result) (q .0) (c .before .before .before .found-place .ensures ∙ ap (λ (l : ℕ). foundPlace (now (a .pairs)) l (nextLetter (now (a .word)) (a .state))) (q .1)) (sym (c .before .before .is-ready .ensures) ∙ c .before .if2 .taken)))
 
-right-item-requires : tie.Need-right-item-requires
-right-item-requires c κs = search needs
-
-run-requires : tie.Need-run-requires
-run-requires c κs = search needs
-
-hand-back-requires : tie.Need-hand-back-requires
-hand-back-requires c κs = search needs
+turned-step-requires : tie.Need-turned-step-requires
+turned-step-requires c κs = search needs
 
 returns-3 : tie.Need-returns-3
-returns-3 c =
-    let i = c .before .before in
-    let w = i .before .before .before in
-    let e = w .before .before in
-    let a = e .before .before in
-    stepped-as (now (a .args .pairs)) (now (a .args .ops)) (a .args .boundary) (now (a .args .word)) (a .args .options) (a .args .state)
-    (rw (c .hand-back .ensures)
-    (step-given (now (a .args .pairs)) (now (a .args .ops)) (a .args .boundary) (now (a .args .word)) (a .args .options) (a .args .state) (a .fits .boundary) (e .edges-refusal .result) (e .edges-refusal .ensures)
-    (w .before .if1 .left) (w .word-refusal .result) (w .word-refusal .ensures) (orBoundary (numberOf (i .right-item .result))) (c .before .run .result) (i .before .before .if2 .left) (right i) (c .before .run .ensures)))
+returns-3 c = answered (c .before .before .before .before .before .before .before .before) (c .turned-step .result) (c .turned-step .ensures)
 
 pub step-spec : {M : Type 1} → statement M
 step-spec =
     tie.close
     (tie.spec
-    edges-refusal-requires
+    quick-left-requires
+    kern-step-requires
     returns
-    word-refusal-requires
+    mul-found-place
+    shared-slice-read-found-place
+    found-place-requires
+    is-ready-requires
+    quick-step-requires
     returns-2
-    right-item-requires
-    run-requires
-    hand-back-requires
+    turned-step-requires
     returns-3)
