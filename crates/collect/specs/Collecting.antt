@@ -2,7 +2,7 @@
 use mathlib.Core.Path.{_≡_}
 use mathlib.Core.Bool.{cond}
 use mathlib.Core.List.{List, [], _∷_}
-use Prim.Native.Nat.{ℕ, _<_, _≤_}
+use Prim.Native.Nat.{ℕ, zero, suc, _<_, _≤_}
 use lib.IntN.{ℤ, pos}
 use lib.Dec.{leb}
 use lib.ListN.{length, replicate}
@@ -35,3 +35,8 @@ pub record CollectsFont (s table : List ℤ) (cap : ℕ) (w w′ : List ℕ) (r 
       replyOf (collectRefusal s table cap) (pos (length (pairsBy s table)) ∷ pos (boundaryPairs (pairsBy s table)) ∷ [])
   pub work : w′ ≡ listOf (collectRefusal s table cap) 0 (length w) (pairRowNumbers (pairsBy s table))
   pub rows : CollectsFontBy s table cap w w′ r
+
+-- of n rows with those of left t, how many are the boundary's, which were e before: all after the first left
+abbrev pub edgeBy : ℕ → ℕ → ℕ → ℕ
+edgeBy zero n e = n
+edgeBy (suc t) n e = e

@@ -3,7 +3,8 @@
 -- Assumes nothing.
 use native.Mathlib.Omega.{arith}
 use denote.Ref.{now}
-use Rattle.pairs.proofs.PairRowLaws.{adds-none, adds-over, order-room, sum-fits, adds-some}
+use Rattle.pairs.proofs.PairRowLaws.{adds-none, adds-over, sum-fits}
+use Rattle.collect.proofs.Placing.{adds-left}
 use borrow.Author.Needs.{needs}
 use Rattle.collect.proofs.add_left.Statement.{statement}
 use Rattle.collect.proofs.add_left.Tie as tie
@@ -17,23 +18,8 @@ returns c =
     let a = n .before .before in
     adds-none (now (a .args .instructions)) (now (a .args .table)) (a .args .left) (n .entry-of .result) (n .entry-of .ensures) (a .args .n) (a .args .cap) (now (a .args .work)) (a .pre) (c .if1 .taken)
 
-blank-requires : tie.Need-blank-requires
-blank-requires c κs = search needs
-
-blank-requires-2 : tie.Need-blank-requires-2
-blank-requires-2 c κs = search needs
-
-blank-requires-3 : tie.Need-blank-requires-3
-blank-requires-3 c κs = search needs
-
 cast-survey : tie.Need-cast-survey
 cast-survey c = search needs
-
-slice-aggregate-survey : tie.Need-slice-aggregate-survey
-slice-aggregate-survey c = search needs
-
-slice-aggregate-survey-2 : tie.Need-slice-aggregate-survey-2
-slice-aggregate-survey-2 c = search needs
 
 survey-requires : tie.Need-survey-requires
 survey-requires c κs = search needs
@@ -43,67 +29,36 @@ sub-if2 c = search needs
 
 returns-2 : tie.Need-returns-2
 returns-2 c =
-    let y = c .before .before .before in
-    let x = y .before .before .before .before .before .before in
+    let y = c .before in
+    let x = y .before .before .before .before in
     let n = x .before in
     let a = n .before .before in
-    let f = y .survey .last .1 .1 .0 in
-    let o = y .survey .last .1 .1 .1 .0 in
-    adds-over (now (a .args .instructions)) (now (a .args .table)) (a .args .left) (a .args .n) (y .survey .result) (a .args .cap) (n .entry-of .result) f o (now (a .args .work)) (a .pre) (n .entry-of .ensures) (x .if1 .left) (y .survey .ensures) (c .if2 .taken)
+    let f = y .survey .ensures in
+    adds-over (now (a .args .instructions)) (now (a .args .table)) (a .args .left) (a .args .n) (y .survey .result) (a .args .cap) (n .entry-of .result) (f .first) (f .order) (now (a .args .work)) (a .pre) (n .entry-of .ensures) (x .if1 .left) (f .surveyed) (c .if2 .taken)
 
-cast-append : tie.Need-cast-append
-cast-append c = search needs
+cast-add-rows : tie.Need-cast-add-rows
+cast-add-rows c = search needs
 
-slice-aggregate-append : tie.Need-slice-aggregate-append
-slice-aggregate-append c = search needs
+cast-add-rows-2 : tie.Need-cast-add-rows-2
+cast-add-rows-2 c = search needs
 
-slice-aggregate-append-2 : tie.Need-slice-aggregate-append-2
-slice-aggregate-append-2 c = search needs
+add-rows-requires : tie.Need-add-rows-requires
+add-rows-requires c κs = search needs
 
-append-requires : tie.Need-append-requires
-append-requires c κs = search needs
-
-slice-aggregate-write-order : tie.Need-slice-aggregate-write-order
-slice-aggregate-write-order c = search needs
-
-slice-aggregate-write-order-2 : tie.Need-slice-aggregate-write-order-2
-slice-aggregate-write-order-2 c = search needs
-
-write-order-requires : tie.Need-write-order-requires
-write-order-requires c κs =
-    let y = c .before .before .before .before .before .before .before .before .before .before .before .before .before in
-    let x = y .before .before .before .before .before .before in
-    let n = x .before in
-    let a = n .before .before in
-    let f = y .survey .last .1 .1 .0 in
-    let o = y .survey .last .1 .1 .1 .0 in
-    let p = c .before .before .before .before .before .before in
-    order-room (now (a .args .instructions)) (now (a .args .table)) (a .args .left) (a .args .n) (y .survey .result) (a .args .cap) (n .entry-of .result) f o (now (a .args .work)) (a .pre) (n .entry-of .ensures) (x .if1 .left) (y .survey .ensures) (p .append .last .0) (p .append .ensures .same-length) (c .before .before .before .before .before .before .before .before .before .before .if2 .left)
-
-add-t14 : tie.Need-add-t14
-add-t14 c =
-    let y = c .before .before .before .before .before .before .before .before .before .before .before .before .before .before .before .before in
-    let x = y .before .before .before .before .before .before in
-    let n = x .before in
-    let a = n .before .before in
-    let f = y .survey .last .1 .1 .0 in
-    let o = y .survey .last .1 .1 .1 .0 in
-    omega (arith, sum-fits (now (a .args .instructions)) (now (a .args .table)) (a .args .left) (a .args .n) (y .survey .result) (a .args .cap) (n .entry-of .result) f o (now (a .args .work)) (a .pre) (n .entry-of .ensures) (x .if1 .left) (y .survey .ensures))
+add-t13 : tie.Need-add-t13
+add-t13 c = search needs
 
 same-length : tie.Need-same-length
 same-length c = search needs
 
 returns-3 : tie.Need-returns-3
 returns-3 c =
-    let y = c .before .before .before .before .before .before .before .before .before .before .before .before .before .before .before .before in
-    let x = y .before .before .before .before .before .before in
+    let y = c .before .before .before .before .before .before .before .before in
+    let x = y .before .before .before .before in
     let n = x .before in
     let a = n .before .before in
-    let f = y .survey .last .1 .1 .0 in
-    let o = y .survey .last .1 .1 .1 .0 in
-    let p = c .before .before .before .before .before .before .before .before .before in
-    let z = c .before .before in
-    adds-some (now (a .args .instructions)) (now (a .args .table)) (a .args .left) (a .args .n) (y .survey .result) (a .args .cap) (n .entry-of .result) f o (now (a .args .work)) (a .pre) (n .entry-of .ensures) (x .if1 .left) (y .survey .ensures) (p .append .last .1 .1 .1 .1 .0) (p .append .last .0) (z .write-order .last .0) (c .before .before .before .before .before .before .before .before .before .before .before .before .before .if2 .left) (p .append .ensures) (z .write-order .ensures)
+    let o = y .survey .last .1 .1 in
+    adds-left (now (a .args .instructions)) (now (a .args .table)) (a .args .left) (a .args .n) (y .survey .result) (a .args .cap) (n .entry-of .result) (now (a .args .places)) (now (a .args .indices)) (o .0) (o .1 .0) (o .1 .1 .0) (now (a .args .work)) (a .pre) (n .entry-of .ensures) (x .if1 .left) (y .survey .ensures) (c .before .before .add-rows .last .0) (c .before .before .before .before .before .before .before .if2 .left) (c .before .before .add-rows .ensures)
 
 pub add-left-spec : {M : Type 1} → statement M
 add-left-spec =
@@ -111,22 +66,13 @@ add-left-spec =
     (tie.spec
     entry-of-requires
     returns
-    blank-requires
-    blank-requires-2
-    blank-requires-3
     cast-survey
-    slice-aggregate-survey
-    slice-aggregate-survey-2
     survey-requires
     sub-if2
     returns-2
-    cast-append
-    slice-aggregate-append
-    slice-aggregate-append-2
-    append-requires
-    slice-aggregate-write-order
-    slice-aggregate-write-order-2
-    write-order-requires
-    add-t14
+    cast-add-rows
+    cast-add-rows-2
+    add-rows-requires
+    add-t13
     same-length
     returns-3)

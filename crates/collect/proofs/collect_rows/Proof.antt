@@ -6,101 +6,78 @@ use Prim.Native.Nat.{_-_}
 use native.Mathlib.Omega.{arith}
 use borrow.Author.Needs.{needs}
 use denote.Ref.{now}
-use Rattle.pairs.proofs.PairRowLaws.{Gathering, adding-first, upto-is, over-is, gathering-first, adding, gathering-more, gathering-all}
+use Rattle.pairs.proofs.PairRowLaws.{upto-is, over-is}
+use Rattle.collect.proofs.Lefts.{Lefts, lefts-long, lefts-adding, lefts-more, lefts-all}
 use Rattle.collect.proofs.collect_rows.Statement.{statement}
 use Rattle.collect.proofs.collect_rows.Tie as tie
 
 abbrev Inv-loop : tie.InvT-loop
-Inv-loop instructions table work₀ cap e n₀ left₀ work n left = Gathering instructions table cap e work₀ work left n
+Inv-loop instructions table work₀ cap places₀ indices₀ n₀ e₀ left₀ work places indices n e left = Lefts instructions table cap e work₀ work left n
 
 abbrev μ-loop : tie.MeasureT-loop
-μ-loop instructions table work₀ cap e n₀ left₀ work n left = 257 - left
+μ-loop instructions table work₀ cap places₀ indices₀ n₀ e₀ left₀ work places indices n e left = 257 - left
+
+loop-holds : tie.Need-loop-holds Inv-loop μ-loop
+loop-holds c = (refl, refl)
 
 add-left-requires : tie.Need-add-left-requires Inv-loop μ-loop
 add-left-requires c κs =
-    let a = c .before .before in
-    adding-first (now (a .args .instructions)) (now (a .args .table)) (a .args .cap) (now (a .args .work)) (a .pre .0) (a .pre .1) (a .pre .2)
+    let i = c .before .before .before in
+    let l = i .before in
+    let a = l .before .before in
+    lefts-adding (now (a .args .instructions)) (now (a .args .table)) (a .args .cap) (now (a .args .work)) (l .loop .e) (l .loop .left) (l .loop .n) (l .loop .work) (l .loop .inv) (a .pre .0) (a .pre .1) (a .pre .2) (i .loop-test .taken)
 
-enum-known-e : tie.Need-enum-known-e Inv-loop μ-loop
-enum-known-e c = search needs
+enum-known-m : tie.Need-enum-known-m Inv-loop μ-loop
+enum-known-m c = search needs
 
 enum-told : tie.Need-enum-told Inv-loop μ-loop
 enum-told c = search needs
 
 same-length : tie.Need-same-length Inv-loop μ-loop
-same-length c = c .before .before .before .before .add-left .kept .1 .1 .0
+same-length c =
+    let m = c .before .before .before .before in
+    let i = m .before .before .before .before in
+    let l = i .before in
+    let a = l .before .before in
+    m .add-left .kept .1 .1 .0 ∙ lefts-long (now (a .args .instructions)) (now (a .args .table)) (a .args .cap) (now (a .args .work)) (l .loop .e) (l .loop .left) (l .loop .n) (l .loop .work) (l .loop .inv)
 
 returns : tie.Need-returns Inv-loop μ-loop
 returns c =
-    let n = c .before .before .before .before in
-    let a = n .before .before .before in
-    (refl, over-is (now (a .args .instructions)) (now (a .args .table)) 0 0 (a .args .cap) (now (a .args .work)) (n .add-left .last .1 .1 .0) (n .add-left .result) (n .add-left .ensures) (omega arith) (c .enum-told .given .1))
-
-loop-holds : tie.Need-loop-holds Inv-loop μ-loop
-loop-holds c =
-    let n = c .before .before .before .before .before in
-    let a = n .before .before .before in
-    gathering-first (now (a .args .instructions)) (now (a .args .table)) (a .args .cap) (c .before .e .given .0 .0) (now (a .args .work)) (n .add-left .last .1 .1 .0) (upto-is (now (a .args .instructions)) (now (a .args .table)) 0 0 (a .args .cap) (now (a .args .work)) (n .add-left .last .1 .1 .0) (n .add-left .result) (n .add-left .ensures) (c .before .e .given .0 .0) (c .before .e .given .1))
-
-add-left-requires-2 : tie.Need-add-left-requires-2 Inv-loop μ-loop
-add-left-requires-2 c κs =
-    let i = c .before in
-    let l = i .before in
-    let k = l .before in
-    let n = k .before .before .before .before .before in
-    let a = n .before .before .before in
-    adding (now (a .args .instructions)) (now (a .args .table)) (a .args .cap) (k .before .e .given .0 .0) (n .add-left .last .1 .1 .0) (l .loop .work) (l .loop .left) (l .loop .n) (l .loop .inv) (a .pre .0) (omega (arith, n .add-left .kept .1 .1 .0, a .pre .1)) (i .loop-test .taken)
-
-enum-known-m : tie.Need-enum-known-m Inv-loop μ-loop
-enum-known-m c = search needs
-
-enum-told-2 : tie.Need-enum-told-2 Inv-loop μ-loop
-enum-told-2 c = search needs
-
-same-length-2 : tie.Need-same-length-2 Inv-loop μ-loop
-same-length-2 c =
     let m = c .before .before .before .before in
-    let l = m .before .before .before in
-    let n = l .before .before .before .before .before .before in
-    m .add-left2 .kept .1 .1 .0 ∙ l .loop .inv .same-length ∙ n .add-left .kept .1 .1 .0
-
-returns-2 : tie.Need-returns-2 Inv-loop μ-loop
-returns-2 c =
-    let m = c .before .before .before .before in
-    let i = m .before .before in
+    let i = m .before .before .before .before in
     let l = i .before in
-    let n = l .before .before .before .before .before .before in
-    let a = n .before .before .before in
-    (refl, over-is (now (a .args .instructions)) (now (a .args .table)) (l .loop .left) (l .loop .n) (a .args .cap) (l .loop .work) (m .add-left2 .last .1 .1 .0) (m .add-left2 .result) (m .add-left2 .ensures) (i .loop-test .taken) (c .enum-told2 .given .1))
+    let a = l .before .before in
+    (refl, over-is (now (a .args .instructions)) (now (a .args .table)) (l .loop .left) (l .loop .n) (a .args .cap) (l .loop .work) (m .add-left .last .1 .1 .0) (m .add-left .result) (m .add-left .ensures) (i .loop-test .taken) (c .enum-told .given .1))
+
+edge-rows-requires : tie.Need-edge-rows-requires Inv-loop μ-loop
+edge-rows-requires c κs = search needs
 
 add-left : tie.Need-add-left Inv-loop μ-loop
-add-left c = omega (arith, c .before .before .before .before .before .before .before .loop-test .taken)
+add-left c = omega (arith, c .before .before .before .before .before .before .before .before .before .before .loop-test .taken)
 
 loop-less : tie.Need-loop-less Inv-loop μ-loop
-loop-less c = omega (arith, c .before .before .before .before .before .before .before .loop-test .taken)
+loop-less c = omega (arith, c .before .before .before .before .before .before .before .before .before .before .loop-test .taken)
 
 loop-again : tie.Need-loop-again Inv-loop μ-loop
 loop-again c =
-    let m = c .before .before .before .before .before in
-    let i = m .before .before in
+    let g = c .before .before .m .given in
+    let m = c .before .before .before .before .before .before in
+    let i = m .before .before .before .before in
     let l = i .before in
-    let k = l .before in
-    let n = k .before .before .before .before .before in
-    let a = n .before .before .before in
-    gathering-more (now (a .args .instructions)) (now (a .args .table)) (a .args .cap) (k .before .e .given .0 .0) (n .add-left .last .1 .1 .0) (l .loop .work) (l .loop .left) (l .loop .n) (l .loop .inv) (m .add-left2 .last .1 .1 .0) (c .before .m .given .0 .0) (m .add-left2 .kept .1 .1 .0) (upto-is (now (a .args .instructions)) (now (a .args .table)) (l .loop .left) (l .loop .n) (a .args .cap) (l .loop .work) (m .add-left2 .last .1 .1 .0) (m .add-left2 .result) (m .add-left2 .ensures) (c .before .m .given .0 .0) (c .before .m .given .1)) (i .loop-test .taken)
+    let a = l .before .before in
+    rw (c .edge-rows .ensures) (lefts-more (now (a .args .instructions)) (now (a .args .table)) (a .args .cap) (now (a .args .work)) (l .loop .e) (l .loop .left) (l .loop .n) (g .0 .0) (l .loop .work) (m .add-left .last .1 .1 .0) (l .loop .inv) (i .loop-test .taken) (m .add-left .kept .1 .1 .0) (upto-is (now (a .args .instructions)) (now (a .args .table)) (l .loop .left) (l .loop .n) (a .args .cap) (l .loop .work) (m .add-left .last .1 .1 .0) (m .add-left .result) (m .add-left .ensures) (g .0 .0) (g .1)))
 
-same-length-3 : tie.Need-same-length-3 Inv-loop μ-loop
-same-length-3 c =
+same-length-2 : tie.Need-same-length-2 Inv-loop μ-loop
+same-length-2 c =
     let l = c .before in
-    l .loop .inv .same-length ∙ l .before .before .before .before .before .before .add-left .kept .1 .1 .0
+    let a = l .before .before in
+    lefts-long (now (a .args .instructions)) (now (a .args .table)) (a .args .cap) (now (a .args .work)) (l .loop .e) (l .loop .left) (l .loop .n) (l .loop .work) (l .loop .inv)
 
-returns-3 : tie.Need-returns-3 Inv-loop μ-loop
-returns-3 c =
+returns-2 : tie.Need-returns-2 Inv-loop μ-loop
+returns-2 c =
     let l = c .before in
-    let k = l .before in
-    let n = k .before .before .before .before .before in
-    let a = n .before .before .before in
-    (l .loop .inv .fits, gathering-all (now (a .args .instructions)) (now (a .args .table)) (a .args .cap) (k .before .e .given .0 .0) (n .add-left .last .1 .1 .0) (l .loop .work) (l .loop .left) (l .loop .n) (l .loop .inv) (now (a .args .work)) (n .add-left .kept .1 .1 .0) (c .loop-test .left))
+    let a = l .before .before in
+    lefts-all (now (a .args .instructions)) (now (a .args .table)) (a .args .cap) (now (a .args .work)) (l .loop .e) (l .loop .left) (l .loop .n) (l .loop .work) (l .loop .inv) (c .loop-test .left)
 
 pub collect-rows-spec : {M : Type 1} → statement M
 collect-rows-spec =
@@ -108,19 +85,15 @@ collect-rows-spec =
     (tie.spec
     Inv-loop
     μ-loop
+    loop-holds
     add-left-requires
-    enum-known-e
+    enum-known-m
     enum-told
     same-length
     returns
-    loop-holds
-    add-left-requires-2
-    enum-known-m
-    enum-told-2
-    same-length-2
-    returns-2
+    edge-rows-requires
     add-left
     loop-less
     loop-again
-    same-length-3
-    returns-3)
+    same-length-2
+    returns-2)
