@@ -1,10 +1,12 @@
 -- What stands in a field after its blanks: a sign, and digits one by one.
 -- Assumes nothing.
-use mathlib.Core.Path.{_≡_, refl, sym, ap, _∙_}
+use mathlib.Core.Path.{_≡_, refl, sym, ap, subst, _∙_}
 use mathlib.Core.Bool.{cond}
 use mathlib.Core.List.{List, [], _∷_}
+use mathlib.Core.Logic.{_⊎_, inl, inr}
 use mathlib.Core.Option.{none, some}
 use Prim.Native.Nat.{ℕ, zero, suc, _+_, _-_, _*_, _^_, _<_, _≤_}
+use native.Mathlib.Nat.{eq-or-lt-of-le}
 use native.Mathlib.Numerals.{add-one}
 use native.Mathlib.Omega.{arith}
 use lib.IntN.{ℤ, negsuc}
@@ -153,3 +155,42 @@ module _ (text : List ℕ) (from end : ℕ) (inside : end ≤ length text) where
   pub read-plain : from < end → (getD text from 0 ≡ 32 → ⊥) → (getD text from 0 ≡ 45 → ⊥) → readField (slice from end text) ≡ withoutSign (unsigned (slice from end text))
   unfolding readField
   read-plain h b m = rw (opens h, ne-eqb (getD text from 0) 32 b, ne-eqb (getD text from 0) 45 m)
+
+-- ---- one, two and three digits
+
+-- a digit alone, 0 too
+alone : (b : ℕ) → (48 ≡ b) ⊎ (48 < b) → b ≤ 57 → unsigned (b ∷ []) ≡ some (10 * 0 + (b - 48))
+unfolding moreDigits
+alone b (inl e) h = rw (sym e)
+alone b (inr l) h = rw (ne-eqb b 48 (λ e. omega (arith, e)), le-leb 48 b (omega arith), le-leb b 57 h)
+
+module _ (text : List ℕ) (from end : ℕ) (inside : end ≤ length text) where
+  abbrev digit-at : ℕ → ℕ
+  digit-at i = getD text i 0
+
+  pub read-one : from + 1 ≡ end → 48 ≤ digit-at from → digit-at from ≤ 57 → readField (slice from end text) ≡ withoutSign (some (10 * 0 + (digit-at from - 48)))
+  read-one e l h =
+      read-plain text from end inside (omega arith) (λ q. omega (arith, q)) (λ q. omega (arith, q))
+      ∙ ap (λ bs. withoutSign (unsigned bs)) (opens text from end inside (omega arith) ∙ ap (λ bs. digit-at from ∷ bs) (empty text (from + 1) end inside e))
+      ∙ ap withoutSign (alone (digit-at from) (eq-or-lt-of-le l) h)
+
+  module _ (few : end ≤ from + 12) (l : 49 ≤ digit-at from) (h : digit-at from ≤ 57) where
+    -- every digit counted, and the first is not 0
+    counted : {n i : ℕ} → Counting text from end n i → from < end → end ≤ i → readField (slice from end text) ≡ withoutSign (some n)
+    counted c o a =
+        read-plain text from end inside o (λ q. omega (arith, q)) (λ q. omega (arith, q))
+        ∙ ap withoutSign (unsigned-digits text from end inside o (λ q. omega (arith, q)) ∙ counting-all text from end few inside c a)
+
+    first : from < end → Counting text from end (10 * 0 + (digit-at from - 48)) (from + 1)
+    first o = counting-more text from end few inside (counting-none text from end few inside (omega arith)) o (omega arith) h
+
+    second : from + 1 < end → 48 ≤ digit-at (from + 1) → digit-at (from + 1) ≤ 57 → Counting text from end (10 * (10 * 0 + (digit-at from - 48)) + (digit-at (from + 1) - 48)) (from + 1 + 1)
+    second o = counting-more text from end few inside (first (omega arith)) o
+
+    pub read-two : from + 2 ≡ end → 48 ≤ digit-at (from + 1) → digit-at (from + 1) ≤ 57 → readField (slice from end text) ≡ withoutSign (some (10 * (10 * 0 + (digit-at from - 48)) + (digit-at (from + 1) - 48)))
+    read-two e a b = counted (second (omega arith) a b) (omega arith) (omega arith)
+
+    pub read-three : from + 3 ≡ end → 48 ≤ digit-at (from + 1) → digit-at (from + 1) ≤ 57 → 48 ≤ digit-at (from + 2) → digit-at (from + 2) ≤ 57 → readField (slice from end text) ≡ withoutSign (some (10 * (10 * (10 * 0 + (digit-at from - 48)) + (digit-at (from + 1) - 48)) + (digit-at (from + 2) - 48)))
+    read-three e a b p q =
+        let two : from + 1 + 1 ≡ from + 2 = omega arith in
+        counted (counting-more text from end few inside (subst (Counting text from end _) two (second (omega arith) a b)) (omega arith) p q) (omega arith) (omega arith)

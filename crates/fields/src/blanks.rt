@@ -8,7 +8,7 @@ ghost use Rattle.fields.specs.Steps.{Blank, Blanks, BlanksEnd};
 use crate::numbers::wide;
 
 // Two bytes as one number, the first lowest; and four, and eight.
-fn two(text: &[u8], at: usize) -> u64
+pub(crate) fn two(text: &[u8], at: usize) -> u64
     requires { ⌜ at + 2 ≤ length (now text) ⌝ }
     ensures { λ r. ⌜ Blanks (now (text .entry)) at 2 65536 8224 r ⌝ }
 {
@@ -22,7 +22,7 @@ fn four(text: &[u8], at: usize) -> u64
     two(text, at) + two(text, at + 2) * 65536
 }
 
-fn eight_blanks(text: &[u8], at: usize) -> bool
+pub(crate) fn eight_blanks(text: &[u8], at: usize) -> bool
     requires { ⌜ at + 8 ≤ length (now text) ⌝ }
     ensures { λ r. ⌜ (r ≡ true → Blank (now (text .entry)) at (at + 8)) ⌝ }
 {
@@ -30,7 +30,7 @@ fn eight_blanks(text: &[u8], at: usize) -> bool
 }
 
 // Where the blanks from a place on end.
-fn more_blanks(text: &[u8], from: usize, end: usize) -> usize
+pub(crate) fn blanks_end(text: &[u8], from: usize, end: usize) -> usize
     requires { ⌜ (from ≤ end) × (end ≤ length (now text)) ⌝ }
     ensures { λ r. ⌜ BlanksEnd (now (text .entry)) from end r ⌝ }
 {
@@ -42,16 +42,4 @@ fn more_blanks(text: &[u8], from: usize, end: usize) -> usize
         i += 1;
     }
     i
-}
-
-pub(crate) fn blanks_end(text: &[u8], from: usize, end: usize) -> usize
-    requires { ⌜ (from ≤ end) × (end ≤ length (now text)) ⌝ }
-    ensures { λ r. ⌜ BlanksEnd (now (text .entry)) from end r ⌝ }
-{
-    if 8 <= end - from {
-        if eight_blanks(text, from) {
-            return more_blanks(text, from + 8, end);
-        }
-    }
-    more_blanks(text, from, end)
 }

@@ -1,31 +1,21 @@
-// A field of a column text read: document 01, 'The column text'. Blanks, then a number: eight blanks that lead are passed at once, since most fields have them.
+// A field of a column text read: document 01, 'The column text'. Blanks, then a number. Most fields are eight blanks and at most three digits in the columns after them: the
+// eight are passed at once, and those digits are read without a loop.
 ghost use mathlib.Core.Path.{_≡_};
-ghost use Prim.Native.Nat.{_+_, _≤_};
-ghost use lib.ListN.{length};
 ghost use lib.Seq.{slice};
 ghost use Rattle.columns.specs.Numbers.{readField};
 ghost use Rattle.columns.specs.Scanned.{fieldReply, numberReply, fieldAt};
-ghost use Rattle.fields.specs.Steps.{EndsField, Unblank};
+ghost use Rattle.fields.specs.Steps.{WithinText, Unblank};
 use blanks::blanks_end;
+use blanks::eight_blanks;
 use columns::FieldRead;
 use numbers::unsigned;
 use numbers::with_sign;
 use numbers::without_sign;
+use short::read_last;
 
 mod blanks;
 mod numbers;
-
-// Where the field from a place on ends: after 12 columns, or with the text.
-fn field_end(text: &[u8], at: usize) -> usize
-    requires { ⌜ at ≤ length (now text) ⌝ }
-    ensures { λ r. ⌜ EndsField (now (text .entry)) at r ⌝ }
-{
-    if text.len() - at < 12 {
-        text.len()
-    } else {
-        at + 12
-    }
-}
+mod short;
 
 // What stands from a place on, where no blank is.
 fn read_number(text: &[u8], from: usize, end: usize) -> FieldRead
@@ -41,6 +31,14 @@ fn read_number(text: &[u8], from: usize, end: usize) -> FieldRead
     without_sign(unsigned(text, from, end))
 }
 
+// The number in a part of a field: blanks, and what stands after them.
+fn read_part(text: &[u8], from: usize, end: usize) -> FieldRead
+    requires { ⌜ WithinText (now text) from end ⌝ }
+    ensures { λ r. ⌜ fieldReply r ≡ numberReply (readField (slice from end (now (text .entry)))) ⌝ }
+{
+    read_number(text, blanks_end(text, from, end), end)
+}
+
 // The number in the field of 12 columns from a place on; where the text ends before that, in what is left of it.
 pub fn read_field(text: &[u8], at: usize) -> FieldRead
     ensures { λ r. ⌜ fieldReply r ≡ fieldAt (now (text .entry)) at ⌝ }
@@ -48,7 +46,11 @@ pub fn read_field(text: &[u8], at: usize) -> FieldRead
     if text.len() <= at {
         return FieldRead::Unreadable;
     }
-    let end = field_end(text, at);
-    let from = blanks_end(text, at, end);
-    read_number(text, from, end)
+    if text.len() - at < 12 {
+        return read_part(text, at, text.len());
+    }
+    if eight_blanks(text, at) {
+        return read_last(text, at + 8, at + 12);
+    }
+    read_part(text, at, at + 12)
 }

@@ -1,6 +1,6 @@
 // Decimal digits, and an i32 of them with and without a sign.
 ghost use mathlib.Core.Path.{_≡_};
-ghost use Prim.Native.Nat.{_+_};
+ghost use Prim.Native.Nat.{_+_, _-_, _*_, _<_, _≤_};
 ghost use lib.Seq.{slice};
 ghost use Rattle.columns.specs.Numbers.{moreDigits, unsigned, withSign, withoutSign};
 ghost use Rattle.columns.specs.Scanned.{fieldReply, numberReply};
@@ -20,6 +20,14 @@ pub(crate) fn wide(b: u8) -> u64
     b as u64
 }
 
+// The value of digits with one more after them.
+pub(crate) fn with_digit(n: u64, b: u8) -> u64
+    requires { ⌜ (n < 1000000000000) × (48 ≤ b) ⌝ }
+    ensures { λ r. ⌜ r ≡ 10 * n + (b - 48) ⌝ }
+{
+    10 * n + (wide(b) - 48)
+}
+
 // The value of the digits of a part of a text.
 fn digits(text: &[u8], from: usize, end: usize) -> Decimal
     requires { ⌜ WithinText (now text) from end ⌝ }
@@ -35,7 +43,7 @@ fn digits(text: &[u8], from: usize, end: usize) -> Decimal
         if 57 < b {
             return Decimal::Nothing;
         }
-        n = 10 * n + wide(b - 48);
+        n = with_digit(n, b);
         i += 1;
     }
     Decimal::Value(n)

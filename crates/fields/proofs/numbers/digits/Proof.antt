@@ -39,14 +39,8 @@ few l =
     let s = l .before .before in
     counting-few (s .args .text .now) (s .args .from) (s .args .end) (s .pre .few) (s .pre .inside) (l .loop .inv)
 
-mul-n : tie.Need-mul-n Inv-loop μ-loop
-mul-n c = omega (arith, few (c .before .before .before .before))
-
-wide-requires : tie.Need-wide-requires Inv-loop μ-loop
-wide-requires c κs = tt
-
-add-n : tie.Need-add-n Inv-loop μ-loop
-add-n c = omega (arith, few (c .before .before .before .before .before))
+with-digit-requires : tie.Need-with-digit-requires Inv-loop μ-loop
+with-digit-requires c κs = (few (c .before .before .before .before), c .before .if1 .left)
 
 add-i : tie.Need-add-i Inv-loop μ-loop
 add-i c = omega arith
@@ -60,7 +54,7 @@ loop-again c =
     let e = f .before in
     let l = e .before .before .before in
     let s = l .before .before in
-    rw (c .wide .ensures)
+    rw (c .with-digit .ensures)
     (counting-more (s .args .text .now) (s .args .from) (s .args .end) (s .pre .few) (s .pre .inside) (l .loop .inv) (e .before .before .loop-test .taken) (e .if1 .left) (f .if2 .left))
 
 returns-3 : tie.Need-returns-3 Inv-loop μ-loop
@@ -79,9 +73,7 @@ digits-spec =
     shared-slice-read-b
     returns
     returns-2
-    mul-n
-    wide-requires
-    add-n
+    with-digit-requires
     add-i
     loop-less
     loop-again
