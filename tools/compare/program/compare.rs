@@ -3,7 +3,7 @@
 
 use crate::answer::Answer;
 use crate::asked::{self, CompiledProgram};
-use crate::font::{Ask, Damage, Font};
+use crate::font::{Ask, Damage, Font, Setting};
 use crate::library::{self, Lent, Stop, Table};
 use crate::mended::mended;
 use crate::reading::{self, Reading};
@@ -103,10 +103,7 @@ impl Both {
         let (published, given) = match ask {
             Ask::SetWord(s) | Ask::Steps(s) => {
                 let published = asked::set_word(compiled, &s.word, s.disable_left_boundary, s.over);
-                let room = published.count(0);
-                let steps = matches!(ask, Ask::Steps(_));
-                let given = if steps { table.steps(s, room) } else { table.set_word(s, room) };
-                (published, given)
+                return self.ask_word(ask, published, font, tally).map(|_| ());
             }
             Ask::HasReplacement { left, right, .. } => {
                 (asked::has_replacement(compiled, *left, *right), table.has_replacement(*left, *right))
@@ -115,6 +112,29 @@ impl Both {
             _ => (asked::table_is_seven_bit_safe(compiled), table.is_seven_bit_safe()),
         };
         agree(ask, font, Answers { published, library: library::answer(given) }, tally).map(|_| ())
+    }
+
+    /// A word set whole or by steps, where the Rust has answered already.
+    fn ask_word(&mut self, ask: &Ask, published: Answer, font: &Font, tally: &mut Tally) -> Result<Answers, Box<Mismatch>> {
+        let room = published.count(0);
+        let given = match ask {
+            Ask::Steps(setting) => self.table.steps(setting, room),
+            Ask::SetWord(setting) => self.table.set_word(setting, room),
+            _ => unreachable!("no word is set"),
+        };
+        agree(ask, font, Answers { published, library: library::answer(given) }, tally)
+    }
+
+    /// A word set both whole and by steps; the Rust is asked once.
+    pub fn ask_both_ways(&mut self, setting: Setting, font: &Font, tally: &mut Tally) -> Result<Setting, Box<Mismatch>> {
+        let published = asked::set_word(&self.compiled, &setting.word, setting.disable_left_boundary, setting.over);
+        let whole = Ask::SetWord(setting);
+        let published = self.ask_word(&whole, published, font, tally)?.published;
+        let Ask::SetWord(setting) = whole else { unreachable!("a word is set") };
+        let steps = Ask::Steps(setting);
+        self.ask_word(&steps, published, font, tally)?;
+        let Ask::Steps(setting) = steps else { unreachable!("a word is set") };
+        Ok(setting)
     }
 
     /// After all questions about a table: no call wrote to it.

@@ -103,10 +103,12 @@ fn instruction(r: &mut Random, shape: &Shape, letters: &[i32], count: i64, kerns
     [next, right, kind, operand]
 }
 
+/// An index of the program, now and then the one after its end.
 fn entry(r: &mut Random, count: i64, strange: bool) -> i32 {
+    let inside = r.percent(90) as i64;
     match strange {
         true => r.pick(&[0, 254, 255, 256, 257, 511, 512, 65_279, 65_280, 65_534, 65_535]),
-        false => r.within(0, count - r.percent(90) as i64).max(0) as i32,
+        false => r.within(0, (count - inside).max(0)) as i32,
     }
 }
 

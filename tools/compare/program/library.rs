@@ -424,7 +424,8 @@ impl Table {
         word.unchanged("word")?;
         taken(number, &[&items, &count])?;
         let count = count.taken(1)?[0];
-        let mut numbers = vec![count as i64];
+        let mut numbers = Vec::with_capacity(1 + 6 * count as usize);
+        numbers.push(count as i64);
         put(&mut numbers, items.taken(6 * count as usize)?);
         Ok(numbers)
     }
@@ -492,7 +493,8 @@ impl Table {
         let mut state = Output::<u64>::new("state", STATE + self.spare);
         let mut item = Output::<i32>::new("item", ITEM + self.spare);
         self.begin(&mut word, setting, &mut state)?;
-        let mut numbers = vec![0];
+        let mut numbers = Vec::with_capacity(1 + 6 * expected);
+        numbers.push(0);
         while numbers[0] <= expected as i64 && self.step(&mut word, setting, &mut state, &mut item)? {
             numbers[0] += 1;
             put(&mut numbers, &item.taken(ITEM)?[1..]);

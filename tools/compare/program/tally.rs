@@ -91,16 +91,22 @@ impl Tally {
     /// Writes the counts to standard output.
     pub fn print(&self) {
         println!("  what the fonts have");
-        self.features.iter().for_each(|(name, count)| println!("{count:>14}  {name}"));
+        for (name, count) in self.features.iter().filter(|(_, count)| **count > 0) {
+            println!("{count:>14}  {name}");
+        }
         self.print_bytes();
         println!("  questions answered alike by the library and the Rust, call by call");
-        for (call, name) in CALLS.iter().enumerate() {
+        for (call, name) in CALLS.iter().enumerate().filter(|(call, _)| self.asked(*call)) {
             println!("{:>14}  {name}{}", self.answered[call], self.refusals(call));
         }
         println!("{:>14}  in all", self.questions());
         self.print_warnings();
-        println!("  among them, where the answer due is document 01's");
+        println!("  where the answer due is document 01's, or the Rust was not asked as the library was");
         self.classes.iter().zip(CLASSES).for_each(|(count, name)| println!("{count:>14}  {name}"));
+    }
+
+    fn asked(&self, call: usize) -> bool {
+        self.answered[call] > 0 || self.refused.keys().any(|(c, _)| *c == call)
     }
 
     fn print_bytes(&self) {

@@ -5,7 +5,7 @@
 use crate::compare::{compile, Mismatch};
 use crate::drawn::DESIGN;
 use crate::features;
-use crate::font::{Ask, Font, Setting};
+use crate::font::{Font, Setting};
 use crate::questions::spare;
 use crate::reading;
 use crate::tally::Tally;
@@ -91,18 +91,18 @@ fn words() -> Vec<Vec<u8>> {
 pub fn questions(rules: &Rules, number: u64, tally: &mut Tally) -> Result<(), Box<Mismatch>> {
     let mut font = font_of(rules);
     let reading = reading::read(&font);
+    let words = words();
     for boundary in [-1, A, B] {
         font.boundary = boundary;
         features::count(&font, &reading, tally);
         let Some(mut both) = compile(&font, DESIGN, spare(number), &reading, tally)? else { continue };
         features::count_loops(both.loops(), reading.endless, tally);
-        for word in words() {
-            let mut setting = Setting { design: DESIGN, word, disable_left_boundary: false, over: -1 };
+        for word in &words {
+            let mut setting = Setting { design: DESIGN, word: word.clone(), disable_left_boundary: false, over: -1 };
             for (disable_left_boundary, over) in [(false, -1), (false, A), (false, B), (true, -1), (true, A), (true, B)] {
                 setting.disable_left_boundary = disable_left_boundary;
                 setting.over = over;
-                both.ask(&Ask::SetWord(setting.clone()), &font, tally)?;
-                both.ask(&Ask::Steps(setting.clone()), &font, tally)?;
+                setting = both.ask_both_ways(setting, &font, tally)?;
             }
         }
         both.unchanged(&font, DESIGN)?;

@@ -316,7 +316,8 @@ pub fn set_word(compiled: &CompiledProgram, word: &[u8], disable_left_boundary: 
         right_boundary_override: character(over),
     };
     let mut iter = compiled.run_with_options(word.iter().map(|c| *c as char), options);
-    let mut out = vec![0];
+    let mut out = Vec::with_capacity(12 * word.len() + 13);
+    out.push(0);
     let mut given = 0;
     while let Some(next) = iter.next() {
         out[0] += 1;
