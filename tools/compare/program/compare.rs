@@ -19,11 +19,12 @@ pub struct Answers {
     pub library: Answer,
 }
 
-/// A question on which the two sides differ.
+/// A question on which the two sides differ. It is made small by asking smaller ones, unless the Rust cannot be asked.
 pub struct Mismatch {
     pub ask: Ask,
     pub font: Font,
     pub answers: Answers,
+    pub for_both: bool,
 }
 
 /// A font that both sides compiled alike.
@@ -55,7 +56,7 @@ fn agree(ask: &Ask, font: &Font, mut answers: Answers, tally: &mut Tally) -> Res
         tally.agreed(ask.call(), &answers.library);
         Ok(answers)
     } else {
-        Err(Box::new(Mismatch { ask: ask.clone(), font: font.clone(), answers }))
+        Err(Box::new(Mismatch { ask: ask.clone(), font: font.clone(), answers, for_both: true }))
     }
 }
 
@@ -141,7 +142,7 @@ impl Both {
     pub fn unchanged(&self, font: &Font, design: i32) -> Result<(), Box<Mismatch>> {
         self.table.unchanged().map_err(|fault| {
             let answers = Answers { published: Answer::Is(vec![]), library: Answer::Odd(fault) };
-            Box::new(Mismatch { ask: Ask::Compile { design }, font: font.clone(), answers })
+            Box::new(Mismatch { ask: Ask::Compile { design }, font: font.clone(), answers, for_both: false })
         })
     }
 }
@@ -200,6 +201,44 @@ pub fn ask_program(ask: &Ask, font: &Font, spare: usize, tally: &mut Tally) -> R
         _ => (asked::program_is_seven_bit_safe(font), lent.program_is_seven_bit_safe()),
     };
     agree(ask, font, Answers { published, library: library::answer(given) }, tally).map(|_| ())
+}
+
+// ---- what the Rust cannot be asked
+
+/// A question whose numbers are out of range, so that the Rust's types cannot hold it: a number of document 01 is due.
+pub fn ask_refused(ask: &Ask, font: &Font, due: u32, spare: usize, tally: &mut Tally) -> Result<(), Box<Mismatch>> {
+    let mut lent = Lent::new(font, spare);
+    let given = match ask {
+        Ask::Compile { design } => lent.compile(*design, [8, 8, 8]).map(|(numbers, _)| numbers),
+        Ask::Chain { entry } => lent.instructions_for_entrypoint(*entry, 8),
+        Ask::Unpack { entry, passthrough } => lent.unpack_entrypoint(*entry, passthrough),
+        Ask::Reach { passthrough } => lent.reachable_iter(passthrough),
+        Ask::Pack => lent.pack_entrypoints(8),
+        Ask::PackKerns => lent.pack_kerns(),
+        Ask::UnpackKerns => lent.unpack_kerns(8),
+        Ask::Repair(damage) => lent.validate_and_fix(damage, [8, 8]),
+        _ => lent.program_is_seven_bit_safe(),
+    };
+    refused(ask, font, due, given, tally)
+}
+
+fn refused(ask: &Ask, font: &Font, due: u32, given: Result<Vec<i64>, Stop>, tally: &mut Tally) -> Result<(), Box<Mismatch>> {
+    tally.class(tally::OUT_OF_RANGE);
+    let answers = Answers { published: Answer::Refused(due), library: library::answer(given) };
+    agree(ask, font, answers, tally).map(|_| ()).map_err(|m| Box::new(Mismatch { for_both: false, ..*m }))
+}
+
+impl Both {
+    /// The same of a question about a table.
+    pub fn ask_refused(&mut self, ask: &Ask, font: &Font, due: u32, tally: &mut Tally) -> Result<(), Box<Mismatch>> {
+        let given = match ask {
+            Ask::SetWord(setting) => self.table.set_word(setting, 8),
+            Ask::Steps(setting) => self.table.steps(setting, 8),
+            Ask::HasReplacement { left, right, .. } => self.table.has_replacement(*left, *right),
+            _ => unreachable!("no number of this question can be out of range"),
+        };
+        refused(ask, font, due, given, tally)
+    }
 }
 
 // ---- any question, on its own

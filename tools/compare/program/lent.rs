@@ -121,3 +121,16 @@ impl<T: Element> Output<T> {
 pub fn put<T: Element>(out: &mut Vec<i64>, list: &[T]) {
     out.extend(list.iter().map(|e| e.number()));
 }
+
+/// For a self-test: each fault that a list can have is seen.
+pub fn selftest() -> bool {
+    let mut past = Output::<i32>::new("past", 3);
+    past.list.fill(0);
+    let mut after = Output::<u64>::new("after", 3);
+    after.list[..2].fill(0);
+    let mut read = Input::<u8>::new(vec![1, 2]);
+    read.lent[1] = 3;
+    let mut right = Output::<u32>::new("right", 2);
+    right.list[..2].fill(0);
+    past.zeros().is_err() && after.zeros().is_err() && after.taken(4).is_err() && read.unchanged("read").is_err() && right.zeros().is_ok()
+}

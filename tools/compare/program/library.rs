@@ -74,7 +74,7 @@ fn bytes(passthrough: &[u16], count: usize) -> Input<u8> {
     let mut bytes = vec![0; count];
     for i in passthrough {
         if let Some(byte) = bytes.get_mut(*i as usize) {
-            *byte = 1 + (*i * 7 % 255) as u8;
+            *byte = 1 + (*i % 255) as u8;
         }
     }
     Input::new(bytes)

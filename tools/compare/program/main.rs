@@ -10,10 +10,12 @@ mod features;
 mod font;
 mod lent;
 mod library;
+mod limits;
 mod mended;
 mod questions;
 mod random;
 mod reading;
+mod refusals;
 mod shrink;
 mod tally;
 mod two_letters;
@@ -35,7 +37,7 @@ struct Options {
 }
 
 fn options() -> Result<Options, String> {
-    let mut options = Options { seed: 1, fonts: 250_000, rules: 3, selftest: false };
+    let mut options = Options { seed: 1, fonts: 300_000, rules: 3, selftest: false };
     let mut words = std::env::args().skip(1);
     while let Some(word) = words.next() {
         if word == "--selftest" {
@@ -129,7 +131,7 @@ fn smallest(found: Found) -> Mismatch {
 
 fn print_mismatch(found: Found) {
     println!("  the call {} differs on font {}", CALLS[found.mismatch.ask.call()], found.number);
-    let small = smallest(found);
+    let small = if found.mismatch.for_both { smallest(found) } else { *found.mismatch };
     println!("  smallest failing request: {}", request(&small.ask, &small.font));
     println!("    as a question: {:?}", small.ask);
     println!("    the Rust:      {}", small.answers.published);
@@ -153,7 +155,8 @@ fn family(name: &'static str, count: u64, question: Question) -> bool {
 
 /// Spoils the answers of each call in turn: each must be found, and is made small.
 fn selftest(options: &Options) -> bool {
-    let mut all = true;
+    let mut all = lent::selftest();
+    println!("faults of lists: {}", if all { "found" } else { "NOT FOUND" });
     for (call, name) in CALLS.iter().enumerate() {
         SPOILT.store(call + 1, Relaxed);
         let (_, found) = run("spoilt fonts", options.fonts, &|number, tally| questions::font(options.seed, number, tally));
@@ -169,7 +172,8 @@ fn selftest(options: &Options) -> bool {
 fn compare(options: &Options) -> bool {
     println!("seed {}", options.seed);
     let seed = options.seed;
-    let mut alike = family("random fonts", options.fonts, &|number, tally| questions::font(seed, number, tally));
+    let mut alike = family("limits", limits::QUESTIONS, &limits::questions)
+        && family("random fonts", options.fonts, &|number, tally| questions::font(seed, number, tally));
     if alike && options.rules > 0 {
         let members = two_letters::family(options.rules);
         let question = |number: u64, tally: &mut Tally| two_letters::questions(&members[number as usize], number, tally);

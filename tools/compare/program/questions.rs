@@ -6,6 +6,7 @@ use crate::features;
 use crate::font::{Ask, Font, Setting};
 use crate::random::Random;
 use crate::reading;
+use crate::refusals;
 use crate::tally::Tally;
 
 type Asked = Result<(), Box<Mismatch>>;
@@ -17,7 +18,8 @@ pub fn font(seed: u64, number: u64, tally: &mut Tally) -> Asked {
     let spare = spare(number);
     table(&mut r, &drawn, spare, tally)?;
     program(&mut r, &drawn, spare, tally)?;
-    repair(&mut r, &drawn, spare, tally)
+    repair(&mut r, &drawn, spare, tally)?;
+    refusals::questions(&mut r, &drawn, spare, tally)
 }
 
 /// How many elements each list has more than it needs, by the font's number.

@@ -3,15 +3,15 @@
 
 use crate::compare::{mismatch, Mismatch};
 use crate::drawn::DESIGN;
-use crate::font::{request, Ask, Font, Setting};
+use crate::font::{request, Ask, Damage, Font, Setting};
 
 type Question = (Ask, Font);
 
-/// How long a question is, and how large its numbers are.
+/// How long a question is, and how large its numbers are; -1, which is absent, is the smallest.
 fn cost(question: &Question) -> (usize, u64) {
     let text = request(&question.0, &question.1);
     let numbers: Vec<i64> = text.split(' ').skip(1).map(|n| n.parse().unwrap()).collect();
-    (numbers.len(), numbers.iter().map(|n| n.unsigned_abs()).sum())
+    (numbers.len(), numbers.iter().map(|n| if *n < -1 { n.unsigned_abs() } else { (n + 1) as u64 }).sum())
 }
 
 /// The parts of a list that are tried without: halves, quarters, and so on down to single elements.
@@ -39,19 +39,34 @@ fn moved(index: i32, part: (usize, usize)) -> i32 {
     }
 }
 
-fn fonts_without_instructions(font: &Font, out: &mut Vec<Font>) {
+/// The indices of a passthrough as they are then.
+fn moved_ask(ask: &Ask, part: (usize, usize)) -> Ask {
+    let mut ask = ask.clone();
+    match &mut ask {
+        Ask::Unpack { passthrough, .. } | Ask::Reach { passthrough } => {
+            passthrough.iter_mut().for_each(|i| *i = moved(*i as i32, part) as u16)
+        }
+        Ask::Repair(damage) => damage.passthrough.iter_mut().for_each(|i| *i = moved(*i as i32, part) as u16),
+        _ => {}
+    }
+    ask
+}
+
+/// Questions with fewer instructions: entries and passthrough moved with them, or left as they are.
+fn without_instructions((ask, font): &Question) -> Vec<Question> {
+    let mut out = vec![];
     for part in parts(font.instructions.len()) {
         let plain = Font { instructions: without(&font.instructions, part), ..font.clone() };
         let mut shifted = plain.clone();
         shifted.entries.iter_mut().for_each(|e| e[1] = moved(e[1], part));
         shifted.left_entry = moved(shifted.left_entry, part);
-        out.extend([shifted, plain]);
+        out.extend([(moved_ask(ask, part), shifted), (ask.clone(), plain)]);
     }
+    out
 }
 
 fn smaller_fonts(font: &Font) -> Vec<Font> {
     let mut out = vec![];
-    fonts_without_instructions(font, &mut out);
     out.extend(parts(font.entries.len()).into_iter().map(|p| Font { entries: without(&font.entries, p), ..font.clone() }));
     out.extend(parts(font.kerns.len()).into_iter().map(|p| Font { kerns: without(&font.kerns, p), ..font.clone() }));
     out.push(Font { boundary: -1, ..font.clone() });
@@ -132,12 +147,12 @@ fn smaller_asks(ask: &Ask) -> Vec<Ask> {
         Ask::Repair(damage) => {
             let mut out: Vec<Ask> = smaller_passthrough(&damage.passthrough)
                 .into_iter()
-                .map(|passthrough| Ask::Repair(crate::font::Damage { passthrough, ..damage.clone() }))
+                .map(|passthrough| Ask::Repair(Damage { passthrough, ..damage.clone() }))
                 .collect();
             for existing in [[u64::MAX; 4], [0; 4]] {
-                out.push(Ask::Repair(crate::font::Damage { existing, ..damage.clone() }));
+                out.push(Ask::Repair(Damage { existing, ..damage.clone() }));
             }
-            out.push(Ask::Repair(crate::font::Damage { smallest: 0, ..damage.clone() }));
+            out.push(Ask::Repair(Damage { smallest: 0, ..damage.clone() }));
             out
         }
         Ask::ProgramSafe | Ask::Pack | Ask::PackKerns | Ask::UnpackKerns => vec![],
@@ -147,7 +162,8 @@ fn smaller_asks(ask: &Ask) -> Vec<Ask> {
 /// The smaller questions that are tried in place of one.
 fn smaller(question: &Question) -> Vec<Question> {
     let (ask, font) = question;
-    let mut out: Vec<Question> = smaller_fonts(font).into_iter().map(|font| (ask.clone(), font)).collect();
+    let mut out = without_instructions(question);
+    out.extend(smaller_fonts(font).into_iter().map(|font| (ask.clone(), font)));
     out.extend(smaller_asks(ask).into_iter().map(|ask| (ask, font.clone())));
     out
 }

@@ -5,17 +5,18 @@ use crate::answer::Answer;
 use crate::font::CALLS;
 use std::collections::BTreeMap;
 
-/// The ways in which document 01's answer stands in for one of the Rust's.
-pub const CLASSES: [&str; 9] = [
+/// Where what is due is not simply the Rust's answer.
+pub const CLASSES: [&str; 10] = [
     "13 due: the Rust panics in to_scaled (compiling)",
     "14 due: over the op table lent, by a count of the ops of our own; the Rust is not asked",
     "10 due: the Rust panics at the 256th redirect (packing)",
     "10 due: the Rust panics over 65,535 first, and at the 256th redirect when it is asked with lower entries (packing)",
     "11 due: the Rust panics where an entry and the offset pass 65,535 (packing)",
     "an empty answer due: the Rust panics on no instructions with a left entry (reach)",
-    "the Rust panics in to_scaled, and is asked once more without the kerns that do not scale (repair)",
-    "the Rust is not asked: the repaired font has too many ops (repair)",
-    "the Rust alone was lent a passthrough index past the program, which it hands back (unpacking, reach, repair)",
+    "an answer due: the Rust panics in to_scaled, and is asked once more without the kerns that do not scale (repair)",
+    "nothing is compared: the repaired font has too many ops for the Rust, and neither side is asked (repair)",
+    "the Rust alone was lent a passthrough index past the program; its answer is compared without it (unpacking, reach, repair)",
+    "1 to 6 due: a number out of range or a list past its limit; the Rust is not asked",
 ];
 pub const SCALED: usize = 0;
 pub const VAST: usize = 1;
@@ -26,6 +27,7 @@ pub const REACH_EMPTY: usize = 5;
 pub const REPAIR_SCALED: usize = 6;
 pub const REPAIR_VAST: usize = 7;
 pub const PASSED_OUTSIDE: usize = 8;
+pub const OUT_OF_RANGE: usize = 9;
 
 #[derive(Default)]
 pub struct Tally {
@@ -90,18 +92,16 @@ impl Tally {
 
     /// Writes the counts to standard output.
     pub fn print(&self) {
-        println!("  what the fonts have");
-        for (name, count) in self.features.iter().filter(|(_, count)| **count > 0) {
-            println!("{count:>14}  {name}");
+        if !self.features.is_empty() {
+            self.print_features();
         }
-        self.print_bytes();
-        println!("  questions answered alike by the library and the Rust, call by call");
+        println!("  questions to which the library gave the answer that is due, call by call");
         for (call, name) in CALLS.iter().enumerate().filter(|(call, _)| self.asked(*call)) {
             println!("{:>14}  {name}{}", self.answered[call], self.refusals(call));
         }
         println!("{:>14}  in all", self.questions());
         self.print_warnings();
-        println!("  where the answer due is document 01's, or the Rust was not asked as the library was");
+        println!("  what is due is the Rust's answer, but for these");
         self.classes.iter().zip(CLASSES).for_each(|(count, name)| println!("{count:>14}  {name}"));
     }
 
@@ -109,7 +109,11 @@ impl Tally {
         self.answered[call] > 0 || self.refused.keys().any(|(c, _)| *c == call)
     }
 
-    fn print_bytes(&self) {
+    fn print_features(&self) {
+        println!("  what the fonts have");
+        for (name, count) in self.features.iter().filter(|(_, count)| **count > 0) {
+            println!("{count:>14}  {name}");
+        }
         let redirects: u32 = self.redirect_bytes.iter().map(|bits| bits.count_ones()).sum();
         println!("{:>14}  op bytes of 128 met as a pair's rule, in a ligature", self.lig_bytes.count_ones());
         println!("{redirects:>14}  op bytes of 256 met as a pair's rule, in a redirect");
@@ -124,7 +128,7 @@ impl Tally {
             .collect();
         match numbers.is_empty() {
             true => String::new(),
-            false => format!(", and refused alike: {}", numbers.join(", ")),
+            false => format!(", and refusals due: {}", numbers.join(", ")),
         }
     }
 
