@@ -16,6 +16,10 @@ mod random;
 #[allow(dead_code)]
 mod reading;
 
+// The many arguments of a call stand in rows.
+#[rustfmt::skip]
+mod captions;
+#[rustfmt::skip]
 mod fonts;
 mod list;
 mod trial;
@@ -62,7 +66,8 @@ fn tried(options: &Options) -> Result<(u64, trial::Counts), String> {
             over += 1;
             continue;
         }
-        fonts::font(&mut r, &drawn, &mut counts).map_err(|fault| format!("font {number}: {fault}\n{:?}", drawn.font))?;
+        fonts::font(&mut r, &drawn, &mut counts)
+            .map_err(|fault| format!("font {number}: {fault}\n{:?}", drawn.font))?;
         done += 1;
         if said.elapsed() >= Duration::from_secs(5) {
             said = Instant::now();

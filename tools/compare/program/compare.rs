@@ -4,9 +4,10 @@
 use crate::answer::Answer;
 use crate::asked::{self, CompiledProgram};
 use crate::font::{Ask, Damage, Font, Setting};
-use crate::library::{self, Lent, Stop, Table};
+use crate::library::{self, Lent, Stop};
 use crate::mended::mended;
 use crate::reading::{self, Reading};
+use crate::table::Table;
 use crate::tally::{self, Tally};
 use std::sync::atomic::{AtomicUsize, Ordering};
 
@@ -116,7 +117,13 @@ impl Both {
     }
 
     /// A word set whole or by steps, where the Rust has answered already.
-    fn ask_word(&mut self, ask: &Ask, published: Answer, font: &Font, tally: &mut Tally) -> Result<Answers, Box<Mismatch>> {
+    fn ask_word(
+        &mut self,
+        ask: &Ask,
+        published: Answer,
+        font: &Font,
+        tally: &mut Tally,
+    ) -> Result<Answers, Box<Mismatch>> {
         let room = published.count(0);
         let given = match ask {
             Ask::Steps(setting) => self.table.steps(setting, room),
@@ -127,10 +134,16 @@ impl Both {
     }
 
     /// A word set both whole and by steps; the Rust is asked once.
-    pub fn ask_both_ways(&mut self, setting: Setting, font: &Font, tally: &mut Tally) -> Result<Setting, Box<Mismatch>> {
+    pub fn ask_both_ways(
+        &mut self,
+        setting: Setting,
+        font: &Font,
+        tally: &mut Tally,
+    ) -> Result<Setting, Box<Mismatch>> {
         let published = asked::set_word(&self.compiled, &setting.word, setting.disable_left_boundary, setting.over);
         let whole = Ask::SetWord(setting);
         let published = self.ask_word(&whole, published, font, tally)?.published;
+        tally.set(&published);
         let Ask::SetWord(setting) = whole else { unreachable!("a word is set") };
         let steps = Ask::Steps(setting);
         self.ask_word(&steps, published, font, tally)?;
@@ -176,10 +189,9 @@ pub fn ask_program(ask: &Ask, font: &Font, spare: usize, tally: &mut Tally) -> R
             let room = published.count(0);
             (published, lent.instructions_for_entrypoint(*entry, room))
         }
-        Ask::Unpack { entry, passthrough } => (
-            asked::unpack_entrypoint(font, *entry, passthrough, tally),
-            lent.unpack_entrypoint(*entry, passthrough),
-        ),
+        Ask::Unpack { entry, passthrough } => {
+            (asked::unpack_entrypoint(font, *entry, passthrough, tally), lent.unpack_entrypoint(*entry, passthrough))
+        }
         Ask::Reach { passthrough } => {
             (asked::reachable_iter(font, passthrough, tally), lent.reachable_iter(passthrough))
         }
@@ -222,7 +234,13 @@ pub fn ask_refused(ask: &Ask, font: &Font, due: u32, spare: usize, tally: &mut T
     refused(ask, font, due, given, tally)
 }
 
-fn refused(ask: &Ask, font: &Font, due: u32, given: Result<Vec<i64>, Stop>, tally: &mut Tally) -> Result<(), Box<Mismatch>> {
+fn refused(
+    ask: &Ask,
+    font: &Font,
+    due: u32,
+    given: Result<Vec<i64>, Stop>,
+    tally: &mut Tally,
+) -> Result<(), Box<Mismatch>> {
     tally.class(tally::OUT_OF_RANGE);
     let answers = Answers { published: Answer::Refused(due), library: library::answer(given) };
     agree(ask, font, answers, tally).map(|_| ()).map_err(|m| Box::new(Mismatch { for_both: false, ..*m }))

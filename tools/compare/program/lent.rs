@@ -132,5 +132,9 @@ pub fn selftest() -> bool {
     read.lent[1] = 3;
     let mut right = Output::<u32>::new("right", 2);
     right.list[..2].fill(0);
-    past.zeros().is_err() && after.zeros().is_err() && after.taken(4).is_err() && read.unchanged("read").is_err() && right.zeros().is_ok()
+    past.zeros().is_err()
+        && after.zeros().is_err()
+        && after.taken(4).is_err()
+        && read.unchanged("read").is_err()
+        && right.zeros().is_ok()
 }

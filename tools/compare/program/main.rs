@@ -17,6 +17,7 @@ mod random;
 mod reading;
 mod refusals;
 mod shrink;
+mod table;
 mod tally;
 mod two_letters;
 
@@ -159,7 +160,8 @@ fn selftest(options: &Options) -> bool {
     println!("faults of lists: {}", if all { "found" } else { "NOT FOUND" });
     for (call, name) in CALLS.iter().enumerate() {
         SPOILT.store(call + 1, Relaxed);
-        let (_, found) = run("spoilt fonts", options.fonts, &|number, tally| questions::font(options.seed, number, tally));
+        let (_, found) =
+            run("spoilt fonts", options.fonts, &|number, tally| questions::font(options.seed, number, tally));
         println!("{name} spoilt: {}", if found.is_some() { "found" } else { "NOT FOUND" });
         all &= found.as_ref().is_some_and(|f| f.mismatch.ask.call() == call);
         if let Some(found) = found {
@@ -176,7 +178,8 @@ fn compare(options: &Options) -> bool {
         && family("random fonts", options.fonts, &|number, tally| questions::font(seed, number, tally));
     if alike && options.rules > 0 {
         let members = two_letters::family(options.rules);
-        let question = |number: u64, tally: &mut Tally| two_letters::questions(&members[number as usize], number, tally);
+        let question =
+            |number: u64, tally: &mut Tally| two_letters::questions(&members[number as usize], number, tally);
         alike = family("fonts of two letters", members.len() as u64, &question);
     }
     println!("{}", if alike { "no difference" } else { "A DIFFERENCE" });

@@ -67,7 +67,9 @@ fn without_instructions((ask, font): &Question) -> Vec<Question> {
 
 fn smaller_fonts(font: &Font) -> Vec<Font> {
     let mut out = vec![];
-    out.extend(parts(font.entries.len()).into_iter().map(|p| Font { entries: without(&font.entries, p), ..font.clone() }));
+    out.extend(
+        parts(font.entries.len()).into_iter().map(|p| Font { entries: without(&font.entries, p), ..font.clone() }),
+    );
     out.extend(parts(font.kerns.len()).into_iter().map(|p| Font { kerns: without(&font.kerns, p), ..font.clone() }));
     out.push(Font { boundary: -1, ..font.clone() });
     out.push(Font { left_entry: -1, ..font.clone() });

@@ -29,6 +29,18 @@ pub const REPAIR_VAST: usize = 7;
 pub const PASSED_OUTSIDE: usize = 8;
 pub const OUT_OF_RANGE: usize = 9;
 
+/// What the items of the words are.
+const ITEMS: [&str; 8] = [
+    "characters",
+    "ligatures",
+    "kerns",
+    "ligatures with the left flag",
+    "ligatures with the right flag",
+    "ligatures with both flags",
+    "ligatures with an empty original",
+    "ligatures with an original of three letters or more",
+];
+
 #[derive(Default)]
 pub struct Tally {
     answered: [u64; CALLS.len()],
@@ -36,6 +48,7 @@ pub struct Tally {
     classes: [u64; CLASSES.len()],
     features: BTreeMap<&'static str, u64>,
     warnings: BTreeMap<i64, u64>,
+    items: [u64; ITEMS.len()],
     /// A bit for each op byte that was seen as a rule, of a ligature and of a redirect.
     lig_bytes: u128,
     redirect_bytes: [u128; 2],
@@ -75,7 +88,23 @@ impl Tally {
         }
     }
 
+    /// The items of an answer of a word.
+    pub fn set(&mut self, answer: &Answer) {
+        let Answer::Is(numbers) = answer else { return };
+        for item in numbers[1..].chunks_exact(6) {
+            self.items[item[0] as usize] += 1;
+            if item[0] == 1 {
+                self.items[3] += item[4] as u64;
+                self.items[4] += item[5] as u64;
+                self.items[5] += (item[4] & item[5]) as u64;
+                self.items[6] += (item[3] == 0) as u64;
+                self.items[7] += (item[3] >= 3) as u64;
+            }
+        }
+    }
+
     pub fn add(&mut self, other: &Tally) {
+        add_all(&mut self.items, &other.items);
         add_all(&mut self.answered, &other.answered);
         add_all(&mut self.classes, &other.classes);
         self.lig_bytes |= other.lig_bytes;
@@ -100,6 +129,7 @@ impl Tally {
             println!("{:>14}  {name}{}", self.answered[call], self.refusals(call));
         }
         println!("{:>14}  in all", self.questions());
+        self.print_items();
         self.print_warnings();
         println!("  what is due is the Rust's answer, but for these");
         self.classes.iter().zip(CLASSES).for_each(|(count, name)| println!("{count:>14}  {name}"));
@@ -130,6 +160,11 @@ impl Tally {
             true => String::new(),
             false => format!(", and refusals due: {}", numbers.join(", ")),
         }
+    }
+
+    fn print_items(&self) {
+        let items: Vec<String> = self.items.iter().zip(ITEMS).map(|(n, name)| format!("{n} {name}")).collect();
+        println!("  items of the words: {}", items.join(", "));
     }
 
     fn print_warnings(&self) {

@@ -99,7 +99,8 @@ pub fn questions(rules: &Rules, number: u64, tally: &mut Tally) -> Result<(), Bo
         features::count_loops(both.loops(), reading.endless, tally);
         for word in &words {
             let mut setting = Setting { design: DESIGN, word: word.clone(), disable_left_boundary: false, over: -1 };
-            for (disable_left_boundary, over) in [(false, -1), (false, A), (false, B), (true, -1), (true, A), (true, B)] {
+            for (disable_left_boundary, over) in [(false, -1), (false, A), (false, B), (true, -1), (true, A), (true, B)]
+            {
                 setting.disable_left_boundary = disable_left_boundary;
                 setting.over = over;
                 setting = both.ask_both_ways(setting, &font, tally)?;

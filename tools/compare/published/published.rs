@@ -36,11 +36,7 @@ fn instruction(numbers: &[i32; 4]) -> Instruction {
         }
         _ => Operation::EntrypointRedirect(numbers[3] as u16, numbers[3] >= 65536),
     };
-    Instruction {
-        next_instruction: u8::try_from(numbers[0]).ok(),
-        right_char: Char(numbers[1] as u8),
-        operation,
-    }
+    Instruction { next_instruction: u8::try_from(numbers[0]).ok(), right_char: Char(numbers[1] as u8), operation }
 }
 
 /// The standard byte of an operation (TeX section 545).
@@ -63,11 +59,7 @@ fn operands(operation: Operation, byte: i64) -> [i64; 2] {
     match operation {
         Operation::Kern(kern) => [0, kern.0 as i64],
         Operation::KernAtIndex(index) => [1, index as i64],
-        Operation::Ligature {
-            char_to_insert,
-            post_lig_operation,
-            post_lig_tag_invalid,
-        } => {
+        Operation::Ligature { char_to_insert, post_lig_operation, post_lig_tag_invalid } => {
             let byte = if post_lig_tag_invalid { byte } else { standard_byte(post_lig_operation) };
             [2, 256 * byte + char_to_insert.0 as i64]
         }
@@ -219,8 +211,7 @@ impl Font {
     pub fn validate_and_fix(&mut self, smallest: i32, existing: &[u64; 4]) -> Numbers {
         let entries: Vec<(Char, u8)> = self.entries.iter().map(|(c, e)| (*c, *e as u8)).collect();
         let exists = |c: Char| existing[c.0 as usize / 64] >> (c.0 % 64) & 1 == 1;
-        let warnings =
-            self.program.validate_and_fix(Char(smallest as u8), entries.into_iter(), exists, &self.kerns);
+        let warnings = self.program.validate_and_fix(Char(smallest as u8), entries.into_iter(), exists, &self.kerns);
         let left = self.program.left_boundary_char_entrypoint.map_or(-1, i64::from);
         let mut out = vec![warnings.len() as i64, left];
         out.extend(warnings.iter().flat_map(warning));
@@ -236,21 +227,15 @@ fn warning(w: &ValidationWarning) -> [i64; 4] {
         InvalidBoundaryCharEntrypoint => [1, 0, 0, 0],
         InvalidEntrypoint(c) => [2, c.0 as i64, 0, 0],
         SkipTooLarge(i) => [3, *i as i64, 0, 0],
-        LigatureStepForNonExistentCharacter {
-            instruction_index,
-            right_char,
-            new_right_char,
-        } => [4, *instruction_index as i64, right_char.0 as i64, new_right_char.0 as i64],
-        KernStepForNonExistentCharacter {
-            instruction_index,
-            right_char,
-            new_right_char,
-        } => [5, *instruction_index as i64, right_char.0 as i64, new_right_char.0 as i64],
-        LigatureStepProducesNonExistentCharacter {
-            instruction_index,
-            replacement_char,
-            new_replacement_char,
-        } => [6, *instruction_index as i64, replacement_char.0 as i64, new_replacement_char.0 as i64],
+        LigatureStepForNonExistentCharacter { instruction_index, right_char, new_right_char } => {
+            [4, *instruction_index as i64, right_char.0 as i64, new_right_char.0 as i64]
+        }
+        KernStepForNonExistentCharacter { instruction_index, right_char, new_right_char } => {
+            [5, *instruction_index as i64, right_char.0 as i64, new_right_char.0 as i64]
+        }
+        LigatureStepProducesNonExistentCharacter { instruction_index, replacement_char, new_replacement_char } => {
+            [6, *instruction_index as i64, replacement_char.0 as i64, new_replacement_char.0 as i64]
+        }
         KernIndexTooBig(i) => [7, *i as i64, 0, 0],
         InvalidLigTag(i) => [8, *i as i64, 0, 0],
         EntrypointRedirectTooBig(i) => [9, *i as i64, 0, 0],
@@ -292,12 +277,7 @@ fn item(item: TextItem, word: &[u8], given: &mut usize) -> [i64; 6] {
             [0, c as i64, start as i64, 1, 0, 0]
         }
         TextItem::Kern(kern) => [2, kern.0 as i64, 0, 0, 0, 0],
-        TextItem::Ligature {
-            c,
-            original,
-            includes_left_boundary,
-            includes_right_boundary,
-        } => {
+        TextItem::Ligature { c, original, includes_left_boundary, includes_right_boundary } => {
             let length = original.chars().count();
             *given += length;
             assert!(
@@ -311,10 +291,7 @@ fn item(item: TextItem, word: &[u8], given: &mut usize) -> [i64; 6] {
 
 /// How many items, and the items. After the end two further calls are made, which must give the end.
 pub fn set_word(compiled: &CompiledProgram, word: &[u8], disable_left_boundary: bool, over: i32) -> Numbers {
-    let options = RunOptions {
-        disable_left_boundary,
-        right_boundary_override: character(over),
-    };
+    let options = RunOptions { disable_left_boundary, right_boundary_override: character(over) };
     let mut iter = compiled.run_with_options(word.iter().map(|c| *c as char), options);
     let mut out = Vec::with_capacity(12 * word.len() + 13);
     out.push(0);
