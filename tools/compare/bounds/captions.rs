@@ -38,6 +38,7 @@ pub fn compiled(r: &mut Random, drawn: &Drawn, counts: &mut Counts) -> Tried {
     let call = compile_call(font, design);
     let tried = Call {
         name: "ligkern_compile",
+        refusals: &[13],
         sources: vec![instructions(font), kerns(font), entries(font)],
         sinks: vec![sink(4, 6 * rules, 12), sink(4, 2 * ops, 14), sink(4, 2 * loops, 15), sink(4, 16 * rules, 12), values(3)],
         call: &call,
@@ -102,7 +103,7 @@ impl Table {
             ligkern_has_replacement(i[0].pointer(), i[0].length, self.boundary, left, right, o[0].pointer(), o[0].length)
         };
         let name = "ligkern_has_replacement";
-        Call { name, sources: self.pairs(), sinks: vec![values(1)], call: &call }.try_all(counts).map(|_| ())
+        Call { name, refusals: &[], sources: self.pairs(), sinks: vec![values(1)], call: &call }.try_all(counts).map(|_| ())
     }
 
     fn all_pairs(&self, counts: &mut Counts) -> Tried {
@@ -113,7 +114,7 @@ impl Table {
         };
         let name = "ligkern_all_pairs_with_replacements";
         let sinks = vec![sink(4, self.pairs.length() / 3, 15), values(1)];
-        Call { name, sources: self.pairs(), sinks, call: &call }.try_all(counts).map(|_| ())
+        Call { name, refusals: &[], sources: self.pairs(), sinks, call: &call }.try_all(counts).map(|_| ())
     }
 
     fn is_seven_bit_safe(&self, counts: &mut Counts) -> Tried {
@@ -123,7 +124,7 @@ impl Table {
             )
         };
         let name = "ligkern_table_is_seven_bit_safe";
-        Call { name, sources: self.sources(), sinks: vec![values(1)], call: &call }.try_all(counts).map(|_| ())
+        Call { name, refusals: &[], sources: self.sources(), sinks: vec![values(1)], call: &call }.try_all(counts).map(|_| ())
     }
 
     /// A word set whole, begun, and set step by step.
@@ -137,7 +138,7 @@ impl Table {
             (call(&lists, &outs), outs[1].content().count(0))
         });
         let name = "ligkern_set_word";
-        Call { name, sources, sinks: vec![sink(4, 6 * items, 15), values(1)], call: &call }.try_all(counts)?;
+        Call { name, refusals: &[], sources, sinks: vec![sink(4, 6 * items, 15), values(1)], call: &call }.try_all(counts)?;
         self.steps(run, items, counts)
     }
 
@@ -159,7 +160,7 @@ impl Table {
         };
         let mut sources = self.sources();
         sources.push(source(of_u32(&run.word), None));
-        let tried = Call { name: "ligkern_begin", sources, sinks: vec![values(9)], call: &call };
+        let tried = Call { name: "ligkern_begin", refusals: &[], sources, sinks: vec![values(9)], call: &call };
         let left = tried.try_all(counts)?.ok_or("a word that was set could not be begun")?;
         Ok(left[0].clone())
     }

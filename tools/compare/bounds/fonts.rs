@@ -72,7 +72,7 @@ fn programs(r: &mut Random, font: &Font, counts: &mut Counts) -> Tried {
     };
     let sources = vec![instructions(font), entries(font)];
     let name = "ligkern_program_is_seven_bit_safe";
-    Call { name, sources, sinks: vec![values(1)], call: &safe }.try_all(counts)?;
+    Call { name, refusals: &[], sources, sinks: vec![values(1)], call: &safe }.try_all(counts)?;
     let entry = r.within(0, count as i64) as i32;
     let walk = |i: &[List], o: &[List]| unsafe {
         ligkern_instructions_for_entrypoint(
@@ -81,7 +81,7 @@ fn programs(r: &mut Random, font: &Font, counts: &mut Counts) -> Tried {
     };
     let sinks = vec![sink(4, reading::chain(font, entry).len(), 15), values(1)];
     let name = "ligkern_instructions_for_entrypoint";
-    Call { name, sources: vec![instructions(font)], sinks, call: &walk }.try_all(counts)?;
+    Call { name, refusals: &[], sources: vec![instructions(font)], sinks, call: &walk }.try_all(counts)?;
     let indices = passthrough(r, count);
     unpacked(font, entry.min(255), &indices, counts)?;
     reached(font, &indices, counts)
@@ -97,7 +97,7 @@ fn unpacked(font: &Font, entry: i32, indices: &[u16], counts: &mut Counts) -> Tr
     };
     let sources = vec![instructions(font), passed(indices, count)];
     let sinks = vec![sink(1, count, 15), values(1)];
-    Call { name: "ligkern_unpack_entrypoint", sources, sinks, call: &call }.try_all(counts).map(|_| ())
+    Call { name: "ligkern_unpack_entrypoint", refusals: &[8, 9], sources, sinks, call: &call }.try_all(counts).map(|_| ())
 }
 
 fn reached(font: &Font, indices: &[u16], counts: &mut Counts) -> Tried {
@@ -110,7 +110,7 @@ fn reached(font: &Font, indices: &[u16], counts: &mut Counts) -> Tried {
     };
     let sources = vec![instructions(font), entries(font), passed(indices, count)];
     let sinks = vec![sink(4, 2 * count, 15), values(1)];
-    Call { name: "ligkern_reachable_iter", sources, sinks, call: &call }.try_all(counts).map(|_| ())
+    Call { name: "ligkern_reachable_iter", refusals: &[], sources, sinks, call: &call }.try_all(counts).map(|_| ())
 }
 
 // ---- programs written anew
@@ -133,7 +133,7 @@ fn packed(font: &Font, counts: &mut Counts) -> Tried {
     });
     let sources = vec![instructions(font), entries(font)];
     let sinks = vec![sink(4, 4 * packed, 15), sink(4, 2 * font.entries.len(), 15), values(3)];
-    Call { name: "ligkern_pack_entrypoints", sources, sinks, call: &call }.try_all(counts).map(|_| ())
+    Call { name: "ligkern_pack_entrypoints", refusals: &[10, 11], sources, sinks, call: &call }.try_all(counts).map(|_| ())
 }
 
 fn kerns_written(font: &Font, counts: &mut Counts) -> Tried {
@@ -146,7 +146,7 @@ fn kerns_written(font: &Font, counts: &mut Counts) -> Tried {
     };
     let sources = vec![instructions(font), kerns(font)];
     let sinks = vec![sink(4, 4 * count, 15), values(1)];
-    Call { name: "ligkern_pack_kerns", sources, sinks, call: &pack }.try_all(counts)?;
+    Call { name: "ligkern_pack_kerns", refusals: &[], sources, sinks, call: &pack }.try_all(counts)?;
     let unpack = |i: &[List], o: &[List]| unsafe {
         ligkern_unpack_kerns(
             i[0].pointer(), i[0].length, o[0].pointer(), o[0].length, o[1].pointer(), o[1].length, o[2].pointer(),
@@ -158,7 +158,7 @@ fn kerns_written(font: &Font, counts: &mut Counts) -> Tried {
     distinct.dedup();
     let sinks = vec![sink(4, 4 * count, 15), sink(4, distinct.len(), 15), values(1)];
     let name = "ligkern_unpack_kerns";
-    Call { name, sources: vec![instructions(font)], sinks, call: &unpack }.try_all(counts).map(|_| ())
+    Call { name, refusals: &[], sources: vec![instructions(font)], sinks, call: &unpack }.try_all(counts).map(|_| ())
 }
 
 // ---- repair
@@ -192,7 +192,7 @@ fn repaired(font: &Font, damage: &Damage, counts: &mut Counts) -> Tried {
         (call(&lists, &outs), outs[5].content().count(0))
     });
     let name = "ligkern_validate_and_fix";
-    Call { name, sources: sources(), sinks: sinks(warnings), call: &call }.try_all(counts).map(|_| ())
+    Call { name, refusals: &[], sources: sources(), sinks: sinks(warnings), call: &call }.try_all(counts).map(|_| ())
 }
 
 /// For a self-test: an op table that is said to be one longer than it is.
@@ -205,5 +205,5 @@ pub fn overstate() {
         )
     };
     let sinks = vec![values(1), sink(4, 4, 15)];
-    Call { name: "overstated", sources: vec![instructions(&font), kerns(&font)], sinks, call: &call }.overstate();
+    Call { name: "overstated", refusals: &[], sources: vec![instructions(&font), kerns(&font)], sinks, call: &call }.overstate();
 }

@@ -16,8 +16,10 @@ pub struct Sink {
     pub short: u32,
 }
 
+/// A call, its lists, and the numbers with which it may be refused where every list has its size.
 pub struct Call<'a> {
     pub name: &'static str,
+    pub refusals: &'static [u32],
     pub sources: Vec<Source>,
     pub sinks: Vec<Sink>,
     pub call: &'a dyn Fn(&[List], &[List]) -> u32,
@@ -90,6 +92,9 @@ impl Call<'_> {
         let (number, left) = tried(self, &sources, &exact, false)?;
         let (wide_number, wide_left) = tried(self, &sources, &wide, false)?;
         due(self, "wider lists", number, wide_number, &wide_left)?;
+        if number != 0 && !self.refusals.contains(&number) {
+            return Err(format!("{}: lists of exact size were refused with {number}", self.name));
+        }
         if number != 0 {
             due(self, "lists of exact size", number, number, &left)?;
             counts.add(self.name, 1);
