@@ -26,6 +26,8 @@ pub struct Mismatch {
     pub font: Font,
     pub answers: Answers,
     pub for_both: bool,
+    /// The table that was lent, where it is not the font's.
+    pub table: Option<(Vec<i32>, Vec<i32>)>,
 }
 
 /// A font that both sides compiled alike.
@@ -57,7 +59,7 @@ fn agree(ask: &Ask, font: &Font, mut answers: Answers, tally: &mut Tally) -> Res
         tally.agreed(ask.call(), &answers.library);
         Ok(answers)
     } else {
-        Err(Box::new(Mismatch { ask: ask.clone(), font: font.clone(), answers, for_both: true }))
+        Err(Box::new(Mismatch { ask: ask.clone(), font: font.clone(), answers, for_both: true, table: None }))
     }
 }
 
@@ -155,7 +157,13 @@ impl Both {
     pub fn unchanged(&self, font: &Font, design: i32) -> Result<(), Box<Mismatch>> {
         self.table.unchanged().map_err(|fault| {
             let answers = Answers { published: Answer::Is(vec![]), library: Answer::Odd(fault) };
-            Box::new(Mismatch { ask: Ask::Compile { design }, font: font.clone(), answers, for_both: false })
+            Box::new(Mismatch {
+                ask: Ask::Compile { design },
+                font: font.clone(),
+                answers,
+                for_both: false,
+                table: None,
+            })
         })
     }
 }
@@ -231,6 +239,7 @@ pub fn ask_refused(ask: &Ask, font: &Font, due: u32, spare: usize, tally: &mut T
         Ask::Repair(damage) => lent.validate_and_fix(damage, [8, 8]),
         _ => lent.program_is_seven_bit_safe(),
     };
+    tally.class(tally::OUT_OF_RANGE);
     refused(ask, font, due, given, tally)
 }
 
@@ -241,7 +250,6 @@ fn refused(
     given: Result<Vec<i64>, Stop>,
     tally: &mut Tally,
 ) -> Result<(), Box<Mismatch>> {
-    tally.class(tally::OUT_OF_RANGE);
     let answers = Answers { published: Answer::Refused(due), library: library::answer(given) };
     agree(ask, font, answers, tally).map(|_| ()).map_err(|m| Box::new(Mismatch { for_both: false, ..*m }))
 }
@@ -255,7 +263,33 @@ impl Both {
             Ask::HasReplacement { left, right, .. } => self.table.has_replacement(*left, *right),
             _ => unreachable!("no number of this question can be out of range"),
         };
+        tally.class(tally::OUT_OF_RANGE);
         refused(ask, font, due, given, tally)
+    }
+
+    /// The pairs and the ops.
+    pub fn lists(&self) -> (Vec<i32>, Vec<i32>) {
+        self.table.lists()
+    }
+
+    /// A question about another table, which is not of the form.
+    pub fn ask_broken(
+        &self,
+        ask: &Ask,
+        font: &Font,
+        (pairs, ops): (&[i32], &[i32]),
+        tally: &mut Tally,
+    ) -> Result<(), Box<Mismatch>> {
+        let mut table = self.table.with(pairs, ops);
+        let given = match ask {
+            Ask::SetWord(setting) => table.set_word(setting, 8),
+            Ask::Steps(setting) => table.steps(setting, 8),
+            Ask::AllPairs { .. } => table.all_pairs(),
+            _ => table.is_seven_bit_safe(),
+        };
+        tally.class(tally::BROKEN);
+        let table = Some((pairs.to_vec(), ops.to_vec()));
+        refused(ask, font, 7, given, tally).map_err(|m| Box::new(Mismatch { table, ..*m }))
     }
 }
 

@@ -54,6 +54,10 @@ impl<T: Element> Input<T> {
     pub fn length(&self) -> usize {
         self.lent.len()
     }
+    /// The list as it was lent.
+    pub fn list(&self) -> &[T] {
+        &self.kept
+    }
     pub fn unchanged(&self, name: &str) -> Result<(), Fault> {
         if self.lent == self.kept {
             Ok(())

@@ -3,6 +3,7 @@
 
 mod answer;
 mod asked;
+mod broken;
 mod calls;
 mod compare;
 mod drawn;
@@ -135,6 +136,9 @@ fn print_mismatch(found: Found) {
     let small = if found.mismatch.for_both { smallest(found) } else { *found.mismatch };
     println!("  smallest failing request: {}", request(&small.ask, &small.font));
     println!("    as a question: {:?}", small.ask);
+    if let Some((pairs, ops)) = &small.table {
+        println!("    on the pairs:  {pairs:?}, and the ops {ops:?}");
+    }
     println!("    the Rust:      {}", small.answers.published);
     println!("    the library:   {}", small.answers.library);
 }

@@ -1,5 +1,6 @@
 //! What is asked of a drawn font: every call, words with all options, and the font repaired.
 
+use crate::broken;
 use crate::compare::{ask_program, compile, Mismatch};
 use crate::drawn::{self, Drawn};
 use crate::features;
@@ -48,7 +49,10 @@ fn table(r: &mut Random, drawn: &Drawn, spare: usize, tally: &mut Tally) -> Aske
             }
         }
     }
-    both.unchanged(font, design)
+    both.unchanged(font, design)?;
+    let word = drawn::word(r, &drawn.letters);
+    let setting = Setting { design, word, disable_left_boundary: r.percent(50), over: -1 };
+    broken::questions(r, &both, font, setting, tally)
 }
 
 /// All pairs of few letters, the boundary at each side; some of many.

@@ -21,6 +21,16 @@ impl Table {
         Table { pairs: Input::new(pairs), ops: Input::new(ops), boundary, spare }
     }
 
+    /// The pairs and the ops.
+    pub fn lists(&self) -> (Vec<i32>, Vec<i32>) {
+        (self.pairs.list().to_vec(), self.ops.list().to_vec())
+    }
+
+    /// Other pairs and ops beside the same boundary character.
+    pub fn with(&self, pairs: &[i32], ops: &[i32]) -> Table {
+        Table::new(pairs.to_vec(), ops.to_vec(), self.boundary, self.spare)
+    }
+
     /// Whether no call wrote to it. Asked once, after all the calls on a table.
     pub fn unchanged(&self) -> Result<(), Fault> {
         self.pairs.unchanged("pairs")?;

@@ -6,7 +6,7 @@ use crate::font::CALLS;
 use std::collections::BTreeMap;
 
 /// Where what is due is not simply the Rust's answer.
-pub const CLASSES: [&str; 10] = [
+pub const CLASSES: [&str; 11] = [
     "13 due: the Rust panics in to_scaled (compiling)",
     "14 due: over the op table lent, by a count of the ops of our own; the Rust is not asked",
     "10 due: the Rust panics at the 256th redirect (packing)",
@@ -17,6 +17,7 @@ pub const CLASSES: [&str; 10] = [
     "nothing is compared: the repaired font has too many ops for the Rust, and neither side is asked (repair)",
     "the Rust alone was lent a passthrough index past the program; its answer is compared without it (unpacking, reach, repair)",
     "1 to 6 due: a number out of range or a list past its limit; the Rust is not asked",
+    "7 due: a table that is not of the form; the Rust is not asked",
 ];
 pub const SCALED: usize = 0;
 pub const VAST: usize = 1;
@@ -28,6 +29,7 @@ pub const REPAIR_SCALED: usize = 6;
 pub const REPAIR_VAST: usize = 7;
 pub const PASSED_OUTSIDE: usize = 8;
 pub const OUT_OF_RANGE: usize = 9;
+pub const BROKEN: usize = 10;
 
 /// What the items of the words are.
 const ITEMS: [&str; 8] = [
