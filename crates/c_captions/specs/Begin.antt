@@ -16,7 +16,9 @@ abbrev pub beginNumber : List ℤ → List ℤ → ℤ → List ℕ → RunOptio
 beginNumber pairs ops boundary word options n = orElse (beginRefusal pairs ops boundary word options) (roomRefusal 9 n)
 
 -- the number, and what the list holds: the nine numbers of a fresh state and zeros, which are read back as that state; or zeros
-pub record BeginsRun (pairs ops : List ℤ) (boundary : ℤ) (word : List ℕ) (options : RunOptions) (state : List ℕ) (r : ℕ) (state′ : List ℕ) : Type 0 where
+pub record BeginsRun (pairs ops : List ℤ) (boundary : ℤ) (word : List ℕ) (options : RunOptions) (state : List ℕ) (r : ℕ)
+    (state′ : List ℕ) : Type 0 where
   pub number : r ≡ beginNumber pairs ops boundary word options (length state)
-  pub list : state′ ≡ listOf (beginNumber pairs ops boundary word options (length state)) 0 (length state) (numbersOf (freshState word options))
+  pub list : state′ ≡ listOf (beginNumber pairs ops boundary word options (length state)) 0 (length state)
+      (numbersOf (freshState word options))
   pub again : r ≡ 0 → stateRead state′ ≡ some (freshState word options)

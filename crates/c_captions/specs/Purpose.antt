@@ -41,7 +41,8 @@ abbrev pub seen : ℕ → Answer → Call
 seen room a = record { number = answerReply a .number; item = listOf (answerReply a .number) (pos 0) room (itemNumbers a) }
 
 -- n calls of ligkern_step, each on the list that the last one left, and each lent `room` numbers for its item
-pub data HostCalls (pairs ops : List ℤ) (boundary : ℤ) (word : List ℕ) (options : RunOptions) (room : ℕ) : ℕ → List ℕ → List Call → Type 0 where
+pub data HostCalls (pairs ops : List ℤ) (boundary : ℤ) (word : List ℕ) (options : RunOptions) (room : ℕ) : ℕ → List ℕ → List Call →
+    Type 0 where
   done : {state : List ℕ} → HostCalls pairs ops boundary word options room 0 state []
   call : {n r : ℕ} {state state′ : List ℕ} {item item′ : List ℤ} {calls : List Call} →
       length item ≡ room → StepsRun pairs ops boundary word options state item r state′ item′ →
@@ -63,16 +64,18 @@ abbrev pub EveryHostFont : Type 0
 EveryHostFont =
     (f : Font) (pairs ops loops : List ℤ) (work counts : List ℕ) (pairs′ ops′ loops′ : List ℤ) (work′ counts′ : List ℕ) →
     CompilesCounts f pairs ops loops work counts 0 pairs′ ops′ loops′ work′ counts′ →
-    Demand3 f (getD counts′ 2 0) (take (6 * getD counts′ 0 0) pairs′) (take (2 * getD counts′ 1 0) ops′) (take (2 * getD counts′ 2 0) loops′)
+    Demand3 f (getD counts′ 2 0) (take (6 * getD counts′ 0 0) pairs′) (take (2 * getD counts′ 1 0) ops′)
+    (take (2 * getD counts′ 2 0) loops′)
 
 -- n calls from a state's list see these items, by kind and by code or scaled kern, and then the end
-pub record Sees (pairs ops : List ℤ) (boundary : ℤ) (word : List ℕ) (options : RunOptions) (items : List Out) (room n : ℕ) (calls : List Call) : Type 0 where
+pub record Sees (pairs ops : List ℤ) (boundary : ℤ) (word : List ℕ) (options : RunOptions) (items : List Out) (room n : ℕ)
+    (calls : List Call) : Type 0 where
   pub answers : List Answer
   pub seen-as : calls ≡ map (seen room) answers
   pub same : map shown answers ≡ thenEnds n items
 
--- where demand 3 says that a run answers these items, ligkern_begin, lent a list with room for a state, is not refused, and any number of calls of ligkern_step on that list,
--- each lent a list with room for an item, see them and then the end
+-- where demand 3 says that a run answers these items, ligkern_begin, lent a list with room for a state, is not refused, and any number
+-- of calls of ligkern_step on that list, each lent a list with room for an item, see them and then the end
 abbrev pub EveryRun : Type 0
 EveryRun =
     (f : Font) (pairs ops : List ℤ) (word : List ℕ) (options : RunOptions) (items : List Out) → Answered f pairs ops word options items →

@@ -1,4 +1,5 @@
--- A word set whole, with the count of its items in a list: the contract of `ligkern_set_word`. Document 01, 'Caption items' and 'The column text'.
+-- A word set whole, with the count of its items in a list: the contract of `ligkern_set_word`. Document 01, 'Caption items' and 'The
+-- column text'.
 use mathlib.Core.Path.{_≡_}
 use mathlib.Core.List.{List, [], _∷_}
 use Prim.Native.Nat.{ℕ, _/_}
@@ -14,7 +15,8 @@ abbrev pub captionNumber : List ℤ → List ℤ → ℤ → List ℕ → RunOpt
 captionNumber pairs ops boundary word options room n = orElse (setReply pairs ops boundary word options room .number) (roomRefusal 1 n)
 
 -- the number, and what the two lists hold: the numbers of the items and how many items there are, with zeros after them; or zeros
-pub record SetsCaption (pairs ops : List ℤ) (boundary : ℤ) (word : List ℕ) (options : RunOptions) (items : List ℤ) (count : List ℕ) (r : ℕ) (items′ : List ℤ) (count′ : List ℕ) : Type 0 where
+pub record SetsCaption (pairs ops : List ℤ) (boundary : ℤ) (word : List ℕ) (options : RunOptions) (items : List ℤ) (count : List ℕ)
+    (r : ℕ) (items′ : List ℤ) (count′ : List ℕ) : Type 0 where
   pub number : r ≡ captionNumber pairs ops boundary word options (length items) (length count)
   pub list : items′ ≡
       listOf (captionNumber pairs ops boundary word options (length items) (length count)) (pos 0) (length items)

@@ -18,7 +18,8 @@ abbrev pub countsRefusal : Font → Room → ℕ → ℕ
 countsRefusal f room n = orElse (compileRefusal f room) (roomRefusal 3 n)
 
 -- the number, and the final content of every lent list, taken or refused
-pub record CompilesCounts (f : Font) (pairs ops loops : List ℤ) (work counts : List ℕ) (r : ℕ) (pairs′ ops′ loops′ : List ℤ) (work′ counts′ : List ℕ) : Type 0 where
+pub record CompilesCounts (f : Font) (pairs ops loops : List ℤ) (work counts : List ℕ) (r : ℕ) (pairs′ ops′ loops′ : List ℤ)
+    (work′ counts′ : List ℕ) : Type 0 where
   pub number : r ≡ countsRefusal f (roomIn pairs ops loops work) (length counts)
   pub lists : ListsWritten f (countsRefusal f (roomIn pairs ops loops work) (length counts)) pairs ops loops pairs′ ops′ loops′
   pub cleared : work′ ≡ replicate (length work) 0

@@ -1,5 +1,6 @@
--- What repair tells a host in C: its answer is the reply that the port's own function is held to (`Repairs` of crate repairs). The left entry, which may be -1,
--- has a list of i32 of its own; the count of warnings stands in the list of values. What is added is 15 where either list is too short.
+-- What repair tells a host in C: its answer is the reply that the port's own function is held to (`Repairs` of crate repairs). The left
+-- entry, which may be -1, has a list of i32 of its own; the count of warnings stands in the list of values. What is added is 15 where
+-- either list is too short.
 use mathlib.Core.Path.{_≡_}
 use mathlib.Core.List.{List, [], _∷_, map}
 use Prim.Native.Nat.{ℕ, _/_}
@@ -35,9 +36,12 @@ repairNumber d fixed through warnings work left values =
     fixedNumber (repairReply d (roomFor fixed through warnings work)) (length left) (length values)
 
 -- THE contract of validate_and_fix: the number, and every list, taken or refused
-pub record GivesRepaired (d : Damaged) (fixed : List ℤ) (through : List ℕ) (warnings : List ℤ) (work : List ℕ) (left : List ℤ) (values : List ℕ) (r : ℕ) (fixed′ : List ℤ) (through′ : List ℕ) (warnings′ : List ℤ) (work′ : List ℕ) (left′ : List ℤ) (values′ : List ℕ) : Type 0 where
+pub record GivesRepaired (d : Damaged) (fixed : List ℤ) (through : List ℕ) (warnings : List ℤ) (work : List ℕ) (left : List ℤ)
+    (values : List ℕ) (r : ℕ) (fixed′ : List ℤ) (through′ : List ℕ) (warnings′ : List ℤ) (work′ : List ℕ) (left′ : List ℤ)
+    (values′ : List ℕ) : Type 0 where
   pub tells : TellsFixed (repairReply d (roomFor fixed through warnings work)) left values r left′ values′
-  pub instructions : fixed′ ≡ listOf (repairNumber d fixed through warnings work left values) (pos 0) (length fixed) (repairedInstructions d)
+  pub instructions : fixed′ ≡ listOf (repairNumber d fixed through warnings work left values) (pos 0) (length fixed)
+      (repairedInstructions d)
   pub passthrough : through′ ≡ listOf (repairNumber d fixed through warnings work left values) 0 (length through) (repairedPassthrough d)
   pub warned : warnings′ ≡ listOf (repairNumber d fixed through warnings work left values) (pos 0) (length warnings) (warningsOf d)
   pub cleared : work′ ≡ replicate (length work) 0

@@ -1,5 +1,5 @@
--- The state of a run as nine numbers of a list, in the order of `stateNumbers` of captions/specs/Replies: next kind, code, op, ops, read, given, pending, pending
--- boundary, consumes. And back: the numbers that are a state's.
+-- The state of a run as nine numbers of a list, in the order of `stateNumbers` of captions/specs/Replies: next kind, code, op, ops,
+-- read, given, pending, pending boundary, consumes. And back: the numbers that are a state's.
 use mathlib.Core.Path.{_≡_}
 use mathlib.Core.Bool.{Bool, true, false, cond}
 use mathlib.Core.List.{List, [], _∷_, _++_}

@@ -39,7 +39,8 @@ itemNumbers End = []
 itemNumbers (Refused n) = []
 
 -- the number, and what the two lists hold; what is left in place of a state is read back as the state that the step leaves
-pub record StepsRun (pairs ops : List ℤ) (boundary : ℤ) (word : List ℕ) (options : RunOptions) (state : List ℕ) (item : List ℤ) (r : ℕ) (state′ : List ℕ) (item′ : List ℤ) : Type 0 where
+pub record StepsRun (pairs ops : List ℤ) (boundary : ℤ) (word : List ℕ) (options : RunOptions) (state : List ℕ) (item : List ℤ) (r : ℕ)
+    (state′ : List ℕ) (item′ : List ℤ) : Type 0 where
   pub number : r ≡ stepNumber pairs ops boundary word options state (length item)
   pub moved : state′ ≡
       movedTo (stepNumber pairs ops boundary word options state (length item)) state (stepIn pairs ops boundary word options state .state)

@@ -1,5 +1,5 @@
--- What a call tells a host in C: a number, 0 or a refusal of document 01, and the values of the answer in a lent list. The answer itself is the
--- reply that the port's own function is held to; what is added here is 15 where the values' list is too short for it.
+-- What a call tells a host in C: a number, 0 or a refusal of document 01, and the values of the answer in a lent list. The answer
+-- itself is the reply that the port's own function is held to; what is added here is 15 where the values' list is too short for it.
 use mathlib.Core.Path.{_≡_}
 use mathlib.Core.List.{List, map}
 use Prim.Native.Nat.{ℕ, zero, suc}
@@ -23,12 +23,14 @@ pub record TellsHost (reply : Reply) (values : List ℕ) (r : ℕ) (values′ : 
   pub told : values′ ≡ listOf (toldNumber reply (length values)) 0 (length values) (map natural (reply .values))
 
 -- a call that writes one list beside its values
-pub record Gives {A : Type 0} (o : A) (reply : Reply) (xs out : List A) (values : List ℕ) (r : ℕ) (out′ : List A) (values′ : List ℕ) : Type 0 where
+pub record Gives {A : Type 0} (o : A) (reply : Reply) (xs out : List A) (values : List ℕ) (r : ℕ) (out′ : List A)
+    (values′ : List ℕ) : Type 0 where
   pub tells : TellsHost reply values r values′
   pub list : out′ ≡ listOf (toldNumber reply (length values)) o (length out) xs
 
 -- a call that writes two
-pub record GivesTwo {A : Type 0} (o : A) (reply : Reply) (xs ys out more : List A) (values : List ℕ) (r : ℕ) (out′ more′ : List A) (values′ : List ℕ) : Type 0 where
+pub record GivesTwo {A : Type 0} (o : A) (reply : Reply) (xs ys out more : List A) (values : List ℕ) (r : ℕ) (out′ more′ : List A)
+    (values′ : List ℕ) : Type 0 where
   pub tells : TellsHost reply values r values′
   pub list : out′ ≡ listOf (toldNumber reply (length values)) o (length out) xs
   pub second : more′ ≡ listOf (toldNumber reply (length values)) o (length more) ys

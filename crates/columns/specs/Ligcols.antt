@@ -1,5 +1,6 @@
--- What a text is answered with: THE contract of `ligcols`, the function that a host calls. Document 01, 'The column text' and the table of numbers. The whole text is judged
--- first (16); then comes the lowest number of compiling and of the word; then 15, where the items or the bytes of the reply are too many.
+-- What a text is answered with: THE contract of `ligcols`, the function that a host calls. Document 01, 'The column text' and the table
+-- of numbers. The whole text is judged first (16); then comes the lowest number of compiling and of the word; then 15, where the items
+-- or the bytes of the reply are too many.
 use mathlib.Core.Path.{_≡_}
 use mathlib.Core.Bool.{false, cond}
 use mathlib.Core.List.{List, [], _∷_, map}
@@ -73,7 +74,8 @@ abbrev pub lengthOr : ℕ → ℕ → ℤ
 lengthOr zero n = pos n
 lengthOr (suc k) n = negsuc k
 
--- THE contract of ligcols, for every text and every length of reply: the reply's length, or minus the number; and the reply's bytes and zeros, or zeros
+-- THE contract of ligcols, for every text and every length of reply: the reply's length, or minus the number; and the reply's bytes and
+-- zeros, or zeros
 pub record AnswersText (text reply : List ℕ) (r : ℤ) (reply′ : List ℕ) : Type 0 where
   pub answer : r ≡ lengthOr (numberOfText (readText text) (length reply)) (length (bytesOfText (readText text)))
   pub list : reply′ ≡ listOf (numberOfText (readText text) (length reply)) 0 (length reply) (bytesOfText (readText text))

@@ -1,5 +1,5 @@
--- A reply read back, and what is proved of every text that is answered (proofs/Answered): nothing is lost in the format, the X lines are a true meter of loops, and where there is
--- none the T lines are the reading of the word. No contract cites this.
+-- A reply read back, and what is proved of every text that is answered (proofs/Answered): nothing is lost in the format, the X lines
+-- are a true meter of loops, and where there is none the T lines are the reading of the word. No contract cites this.
 use mathlib.Core.Path.{_≡_}
 use mathlib.Core.Bool.{true, false, cond}
 use mathlib.Core.List.{List, [], _∷_, _++_}
@@ -37,23 +37,56 @@ nothingReported = record { pairs = []; ops = []; loops = []; letters = negsuc 0;
 abbrev pub withPair : Reported → List ℤ → Option Reported
 withPair r zs =
     cond (eqb (length zs) 5)
-    (some (record { pairs = r .pairs ++ take 4 zs ++ (pos (length (r .ops) / 2) ∷ drop 4 zs); ops = r .ops; loops = r .loops; letters = r .letters; items = r .items }))
+    (some (record {
+      pairs = r .pairs ++ take 4 zs ++ (pos (length (r .ops) / 2) ∷ drop 4 zs);
+      ops = r .ops;
+      loops = r .loops;
+      letters = r .letters;
+      items = r .items;
+    }))
     none
 
 -- O and X, two numbers; T, six
 abbrev pub withOp : Reported → List ℤ → Option Reported
-withOp r zs = cond (eqb (length zs) 2) (some (record { pairs = r .pairs; ops = r .ops ++ zs; loops = r .loops; letters = r .letters; items = r .items })) none
+withOp r zs =
+    cond (eqb (length zs) 2) (some (record {
+      pairs = r .pairs;
+      ops = r .ops ++ zs;
+      loops = r .loops;
+      letters = r .letters;
+      items = r .items;
+    })) none
 
 abbrev pub withLoop : Reported → List ℤ → Option Reported
-withLoop r zs = cond (eqb (length zs) 2) (some (record { pairs = r .pairs; ops = r .ops; loops = r .loops ++ zs; letters = r .letters; items = r .items })) none
+withLoop r zs =
+    cond (eqb (length zs) 2) (some (record {
+      pairs = r .pairs;
+      ops = r .ops;
+      loops = r .loops ++ zs;
+      letters = r .letters;
+      items = r .items;
+    })) none
 
 abbrev pub withItem : Reported → List ℤ → Option Reported
-withItem r zs = cond (eqb (length zs) 6) (some (record { pairs = r .pairs; ops = r .ops; loops = r .loops; letters = r .letters; items = r .items ++ zs })) none
+withItem r zs =
+    cond (eqb (length zs) 6) (some (record {
+      pairs = r .pairs;
+      ops = r .ops;
+      loops = r .loops;
+      letters = r .letters;
+      items = r .items ++ zs;
+    })) none
 
 -- W, one number
 abbrev pub withLength : Reported → List ℤ → Option Reported
 withLength r zs =
-    cond (eqb (length zs) 1) (some (record { pairs = r .pairs; ops = r .ops; loops = r .loops; letters = getD zs 0 (pos 0); items = r .items })) none
+    cond (eqb (length zs) 1) (some (record {
+      pairs = r .pairs;
+      ops = r .ops;
+      loops = r .loops;
+      letters = getD zs 0 (pos 0);
+      items = r .items;
+    })) none
 
 -- one line more: P 80, O 79, X 88, W 87, T 84
 abbrev pub report : Reported → Option Line → Option Reported

@@ -1,5 +1,5 @@
--- The reply to a text, as lines and as bytes: document 01, 'The column text'. P and its O lines in the table's order, X after all of them, then W and T. The contract
--- of write_reply.
+-- The reply to a text, as lines and as bytes: document 01, 'The column text'. P and its O lines in the table's order, X after all of
+-- them, then W and T. The contract of write_reply.
 use mathlib.Core.Path.{_≡_}
 use mathlib.Core.List.{List, [], _∷_, _++_, map}
 use Prim.Native.Nat.{ℕ, zero, suc, _+_, _*_, _/_}

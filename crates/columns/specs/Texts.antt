@@ -1,5 +1,6 @@
--- A text as a font and a word: document 01, 'The column text'. D first and once; then R and L at most once each and I, K and E repeated, in any order; then at
--- most one W, and nothing after it. At most 65,536 bytes, 512 I, 512 K and 64 characters a word. What does not read so is 16.
+-- A text as a font and a word: document 01, 'The column text'. D first and once; then R and L at most once each and I, K and E
+-- repeated, in any order; then at most one W, and nothing after it. At most 65,536 bytes, 512 I, 512 K and 64 characters a word. What
+-- does not read so is 16.
 use mathlib.Core.Bool.{Bool, true, false, cond}
 use mathlib.Core.List.{List, [], _∷_, _++_}
 use mathlib.Core.Option.{Option, none, some}
@@ -27,39 +28,89 @@ opened design = record { design = design; boundary = none; left = none; instruct
 -- ---- one line more
 
 abbrev pub withBoundary : Text → Option ℤ → ℤ → Option Text
-withBoundary t none z = some (record { design = t .design; boundary = some z; left = t .left; instructions = t .instructions; kerns = t .kerns; entries = t .entries; word = t .word })
+withBoundary t none z =
+    some (record {
+      design = t .design;
+      boundary = some z;
+      left = t .left;
+      instructions = t .instructions;
+      kerns = t .kerns;
+      entries = t .entries;
+      word = t .word;
+    })
 withBoundary t (some y) z = none
 
 abbrev pub withLeft : Text → Option ℤ → ℤ → Option Text
-withLeft t none z = some (record { design = t .design; boundary = t .boundary; left = some z; instructions = t .instructions; kerns = t .kerns; entries = t .entries; word = t .word })
+withLeft t none z =
+    some (record {
+      design = t .design;
+      boundary = t .boundary;
+      left = some z;
+      instructions = t .instructions;
+      kerns = t .kerns;
+      entries = t .entries;
+      word = t .word;
+    })
 withLeft t (some y) z = none
 
 -- I: four numbers, 512 times at most
 abbrev pub withInstruction : Text → List ℤ → Option Text
 withInstruction t zs =
     cond (both (eqb (length zs) 4) (leb (suc (length (t .instructions) / 4)) 512))
-    (some (record { design = t .design; boundary = t .boundary; left = t .left; instructions = t .instructions ++ zs; kerns = t .kerns; entries = t .entries; word = t .word }))
+    (some (record {
+      design = t .design;
+      boundary = t .boundary;
+      left = t .left;
+      instructions = t .instructions ++ zs;
+      kerns = t .kerns;
+      entries = t .entries;
+      word = t .word;
+    }))
     none
 
 -- K: one number, 512 times at most
 abbrev pub withKern : Text → List ℤ → Option Text
 withKern t zs =
     cond (both (eqb (length zs) 1) (leb (suc (length (t .kerns))) 512))
-    (some (record { design = t .design; boundary = t .boundary; left = t .left; instructions = t .instructions; kerns = t .kerns ++ zs; entries = t .entries; word = t .word }))
+    (some (record {
+      design = t .design;
+      boundary = t .boundary;
+      left = t .left;
+      instructions = t .instructions;
+      kerns = t .kerns ++ zs;
+      entries = t .entries;
+      word = t .word;
+    }))
     none
 
 -- E: two numbers
 abbrev pub withEntry : Text → List ℤ → Option Text
 withEntry t zs =
     cond (eqb (length zs) 2)
-    (some (record { design = t .design; boundary = t .boundary; left = t .left; instructions = t .instructions; kerns = t .kerns; entries = t .entries ++ zs; word = t .word }))
+    (some (record {
+      design = t .design;
+      boundary = t .boundary;
+      left = t .left;
+      instructions = t .instructions;
+      kerns = t .kerns;
+      entries = t .entries ++ zs;
+      word = t .word;
+    }))
     none
 
 -- W: as many numbers as the word has characters, 64 at most
 abbrev pub withWord : Text → List ℤ → Option Text
 withWord t zs =
     cond (leb (length zs) 64)
-    (some (record { design = t .design; boundary = t .boundary; left = t .left; instructions = t .instructions; kerns = t .kerns; entries = t .entries; word = some zs }))
+    (some (record {
+      design = t .design;
+      boundary = t .boundary;
+      left = t .left;
+      instructions = t .instructions;
+      kerns = t .kerns;
+      entries = t .entries;
+      word = some zs;
+    }))
     none
 
 -- R and L: one number

@@ -51,7 +51,8 @@ passthroughUpto d k = tabulate (count (d .instructions)) (λ i. cond (passedUpto
 
 -- ---- the contract of unpack_entries
 
-pub record Enters (d : Damaged) (unpacked : List ℤ) (through : List ℕ) (warnings : List ℤ) (r : Entered) (unpacked′ : List ℤ) (through′ : List ℕ) (warnings′ : List ℤ) : Type 0 where
+pub record Enters (d : Damaged) (unpacked : List ℤ) (through : List ℕ) (warnings : List ℤ) (r : Entered) (unpacked′ : List ℤ)
+    (through′ : List ℕ) (warnings′ : List ℤ) : Type 0 where
   pub entries : 2 * r .entries ≡ length (unpackedEntries d)
   pub list : unpacked′ ≡ sets unpacked 0 (unpackedEntries d)
   pub passthrough : through′ ≡ sets through 0 (repairedPassthrough d)

@@ -1,2 +1,3 @@
--- Crate entrypoints is held to Entering: read the contract `Enters`, and then what stands above it. What its passes leave is repairs/specs/Damaged and Warnings.
+-- Crate entrypoints is held to Entering: read the contract `Enters`, and then what stands above it. What its passes leave is
+-- repairs/specs/Damaged and Warnings.
 pub mod Entering

@@ -135,7 +135,8 @@ abbrev pub roomIn : List ℤ → List ℤ → List ℤ → List ℕ → Room
 roomIn pairs ops loops work = roomOf (length pairs) (length ops) (length loops) (length work)
 
 -- The contract of compile: the answer, and the final content of every lent list, taken or refused.
-pub record Compiles (f : Font) (pairs ops loops : List ℤ) (work : List ℕ) (r : Compiled) (pairs′ ops′ loops′ : List ℤ) (work′ : List ℕ) : Type 0 where
+pub record Compiles (f : Font) (pairs ops loops : List ℤ) (work : List ℕ) (r : Compiled) (pairs′ ops′ loops′ : List ℤ)
+    (work′ : List ℕ) : Type 0 where
   pub answer : compiledReply r ≡ replyOf (compileRefusal f (roomIn pairs ops loops work)) (fontCounts f)
   pub lists : ListsWritten f (compileRefusal f (roomIn pairs ops loops work)) pairs ops loops pairs′ ops′ loops′
   pub cleared : work′ ≡ replicate (length work) 0

@@ -9,7 +9,8 @@ use Rattle.fonts.specs.declared.Compiled.{Compiled}
 use Rattle.fonts.specs.Fonts.{Font}
 use Rattle.fonts.specs.Compiled.{roomIn, buildRefusal, compiledReply, fontCounts, ListsWritten}
 
-pub record Builds (f : Font) (pairs ops loops : List ℤ) (work : List ℕ) (r : Compiled) (pairs′ ops′ loops′ : List ℤ) (work′ : List ℕ) : Type 0 where
+pub record Builds (f : Font) (pairs ops loops : List ℤ) (work : List ℕ) (r : Compiled) (pairs′ ops′ loops′ : List ℤ)
+    (work′ : List ℕ) : Type 0 where
   pub answer : compiledReply r ≡ replyOf (buildRefusal f (roomIn pairs ops loops work)) (fontCounts f)
   pub lists : ListsWritten f (buildRefusal f (roomIn pairs ops loops work)) pairs ops loops pairs′ ops′ loops′
   pub cleared : work′ ≡ replicate (length work) 0

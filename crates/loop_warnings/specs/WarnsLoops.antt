@@ -21,7 +21,8 @@ unlessRefused (suc k) ws = []
 abbrev pub loopSearchRefusal : Font → List ℕ → ℕ
 loopSearchRefusal f work = prepareRefusal f (length work / 16)
 
-pub record WarnsLoops (f : Font) (n : ℕ) (warnings : List ℤ) (work : List ℕ) (r : Written) (warnings′ : List ℤ) (work′ : List ℕ) : Type 0 where
+pub record WarnsLoops (f : Font) (n : ℕ) (warnings : List ℤ) (work : List ℕ) (r : Written) (warnings′ : List ℤ)
+    (work′ : List ℕ) : Type 0 where
   pub answer : writtenReply r ≡ replyOf (loopSearchRefusal f work) (pos (n + length (loopsOfFont f)) ∷ [])
   pub warned : warnings′ ≡ sets warnings (4 * n) (unlessRefused (loopSearchRefusal f work) (loopWarnings (loopsOfFont f)))
   pub cleared : work′ ≡ replicate (length work) 0

@@ -9,7 +9,9 @@ use lib.IntN.{ℤ, pos, negsuc}
 use lib.Dec.{eqb}
 use Rattle.tfm.specs.declared.ToScaled.{ToScaled}
 use Rattle.tfm.specs.Scaled.{scaledReply, toScaled}
-use Rattle.lang.specs.declared.operation.PostLigOperation.the-variants.{RetainBothMoveNowhere, RetainBothMoveToInserted, RetainRightMoveToInserted, RetainLeftMoveNowhere, RetainNeitherMoveToInserted}
+use Rattle.lang.specs.declared.operation.PostLigOperation.the-variants.{RetainBothMoveNowhere, RetainBothMoveToInserted}
+use Rattle.lang.specs.declared.operation.PostLigOperation.the-variants.{RetainRightMoveToInserted, RetainLeftMoveNowhere}
+use Rattle.lang.specs.declared.operation.PostLigOperation.the-variants.{RetainNeitherMoveToInserted}
 use Rattle.lang.specs.declared.operation.Operation.{Operation}
 use Rattle.lang.specs.declared.operation.Operation.the-variants.{Kern, KernAtIndex, Ligature, EntrypointRedirect}
 use Rattle.lang.specs.Operations.{fromBytes}
@@ -167,22 +169,32 @@ otherRows =
     ∷ record { given = scaledNumbers (toScaled (pos 16777215) (pos 10485760)); said = pos 0 ∷ pos 10485759 ∷ [] }
     ∷ record { given = scaledNumbers (toScaled (pos 16777216) (pos 10485760)); said = pos 13 ∷ [] }
     -- the same rule alone, not in a font
-    ∷ record { given = loopsOfEntries (record { left = 65; right = 66; rule = lig RetainBothMoveNowhere 66 } ∷ []); said = pos 65 ∷ pos 66 ∷ [] }
+    ∷ record {
+      given = loopsOfEntries (record { left = 65; right = 66; rule = lig RetainBothMoveNowhere 66 } ∷ []);
+      said = pos 65 ∷ pos 66 ∷ [];
+    }
     -- TFtoPL 88, first example, after a character 97: (/LIG 120 121) and (/LIG 121 120) replace x by y and y by x
     ∷ record {
-      given = loopsOfEntries (record { left = 97; right = 120; rule = lig RetainLeftMoveNowhere 121 } ∷ record { left = 97; right = 121; rule = lig RetainLeftMoveNowhere 120 } ∷ []);
+      given =
+          loopsOfEntries
+          (record { left = 97; right = 120; rule = lig RetainLeftMoveNowhere 121 }
+          ∷ record { left = 97; right = 121; rule = lig RetainLeftMoveNowhere 120 } ∷ []);
       said = pos 97 ∷ pos 120 ∷ [];
     }
     -- TFtoPL 88, second example: (LIG/ 122 121) in the program of 120, and (LIG/ 122 120) in that of 121
     ∷ record {
-      given = loopsOfEntries (record { left = 120; right = 122; rule = lig RetainRightMoveToInserted 121 } ∷ record { left = 121; right = 122; rule = lig RetainRightMoveToInserted 120 } ∷ []);
+      given =
+          loopsOfEntries
+          (record { left = 120; right = 122; rule = lig RetainRightMoveToInserted 121 }
+          ∷ record { left = 121; right = 122; rule = lig RetainRightMoveToInserted 120 } ∷ []);
       said = pos 120 ∷ pos 122 ∷ [];
     }
     -- TFtoPL 88, third example: 120 has (/LIG/ 122 119)(/LIG/> 119 121), and 121 has (LIG 119 120)
     ∷ record {
       given =
           loopsOfEntries
-          (record { left = 120; right = 122; rule = lig RetainBothMoveNowhere 119 } ∷ record { left = 120; right = 119; rule = lig RetainBothMoveToInserted 121 }
+          (record { left = 120; right = 122; rule = lig RetainBothMoveNowhere 119 }
+          ∷ record { left = 120; right = 119; rule = lig RetainBothMoveToInserted 121 }
           ∷ record { left = 121; right = 119; rule = lig RetainNeitherMoveToInserted 120 } ∷ []);
       said = pos 120 ∷ pos 122 ∷ [];
     }
@@ -190,7 +202,11 @@ otherRows =
     ∷ record { given = packedNumbers (oneEntry 254 (pos 65)); said = pos 255 ∷ pos 1 ∷ pos 0 ∷ [] }
     -- 255 packs to 0, with a redirect to 256
     ∷ record { given = packedNumbers (oneEntry 255 (pos 65)); said = pos 0 ∷ pos 1 ∷ pos 1 ∷ [] }
-    ∷ record { given = front (pos 65) (fontRedirects (oneEntry 255 (pos 65))) (fontOffset (oneEntry 255 (pos 65))) (labelsOf (oneEntry 255 (pos 65) .entries)); said = negsuc 0 ∷ pos 65 ∷ pos 3 ∷ pos 65792 ∷ [] }
+    ∷ record {
+      given = front (pos 65) (fontRedirects (oneEntry 255 (pos 65))) (fontOffset (oneEntry 255 (pos 65)))
+          (labelsOf (oneEntry 255 (pos 65) .entries));
+      said = negsuc 0 ∷ pos 65 ∷ pos 3 ∷ pos 65792 ∷ [];
+    }
     -- one reachable instruction, next 0: skip warning, and it stops instead
     ∷ record { given = repairWarnings oneSkip; said = pos 3 ∷ pos 0 ∷ pos 0 ∷ pos 0 ∷ [] }
     ∷ record { given = repairedInstructions oneSkip; said = negsuc 0 ∷ pos 66 ∷ pos 0 ∷ pos 5 ∷ [] }

@@ -1,5 +1,5 @@
--- What is tested in one pass over the pairs of a table. `contentForm` is the form but for the sizes; the others are its parts that have a function of their
--- own. Proved: the pass tests the form.
+-- What is tested in one pass over the pairs of a table. `contentForm` is the form but for the sizes; the others are its parts that have
+-- a function of their own. Proved: the pass tests the form.
 use mathlib.Core.Path.{_≡_}
 use mathlib.Core.Bool.{Bool, true, cond}
 use mathlib.Core.List.{List}
@@ -12,7 +12,8 @@ use Rattle.lang.specs.Records.{within, absentOr}
 use Rattle.reading.specs.Items.{Left, bnd, Item, item}
 use Rattle.reading.specs.Form.{opsForm}
 use Rattle.fonts.specs.Fonts.{leftOf}
-use Rattle.captions.specs.Tables.{pairCount, opCount, number, leftPlace, keyAt, firstOp, countOf, lastCode, lastFlag, opsFrom, opHolds, opFits}
+use Rattle.captions.specs.Tables.{pairCount, opCount, number, leftPlace, keyAt, firstOp, countOf, lastCode, lastFlag, opsFrom, opHolds}
+use Rattle.captions.specs.Tables.{opFits}
 use Rattle.captions.specs.Form.{opsEnd, pairForm}
 use Rattle.tables.specs.Parts.{lastFits}
 

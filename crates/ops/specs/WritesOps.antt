@@ -17,7 +17,8 @@ OpsBy f ops ops′ (Sizes n m total r) = ops′ ≡ padded (pos 0) (length ops) 
 OpsBy f ops ops′ (Refused k) = ops′ ≡ replicate (length ops) (pos 0)
 
 -- THE contract of write_ops: the answer by equation, as that of count, the ops, and what the rows are good for
-pub record WritesOps (f : Font) (pairRoom loopRoom : ℕ) (ops : List ℤ) (w : List ℕ) (ops′ : List ℤ) (w′ : List ℕ) (r : CountedFont) : Type 0 where
+pub record WritesOps (f : Font) (pairRoom loopRoom : ℕ) (ops : List ℤ) (w : List ℕ) (ops′ : List ℤ) (w′ : List ℕ)
+    (r : CountedFont) : Type 0 where
   pub reply : countedReply r ≡
       replyOf (buildRefusal f (roomOf pairRoom (length ops) loopRoom (length w)))
       (pos (length (pairsOf f)) ∷ pos (tablePairs f) ∷ pos (totalOps f) ∷ pos (length (loopsOfFont f)) ∷ [])

@@ -13,7 +13,10 @@ use Rattle.tfm.specs.Scaled.{toScaled}
 use Rattle.lang.specs.declared.operation.Operation.{Operation}
 use Rattle.lang.specs.declared.operation.Operation.the-variants.{Kern, KernAtIndex, Ligature, EntrypointRedirect}
 use Rattle.lang.specs.declared.operation.PostLigOperation.{PostLigOperation}
-use Rattle.lang.specs.declared.operation.PostLigOperation.the-variants.{RetainBothMoveNowhere, RetainBothMoveToInserted, RetainBothMoveToRight, RetainRightMoveToInserted, RetainRightMoveToRight, RetainLeftMoveNowhere, RetainLeftMoveToInserted, RetainNeitherMoveToInserted}
+use Rattle.lang.specs.declared.operation.PostLigOperation.the-variants.{RetainBothMoveNowhere, RetainBothMoveToInserted}
+use Rattle.lang.specs.declared.operation.PostLigOperation.the-variants.{RetainBothMoveToRight, RetainRightMoveToInserted}
+use Rattle.lang.specs.declared.operation.PostLigOperation.the-variants.{RetainRightMoveToRight, RetainLeftMoveNowhere}
+use Rattle.lang.specs.declared.operation.PostLigOperation.the-variants.{RetainLeftMoveToInserted, RetainNeitherMoveToInserted}
 use Rattle.lang.specs.Records.{instructionAt}
 use Rattle.chain.specs.Chains.{actsAs}
 use Rattle.reading.specs.Items.{Left, bnd, chr}

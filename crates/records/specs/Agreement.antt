@@ -1,5 +1,5 @@
--- The walk over records and the walk over numbers agree, both ways: on a program that is lent as numbers, read as records (`Agrees`), and on a list of
--- records, written as numbers (`Flattened`). Theorems `agrees`, `flattened` and `only-on-lig`.
+-- The walk over records and the walk over numbers agree, both ways: on a program that is lent as numbers, read as records (`Agrees`),
+-- and on a list of records, written as numbers (`Flattened`). Theorems `agrees`, `flattened` and `only-on-lig`.
 use mathlib.Core.Path.{_≡_}
 use mathlib.Core.Bool.{true, cond}
 use mathlib.Core.List.{List, [], _∷_}
@@ -11,7 +11,10 @@ use mir.Val.{SFits}
 use Rattle.words.specs.Lists.{tabulate}
 use Rattle.lang.specs.declared.Written.{Written}
 use Rattle.lang.specs.declared.operation.PostLigOperation.{PostLigOperation}
-use Rattle.lang.specs.declared.operation.PostLigOperation.the-variants.{RetainBothMoveNowhere, RetainBothMoveToInserted, RetainBothMoveToRight, RetainRightMoveToInserted, RetainRightMoveToRight, RetainLeftMoveNowhere, RetainLeftMoveToInserted, RetainNeitherMoveToInserted}
+use Rattle.lang.specs.declared.operation.PostLigOperation.the-variants.{RetainBothMoveNowhere, RetainBothMoveToInserted}
+use Rattle.lang.specs.declared.operation.PostLigOperation.the-variants.{RetainBothMoveToRight, RetainRightMoveToInserted}
+use Rattle.lang.specs.declared.operation.PostLigOperation.the-variants.{RetainRightMoveToRight, RetainLeftMoveNowhere}
+use Rattle.lang.specs.declared.operation.PostLigOperation.the-variants.{RetainLeftMoveToInserted, RetainNeitherMoveToInserted}
 use Rattle.lang.specs.declared.operation.Operation.{Operation}
 use Rattle.lang.specs.declared.operation.Operation.the-variants.{Kern, KernAtIndex, Ligature, EntrypointRedirect}
 use Rattle.lang.specs.declared.instruction.NextInstruction.{NextInstruction}
@@ -26,7 +29,9 @@ use Rattle.records.specs.RecordChains.{recordAt, recordsRefusal, WalksRe
 pub record SameWalks (s : List ℤ) (xs : List Instruction) : Type 0 where
   pub chains : (entry : ℕ) → chain (length xs) (recordAt xs) entry ≡ chainOf s entry
   pub rules : (entry right : ℕ) → ruleIndex (length xs) (recordAt xs) entry right ≡ ruleIndexOf s entry right
-  pub walks : (entry : ℤ) (out : List ℕ) (r : Written) (out′ : List ℕ) → (WalksRecords xs entry out r out′ → WalksChain s entry out r out′) × (WalksChain s entry out r out′ → WalksRecords xs entry out r out′)
+  pub walks : (entry : ℤ) (out : List ℕ) (r : Written) (out′ : List ℕ) →
+      (WalksRecords xs entry out r out′ → WalksChain s entry out r out′)
+      × (WalksChain s entry out r out′ → WalksRecords xs entry out r out′)
 
 -- ---- from numbers to records
 
@@ -74,7 +79,8 @@ operandNumber (EntrypointRedirect t f) = pos (65536 * cond f 1 0 + t)
 -- the numbers of a list of records, four a record
 unfoldable pub flat : List Instruction → List ℤ
 flat [] = []
-flat (x ∷ xs) = nextNumber (x .«next_instruction») ∷ pos (x .«right_char» .0) ∷ pos (kindNumber (x .operation)) ∷ operandNumber (x .operation) ∷ flat xs
+flat (x ∷ xs) =
+    nextNumber (x .«next_instruction») ∷ pos (x .«right_char» .0) ∷ pos (kindNumber (x .operation)) ∷ operandNumber (x .operation) ∷ flat xs
 
 -- a record's fields are in their types' ranges
 abbrev pub skipFits : NextInstruction → Type 0
@@ -108,8 +114,8 @@ unfoldable pub eachRecord : (Instruction → Type 0) → List Instruction → Ty
 eachRecord P [] = Unit {0}
 eachRecord P (x ∷ xs) = P x × eachRecord P xs
 
--- What is known of the numbers of a list of records: they walk alike; they are refused as the records are, and up to 32,767 they are not; and they are
--- read as the records, where a mark stands only on LIG.
+-- What is known of the numbers of a list of records: they walk alike; they are refused as the records are, and up to 32,767 they are
+-- not; and they are read as the records, where a mark stands only on LIG.
 pub record Flattening (xs : List Instruction) : Type 0 where
   pub same : SameWalks (flat xs) xs
   pub refusal : programRefusal (flat xs) ≡ recordsRefusal (length xs)

@@ -1,5 +1,5 @@
--- Chains over a lent list of instruction records: those of crate chain, at the count and the records of the list. Document 01: instructions_for_entrypoint
--- also walks a lent list of instruction records.
+-- Chains over a lent list of instruction records: those of crate chain, at the count and the records of the list. Document 01:
+-- instructions_for_entrypoint also walks a lent list of instruction records.
 use mathlib.Core.Path.{_≡_}
 use mathlib.Core.List.{List, [], _∷_}
 use Prim.Native.Nat.{ℕ}
@@ -31,9 +31,11 @@ recordsRefusal n = unless 1 (leb n 32767)
 -- the whole walk into a list of `room` places: 1 of the records, 4 of the entry, 15
 abbrev pub recordsWalkRefusal : List Instruction → ℤ → ℕ → ℕ
 recordsWalkRefusal xs entry room =
-    orElse (recordsRefusal (length xs)) (orElse (rangeRefusal 65535 entry) (roomRefusal (length (chain (length xs) (recordAt xs) (wordOf entry))) room))
+    orElse (recordsRefusal (length xs))
+    (orElse (rangeRefusal 65535 entry) (roomRefusal (length (chain (length xs) (recordAt xs) (wordOf entry))) room))
 
 -- the contract of instructions_for_entrypoint: `out` is the list as it was lent, out′ as it comes back
 pub record WalksRecords (xs : List Instruction) (entry : ℤ) (out : List ℕ) (r : Written) (out′ : List ℕ) : Type 0 where
-  pub answer : writtenReply r ≡ replyOf (recordsWalkRefusal xs entry (length out)) (pos (length (chain (length xs) (recordAt xs) (wordOf entry))) ∷ [])
+  pub answer : writtenReply r ≡ replyOf (recordsWalkRefusal xs entry (length out))
+      (pos (length (chain (length xs) (recordAt xs) (wordOf entry))) ∷ [])
   pub list : out′ ≡ listOf (recordsWalkRefusal xs entry (length out)) 0 (length out) (chain (length xs) (recordAt xs) (wordOf entry))

@@ -14,8 +14,8 @@ use Rattle.lang.specs.Checks.{charAt, entryAt}
 use Rattle.targets.specs.Targets.{standsFor, entryRefusal}
 use Rattle.marks.specs.Marks.{reachable}
 
--- The replacement is what a character that does not exist becomes (the Rust's smallest_char); it need not exist. The existing characters are
--- a set of 256 bits, in four words of 64. Passthrough is one byte an instruction.
+-- The replacement is what a character that does not exist becomes (the Rust's smallest_char); it need not exist. The existing
+-- characters are a set of 256 bits, in four words of 64. Passthrough is one byte an instruction.
 pub record Damaged : Type 0 where
   pub instructions : List ℤ
   pub kerns : List ℤ
@@ -82,7 +82,15 @@ repairedPassthrough d = tabulate (count (d .instructions)) (λ i. cond (passedOv
 
 abbrev pub programBy : List ℤ → List ℤ → ℤ → ℕ → List ℕ → List ℕ → List ℕ → DamagedProgram
 programBy instructions kerns boundary replacement existing marks passthrough =
-    record { instructions = instructions; kerns = kerns; boundary = boundary; replacement = replacement; existing = existing; marks = marks; passthrough = passthrough }
+    record {
+      instructions = instructions;
+      kerns = kerns;
+      boundary = boundary;
+      replacement = replacement;
+      existing = existing;
+      marks = marks;
+      passthrough = passthrough;
+    }
 
 -- reachable is what crate `marks` says of the font as lent, with the entries that unpack
 abbrev pub programOf : Damaged → DamagedProgram

@@ -14,7 +14,8 @@ use Rattle.reading.specs.Depth.{Pair}
 use Rattle.fonts.specs.Fonts.{rulesOf}
 use Rattle.fonts.specs.Compiled.{loopsOfFont}
 use Rattle.repairs.specs.Damaged.{Damaged, programOf, repairedPassthrough, leftGoes, repairedLeft}
-use Rattle.repairs.specs.Repaired.{exists, isBoundary, skipGoes, rightGoes, kernGoes, productGoes, tagGoes, repairedInstructions, repairedFont}
+use Rattle.repairs.specs.Repaired.{exists, isBoundary, skipGoes, rightGoes, kernGoes, productGoes, tagGoes, repairedInstructions}
+use Rattle.repairs.specs.Repaired.{repairedFont}
 use Rattle.repairs.specs.Warnings.{repairWarnings}
 
 -- a program without a warning of kinds 1 to 9 is left as it is
@@ -28,7 +29,16 @@ Untouched = (d : Damaged) → programRefusal (d .instructions) ≡ 0 → repairW
 -- the repaired font lent again, with the same entries
 abbrev pub again : Damaged → Damaged
 again d =
-    record { instructions = repairedInstructions d; kerns = d .kerns; entries = d .entries; boundary = d .boundary; left = repairedLeft d; replacement = d .replacement; existing = d .existing; passthrough = repairedPassthrough d }
+    record {
+      instructions = repairedInstructions d;
+      kerns = d .kerns;
+      entries = d .entries;
+      boundary = d .boundary;
+      left = repairedLeft d;
+      replacement = d .replacement;
+      existing = d .existing;
+      passthrough = repairedPassthrough d;
+    }
 
 -- what it is not warned of: kinds 1, 3, 4, 5, 6, 7, 8
 pub record Sound (d : Damaged) : Type 0 where
@@ -42,9 +52,11 @@ pub record Sound (d : Damaged) : Type 0 where
 -- with a replacement that exists none of them comes back
 abbrev pub RepairedOnce : Type 0
 RepairedOnce =
-    (d : Damaged) → programRefusal (d .instructions) ≡ 0 → d .replacement < 256 → exists (programOf d) (d .replacement) ≡ true → Sound (again d)
+    (d : Damaged) → programRefusal (d .instructions) ≡ 0 → d .replacement < 256 → exists (programOf d) (d .replacement) ≡ true →
+    Sound (again d)
 
--- with one that does not exist, 4 and 5 come back at the steps that had them, unless it is the boundary character, and 6 at those that had it
+-- with one that does not exist, 4 and 5 come back at the steps that had them, unless it is the boundary character, and 6 at those that
+-- had it
 pub record ComesBack (d : Damaged) : Type 0 where
   pub rights : (i : ℕ) → i < count (d .instructions) →
       rightGoes (programOf (again d)) i ≡ both (rightGoes (programOf d) i) (not (isBoundary (programOf d) (pos (d .replacement))))

@@ -94,7 +94,14 @@ repairedKind p i = cond (kernGoes p i) (pos 0) (field (p .instructions) i 2)
 -- all that is wrong with step i
 abbrev pub faultsOf : DamagedProgram → ℕ → Faults
 faultsOf p i =
-    record { skip = skipGoes p i; redirect = redirectWarns p i; right = rightGoes p i; kern = kernGoes p i; product = productGoes p i; tag = tagGoes p i }
+    record {
+      skip = skipGoes p i;
+      redirect = redirectWarns p i;
+      right = rightGoes p i;
+      kern = kernGoes p i;
+      product = productGoes p i;
+      tag = tagGoes p i;
+    }
 
 -- the four numbers of step i
 abbrev pub repairedStep : DamagedProgram → ℕ → List ℤ

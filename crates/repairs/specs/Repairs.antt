@@ -21,7 +21,16 @@ use Rattle.repairs.specs.Warnings.{warningsOf}
 -- the font from what is lent; the replacement by its 32 bits
 abbrev pub damagedOf : List ℤ → List ℤ → List ℤ → ℤ → ℤ → ℤ → List ℕ → List ℕ → Damaged
 damagedOf instructions kerns entries boundary left replacement existing passthrough =
-    record { instructions = instructions; kerns = kerns; entries = entries; boundary = boundary; left = left; replacement = wordOf replacement; existing = existing; passthrough = passthrough }
+    record {
+      instructions = instructions;
+      kerns = kerns;
+      entries = entries;
+      boundary = boundary;
+      left = left;
+      replacement = wordOf replacement;
+      existing = existing;
+      passthrough = passthrough;
+    }
 
 -- how long the four lists are that are lent to be written
 pub record RepairRoom : Type 0 where
@@ -63,7 +72,8 @@ roomFor fixed through warnings work =
     record { instructions = length fixed; passthrough = length through; warnings = length warnings; work = length work }
 
 -- the answer, and every list, taken or refused
-pub record Repairs (d : Damaged) (fixed : List ℤ) (through : List ℕ) (warnings : List ℤ) (work : List ℕ) (r : Validated) (fixed′ : List ℤ) (through′ : List ℕ) (warnings′ : List ℤ) (work′ : List ℕ) : Type 0 where
+pub record Repairs (d : Damaged) (fixed : List ℤ) (through : List ℕ) (warnings : List ℤ) (work : List ℕ) (r : Validated)
+    (fixed′ : List ℤ) (through′ : List ℕ) (warnings′ : List ℤ) (work′ : List ℕ) : Type 0 where
   pub answer : validatedReply r ≡
       replyOf (repairRefusal d (roomFor fixed through warnings work)) (repairedLeft d ∷ pos (length (warningsOf d) / 4) ∷ [])
   pub instructions : fixed′ ≡ listOf (repairRefusal d (roomFor fixed through warnings work)) (pos 0) (length fixed) (repairedInstructions d)

@@ -12,7 +12,8 @@ use Rattle.reading.specs.Depth.{Pair}
 use Rattle.fonts.specs.Numbers.{leftNumber}
 use Rattle.fonts.specs.Compiled.{loopsOfFont}
 use Rattle.repairs.specs.Damaged.{Damaged, DamagedProgram, programOf, unpacks, leftGoes}
-use Rattle.repairs.specs.Repaired.{skipGoes, redirectWarns, isLigature, rightGoes, kernGoes, insertedBy, productGoes, tagGoes, repairedFont}
+use Rattle.repairs.specs.Repaired.{skipGoes, redirectWarns, isLigature, rightGoes, kernGoes, insertedBy, productGoes, tagGoes}
+use Rattle.repairs.specs.Repaired.{repairedFont}
 
 abbrev pub warning : ℕ → ℤ → ℤ → ℤ → List ℤ
 warning kind at old new = pos kind ∷ at ∷ old ∷ new ∷ []

@@ -1,6 +1,6 @@
--- A reader that keeps the word it is given: document 01, 'Caption items'; after `RunIter` of ligkern/mod.rs. What a call of `next` answers and
--- leaves is `MovesOn`, its contract; `Calls` are any number of calls, known by that contract alone, and `nexts` what they answer. What is
--- proved of them is at the end: `CallsAnswer`, `SameAsSteps` and `ReaderReads`, in proofs/Theorems.
+-- A reader that keeps the word it is given: document 01, 'Caption items'; after `RunIter` of ligkern/mod.rs. What a call of `next`
+-- answers and leaves is `MovesOn`, its contract; `Calls` are any number of calls, known by that contract alone, and `nexts` what they
+-- answer. What is proved of them is at the end: `CallsAnswer`, `SameAsSteps` and `ReaderReads`, in proofs/Theorems.
 use mathlib.Core.Path.{_≡_}
 use mathlib.Core.List.{List, [], _∷_, map}
 use Prim.Native.Nat.{ℕ, zero, suc, _*_}
@@ -67,8 +67,8 @@ SameAsSteps =
     nexts pairs ops boundary word options n s ≡ answers pairs ops boundary word options n s
 
 -- Begin, lent these pairs and ops and the font's boundary character, is not refused; and for every n the answers of n calls of next, on the
--- word and from the state that begin returned, are the first n of the items, by kind and by code or scaled kern, followed by the end at each
--- call. The same of any n calls from any reader that holds that word and that state, as `run_iter` makes it.
+-- word and from the state that begin returned, are the first n of the items, by kind and by code or scaled kern, followed by the end at
+-- each call. The same of any n calls from any reader that holds that word and that state, as `run_iter` makes it.
 pub record ReaderAnswered (f : Font) (pairs ops : List ℤ) (word : List ℕ) (options : RunOptions) (items : List Out) : Type 0 where
   pub start : State
   pub begins : beginOf pairs ops (f .boundary) word options ≡ Run start
@@ -76,8 +76,8 @@ pub record ReaderAnswered (f : Font) (pairs ops : List ℤ) (word : List ℕ) (o
   pub called : (n : ℕ) (r : RunIter) (given : List Answer) → now (r .word) ≡ word → r .state ≡ start →
       Calls pairs ops (f .boundary) options n r given → map shown given ≡ thenEnds n items
 
--- DEMAND 3 of the reader: whatever font compile is lent, with whatever lists, if its answer is no refusal and it has no loops, then the reading
--- of every word ends, and the calls of next give its items in order, then the end for ever
+-- DEMAND 3 of the reader: whatever font compile is lent, with whatever lists, if its answer is no refusal and it has no loops, then the
+-- reading of every word ends, and the calls of next give its items in order, then the end for ever
 abbrev pub ReaderReads : Type 0
 ReaderReads =
     (f : Font) (pairs ops loops : List ℤ) (work : List ℕ) (p o l : ℕ) (pairs′ ops′ loops′ : List ℤ) (work′ : List ℕ) →

@@ -1,5 +1,5 @@
--- What a packed entry stands for. TeX 545: an entry at a redirect stands for the redirect's target. TFtoPL 67: an entry can be past the end, or
--- at a redirect whose target is.
+-- What a packed entry stands for. TeX 545: an entry at a redirect stands for the redirect's target. TFtoPL 67: an entry can be past the
+-- end, or at a redirect whose target is.
 use mathlib.Core.Bool.{cond}
 use mathlib.Core.List.{List}
 use Prim.Native.Nat.{ℕ, _%_}
