@@ -51,12 +51,12 @@ module _ (l : List ℕ) (at : ℕ) where
       let twelve : 12 * suc m ≡ 12 + 12 * m = omega arith in
       let more : replicate {A = ℕ} (12 * suc m) 32 ≡ b ++ rest = ap (λ (k : ℕ). replicate {A = ℕ} k 32) twelve ∙ sym (replicate-append-replicate 12 (12 * m) 32) in
       let blanks : d ≡ sets (sets x next b) (next + 12) rest =
-          e ∙ ap (λ (t : List ℕ). sets l at (fs ++ t)) more ∙ sets-append fs (b ++ rest) l at ∙ ap (λ (k : ℕ). sets x k (b ++ rest)) (sym p) ∙ sets-append b rest x next in
+      e ∙ ap (λ (t : List ℕ). sets l at (fs ++ t)) more ∙ sets-append fs (b ++ rest) l at ∙ ap (λ (k : ℕ). sets x k (b ++ rest)) (sym p) ∙ sets-append b rest x next in
       let spelt : d′ ≡ sets (sets x next (fieldOf z)) (next + 12) rest =
-          g ∙ ap (λ (y : ℤ). sets d (next + (12 - length (spelled y))) (spelled y)) (number-is r)
-          ∙ ap (λ (t : List ℕ). sets t (next + (12 - length s)) s) blanks
-          ∙ sets-first s rest (sets x next b) (next + 12) (next + (12 - length s)) (omega (arith, few-bytes z))
-          ∙ ap (λ (t : List ℕ). sets t (next + 12) rest) (sets-end 12 32 s x next (next + (12 - length s)) (few-bytes z) (omega (arith, few-bytes z))) in
+      g ∙ ap (λ (y : ℤ). sets d (next + (12 - length (spelled y))) (spelled y)) (number-is r)
+      ∙ ap (λ (t : List ℕ). sets t (next + (12 - length s)) s) blanks
+      ∙ sets-first s rest (sets x next b) (next + 12) (next + (12 - length s)) (omega (arith, few-bytes z))
+      ∙ ap (λ (t : List ℕ). sets t (next + 12) rest) (sets-end 12 32 s x next (next + (12 - length s)) (few-bytes z) (omega (arith, few-bytes z))) in
       let one : fs ++ fieldOf z ≡ fieldsOf (zs ++ (z ∷ [])) = ap (λ (t : List ℕ). fs ++ t) (sym (fields-one z)) ∙ sym (fields-append zs (z ∷ [])) in
       sets-after (fs ++ fieldOf z) rest l (sets x next (fieldOf z)) d′ at (next + 12)
       (sets-after fs (fieldOf z) l x (sets x next (fieldOf z)) at next refl p refl)
