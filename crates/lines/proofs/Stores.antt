@@ -16,6 +16,19 @@ module _ {A : Type 0} where
       set-first vs (set l i x) (suc i) k v (omega arith)
       ∙ ap (λ (t : List A). sets t (suc i) vs) (set-comm l i k x v (λ e. omega (arith, e)))
 
+  -- .. and a run of them
+  pub sets-first : (vs ws l : List A) (i k : ℕ) → k + length vs ≤ i → sets (sets l i ws) k vs ≡ sets (sets l k vs) i ws
+  sets-first [] ws l i k h = refl
+  sets-first (v ∷ vs) ws l i k h = ap (λ (t : List A). sets t (suc k) vs) (set-first ws l i k v (omega arith)) ∙ sets-first vs ws (set l k v) i (suc k) (omega arith)
+
+  -- several more before a run
+  pub sets-front : (vs ws l d d′ : List A) (i k : ℕ) → d ≡ sets l i ws → k + length vs ≡ i → d′ ≡ sets d k vs → d′ ≡ sets l k (vs ++ ws)
+  sets-front vs ws l d d′ i k e p g =
+      g ∙ ap (λ (t : List A). sets t k vs) e
+      ∙ sets-first vs ws l i k (omega arith)
+      ∙ ap (λ (j : ℕ). sets (sets l k vs) j ws) (sym p)
+      ∙ sym (sets-append vs ws l k)
+
   -- one more before a run
   pub sets-before : (vs l d : List A) (i : ℕ) (v : A) → 0 < i → d ≡ sets l i vs → set d (i - 1) v ≡ sets l (i - 1) (v ∷ vs)
   sets-before vs l d i v h e =
@@ -29,13 +42,20 @@ module _ {A : Type 0} where
   sets-after vs ws l d d′ i j e p g = g ∙ (λ x. sets (e x) (p x) ws) ∙ sym (sets-append vs ws l i)
 
   -- a run over another
-  sets-again : (vs ws l : List A) (i : ℕ) → length vs ≡ length ws → sets (sets l i vs) i ws ≡ sets l i ws
+  pub sets-again : (vs ws l : List A) (i : ℕ) → length vs ≡ length ws → sets (sets l i vs) i ws ≡ sets l i ws
   sets-again [] [] l i e = refl
   sets-again [] (w ∷ ws) l i e = absurd (omega arith)
   sets-again (v ∷ vs) [] l i e = absurd (omega arith)
   sets-again (v ∷ vs) (w ∷ ws) l i e =
       ap (λ (t : List A). sets t (suc i) ws) (set-first vs (set l i v) (suc i) i w (omega arith) ∙ ap (λ (t : List A). sets t (suc i) vs) (set-set l i v w))
       ∙ sets-again vs ws (set l i w) (suc i) (omega arith)
+
+  -- a run that is there may be written again, and another over it
+  pub sets-there : (vs l d : List A) (i : ℕ) → d ≡ sets l i vs → d ≡ sets d i vs
+  sets-there vs l d i e = e ∙ sym (sets-again vs vs l i refl) ∙ ap (λ (t : List A). sets t i vs) (sym e)
+
+  pub sets-over : (vs ws l d d′ : List A) (i : ℕ) → length vs ≡ length ws → d ≡ sets l i vs → d′ ≡ sets d i ws → d′ ≡ sets l i ws
+  sets-over vs ws l d d′ i s e g = g ∙ ap (λ (t : List A). sets t i ws) e ∙ sets-again vs ws l i s
 
   -- the end of a run of n equal values, written over
   pub sets-end : (n : ℕ) (b : A) (vs l : List A) (i j : ℕ) → length vs ≤ n → j + length vs ≡ i + n → sets (sets l i (replicate n b)) j vs ≡ sets l i (replicate (n - length vs) b ++ vs)

@@ -1,27 +1,44 @@
--- `lines::put_fields` meets its contract. The loop's invariant: the fields of the first j numbers are written, and the next comes after them.
+-- `lines::put_fields` meets its contract. The loop's invariant: the fields of the first j numbers are written, with blanks after them, and the next comes there.
 -- Assumes nothing.
-use mathlib.Core.Path.{_≡_, ap, _∙_}
+use mathlib.Core.Path.{_≡_, sym, ap, _∙_}
+use mathlib.Core.List.{_++_}
 use Prim.Native.Nat.{ℕ, _+_, _-_, _*_, _≤_}
 use native.Mathlib.Omega.{arith}
-use lib.ListN.{length}
-use lib.Seq.{sets, length-sets}
+use lib.ListN.{length, replicate, length-replicate}
+use lib.Seq.{length-sets}
 use Rattle.columns.specs.Lines.{fieldsOf}
 use Rattle.lines.specs.Writing.{numbersFrom}
-use Rattle.lines.proofs.Steps.{fields-none, fields-more}
+use Rattle.lines.proofs.Stores.{sets-there, sets-over}
+use Rattle.lines.proofs.Steps.{from-length, filled, fields-none, fields-more, fields-all}
 use Rattle.lines.proofs.put_fields.Statement.{statement}
 use Rattle.lines.proofs.put_fields.Tie as tie
 
 abbrev Inv-loop : tie.InvT-loop
-Inv-loop numbers from n out₀ at next₀ j₀ out next j = (j ≤ n) × (next ≡ at + 12 * j) × (out ≡ sets out₀ at (fieldsOf (numbersFrom numbers from j)))
+Inv-loop numbers from n out₀ at next₀ j₀ out next j = (j ≤ n) × (next ≡ at + 12 * j) × (out ≡ filled out₀ at (numbersFrom numbers from j) (n - j))
 
 abbrev μ-loop : tie.MeasureT-loop
 μ-loop numbers from n out₀ at next₀ j₀ out next j = n - j
 
-kept : (l : tie.At-loop Inv-loop μ-loop) → length (l .loop .out) ≡ length (l .before .before .args .out .now)
-kept l = let a = l .before .before .args in ap length (l .loop .inv .2) ∙ length-sets (a .out .now) (a .at) (fieldsOf (numbersFrom (a .numbers .now) (a .from) (l .loop .j)))
+kept : (l : tie.At-loop Inv-loop μ-loop) → length (l .loop .out) ≡ length (l .before .before .before .before .before .before .args .out .now)
+kept l =
+    let b = l .before .before .before in
+    let a = b .before .before .before .args in
+    ap length (l .loop .inv .2)
+    ∙ length-sets (b .put-blanks .last .0) (a .at) (fieldsOf (numbersFrom (a .numbers .now) (a .from) (l .loop .j)) ++ replicate (12 * (a .n - l .loop .j)) 32)
+    ∙ b .put-blanks .kept .0
+
+mul-put-blanks : tie.Need-mul-put-blanks Inv-loop μ-loop
+mul-put-blanks c = omega arith
+
+put-blanks-requires : tie.Need-put-blanks-requires Inv-loop μ-loop
+put-blanks-requires c κs = omega arith
 
 loop-holds : tie.Need-loop-holds Inv-loop μ-loop
-loop-holds c = let a = c .before .args in (omega arith, omega arith, fields-none (a .numbers .now) (a .from) (a .out .now) (a .at))
+loop-holds c =
+    let b = c .before .before in
+    let a = b .before .before .before .args in
+    let d = b .put-blanks .last .0 in
+    (omega arith, omega arith, fields-none d (a .at) (a .numbers .now) (a .from) (a .n) (sets-there (replicate (12 * a .n) 32) (a .out .now) d (a .at) (b .put-blanks .ensures)))
 
 add-word-at : tie.Need-add-word-at Inv-loop μ-loop
 add-word-at c = omega arith
@@ -29,8 +46,8 @@ add-word-at c = omega arith
 word-at-requires : tie.Need-word-at-requires Inv-loop μ-loop
 word-at-requires c κs = tt
 
-put-field-requires : tie.Need-put-field-requires Inv-loop μ-loop
-put-field-requires c κs = let l = c .before .before .before in omega (arith, kept l, l .before .before .pre .1, c .before .before .loop-test .taken)
+put-number-requires : tie.Need-put-number-requires Inv-loop μ-loop
+put-number-requires c κs = let l = c .before .before .before in omega (arith, kept l, l .before .before .before .before .before .before .pre .1, c .before .before .loop-test .taken)
 
 add-next : tie.Need-add-next Inv-loop μ-loop
 add-next c = omega arith
@@ -43,20 +60,27 @@ loop-less c = omega arith
 
 loop-again : tie.Need-loop-again Inv-loop μ-loop
 loop-again c =
-    let x = c .before .before .put-field in
+    let x = c .before .before .put-number in
     let w = c .before .before .before .word-at in
-    let l = c .before .before .before .before .before .before in
-    let a = l .before .before .args in
-    (omega arith, omega arith, fields-more (a .numbers .now) (a .from) (a .out .now) (a .at) (l .loop .j) (l .loop .inv .1) (l .loop .inv .2) (w .ensures) (x .ensures))
+    let i = c .before .before .before .before .before in
+    let l = i .before in
+    let b = l .before .before .before in
+    let a = b .before .before .before .args in
+    (omega arith, omega arith, fields-more (b .put-blanks .last .0) (a .at) (a .numbers .now) (a .from) (a .n) (l .loop .j) (i .loop-test .taken) (l .loop .inv .1) (l .loop .inv .2) (w .ensures) (x .ensures))
 
 same-length : tie.Need-same-length Inv-loop μ-loop
 same-length c = kept (c .before)
 
 returns : tie.Need-returns Inv-loop μ-loop
 returns c =
-    let a = c .before .before .before .args in
-    let e : c .before .loop .j ≡ a .n = omega arith in
-    c .before .loop .inv .2 ∙ ap (λ (n : ℕ). sets (a .out .now) (a .at) (fieldsOf (numbersFrom (a .numbers .now) (a .from) n))) e
+    let l = c .before in
+    let b = l .before .before .before in
+    let a = b .before .before .before .args in
+    let e : l .loop .j ≡ a .n = omega arith in
+    let fs = fieldsOf (numbersFrom (a .numbers .now) (a .from) (a .n)) in
+    let same : length (replicate {A = ℕ} (12 * a .n) 32) ≡ length fs = length-replicate (12 * a .n) 32 ∙ sym (from-length (a .numbers .now) (a .from) (a .n)) in
+    sets-over (replicate (12 * a .n) 32) fs (a .out .now) (b .put-blanks .last .0) (l .loop .out) (a .at) same (b .put-blanks .ensures)
+    (fields-all (b .put-blanks .last .0) (a .at) (a .numbers .now) (a .from) (a .n) (l .loop .j) e (l .loop .inv .2))
 
 pub put-fields-spec : {M : Type 1} → statement M
 put-fields-spec =
@@ -64,10 +88,12 @@ put-fields-spec =
     (tie.spec
     Inv-loop
     μ-loop
+    mul-put-blanks
+    put-blanks-requires
     loop-holds
     add-word-at
     word-at-requires
-    put-field-requires
+    put-number-requires
     add-next
     add-j
     loop-less

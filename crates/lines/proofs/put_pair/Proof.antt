@@ -1,4 +1,4 @@
--- `lines::put_pair` meets its contract: the letter, four fields and the last, a line feed.
+-- `lines::put_pair` meets its contract: the letter, five fields, a line feed.
 -- Assumes nothing.
 use mathlib.Core.Path.{_≡_, sym, _∙_}
 use mathlib.Core.Bool.{true, false}
@@ -33,66 +33,43 @@ returns c = let a = c .before .before .before .args in where-left (linesFit 5 (a
 slice-write-out : tie.Need-slice-write-out
 slice-write-out c = omega (arith, room c)
 
-mul-put-fields : tie.Need-mul-put-fields
-mul-put-fields c = omega (arith, room c)
+mul-put-pair-fields : tie.Need-mul-put-pair-fields
+mul-put-pair-fields c = omega (arith, room c)
 
-add-put-fields : tie.Need-add-put-fields
-add-put-fields c = omega (arith, room (c .before), c .before .before .before .before .good)
+add-put-pair-fields : tie.Need-add-put-pair-fields
+add-put-pair-fields c = omega (arith, room (c .before), c .before .before .before .before .good)
 
-put-fields-requires : tie.Need-put-fields-requires
-put-fields-requires c κs =
+put-pair-fields-requires : tie.Need-put-pair-fields-requires
+put-pair-fields-requires c κs =
     let a = c .before .before .before .before .args in
     (omega (arith, room (c .before)), omega (arith, room (c .before), length-set (a .out .now) (a .at) 80))
 
-add-put-field : tie.Need-add-put-field
-add-put-field c = let i = c .before .before .before .before .before in omega (arith, room i, i .before .before .before .good)
-
-mul-word-at : tie.Need-mul-word-at
-mul-word-at c = omega (arith, room (c .before .before .before .before .before))
-
-add-word-at : tie.Need-add-word-at
-add-word-at c = omega (arith, room (c .before .before .before .before .before))
-
-word-at-requires : tie.Need-word-at-requires
-word-at-requires c κs = search needs
-
-put-field-requires : tie.Need-put-field-requires
-put-field-requires c κs =
-    let x = c .before .before .before .before in
-    let i = x .before .before in
-    let a = i .before .before .before .args in
-    omega (arith, room i, x .put-fields .kept .1 .1 .1 .0, length-set (a .out .now) (a .at) 80)
-
 add-out : tie.Need-add-out
-add-out c = let i = c .before .before .before .before .before .before .before .before .before in omega (arith, room i, i .before .before .before .good)
+add-out c = let i = c .before .before .before .before in omega (arith, room i, i .before .before .before .good)
 
 slice-write-out-2 : tie.Need-slice-write-out-2
 slice-write-out-2 c =
-    let y = c .before .before in
-    let x = y .before .before .before .before .before in
+    let x = c .before .before in
     let i = x .before .before in
     let a = i .before .before .before .args in
-    omega (arith, room i, y .put-field .kept .0, x .put-fields .kept .1 .1 .1 .0, length-set (a .out .now) (a .at) 80)
+    omega (arith, room i, x .put-pair-fields .kept .1 .1 .0, length-set (a .out .now) (a .at) 80)
 
 add-result : tie.Need-add-result
-add-result c = let i = c .before .before .before .before .before .before .before .before .before in omega (arith, room i, i .before .before .before .good)
+add-result c = let i = c .before .before .before .before in omega (arith, room i, i .before .before .before .good)
 
 same-length : tie.Need-same-length
 same-length c =
-    let y = c .before .before in
-    let x = y .before .before .before .before .before in
+    let x = c .before .before in
     let a = x .before .before .before .before .before .args in
-    length-set (y .put-field .last .0) (a .at + 61) 10 ∙ y .put-field .kept .0 ∙ x .put-fields .kept .1 .1 .1 .0 ∙ length-set (a .out .now) (a .at) 80
+    length-set (x .put-pair-fields .last .1 .1 .0) (a .at + 61) 10 ∙ x .put-pair-fields .kept .1 .1 .0 ∙ length-set (a .out .now) (a .at) 80
 
 returns-2 : tie.Need-returns-2
 returns-2 c =
-    let y = c .before .before in
-    let w = y .before in
-    let x = w .before .before .before .before in
+    let x = c .before .before in
     let i = x .before .before in
     let a = i .before .before .before .args in
     where-taken (linesFit 5 (a .k) 1 (a .at) (length (a .out .now))) (fitting i)
-    (pair-puts (a .pairs .now) (a .k) (a .out .now) (x .put-fields .last .1 .1 .1 .0) (y .put-field .last .0) (a .at) (w .word-at .result) (x .put-fields .ensures) (w .word-at .ensures) (y .put-field .ensures))
+    (pair-puts (a .pairs .now) (a .k) (a .out .now) (x .put-pair-fields .last .1 .1 .0) (a .at) (x .put-pair-fields .ensures))
 
 pub put-pair-spec : {M : Type 1} → statement M
 put-pair-spec =
@@ -101,14 +78,9 @@ put-pair-spec =
     lines-fit-requires
     returns
     slice-write-out
-    mul-put-fields
-    add-put-fields
-    put-fields-requires
-    add-put-field
-    mul-word-at
-    add-word-at
-    word-at-requires
-    put-field-requires
+    mul-put-pair-fields
+    add-put-pair-fields
+    put-pair-fields-requires
     add-out
     slice-write-out-2
     add-result

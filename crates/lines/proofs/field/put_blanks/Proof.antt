@@ -10,10 +10,10 @@ use Rattle.lines.proofs.field.put_blanks.Statement.{statement}
 use Rattle.lines.proofs.field.put_blanks.Tie as tie
 
 abbrev Inv-loop : tie.InvT-loop
-Inv-loop out₀ at i₀ out i = (i ≤ 12) × (out ≡ sets out₀ at (replicate i 32))
+Inv-loop out₀ at n i₀ out i = (i ≤ n) × (out ≡ sets out₀ at (replicate i 32))
 
 abbrev μ-loop : tie.MeasureT-loop
-μ-loop out₀ at i₀ out i = 12 - i
+μ-loop out₀ at n i₀ out i = n - i
 
 kept : (l : tie.At-loop Inv-loop μ-loop) → length (l .loop .out) ≡ length (l .before .args .out .now)
 kept l = let a = l .before .args in ap length (l .loop .inv .1) ∙ length-sets (a .out .now) (a .at) (replicate (l .loop .i) 32)
@@ -42,7 +42,7 @@ same-length c = kept (c .before)
 returns : tie.Need-returns Inv-loop μ-loop
 returns c =
     let a = c .before .before .args in
-    let e : c .before .loop .i ≡ 12 = omega arith in
+    let e : c .before .loop .i ≡ a .n = omega arith in
     c .before .loop .inv .1 ∙ ap (λ (n : ℕ). sets (a .out .now) (a .at) (replicate n 32)) e
 
 pub put-blanks-spec : {M : Type 1} → statement M
