@@ -68,17 +68,16 @@ fn all_pass(ops: &[i32], left: u32, flag: u32, start: usize, end: usize) -> bool
     left == 4294967295 || flag == 1
 }
 
-// The same. Most begin with the left as it stands, so that comes first.
+// The same. Most are the left as it stands and a kern, so these come first, without a loop.
 pub(crate) fn ops_pass(ops: &[i32], left: u32, flag: u32, start: usize, end: usize) -> bool
-    requires { ⌜ end ≤ opCount (now ops) ⌝ }
+    requires { ⌜ (start ≤ end) × (end ≤ opCount (now ops)) ⌝ }
     ensures { λ r. ⌜ OpsPass (now (ops .entry)) (leftBy left) (eqb flag 1) start end r ⌝ }
 {
-    if start < end {
+    if end - start == 2 {
         if word_in(ops, 2 * start) == 0 {
-            if !op_passes(left, 0, word_in(ops, 2 * start + 1)) {
-                return false;
+            if word_in(ops, 2 * (start + 1)) == 2 {
+                return op_passes(left, 0, word_in(ops, 2 * start + 1));
             }
-            return later_pass(ops, start + 1, end);
         }
     }
     all_pass(ops, left, flag, start, end)
