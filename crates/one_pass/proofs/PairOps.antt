@@ -1,15 +1,15 @@
 -- A pair's ops stepped from the front, from the words that were read: each holds what its kind must, and they are of the form.
 -- Assumes nothing.
-use mathlib.Core.Path.{_≡_, refl, sym, ap, _∙_}
+use mathlib.Core.Path.{_≡_, refl, sym, _∙_}
 use mathlib.Core.Bool.{Bool, true, false, cond}
 use mathlib.Core.List.{List, [], _∷_}
-use Prim.Native.Nat.{ℕ, zero, suc, _+_, _-_, _%_, _^_, _<_, _≤_}
+use Prim.Native.Nat.{ℕ, suc, _+_, _-_, _%_, _^_, _<_, _≤_}
 use native.Mathlib.Numerals.{add-one}
 use native.Mathlib.Omega.{arith}
 use lib.IntN.{ℤ}
 use lib.Dec.{leb, eqb}
 use borrow.Author.Tests.{lt-leb, eq-eqb, ne-eqb, eqb-true, eqb-false}
-use Rattle.words.specs.Words.{Word, wordOf}
+use Rattle.words.specs.Words.{Word}
 use Rattle.lang.specs.Every.{both}
 use Rattle.lang.proofs.Every.{both-true, both-false}
 use Rattle.reading.specs.Items.{Left, bnd, chr, Item, item, Out, glyph, kern}

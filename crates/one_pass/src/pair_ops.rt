@@ -1,13 +1,11 @@
-// The ops of one pair, each read once: what every op must hold, and the form that they have with the pair's left and last. Lefts, kinds and values are given
-// by their 32 bits.
+// The ops of one pair: what every op must hold, and the form that they have with the pair's left and last. Lefts, kinds and values are
+// given by their 32 bits.
 ghost use mathlib.Core.Path.{_≡_};
-ghost use mathlib.Core.List.{List};
-ghost use Prim.Native.Nat.{ℕ, _-_, _<_, _≤_};
+ghost use Prim.Native.Nat.{_<_, _≤_};
 ghost use lib.ListN.{length, getD};
 ghost use lib.IntN.{pos};
 ghost use lib.Dec.{eqb};
 ghost use Rattle.words.specs.Words.{Word};
-ghost use Rattle.reading.specs.Items.{bnd};
 ghost use Rattle.captions.specs.Tables.{opCount};
 ghost use Rattle.one_pass.specs.Parts.{leftBy, opPasses, OpsPass, LaterPass};
 use words::word_of;
