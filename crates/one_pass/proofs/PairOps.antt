@@ -1,17 +1,17 @@
 -- A pair's ops stepped from the front, from the words that were read: each holds what its kind must, and they are of the form.
 -- Assumes nothing.
-use mathlib.Core.Path.{_≡_, refl, sym, ap, _∙_}
+use mathlib.Core.Path.{_≡_, refl, sym, _∙_}
 use mathlib.Core.Bool.{Bool, true, false, cond}
 use mathlib.Core.List.{List, [], _∷_}
-use Prim.Native.Nat.{ℕ, zero, suc, _+_, _-_, _%_, _^_, _<_, _≤_}
+use Prim.Native.Nat.{ℕ, suc, _+_, _-_, _%_, _^_, _<_, _≤_}
 use native.Mathlib.Numerals.{add-one}
 use native.Mathlib.Omega.{arith}
 use lib.IntN.{ℤ}
 use lib.Dec.{leb, eqb}
 use borrow.Author.Tests.{lt-leb, eq-eqb, ne-eqb, eqb-true, eqb-false}
-use Rattle.words.specs.Words.{Word, wordOf}
+use Rattle.words.specs.Words.{Word}
 use Rattle.lang.specs.Every.{both}
-use Rattle.lang.proofs.Every.{both-false}
+use Rattle.lang.proofs.Every.{both-true, both-false}
 use Rattle.reading.specs.Items.{Left, bnd, chr, Item, item, Out, glyph, kern}
 use Rattle.reading.specs.Form.{noPlain, isLeft, lastTakes, opsForm}
 use Rattle.captions.specs.Tables.{opKind, opValue, opAt, opsFrom, opHolds}
@@ -149,3 +149,11 @@ module _ (ops : List ℤ) (i end : ℕ) where
 
       pub pass-later : opsPass ops bnd x i (end - i) ≡ both (opPasses 4294967295 kind value) (opsPass ops bnd x (i + 1) (end - (i + 1)))
       pass-later = rw (one-more, add-one i) (later-by ops i (end - suc i) x p q (eqb kind 2) refl)
+
+-- two ops, a plain character and a kern
+pub pass-two : (ops : List ℤ) (i end : ℕ) → end - i ≡ 2 → {kind value next : ℕ} → Word (opKind ops i) kind → Word (opValue ops i) value → Word (opKind ops (i + 1)) next → kind ≡ 0 → next ≡ 2 →
+    (x : Item) (left : ℕ) → left < 2 ^ 32 → opPasses left 0 value ≡ opsPass ops (leftBy left) x i (end - i)
+pass-two ops i end d {value = value} p q k e f x left l =
+    let t : opsPass ops bnd x (i + 1) (end - (i + 1)) ≡ true =
+    pass-kern ops (i + 1) end (omega arith) k x bnd f ∙ none-pass ops (i + 1 + 1) end bnd x (omega arith) in
+    sym (pass-character ops i end (omega arith) p x q left l (omega arith) ∙ rw (t, e) (both-true (opPasses left 0 value)))

@@ -1,6 +1,6 @@
 -- The pass over the pairs of a table tests the form: what holds where some pairs are passed, and what follows at the next pair and at the end.
 -- Assumes nothing.
-use mathlib.Core.Path.{_≡_, refl, sym, ap, _∙_}
+use mathlib.Core.Path.{_≡_, refl, sym, _∙_}
 use mathlib.Core.Bool.{Bool, true, false, cond}
 use mathlib.Core.List.{List}
 use Prim.Native.Nat.{ℕ, zero, suc, _+_, _^_, _<_, _≤_}
@@ -22,7 +22,7 @@ use Rattle.captions.specs.Tables.{pairCount, opCount, number, leftPlace, keyAt,
 use Rattle.captions.specs.Form.{opsEnd, comesAfter, keyForm, pairForm}
 use Rattle.tables.specs.Parts.{lastFits}
 use Rattle.tables.proofs.Records.{record-by}
-use Rattle.one_pass.specs.Parts.{opsHold, opsPass, pairPasses, leastAt, contentForm}
+use Rattle.one_pass.specs.Parts.{opsHold, pairPasses, leastAt, contentForm}
 use Rattle.one_pass.proofs.KeyLaws.{after-least, not-after}
 use Rattle.one_pass.proofs.Entries.{record-last, record-end}
 

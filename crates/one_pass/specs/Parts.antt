@@ -1,12 +1,12 @@
--- What is tested in one pass over the pairs of a table. `contentForm` is the form but for the sizes; the others are its parts that have
--- a function of their own. Proved: the pass tests the form.
+-- What is tested in one pass over the pairs of a table: `contentForm`, the form but for the sizes, and the parts of the pass that have a
+-- function of their own. That the pass tests the form is proved.
 use mathlib.Core.Path.{_≡_}
 use mathlib.Core.Bool.{Bool, true, cond}
 use mathlib.Core.List.{List}
 use Prim.Native.Nat.{ℕ, zero, suc, _+_, _-_, _%_}
 use lib.IntN.{ℤ}
 use lib.Dec.{leb, eqb}
-use Rattle.words.specs.Words.{wordOf, numberOf}
+use Rattle.words.specs.Words.{numberOf}
 use Rattle.lang.specs.Every.{both, every}
 use Rattle.lang.specs.Records.{within, absentOr}
 use Rattle.reading.specs.Items.{Left, bnd, Item, item}
@@ -57,7 +57,7 @@ codesForm left right code flag =
     (both (leb code 255)
     (both (leb flag 1) (cond (eqb flag 1) true (eqb code right)))))
 
--- pair k is of the form but for its key, if its ops begin at op at; and its ops fit
+-- pair k is of the form but for the order, if the ops of the pair before it end at op at; and its ops fit
 abbrev pub pairPasses : List ℤ → List ℤ → ℕ → ℕ → Bool
 pairPasses pairs ops k at =
     both (absentOr 255 (number pairs k 0))

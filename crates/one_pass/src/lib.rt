@@ -1,6 +1,6 @@
-// The form of a pair table, tested in one pass over its pairs, which reads each number once: each pair against the key of the pair before it and the place where
-// the ops of that pair end. What is tested of the pairs is the form of the ops too, since the ops of the pairs are all the ops, one pair after the other.
-// Document 01, last paragraph before the marked readings.
+// The form of a pair table, tested in one pass: document 01, last paragraph before the marked readings. Each pair is tested against the key
+// of the pair before it and the place where the ops of that pair end. So every op is tested once, with the pair that it is of: the ops of the
+// pairs are all the ops, one pair's after the other's.
 ghost use mathlib.Core.Path.{_≡_};
 ghost use Prim.Native.Nat.{_+_, _/_, _%_, _<_, _≤_};
 ghost use lib.ListN.{length};
@@ -38,7 +38,7 @@ fn key_in(pairs: &[i32], p: usize) -> u64
     4294967296 * place + (word_in(pairs, p + 1) as u64)
 }
 
-// The pair at number p is of the form but for its key, if op at is where the ops of the pair before it end; and its ops fit.
+// The pair at number p is of the form but for the order, if the ops of the pair before it end at op at; and its ops fit.
 fn pair_passes(pairs: &[i32], ops: &[i32], p: usize, at: usize) -> bool
     requires { ⌜ (p + 5 < length (now pairs)) × (p % 6 ≡ 0) ⌝ }
     requires { ⌜ at ≤ opCount (now ops) ⌝ }

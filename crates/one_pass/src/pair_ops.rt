@@ -1,13 +1,11 @@
-// The ops of one pair, each read once: what every op must hold, and the form that they have with the pair's left and last. Lefts, kinds and values are given
-// by their 32 bits.
+// The ops of one pair: what every op must hold, and the form that they have with the pair's left and last. Lefts, kinds and values are
+// given by their 32 bits.
 ghost use mathlib.Core.Path.{_≡_};
-ghost use mathlib.Core.List.{List};
-ghost use Prim.Native.Nat.{ℕ, _-_, _<_, _≤_};
+ghost use Prim.Native.Nat.{_<_, _≤_};
 ghost use lib.ListN.{length, getD};
 ghost use lib.IntN.{pos};
 ghost use lib.Dec.{eqb};
 ghost use Rattle.words.specs.Words.{Word};
-ghost use Rattle.reading.specs.Items.{bnd};
 ghost use Rattle.captions.specs.Tables.{opCount};
 ghost use Rattle.one_pass.specs.Parts.{leftBy, opPasses, OpsPass, LaterPass};
 use words::word_of;
@@ -68,17 +66,16 @@ fn all_pass(ops: &[i32], left: u32, flag: u32, start: usize, end: usize) -> bool
     left == 4294967295 || flag == 1
 }
 
-// The same. Most begin with the left as it stands, so that comes first.
+// The same. Most are the left as it stands and a kern, so these come first, without a loop.
 pub(crate) fn ops_pass(ops: &[i32], left: u32, flag: u32, start: usize, end: usize) -> bool
-    requires { ⌜ end ≤ opCount (now ops) ⌝ }
+    requires { ⌜ (start ≤ end) × (end ≤ opCount (now ops)) ⌝ }
     ensures { λ r. ⌜ OpsPass (now (ops .entry)) (leftBy left) (eqb flag 1) start end r ⌝ }
 {
-    if start < end {
+    if end - start == 2 {
         if word_in(ops, 2 * start) == 0 {
-            if !op_passes(left, 0, word_in(ops, 2 * start + 1)) {
-                return false;
+            if word_in(ops, 2 * (start + 1)) == 2 {
+                return op_passes(left, 0, word_in(ops, 2 * start + 1));
             }
-            return later_pass(ops, start + 1, end);
         }
     }
     all_pass(ops, left, flag, start, end)

@@ -1,5 +1,5 @@
--- `one_pass::pairs_form` meets its contract. The loop's invariant: the pairs passed are of the form, and their ops fit and end here. The measure is what
--- is left of the pairs.
+-- `one_pass::pairs_form` meets its contract. The loop's invariant: the pairs passed are of the form, and their ops fit and end here. The
+-- measure is what is left of the pairs.
 -- Assumes nothing.
 use mathlib.Core.Path.{_≡_, refl, sym, _∙_}
 use Prim.Native.Nat.{_+_, _-_, _/_, _%_, _≤_}

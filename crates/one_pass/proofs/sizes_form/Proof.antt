@@ -1,6 +1,6 @@
 -- `one_pass::sizes_form` meets its contract, by its tests.
 -- Assumes nothing.
-use mathlib.Core.Path.{_≡_, refl}
+use mathlib.Core.Path.{refl}
 use Prim.Native.Nat.{_%_}
 use lib.ListN.{length}
 use denote.Ref.{now}

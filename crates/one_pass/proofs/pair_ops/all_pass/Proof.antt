@@ -1,8 +1,8 @@
--- `one_pass::pair_ops::all_pass` meets its contract. The loop's invariant: the ops passed are kerns, so that those from here on pass exactly when all do. The
--- measure is what is left of the ops.
+-- `one_pass::pair_ops::all_pass` meets its contract. The loop's invariant: the ops passed are kerns, so that those from here on pass exactly
+-- when all do. The measure is what is left of the ops.
 -- Assumes nothing.
 use mathlib.Core.Path.{_≡_, refl, sym, _∙_}
-use Prim.Native.Nat.{ℕ, _-_}
+use Prim.Native.Nat.{_-_}
 use native.Mathlib.Omega.{arith}
 use lib.Dec.{eqb}
 use denote.Ref.{now}

@@ -1,9 +1,6 @@
 -- `one_pass::pair_ops::op_passes` meets its contract, by its tests.
 -- Assumes nothing.
-use mathlib.Core.Path.{sym}
-use lib.Dec.{leb}
 use borrow.Author.Tests.{le-leb, lt-leb, ne-eqb}
-use Rattle.lang.proofs.Every.{both-true}
 use Rattle.one_pass.proofs.pair_ops.op_passes.Statement.{statement}
 use Rattle.one_pass.proofs.pair_ops.op_passes.Tie as tie
 
