@@ -47,11 +47,18 @@ fn part_count(work: &[u32], part: Part) -> u32
     }
 }
 
-// How many ops row k has, by the counts of the rows that it consults.
+// How many ops row k has, by the counts of the rows that it consults. A kern, which most rows have, consults none: it follows its left, if that is a
+// character.
 fn row_count(work: &[u32], n: usize, k: usize) -> u32
     requires { ⌜ (Encoded n (now work)) × (k < n) × LastFits n (now work) k ⌝ }
     ensures { λ r. ⌜ r ≡ rowCount n (now (work .entry)) k ⌝ }
 {
+    if get(work, k, 3) == 128 {
+        if get(work, k, 0) == 0 {
+            return 1;
+        }
+        return 2;
+    }
     let first = part_count(work, first_part(work, n, k));
     let second = part_count(work, second_part(work, n, k));
     capped_sum(first, second)

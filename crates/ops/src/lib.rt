@@ -2,7 +2,7 @@
 // After lines 171 to 398 of ligkern/compiler.rs. specs/Rows.antt of crate `pairs` says what a row holds.
 ghost use mathlib.Core.Path.{_≡_};
 ghost use mathlib.Core.List.{List, [], _∷_};
-ghost use Prim.Native.Nat.{_+_, _*_, _≤_};
+ghost use Prim.Native.Nat.{_+_, _*_, _<_, _≤_};
 ghost use lib.ListN.{length, take, drop, replicate};
 ghost use lib.Seq.{sets};
 ghost use lib.IntN.{ℤ, pos};
@@ -13,7 +13,8 @@ ghost use Rattle.fonts.specs.Fonts.{fontOf};
 ghost use Rattle.fonts.specs.Numbers.{opsOf, opNumbers};
 ghost use Rattle.pairs.specs.SettledRows.{outcome};
 ghost use Rattle.pairs.specs.OpRows.{Ready, opTotal, opsWritten};
-ghost use Rattle.pairs.specs.OpSteps.{raisedOuts, OpsAt, Apart, opsPlace, opsSize, Copies, PartFits, PartWritten, ToWrite};
+ghost use Rattle.pairs.specs.OpSteps.{raisedOuts, OpsAt, Apart, opsPlace, opsSize, Copies, PartFits, PartWritten, ToWrite, firstPart, secondPart, LastFits};
+ghost use Rattle.pairs.specs.Rows.{Encoded};
 ghost use Rattle.ops.specs.WritesOps.{WritesOps};
 use counts::count;
 use pairs::CountedFont;
@@ -84,14 +85,41 @@ fn raise_first(ops: &mut [i32], from: usize, to: usize)
     }
 }
 
+// The first part of row k's ops at place p. Answers the place after it. Of a kern, which most rows have, it is its left.
+fn write_first(work: &[u32], n: usize, k: usize, ops: &mut [i32], p: usize) -> usize
+    requires { ⌜ (Encoded n (now work)) × (k < n) × PartFits (now work) (now ops) p (firstPart n (now work) k) ⌝ }
+    ensures { λ r. ⌜ PartWritten (now (work .entry)) (now (ops .entry)) (now (ops .exit)) p r (firstPart n (now (work .entry)) k) ⌝ }
+{
+    if get(work, k, 3) != 128 {
+        return write_part(work, first_part(work, n, k), ops, p);
+    }
+    let left = get(work, k, 0);
+    if left == 0 {
+        return p;
+    }
+    put_op(ops, p, 0, left - 1)
+}
+
+// The second part, of a kern the kern itself.
+fn write_second(work: &[u32], n: usize, k: usize, ops: &mut [i32], p: usize) -> usize
+    requires { ⌜ (Encoded n (now work)) × (k < n) × (LastFits n (now work) k) × PartFits (now work) (now ops) p (secondPart n (now work) k) ⌝ }
+    ensures { λ r. ⌜ PartWritten (now (work .entry)) (now (ops .entry)) (now (ops .exit)) p r (secondPart n (now (work .entry)) k) ⌝ }
+{
+    if get(work, k, 3) != 128 {
+        return write_part(work, second_part(work, n, k), ops, p);
+    }
+    let value = get(work, k, 4);
+    put_op(ops, p, 2, value)
+}
+
 // The ops of row k, which finishes, at its first op.
 fn write_row(work: &[u32], n: usize, k: usize, ops: &mut [i32])
     requires { ⌜ ToWrite n (now work) (now ops) k ⌝ }
     ensures { λ _. ⌜ now (ops .exit) ≡ sets (now (ops .entry)) (opsPlace (now (work .entry)) k) (opNumbers (opsOf (outcome n (now (work .entry)) k))) ⌝ }
 {
     let from = 2 * (get(work, k, 13) as usize);
-    let next = write_part(work, first_part(work, n, k), ops, from);
-    let end = write_part(work, second_part(work, n, k), ops, next);
+    let next = write_first(work, n, k, ops, from);
+    let end = write_second(work, n, k, ops, next);
     raise_first(ops, next, end)
 }
 
