@@ -278,6 +278,15 @@ pub quick-moves : (ops : List ℤ) (boundary : ℤ) (word : List ℕ) (options :
 quick-moves ops boundary word options s h l e =
     let q = quick-is ops boundary word options s h in
     let d = q .calm in
-    rw (lt-ltb (suc (s .read)) (length word) l, lt-ltb (suc (s .given)) (suc (s .read)) (omega (arith, q .waits)), e, q .letter,
-    le-leb (suc (s .read)) (length word) (omega arith), le-leb (suc (s .given)) (suc (s .read)) (omega (arith, q .waits)), le-leb 0 (suc (s .read)) (omega arith),
-    placed-few ops boundary word options s d, le-leb (s .op + 0) (opCount ops) (omega (arith, placed-among ops boundary word options s d)), d .taken)
+    rw (
+      lt-ltb (suc (s .read)) (length word) l,
+      lt-ltb (suc (s .given)) (suc (s .read)) (omega (arith, q .waits)),
+      e,
+      q .letter,
+      le-leb (suc (s .read)) (length word) (omega arith),
+      le-leb (suc (s .given)) (suc (s .read)) (omega (arith, q .waits)),
+      le-leb 0 (suc (s .read)) (omega arith),
+      placed-few ops boundary word options s d,
+      le-leb (s .op + 0) (opCount ops) (omega (arith, placed-among ops boundary word options s d)),
+      d .taken,
+    )
