@@ -1,17 +1,19 @@
 -- The items of a run, one step after the other, and the list that they are written to: what is written so far, and what the steps that are left give.
 -- Assumes nothing.
 use mathlib.Core.Path.{_≡_, refl, sym, ap, subst, _∙_}
-use mathlib.Core.Bool.{Bool, true, false}
+use mathlib.Core.Bool.{Bool, true, false, cond}
 use mathlib.Core.List.{List, [], _∷_, _++_, append-nil, append-assoc}
 use Prim.Native.Nat.{ℕ, zero, suc, _+_, _-_, _*_, _/_, _<_, _≤_}
+use native.Mathlib.Numerals.{add-one}
 use native.Mathlib.Omega.{arith}
 use lib.IntN.{ℤ, pos}
 use lib.ListN.{length, replicate, length-append, length-replicate}
-use lib.Seq.{sets}
+use lib.Seq.{sets, length-sets}
+use borrow.Author.Tests.{le-leb}
 use Rattle.words.specs.Words.{numberOf}
 use Rattle.words.specs.Lists.{Appending}
 use Rattle.words.proofs.Bits.{number-pos}
-use Rattle.words.proofs.Lists.{appending-none, appending-more, appending-length, appending-rest}
+use Rattle.words.proofs.Lists.{appending-none, appending-more, appending-length, appending-rest, sets-append}
 use Rattle.lang.specs.declared.Written.{Written}
 use Rattle.lang.specs.declared.Written.the-variants as written
 use Rattle.lang.specs.Answers.{Reply, replyOf, listOf}
@@ -25,9 +27,15 @@ use Rattle.captions.specs.declared.Answer.the-variants.{Char, Ligature, Kern, E
 use Rattle.captions.specs.declared.Step.{Step}
 use Rattle.captions.specs.Replies.{bitNumber, answerReply}
 use Rattle.captions.specs.Begin.{beginRefusal, freshState, begunBy, beginOf}
+use Rattle.captions.specs.Tables.{pairCount}
 use Rattle.captions.specs.Steps.{stepOf}
+use Rattle.quick.specs.Quick.{nextLetter, isQuick, foundPlace, givenPlain}
+use Rattle.stretch.specs.declared.Stretch.{Stretch}
+use Rattle.stretch.specs.Stretch.{sixAt, plainLeft, isFree, letterItem, plainState, letterItems, freeLetters, stopPlace, mostLetters, Stretched}
+use Rattle.stretch.proofs.Theorems.{leading-few, state-none, state-more, steps-along, stops-at}
+use Rattle.stretch.proofs.Laws.{items-long, items-none, items-more, give-asks}
 use Rattle.setting.specs.Setting.{before, andThen, itemsFrom, afterBegin, setReply, Sets}
-use Rattle.setting.specs.Writing.{isItem, Small, Stops, Tells}
+use Rattle.setting.specs.Writing.{isItem, Small, NextPair, Stops, Tells}
 use Rattle.setting.proofs.Bounds.{step-small}
 
 no : {A : Type 0} → _≡_ {A = Bool} false true → A
@@ -82,14 +90,25 @@ module _ (d d′ : List ℤ) (at : ℕ) where
       let n = subst Small e m in
       rw e (h ∙ (λ j. sets d at (pos 0 ∷ number-pos c (omega (arith, n .0)) j ∷ number-pos p (omega (arith, n .1)) j ∷ pos 1 ∷ pos 0 ∷ pos 0 ∷ [])))
 
-  pub put-ligature : {x : Answer} {c p n : ℕ} {a b : Bool} (l r : ℕ) → x ≡ Ligature c p n a b → Small x → numberOf l ≡ bitNumber a → numberOf r ≡ bitNumber b →
-      d′ ≡ sets d at (numberOf 1 ∷ numberOf c ∷ numberOf p ∷ numberOf n ∷ numberOf l ∷ numberOf r ∷ []) → d′ ≡ sets d at (answerReply x .values)
-  put-ligature {x} {c} {p} {n} l r e m f g h =
-      let q = subst Small e m in
-      rw e (h ∙ (λ j. sets d at (pos 1 ∷ number-pos c (omega (arith, q .0)) j ∷ number-pos p (omega (arith, q .1)) j ∷ number-pos n (omega (arith, q .2)) j ∷ f j ∷ g j ∷ [])))
+  -- where there is room for them
+  module _ (r : at + 6 ≤ length d) where
+    six-there : (vs : List ℤ) → d′ ≡ sixAt d at vs → d′ ≡ sets d at vs
+    six-there vs e = e ∙ ap (λ (b : Bool). cond b (sets d at vs) d) (le-leb (at + 6) (length d) r)
 
-  pub put-kern : {x : Answer} {k : ℤ} (w : ℕ) → x ≡ Kern k → numberOf w ≡ k → d′ ≡ sets d at (numberOf 2 ∷ numberOf w ∷ numberOf 0 ∷ numberOf 0 ∷ numberOf 0 ∷ numberOf 0 ∷ []) → d′ ≡ sets d at (answerReply x .values)
-  put-kern {x} {k} w e q h = rw e (h ∙ (λ j. sets d at (pos 2 ∷ q j ∷ pos 0 ∷ pos 0 ∷ pos 0 ∷ pos 0 ∷ [])))
+    pub six-character : {x : Answer} {c p : ℕ} → x ≡ Char c p → Small x → d′ ≡ sixAt d at (numberOf 0 ∷ numberOf c ∷ numberOf p ∷ numberOf 1 ∷ numberOf 0 ∷ numberOf 0 ∷ []) → d′ ≡ sets d at (answerReply x .values)
+    six-character {x} {c} {p} e m h = put-character e m (six-there (numberOf 0 ∷ numberOf c ∷ numberOf p ∷ numberOf 1 ∷ numberOf 0 ∷ numberOf 0 ∷ []) h)
+
+    pub six-ligature : {x : Answer} {c p n : ℕ} {a b : Bool} (l r : ℕ) → x ≡ Ligature c p n a b → Small x → numberOf l ≡ bitNumber a → numberOf r ≡ bitNumber b →
+        d′ ≡ sixAt d at (numberOf 1 ∷ numberOf c ∷ numberOf p ∷ numberOf n ∷ numberOf l ∷ numberOf r ∷ []) → d′ ≡ sets d at (answerReply x .values)
+    six-ligature {x} {c} {p} {n} l r e m f g h =
+        let q = subst Small e m in
+        rw e
+        (six-there (numberOf 1 ∷ numberOf c ∷ numberOf p ∷ numberOf n ∷ numberOf l ∷ numberOf r ∷ []) h
+        ∙ (λ j. sets d at (pos 1 ∷ number-pos c (omega (arith, q .0)) j ∷ number-pos p (omega (arith, q .1)) j ∷ number-pos n (omega (arith, q .2)) j ∷ f j ∷ g j ∷ [])))
+
+    pub six-kern : {x : Answer} {k : ℤ} (w : ℕ) → x ≡ Kern k → numberOf w ≡ k → d′ ≡ sixAt d at (numberOf 2 ∷ numberOf w ∷ numberOf 0 ∷ numberOf 0 ∷ numberOf 0 ∷ numberOf 0 ∷ []) → d′ ≡ sets d at (answerReply x .values)
+    six-kern {x} {k} w e q h =
+        rw e (six-there (numberOf 2 ∷ numberOf w ∷ numberOf 0 ∷ numberOf 0 ∷ numberOf 0 ∷ numberOf 0 ∷ []) h ∙ (λ j. sets d at (pos 2 ∷ q j ∷ pos 0 ∷ pos 0 ∷ pos 0 ∷ pos 0 ∷ [])))
 
 -- ---- what a reply tells
 
@@ -198,6 +217,77 @@ module _ (pairs ops : List ℤ) (boundary : ℤ) (word : List ℕ) (options : Ru
 
     pub setting-stop : isItem (t .answer) ≡ false → (x : Written) (d′ : List ℤ) → Stops (t .answer) k d x d′ → d₀ ≡ replicate (length d₀) (pos 0) → Tells (from (length d₀ / 6) s₀) d₀ x d′
     setting-stop h x d′ w z = stop-by (t .answer) refl item-small h x d′ w z
+
+-- ---- a stretch of letters: each is the item of a step
+
+module _ (pairs ops : List ℤ) (boundary : ℤ) (word : List ℕ) (options : RunOptions) (s₀ : State) (d₀ d : List ℤ) (s : State) (k : ℕ) (i : Setting pairs ops boundary word options s₀ d₀ d s k) where
+  abbrev n : ℕ
+  n = mostLetters word s d k
+
+  abbrev m : ℕ
+  m = freeLetters pairs word s n
+
+  module _ (q : isQuick ops boundary word options s ≡ true) where
+    inside : s .read + n ≤ length word
+    inside = give-asks pairs ops boundary word options s d k q (plainLeft s) n refl refl .1
+
+    room : n ≤ length d / 6 - k
+    room = give-asks pairs ops boundary word options s d k q (plainLeft s) n refl refl .4
+
+    abbrev dAt : ℕ → List ℤ
+    dAt j = sets d (6 * k) (letterItems word s j)
+
+    along : (j : ℕ) → j ≤ m → Setting pairs ops boundary word options s₀ d₀ (dAt j) (plainState word s j) (k + j)
+    along zero h =
+        let a : d ≡ dAt 0 = sym (ap (sets d (6 * k)) (items-none word s)) in
+        let b : k ≡ k + 0 = omega arith in
+        subst (λ (x : List ℤ). Setting pairs ops boundary word options s₀ d₀ x (plainState word s 0) (k + 0)) a
+        (subst (λ (x : State). Setting pairs ops boundary word options s₀ d₀ d x (k + 0)) (sym (state-none word s))
+        (subst (λ (x : ℕ). Setting pairs ops boundary word options s₀ d₀ d s x) b i))
+    along (suc j) h =
+        let u = plainState word s j in
+        let t = givenPlain word u in
+        let e : t ≡ stepOf pairs ops boundary word options u = sym (steps-along pairs ops boundary word options s n q inside j h) in
+        let r = along j (omega arith) in
+        let few : k + j < length (dAt j) / 6 = omega (arith, room, leading-few (λ (x : ℕ). isFree pairs word (plainState word s x)) n, length-sets d (6 * k) (letterItems word s j)) in
+        let at : 6 * k + length (letterItems word s j) ≡ 6 * (k + j) = omega (arith, items-long word s j) in
+        let w : dAt (suc j) ≡ sets (dAt j) (6 * (k + j)) (letterItem u) =
+        ap (sets d (6 * k)) (ap (letterItems word s) (sym (add-one j)) ∙ items-more word s j) ∙ sets-append (letterItems word s j) (letterItem u) d (6 * k)
+        ∙ ap (λ (x : ℕ). sets (dAt j) x (letterItem u)) at in
+        let v : dAt (suc j) ≡ sets (dAt j) (6 * (k + j)) (answerReply (t .answer) .values) =
+        put-character (dAt j) (dAt (suc j)) (6 * (k + j)) {x = t .answer} refl (item-small pairs ops boundary word options s₀ d₀ (dAt j) u (k + j) r t e) w in
+        let b : k + j + 1 ≡ k + suc j = omega arith in
+        subst (λ (x : State). Setting pairs ops boundary word options s₀ d₀ (dAt (suc j)) x (k + suc j)) (sym (state-more word s j))
+        (subst (λ (x : ℕ). Setting pairs ops boundary word options s₀ d₀ (dAt (suc j)) (t .state) x) b
+        (setting-more pairs ops boundary word options s₀ d₀ (dAt j) u (k + j) r t e refl few (dAt (suc j)) v))
+
+  module _ (r : Stretch) (d′ : List ℤ) (h : Stretched pairs ops boundary word options s d k r d′) where
+    by : (b : Bool) → isQuick ops boundary word options s ≡ b → (c : ℕ) → r .count ≡ c → c ≡ cond b m 0 → Setting pairs ops boundary word options s₀ d₀ (sets d (6 * k) (letterItems word s c)) (plainState word s c) (k + c)
+    by true q c e f = along q c (omega (arith, f))
+    by false q c e f =
+        let z : c ≡ 0 = f in
+        let a : d ≡ sets d (6 * k) (letterItems word s c) = sym (ap (λ (x : ℕ). sets d (6 * k) (letterItems word s x)) z ∙ ap (sets d (6 * k)) (items-none word s)) in
+        let b : k ≡ k + c = omega (arith, z) in
+        subst (λ (x : List ℤ). Setting pairs ops boundary word options s₀ d₀ x (plainState word s c) (k + c)) a
+        (subst (λ (x : State). Setting pairs ops boundary word options s₀ d₀ d x (k + c)) (sym (ap (plainState word s) z ∙ state-none word s))
+        (subst (λ (x : ℕ). Setting pairs ops boundary word options s₀ d₀ d s x) b i))
+
+    pub setting-letters : Setting pairs ops boundary word options s₀ d₀ d′ (r .state) (k + r .count)
+    setting-letters =
+        subst (λ (x : List ℤ). Setting pairs ops boundary word options s₀ d₀ x (r .state) (k + r .count)) (sym (h .list))
+        (subst (λ (x : State). Setting pairs ops boundary word options s₀ d₀ (sets d (6 * k) (letterItems word s (r .count))) x (k + r .count)) (sym (h .state))
+        (by (isQuick ops boundary word options s) refl (r .count) refl (h .count)))
+
+    -- the pair that ended it is the one that is looked up next
+    leads : (b : Bool) → isQuick ops boundary word options s ≡ b → (c : ℕ) → c ≡ cond b m 0 → cond b (stopPlace pairs word s n c) (pairCount pairs) < pairCount pairs →
+        (isQuick ops boundary word options (plainState word s c) ≡ true) × (cond b (stopPlace pairs word s n c) (pairCount pairs) ≡ foundPlace pairs (plainLeft (plainState word s c)) (nextLetter word (plainState word s c)))
+    leads true q c f l = subst (λ (x : ℕ). stopPlace pairs word s n x < pairCount pairs → (isQuick ops boundary word options (plainState word s x) ≡ true) × (stopPlace pairs word s n x ≡ foundPlace pairs (plainLeft (plainState word s x)) (nextLetter word (plainState word s x)))) (sym f) (stops-at pairs ops boundary word options s n q (inside q)) l
+    leads false q c f l = absurd (omega arith)
+
+    pub next-pair : NextPair pairs ops boundary word options (r .state) (r .pair)
+    next-pair l =
+        let x = leads (isQuick ops boundary word options s) refl (r .count) (h .count) (subst (λ (y : ℕ). y < pairCount pairs) (h .pair) l) in
+        (ap (isQuick ops boundary word options) (h .state) ∙ x .0, h .pair ∙ x .1 ∙ ap (λ (u : State). foundPlace pairs (plainLeft u) (nextLetter word u)) (sym (h .state)))
 
 -- ---- from begin on
 

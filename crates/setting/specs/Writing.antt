@@ -3,14 +3,18 @@
 use mathlib.Core.Path.{_≡_}
 use mathlib.Core.Bool.{Bool, true, false}
 use mathlib.Core.List.{List, [], _∷_}
-use Prim.Native.Nat.{ℕ, _/_, _<_, _≤_}
+use Prim.Native.Nat.{ℕ, suc, _/_, _<_, _≤_}
 use lib.IntN.{ℤ, pos}
 use lib.ListN.{length, replicate}
 use Rattle.lang.specs.declared.Written.{Written}
 use Rattle.lang.specs.declared.Written.the-variants as written
 use Rattle.lang.specs.Answers.{Reply, replyOf, listOf, writtenReply}
+use Rattle.captions.specs.declared.RunOptions.{RunOptions}
+use Rattle.captions.specs.declared.State.{State}
 use Rattle.captions.specs.declared.Answer.{Answer}
 use Rattle.captions.specs.declared.Answer.the-variants.{Char, Ligature, Kern, End, Refused}
+use Rattle.captions.specs.Tables.{pairCount}
+use Rattle.quick.specs.Quick.{plainCode, nextLetter, isQuick, foundPlace}
 
 -- an item, and neither the end nor a refusal
 abbrev pub isItem : Answer → Bool
@@ -27,6 +31,12 @@ Small (Ligature c start n left right) = (c ≤ 255) × (start ≤ 65535) × (n �
 Small (Kern k) = Unit {0}
 Small End = Unit {0}
 Small (Refused k) = (0 < k) × (k ≤ 7)
+
+-- pair k, if there is one, is the one that the next step looks up, and a letter is then looked up
+abbrev pub NextPair : List ℤ → List ℤ → ℤ → List ℕ → RunOptions → State → ℕ → Type 0
+NextPair pairs ops boundary word options s k =
+    k < pairCount pairs →
+    (isQuick ops boundary word options s ≡ true) × (k ≡ foundPlace pairs (suc (plainCode (s .«next_left»))) (nextLetter word s))
 
 -- the run stops after k items: they stay, and are counted; or the number of a refusal, and zeros
 abbrev pub Stops : Answer → ℕ → List ℤ → Written → List ℤ → Type 0

@@ -1,7 +1,6 @@
 // A word set whole: a run from its begin to its end, each item as the six numbers of a T line. Document 01, 'Caption items' and 'The column text'; after the loop
 // over what `run_with_options` of ligkern/mod.rs returns.
 ghost use mathlib.Core.Path.{_≡_};
-ghost use mathlib.Core.List.{[], _∷_};
 ghost use Prim.Native.Nat.{_+_, _/_, _≤_};
 ghost use lib.ListN.{length, replicate};
 ghost use lib.Seq.{sets};
@@ -9,17 +8,22 @@ ghost use lib.IntN.{pos};
 ghost use Rattle.words.specs.Words.{numberOf};
 ghost use Rattle.captions.specs.Begin.{freshState};
 ghost use Rattle.captions.specs.Replies.{bitNumber, answerReply};
+ghost use Rattle.captions.specs.Steps.{stepOf};
 ghost use Rattle.setting.specs.Setting.{itemsFrom, Sets};
-ghost use Rattle.setting.specs.Writing.{isItem, Small, Stops, Tells};
+ghost use Rattle.setting.specs.Writing.{isItem, Small, NextPair, Stops, Tells};
 use captions::Answer;
 use captions::Begun;
 use captions::RunOptions;
 use captions::State;
+use captions::Step;
 use lang::Written;
 use ligkern::begin::begin;
 use ligkern::begin::fresh_state;
-use ligkern::steps::step;
-use words::put_word;
+use ligkern::steps::kern_step;
+use quick::first::is_ready;
+use quick::first::quick_step;
+use stretch::give_letters;
+use stretch::put_six;
 use words::word_of;
 use words::zero::zero_i32;
 
@@ -41,28 +45,6 @@ fn bit(flag: bool) -> u32
     ensures { λ r. ⌜ numberOf r ≡ bitNumber flag ⌝ }
 {
     if flag { 1 } else { 0 }
-}
-
-// Six numbers at a place.
-fn put_six(
-    items: &mut [i32],
-    at: usize,
-    kind: u32,
-    value: u32,
-    start: u32,
-    count: u32,
-    left: u32,
-    right: u32,
-)
-    requires { ⌜ at + 6 ≤ length (now items) ⌝ }
-    ensures { λ _. ⌜ now (items .exit) ≡ sets (now (items .entry)) at (numberOf kind ∷ numberOf value ∷ numberOf start ∷ numberOf count ∷ numberOf left ∷ numberOf right ∷ []) ⌝ }
-{
-    put_word(items, at, kind);
-    put_word(items, at + 1, value);
-    put_word(items, at + 2, start);
-    put_word(items, at + 3, count);
-    put_word(items, at + 4, left);
-    put_word(items, at + 5, right);
 }
 
 // The numbers of an item at a place; the end and a refusal have none.
@@ -97,7 +79,29 @@ fn stopped(items: &mut [i32], k: usize, answer: Answer) -> Written
     }
 }
 
-// The items from a state on, in a list of zeros.
+// The step from a state in which a stretch of letters ended, and the pair that ended it if there is one: its first op at once, or a last kern, and else by turns.
+fn next_step(
+    pairs: &[i32],
+    ops: &[i32],
+    boundary: i32,
+    word: &[u32],
+    options: RunOptions,
+    s: State,
+    pair: usize,
+) -> Step
+    requires { ⌜ NextPair (now pairs) (now ops) boundary (now word) options s pair ⌝ }
+    ensures { λ r. ⌜ r ≡ stepOf (now (pairs .entry)) (now (ops .entry)) boundary (now (word .entry)) options s ⌝ }
+{
+    if pairs.len() / 6 <= pair {
+        return kern_step(pairs, ops, boundary, word, options, s);
+    }
+    if !is_ready(pairs, ops, pair) {
+        return kern_step(pairs, ops, boundary, word, options, s);
+    }
+    quick_step(pairs, ops, word, pair, s)
+}
+
+// The items from a state on, in a list of zeros: letters as they stand, and then the step that is next, again and again.
 fn set_from(
     pairs: &[i32],
     ops: &[i32],
@@ -113,7 +117,10 @@ fn set_from(
     let mut s = state;
     let mut k = 0;
     loop {
-        let stepped = step(pairs, ops, boundary, word, options, s);
+        let stretch = give_letters(pairs, ops, boundary, word, options, s, items, k);
+        let moved = stretch.state;
+        k += stretch.count;
+        let stepped = next_step(pairs, ops, boundary, word, options, moved, stretch.pair);
         let answer = stepped.answer;
         if !is_item(answer) {
             return stopped(items, k, answer);

@@ -5,7 +5,7 @@ use native.Mathlib.Omega.{arith}
 use Rattle.words.proofs.Bits.{number-is}
 use Rattle.lang.proofs.Records.{word-passed}
 use Rattle.setting.specs.Writing.{Small}
-use Rattle.setting.proofs.Laws.{put-character, put-ligature, put-kern}
+use Rattle.setting.proofs.Laws.{six-character, six-ligature, six-kern}
 use borrow.Author.Needs.{needs}
 use Rattle.setting.proofs.put_item.Statement.{statement}
 use Rattle.setting.proofs.put_item.Tie as tie
@@ -60,7 +60,7 @@ returns c =
     let x = c .before .put-six in
     let v = c .before .before .before .before in
     let s = v .before .before in
-    put-character (s .args .items .now) (x .last .0) (s .args .at) (v .answer .given .1) (s .pre .1) (x .ensures)
+    six-character (s .args .items .now) (x .last .0) (s .args .at) (s .pre .0) (v .answer .given .1) (s .pre .1) (x .ensures)
 
 same-length-2 : tie.Need-same-length-2
 same-length-2 c = search needs
@@ -72,7 +72,7 @@ returns-2 c =
     let r = c .before .before .bit2 in
     let v = c .before .before .before .before .before .before in
     let s = v .before .before in
-    put-ligature (s .args .items .now) (x .last .0) (s .args .at) (l .result) (r .result) (v .answer2 .given .1) (s .pre .1) (l .ensures) (r .ensures) (x .ensures)
+    six-ligature (s .args .items .now) (x .last .0) (s .args .at) (s .pre .0) (l .result) (r .result) (v .answer2 .given .1) (s .pre .1) (l .ensures) (r .ensures) (x .ensures)
 
 same-length-3 : tie.Need-same-length-3
 same-length-3 c = search needs
@@ -83,7 +83,7 @@ returns-3 c =
     let w = c .before .before .word-of in
     let v = c .before .before .before .before .before in
     let s = v .before .before in
-    put-kern (s .args .items .now) (x .last .0) (s .args .at) (w .result) (v .answer3 .given .1) (number-is (word-passed {x = v .answer3 .given .0 .0} (record { sfits = search needs }) (w .ensures))) (x .ensures)
+    six-kern (s .args .items .now) (x .last .0) (s .args .at) (s .pre .0) (w .result) (v .answer3 .given .1) (number-is (word-passed {x = v .answer3 .given .0 .0} (record { sfits = search needs }) (w .ensures))) (x .ensures)
 
 returns-4 : tie.Need-returns-4
 returns-4 c = search needs
