@@ -12,16 +12,15 @@ use lib.ListN.{length, getD, set, replicate, length-set}
 use lib.Seq.{getD-set-same, getD-set-other}
 use Rattle.words.specs.Words.{Word}
 use Rattle.words.proofs.Tests.{same-or-not}
-use Rattle.lang.specs.Records.{count}
 use Rattle.fonts.specs.Fonts.{leftOf, leftEntry}
 use Rattle.pairs.specs.Rows.{at}
-use Rattle.pairs.specs.PairSteps.{countRuled, rank, Ordered, Surveyed, PutBy, Appended, OrderWritten, Adding, Adds}
+use Rattle.pairs.specs.PairSteps.{countRuled, rank, Ordered, Appended, OrderWritten, Adding, Adds}
 use Rattle.pairs.proofs.RowLaws.{at-stored, at-kept}
 use Rattle.pairs.proofs.PairRowLaws.{rank-past, appended-none, appended-more, blank-is, adds-some, few-ruled}
 use Rattle.survey.specs.Bits.{bitAt}
 use Rattle.survey.specs.Surveys.{ruledBit, Tabled, Surveys}
-use Rattle.chain_rows.specs.ChainRows.{bitRank, putRow, rowBy, rowsFrom}
-use Rattle.chain_rows.proofs.Walking.{rank-zero, rank-suc, rows-zero, rows-suc}
+use Rattle.chain_rows.specs.ChainRows.{bitRank, rowBy, rowsFrom}
+use Rattle.chain_rows.proofs.Walking.{bit-rank-zero, bit-rank-suc, rows-zero, rows-suc}
 
 rank-none : (f : List ℕ) → rank f 0 ≡ 0
 unfolding rank
@@ -45,9 +44,9 @@ both v u p x q l e h = go (same-or-not q p)
 
 module _ (t n : ℕ) (first order places₀ indices₀ places indices rights : List ℕ) (m : ℕ) (o : Ordered first order m) (b : Tabled first order places₀ indices₀ places indices rights m) (short : (q : ℕ) → getD first q 0 ≤ 32767) (w : List ℕ) (room : 16 * (n + m) ≤ length w) (few : n + 256 ≤ 65792) where
   ranks : (r : ℕ) → r ≤ 256 → bitRank rights r ≡ rank first r
-  ranks zero l = rank-zero rights ∙ sym (rank-none first)
+  ranks zero l = bit-rank-zero rights ∙ sym (rank-none first)
   ranks (suc r) l =
-      omega (arith, rank-suc rights r, b .bit r l, ranks r (omega arith), rank-more first r, count-bit (getD first r 0) (rank first r))
+      omega (arith, bit-rank-suc rights r, b .bit r l, ranks r (omega arith), rank-more first r, count-bit (getD first r 0) (rank first r))
 
   -- the place of a character that has a rule
   abbrev At : ℕ → Type 0

@@ -6,7 +6,7 @@ use Prim.Native.Nat.{ℕ, _-_}
 use native.Mathlib.Omega.{arith}
 use Rattle.pairs.specs.declared.Part.the-variants.{Nothing, Character, Kern}
 use Rattle.pairs.specs.Rows.{at}
-use Rattle.pairs.specs.OpSteps.{leftPart, secondOf, firstPart, secondPart}
+use Rattle.pairs.specs.OpSteps.{leftPart, firstPart, secondPart}
 use Rattle.pairs.proofs.OpLaws.{left-is, first-high, second-kern}
 
 module _ (n : ℕ) (w : List ℕ) (k : ℕ) (is-kern : at w k 3 ≡ 128) where

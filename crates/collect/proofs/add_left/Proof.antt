@@ -3,7 +3,7 @@
 -- Assumes nothing.
 use native.Mathlib.Omega.{arith}
 use denote.Ref.{now}
-use Rattle.pairs.proofs.PairRowLaws.{adds-none, adds-over, sum-fits}
+use Rattle.pairs.proofs.PairRowLaws.{adds-none, adds-over}
 use Rattle.collect.proofs.Placing.{adds-left}
 use borrow.Author.Needs.{needs}
 use Rattle.collect.proofs.add_left.Statement.{statement}
