@@ -21,9 +21,9 @@ use Rattle.columns.specs.Numbers.{readField}
 use Rattle.columns.specs.Lines.{andNumber, readFields}
 use Rattle.columns.specs.Texts.{Text, byOne, addLine, readText}
 use Rattle.columns.proofs.Options.{none-some, cond-some}
-use Rattle.scan.specs.declared.progress.Progress.{Progress}
-use Rattle.scan.specs.declared.progress.Next.{Next}
-use Rattle.scan.specs.declared.progress.Next.the-variants as next
+use Rattle.scan.specs.declared.progress.TextProgress.{TextProgress}
+use Rattle.scan.specs.declared.progress.NextLine.{NextLine}
+use Rattle.scan.specs.declared.progress.NextLine.the-variants as next
 use Rattle.scan.specs.Following.{restOf, lineOf, lineEnds, numbersOn, numbersIn, numberOn}
 use Rattle.scan.specs.Standing.{zeros, HeadSaid, TellsText, Scanning, Before, nextBy, TakesLine, headBy, headLine, Goes}
 use Rattle.scan.proofs.Feeds.{fields-count}
@@ -73,11 +73,11 @@ fits-one bs z e = field-fits (take 12 bs) z (cond-some (lineEnds 1 bs) (readFiel
 
 -- ---- further on, or not
 
-module _ (text : List ℕ) (p : Progress) (instructions kerns entries : List ℤ) (r : Next) where
-  pub goes-at : (q : Progress) → r ≡ next.At q → p .at < q .at → Scanning text q instructions kerns entries → Goes text p instructions kerns entries r
+module _ (text : List ℕ) (p : TextProgress) (instructions kerns entries : List ℤ) (r : NextLine) where
+  pub goes-at : (q : TextProgress) → r ≡ next.At q → p .at < q .at → Scanning text q instructions kerns entries → Goes text p instructions kerns entries r
   goes-at q e h s =
       record {
-        on = λ v i. let k : q ≡ v = cc in subst (λ (x : Progress). (p .at < x .at) × Scanning text x instructions kerns entries) k (h, s);
+        on = λ v i. let k : q ≡ v = cc in subst (λ (x : TextProgress). (p .at < x .at) × Scanning text x instructions kerns entries) k (h, s);
         stuck = λ i. absurd (let z : _≡_ {A = ℕ} 0 1 = cc in omega arith);
       }
 
@@ -86,7 +86,7 @@ module _ (text : List ℕ) (p : Progress) (instructions kerns entries : List ℤ
 
 -- ---- one line
 
-module _ (text : List ℕ) (p : Progress) (t : Text) (tells : TellsText text p t) (before : Before text p) (b : ℕ) (is : getD text (p .at) 0 ≡ b) where
+module _ (text : List ℕ) (p : TextProgress) (t : Text) (tells : TellsText text p t) (before : Before text p) (b : ℕ) (is : getD text (p .at) 0 ≡ b) where
   stands : drop (p .at) text ≡ b ∷ drop (p .at + 1) text
   stands = drop-cons text (p .at) 0 (before .inside) ∙ rw (is, add-one)
 
@@ -111,7 +111,7 @@ module _ (text : List ℕ) (p : Progress) (t : Text) (tells : TellsText text p t
   none-refused h = sym from-here ∙ rest-refused t b (drop (p .at + 1) text) h
 
   -- n numbers, to a list of so many places
-  module _ (n limit place : ℕ) (q : Progress) (done list list′ : List ℤ) (more : List ℤ → Text) (instructions kerns entries : List ℤ) (o : b ≡ 10 → ⊥) (at-end : length done ≡ place) (held : Appending done (zeros (pos 0) limit) list)
+  module _ (n limit place : ℕ) (q : TextProgress) (done list list′ : List ℤ) (more : List ℤ → Text) (instructions kerns entries : List ℤ) (o : b ≡ 10 → ⊥) (at-end : length done ≡ place) (held : Appending done (zeros (pos 0) limit) list)
       (add : (zs : List ℤ) → length zs ≡ n → place + n ≤ limit → addLine t (some (lineOf b zs)) ≡ some (more zs)) (only : (zs : List ℤ) (u : Text) → addLine t (some (lineOf b zs)) ≡ some u → length zs ≡ n) (full : limit < place + n → readText text ≡ none)
       (then : (zs : List ℤ) → length zs ≡ n → p .at + (12 * n + 2) ≤ length text → restOf (drop (p .at + (12 * n + 2)) text) (some (more zs)) ≡ readText text → Appending (done ++ zs) (zeros (pos 0) limit) list′ → Scanning text q instructions kerns entries) where
     room : place ≤ limit
@@ -126,7 +126,7 @@ module _ (text : List ℕ) (p : Progress) (t : Text) (tells : TellsText text p t
     by-room true k e = none-short n only e
     by-room false k e = full (omega (arith, leb-false n (limit - place) k, room))
 
-    by-read : (r : Next) (v : Option (List ℤ)) → numbersIn (limit - place) n (drop (p .at + 1) text) ≡ v → p .at < q .at → r ≡ nextBy v q → ((zs : List ℤ) → v ≡ some zs → list′ ≡ sets list place zs) → Goes text p instructions kerns entries r
+    by-read : (r : NextLine) (v : Option (List ℤ)) → numbersIn (limit - place) n (drop (p .at + 1) text) ≡ v → p .at < q .at → r ≡ nextBy v q → ((zs : List ℤ) → v ≡ some zs → list′ ≡ sets list place zs) → Goes text p instructions kerns entries r
     by-read r none e h a s = goes-nowhere text p instructions kerns entries r a (by-room (leb n (limit - place)) refl e)
     by-read r (some zs) e h a s =
         let c = cond-some (leb n (limit - place)) (numbersOn n (drop (p .at + 1) text)) zs e in
@@ -135,11 +135,11 @@ module _ (text : List ℕ) (p : Progress) (t : Text) (tells : TellsText text p t
         goes-at text p instructions kerns entries r q a h
         (then zs m (inside n zs (c .1)) (further n zs (more zs) o (c .1) (add zs m l)) (stored zs m l (s zs refl)))
 
-    pub line-goes : (r : Next) → p .at < q .at → TakesLine (numbersIn (limit - place) n (drop (p .at + 1) text)) q list place r list′ → Goes text p instructions kerns entries r
+    pub line-goes : (r : NextLine) → p .at < q .at → TakesLine (numbersIn (limit - place) n (drop (p .at + 1) text)) q list place r list′ → Goes text p instructions kerns entries r
     line-goes r h k = by-read r (numbersIn (limit - place) n (drop (p .at + 1) text)) refl h (k .answer) (k .stored)
 
   -- one number, once: `once o u` is u where there is none yet
-  module _ (read : Bool) (w : ℕ) (v : Option ℤ) (f : ℕ → Progress) (more : ℤ → Text) (instructions kerns entries : List ℤ) (o : b ≡ 10 → ⊥) (head : HeadSaid v read w)
+  module _ (read : Bool) (w : ℕ) (v : Option ℤ) (f : ℕ → TextProgress) (more : ℤ → Text) (instructions kerns entries : List ℤ) (o : b ≡ 10 → ⊥) (head : HeadSaid v read w)
       (add : (zs : List ℤ) → addLine t (some (lineOf b zs)) ≡ byOne (λ z. once v (more z)) zs) (ahead : (z : ℤ) → p .at < f (wordOf z) .at)
       (then : (z : ℤ) → SFits w32 z → p .at + 14 ≤ length text → restOf (drop (p .at + 14) text) (some (more z)) ≡ readText text → Scanning text (f (wordOf z)) instructions kerns entries) where
     again : read ≡ true → readText text ≡ none
@@ -151,16 +151,16 @@ module _ (text : List ℕ) (p : Progress) (t : Text) (tells : TellsText text p t
     only : (zs : List ℤ) (u : Text) → addLine t (some (lineOf b zs)) ≡ some u → length zs ≡ 1
     only zs u e = one-by-one (λ z. once v (more z)) zs u (sym (add zs) ∙ e)
 
-    by-number : (r : Next) (n : Option ℤ) → numberOn (drop (p .at + 1) text) ≡ n → read ≡ false → r ≡ headBy f n → Goes text p instructions kerns entries r
+    by-number : (r : NextLine) (n : Option ℤ) → numberOn (drop (p .at + 1) text) ≡ n → read ≡ false → r ≡ headBy f n → Goes text p instructions kerns entries r
     by-number r none e i a = goes-nowhere text p instructions kerns entries r a (none-short 1 only (one-none (drop (p .at + 1) text) e))
     by-number r (some z) e i a =
         let g = one-some (drop (p .at + 1) text) z e in
         goes-at text p instructions kerns entries r (f (wordOf z)) a (ahead z)
         (then z (fits-one (drop (p .at + 1) text) z e) (inside 1 (z ∷ []) g) (further 1 (z ∷ []) (more z) o g (add (z ∷ []) ∙ rw (first-time i))))
 
-    by-flag : (r : Next) (k : Bool) → read ≡ k → r ≡ cond k next.Unreadable (headBy f (numberOn (drop (p .at + 1) text))) → Goes text p instructions kerns entries r
+    by-flag : (r : NextLine) (k : Bool) → read ≡ k → r ≡ cond k next.Unreadable (headBy f (numberOn (drop (p .at + 1) text))) → Goes text p instructions kerns entries r
     by-flag r true i a = goes-nowhere text p instructions kerns entries r a (again i)
     by-flag r false i a = by-number r (numberOn (drop (p .at + 1) text)) refl i a
 
-    pub head-goes : (r : Next) → r ≡ headLine text p read f → Goes text p instructions kerns entries r
+    pub head-goes : (r : NextLine) → r ≡ headLine text p read f → Goes text p instructions kerns entries r
     head-goes r a = by-flag r read refl a

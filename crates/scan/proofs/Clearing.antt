@@ -14,7 +14,7 @@ use Rattle.columns.specs.declared.TextRead.{TextRead}
 use Rattle.columns.specs.declared.TextRead.the-variants as whole
 use Rattle.columns.specs.Texts.{opened, readText}
 use Rattle.columns.specs.Scanned.{textRefusal, ReadsText}
-use Rattle.scan.specs.declared.progress.Progress.{Progress}
+use Rattle.scan.specs.declared.progress.TextProgress.{TextProgress}
 use Rattle.scan.specs.Standing.{zeros, TellsText, Scanning, Zeroed}
 use Rattle.scan.proofs.Adding.{zeros-long}
 
@@ -33,7 +33,7 @@ pub too-long : (text : List ℕ) → 65536 < length text → readText text ≡ n
 too-long text h = rw (lt-leb (length text) 65536 h)
 
 -- reading starts after D with nothing in the lists
-pub starts : (text : List ℕ) (p : Progress) (instructions kerns entries : List ℤ) (word : List ℕ) → Zeroed instructions kerns entries word → TellsText text p (opened (numberOf (p .design))) → Scanning text p instructions kerns entries
+pub starts : (text : List ℕ) (p : TextProgress) (instructions kerns entries : List ℤ) (word : List ℕ) → Zeroed instructions kerns entries word → TellsText text p (opened (numberOf (p .design))) → Scanning text p instructions kerns entries
 starts text p instructions kerns entries word z t =
     record {
       says = opened (numberOf (p .design));

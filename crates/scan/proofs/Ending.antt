@@ -21,7 +21,7 @@ use Rattle.columns.specs.declared.TextRead.the-variants as whole
 use Rattle.columns.specs.Texts.{Text, orAbsent, addLine, readText}
 use Rattle.columns.specs.Scanned.{lettersOf, headNumbers, textReadReply, textHeads, ReadsText}
 use Rattle.columns.proofs.Options.{none-some, cond-some}
-use Rattle.scan.specs.declared.progress.Progress.{Progress}
+use Rattle.scan.specs.declared.progress.TextProgress.{TextProgress}
 use Rattle.scan.specs.Following.{restOf, lineOf, numbersOn, wordOn}
 use Rattle.scan.specs.Standing.{zeros, headsOf, TellsText, Scanning, Before, wordReply, EndsWord, ReadsLists}
 use Rattle.scan.proofs.Feeds.{fields-count}
@@ -68,10 +68,10 @@ reads-none text instructions kerns entries word whole.Unreadable n e = record { 
 reads-none text instructions kerns entries word (whole.Text h) n e = absurd (omega (arith, e))
 
 -- the heads are those of the text
-heads-are : (text : List ℕ) (p : Progress) (t : Text) (l : ℤ) → TellsText text p t → headsOf p l ≡ (t .design ∷ orAbsent (t .boundary) ∷ orAbsent (t .left) ∷ pos (length (t .instructions)) ∷ pos (length (t .kerns)) ∷ pos (length (t .entries)) ∷ l ∷ [])
+heads-are : (text : List ℕ) (p : TextProgress) (t : Text) (l : ℤ) → TellsText text p t → headsOf p l ≡ (t .design ∷ orAbsent (t .boundary) ∷ orAbsent (t .left) ∷ pos (length (t .instructions)) ∷ pos (length (t .kerns)) ∷ pos (length (t .entries)) ∷ l ∷ [])
 heads-are text p t l c = rw (c .design, c .boundary .said, c .left .said, c .instructions, c .kerns, c .entries)
 
-module _ (text : List ℕ) (p : Progress) (instructions kerns entries : List ℤ) (s : Scanning text p instructions kerns entries) where
+module _ (text : List ℕ) (p : TextProgress) (instructions kerns entries : List ℤ) (s : Scanning text p instructions kerns entries) where
   -- ---- without a word
 
   pub ends-plain : (h : TextHeads) (w : List ℕ) → length text ≤ p .at → headNumbers h ≡ headsOf p (numberOf 4294967295) → w ≡ zeros 0 64 → ReadsLists text instructions kerns entries w (whole.Text h)

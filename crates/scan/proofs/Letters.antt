@@ -17,9 +17,9 @@ use Rattle.words.proofs.Bits.{number-word}
 use Rattle.lang.proofs.Every.{both-left, both-false}
 use Rattle.columns.specs.Texts.{Text, withBoundary, withLeft, withInstruction, withKern, withEntry, byLetter, unlessWord, addLine}
 use Rattle.columns.proofs.Options.{cond-some}
-use Rattle.scan.specs.declared.progress.Progress.{Progress}
-use Rattle.scan.specs.declared.progress.Next.{Next}
-use Rattle.scan.specs.declared.progress.Next.the-variants as next
+use Rattle.scan.specs.declared.progress.TextProgress.{TextProgress}
+use Rattle.scan.specs.declared.progress.NextLine.{NextLine}
+use Rattle.scan.specs.declared.progress.NextLine.the-variants as next
 use Rattle.scan.specs.Following.{lineOf, numbersIn}
 use Rattle.scan.specs.Standing.{HeadSaid, Scanning, Before, TakesLine, pastInstruction, pastKern, pastEntry, pastBoundary, pastLeft, headLine, Goes}
 use Rattle.scan.proofs.Adding.{zeros-long, once, same-by-one, goes-nowhere, none-short, none-refused, line-goes, head-goes}
@@ -60,7 +60,7 @@ module _ (t : Text) (u : Text) (zs : List ℤ) where
 head-is : (z : ℤ) → SFits w32 z → HeadSaid (some z) true (wordOf z)
 head-is z f = let e = number-word z f in record { is = ap some (sym e); said = sym e }
 
-module _ (text : List ℕ) (p : Progress) (instructions kerns entries : List ℤ) (s : Scanning text p instructions kerns entries) (before : Before text p) where
+module _ (text : List ℕ) (p : TextProgress) (instructions kerns entries : List ℤ) (s : Scanning text p instructions kerns entries) (before : Before text p) where
   -- the places of the lists
   pub instructions-fit : p .instructions ≤ 2048
   instructions-fit = omega (arith, s .in-instructions .within, zeros-long (pos 0) 2048, s .tells .instructions)
@@ -73,7 +73,7 @@ module _ (text : List ℕ) (p : Progress) (instructions kerns entries : List ℤ
 
   -- ---- I, K, E
 
-  pub instruction-goes : (r : Next) (list : List ℤ) → getD text (p .at) 0 ≡ 73 → TakesLine (numbersIn (2048 - p .instructions) 4 (drop (p .at + 1) text)) (pastInstruction p) instructions (p .instructions) r list → Goes text p list kerns entries r
+  pub instruction-goes : (r : NextLine) (list : List ℤ) → getD text (p .at) 0 ≡ 73 → TakesLine (numbersIn (2048 - p .instructions) 4 (drop (p .at + 1) text)) (pastInstruction p) instructions (p .instructions) r list → Goes text p list kerns entries r
   instruction-goes r list is k =
       let t = s .says in
       let c = s .tells in
@@ -104,7 +104,7 @@ module _ (text : List ℕ) (p : Progress) (instructions kerns entries : List ℤ
       })
       r (omega arith) k
 
-  pub kern-goes : (r : Next) (list : List ℤ) → getD text (p .at) 0 ≡ 75 → TakesLine (numbersIn (512 - p .kerns) 1 (drop (p .at + 1) text)) (pastKern p) kerns (p .kerns) r list → Goes text p instructions list entries r
+  pub kern-goes : (r : NextLine) (list : List ℤ) → getD text (p .at) 0 ≡ 75 → TakesLine (numbersIn (512 - p .kerns) 1 (drop (p .at + 1) text)) (pastKern p) kerns (p .kerns) r list → Goes text p instructions list entries r
   kern-goes r list is k =
       let t = s .says in
       let c = s .tells in
@@ -135,7 +135,7 @@ module _ (text : List ℕ) (p : Progress) (instructions kerns entries : List ℤ
       })
       r (omega arith) k
 
-  pub entry-goes : (r : Next) (list : List ℤ) → getD text (p .at) 0 ≡ 69 → TakesLine (numbersIn (5040 - p .entries) 2 (drop (p .at + 1) text)) (pastEntry p) entries (p .entries) r list → Goes text p instructions kerns list r
+  pub entry-goes : (r : NextLine) (list : List ℤ) → getD text (p .at) 0 ≡ 69 → TakesLine (numbersIn (5040 - p .entries) 2 (drop (p .at + 1) text)) (pastEntry p) entries (p .entries) r list → Goes text p instructions kerns list r
   entry-goes r list is k =
       let t = s .says in
       let c = s .tells in
@@ -169,7 +169,7 @@ module _ (text : List ℕ) (p : Progress) (instructions kerns entries : List ℤ
 
   -- ---- R, L
 
-  pub boundary-goes : (r : Next) → getD text (p .at) 0 ≡ 82 → r ≡ headLine text p (p .bounded) (pastBoundary p) → Goes text p instructions kerns entries r
+  pub boundary-goes : (r : NextLine) → getD text (p .at) 0 ≡ 82 → r ≡ headLine text p (p .bounded) (pastBoundary p) → Goes text p instructions kerns entries r
   boundary-goes r is k =
       let t = s .says in
       let c = s .tells in
@@ -203,7 +203,7 @@ module _ (text : List ℕ) (p : Progress) (instructions kerns entries : List ℤ
       by t none z = refl
       by t (some y) z = refl
 
-  pub left-goes : (r : Next) → getD text (p .at) 0 ≡ 76 → r ≡ headLine text p (p .entered) (pastLeft p) → Goes text p instructions kerns entries r
+  pub left-goes : (r : NextLine) → getD text (p .at) 0 ≡ 76 → r ≡ headLine text p (p .entered) (pastLeft p) → Goes text p instructions kerns entries r
   left-goes r is k =
       let t = s .says in
       let c = s .tells in

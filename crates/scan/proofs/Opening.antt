@@ -16,8 +16,8 @@ use Rattle.columns.specs.Lines.{linesOf}
 use Rattle.columns.specs.Texts.{opened, byOne, openedBy, readLines, readText}
 use Rattle.columns.specs.Scanned.{numberReply}
 use Rattle.columns.proofs.Options.{none-some}
-use Rattle.scan.specs.declared.progress.Progress.{Progress}
-use Rattle.scan.specs.declared.progress.Next.the-variants as next
+use Rattle.scan.specs.declared.progress.TextProgress.{TextProgress}
+use Rattle.scan.specs.declared.progress.NextLine.the-variants as next
 use Rattle.scan.specs.Following.{restOf, firstBy, lineOf, numbersOn, numberOn}
 use Rattle.scan.specs.Standing.{TellsText, Opens}
 use Rattle.scan.proofs.Following.{numbered, first-on, first-stuck, rest-added}
@@ -73,7 +73,7 @@ read-first (b ∷ bs) z h i e =
 
 -- ---- where reading then stands
 
-abbrev pub firstAt : ℕ → Progress
+abbrev pub firstAt : ℕ → TextProgress
 firstAt w = record { at = 14; design = w; boundary = 4294967295; left = 4294967295; bounded = false; entered = false; instructions = 0; kerns = 0; entries = 0 }
 
 module _ (text : List ℕ) (short : length text ≤ 65536) where
@@ -106,6 +106,6 @@ module _ (text : List ℕ) (short : length text ≤ 65536) where
         few = omega arith;
       } in
       record {
-        on = λ x j. let y : firstAt w ≡ x = cc in subst (λ (x : Progress). TellsText text x (opened (numberOf (x .design)))) y t;
+        on = λ x j. let y : firstAt w ≡ x = cc in subst (λ (x : TextProgress). TellsText text x (opened (numberOf (x .design)))) y t;
         stuck = λ j. absurd (let o : _≡_ {A = ℕ} 0 1 = cc in omega arith);
       }

@@ -15,15 +15,15 @@ use Rattle.lang.specs.Answers.{replyOf}
 use Rattle.columns.specs.Numbers.{readField}
 use Rattle.columns.specs.Scanned.{numberReply}
 use Rattle.columns.proofs.Options.{none-some, cond-some}
-use Rattle.scan.specs.declared.progress.Progress.{Progress}
-use Rattle.scan.specs.declared.progress.Next.the-variants as next
+use Rattle.scan.specs.declared.progress.TextProgress.{TextProgress}
+use Rattle.scan.specs.declared.progress.NextLine.the-variants as next
 use Rattle.scan.specs.Following.{lineEnds, numberOn, numbersIn, isSome, Stores}
 use Rattle.scan.specs.Standing.{TakesLine, headLine}
 use Rattle.scan.proofs.Storing.{number-some, number-none, field-fits}
 
 -- ---- what is answered for a line
 
-module _ (bs : List ℕ) (n limit place : ℕ) (q : Progress) (list list′ : List ℤ) (long : length list ≡ limit) where
+module _ (bs : List ℕ) (n limit place : ℕ) (q : TextProgress) (list list′ : List ℤ) (long : length list ≡ limit) where
   by-none : (o : Option (List ℤ)) → false ≡ isSome o → TakesLine o q list place next.Unreadable list′
   by-none none e = record { answer = refl; stored = λ zs s. absurd (none-some s) }
   by-none (some zs) e = absurd (let z : _≡_ {A = ℕ} 0 1 = cc in omega arith)
@@ -46,7 +46,7 @@ word-read bs z w e i =
     let c = cond-some (lineEnds 1 bs) (readField (take 12 bs)) z e in
     i ∙ ap wordOf (number-word z (field-fits (take 12 bs) z (c .1)))
 
-module _ (text : List ℕ) (p : Progress) (read : Bool) (f : ℕ → Progress) where
+module _ (text : List ℕ) (p : TextProgress) (read : Bool) (f : ℕ → TextProgress) where
   pub head-none : read ≡ false → numberReply (numberOn (drop (p .at + 1) text)) ≡ replyOf 16 [] → next.Unreadable ≡ headLine text p read f
   head-none b e = rw (b, number-none (numberOn (drop (p .at + 1) text)) e)
 

@@ -18,12 +18,12 @@ use Rattle.columns.specs.declared.TextRead.the-variants as whole
 use Rattle.columns.specs.Lines.{readFields}
 use Rattle.columns.specs.Scanned.{headNumbers}
 use Rattle.columns.proofs.Options.{none-some}
-use Rattle.scan.specs.declared.progress.Progress.{Progress}
+use Rattle.scan.specs.declared.progress.TextProgress.{TextProgress}
 use Rattle.scan.specs.Following.{lineEnds, wordOn, wordsOf, isSome, Stores}
 use Rattle.scan.specs.Standing.{headsOf, EndsWord}
 use Rattle.scan.proofs.Feeds.{fields-count}
 
-module _ (text : List ℕ) (p : Progress) (word word′ : List ℕ) where
+module _ (text : List ℕ) (p : TextProgress) (word word′ : List ℕ) where
   abbrev bs : List ℕ
   bs = drop (p .at + 1) text
 

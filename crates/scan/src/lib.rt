@@ -3,7 +3,7 @@
 ghost use Rattle.columns.specs.Scanned.{ReadsText};
 ghost use Rattle.scan.specs.Standing.{Zeroed, ReadsLists};
 use columns::TextRead;
-use progress::Next;
+use progress::NextLine;
 use whole::first_line;
 use whole::read_lines;
 use words::zero::zero_i32;
@@ -42,7 +42,7 @@ fn read_zeroed(
     if 65536 < text.len() {
         return TextRead::Unreadable;
     }
-    let Next::At(first) = first_line(text) else {
+    let NextLine::At(first) = first_line(text) else {
         return TextRead::Unreadable;
     };
     read_lines(text, first, instructions, kerns, entries, word)

@@ -6,100 +6,100 @@ ghost use Rattle.scan.specs.Following.{numbersIn};
 ghost use Rattle.scan.specs.Standing.{Scanning, Before, TakesLine, Goes, pastInstruction, pastKern, pastEntry, pastBoundary, pastLeft, headLine};
 use crate::numbers::read_number;
 use crate::numbers::read_numbers;
-use crate::progress::Next;
-use crate::progress::Progress;
+use crate::progress::NextLine;
+use crate::progress::TextProgress;
 use columns::FieldRead;
 use words::word_of;
 
 // I: four numbers.
-fn instruction_line(text: &[u8], p: Progress, instructions: &mut [i32; 2048]) -> Next
+fn instruction_line(text: &[u8], p: TextProgress, instructions: &mut [i32; 2048]) -> NextLine
     requires { ⌜ Before (now text) p ⌝ }
     requires { ⌜ p .instructions ≤ 2048 ⌝ }
     ensures { λ r. ⌜ TakesLine (numbersIn (2048 - p .instructions) 4 (drop (p .at + 1) (now (text .entry)))) (pastInstruction p) (now (instructions .entry)) (p .instructions) r (now (instructions .exit)) ⌝ }
 {
     if !read_numbers(text, p.at + 1, 4, instructions, p.instructions) {
-        return Next::Unreadable;
+        return NextLine::Unreadable;
     }
     let mut q = p;
     q.at = p.at + 50;
     q.instructions = p.instructions + 4;
-    Next::At(q)
+    NextLine::At(q)
 }
 
 // K: one.
-fn kern_line(text: &[u8], p: Progress, kerns: &mut [i32; 512]) -> Next
+fn kern_line(text: &[u8], p: TextProgress, kerns: &mut [i32; 512]) -> NextLine
     requires { ⌜ Before (now text) p ⌝ }
     requires { ⌜ p .kerns ≤ 512 ⌝ }
     ensures { λ r. ⌜ TakesLine (numbersIn (512 - p .kerns) 1 (drop (p .at + 1) (now (text .entry)))) (pastKern p) (now (kerns .entry)) (p .kerns) r (now (kerns .exit)) ⌝ }
 {
     if !read_numbers(text, p.at + 1, 1, kerns, p.kerns) {
-        return Next::Unreadable;
+        return NextLine::Unreadable;
     }
     let mut q = p;
     q.at = p.at + 14;
     q.kerns = p.kerns + 1;
-    Next::At(q)
+    NextLine::At(q)
 }
 
 // E: two.
-fn entry_line(text: &[u8], p: Progress, entries: &mut [i32; 5040]) -> Next
+fn entry_line(text: &[u8], p: TextProgress, entries: &mut [i32; 5040]) -> NextLine
     requires { ⌜ Before (now text) p ⌝ }
     requires { ⌜ p .entries ≤ 5040 ⌝ }
     ensures { λ r. ⌜ TakesLine (numbersIn (5040 - p .entries) 2 (drop (p .at + 1) (now (text .entry)))) (pastEntry p) (now (entries .entry)) (p .entries) r (now (entries .exit)) ⌝ }
 {
     if !read_numbers(text, p.at + 1, 2, entries, p.entries) {
-        return Next::Unreadable;
+        return NextLine::Unreadable;
     }
     let mut q = p;
     q.at = p.at + 26;
     q.entries = p.entries + 2;
-    Next::At(q)
+    NextLine::At(q)
 }
 
 // R: one, once.
-fn boundary_line(text: &[u8], p: Progress) -> Next
+fn boundary_line(text: &[u8], p: TextProgress) -> NextLine
     requires { ⌜ Before (now text) p ⌝ }
     ensures { λ r. ⌜ r ≡ headLine (now (text .entry)) p (p .bounded) (pastBoundary p) ⌝ }
 {
     if p.bounded {
-        return Next::Unreadable;
+        return NextLine::Unreadable;
     }
     let FieldRead::Number(z) = read_number(text, p.at + 1) else {
-        return Next::Unreadable;
+        return NextLine::Unreadable;
     };
     let mut q = p;
     q.at = p.at + 14;
     q.boundary = word_of(z);
     q.bounded = true;
-    Next::At(q)
+    NextLine::At(q)
 }
 
 // L: one, once.
-fn left_line(text: &[u8], p: Progress) -> Next
+fn left_line(text: &[u8], p: TextProgress) -> NextLine
     requires { ⌜ Before (now text) p ⌝ }
     ensures { λ r. ⌜ r ≡ headLine (now (text .entry)) p (p .entered) (pastLeft p) ⌝ }
 {
     if p.entered {
-        return Next::Unreadable;
+        return NextLine::Unreadable;
     }
     let FieldRead::Number(z) = read_number(text, p.at + 1) else {
-        return Next::Unreadable;
+        return NextLine::Unreadable;
     };
     let mut q = p;
     q.at = p.at + 14;
     q.left = word_of(z);
     q.entered = true;
-    Next::At(q)
+    NextLine::At(q)
 }
 
 // The line at which reading stands, if it is none of D and W.
 pub(crate) fn next_line(
     text: &[u8],
-    p: Progress,
+    p: TextProgress,
     instructions: &mut [i32; 2048],
     kerns: &mut [i32; 512],
     entries: &mut [i32; 5040],
-) -> Next
+) -> NextLine
     requires { ⌜ (Before (now text) p) × (getD (now text) (p .at) 0 ≡ 87 → ⊥) ⌝ }
     requires { ⌜ Scanning (now text) p (now instructions) (now kerns) (now entries) ⌝ }
     ensures { λ r. ⌜ Goes (now (text .entry)) p (now (instructions .exit)) (now (kerns .exit)) (now (entries .exit)) r ⌝ }
@@ -121,5 +121,5 @@ pub(crate) fn next_line(
     if letter == 76 {
         return left_line(text, p);
     }
-    Next::Unreadable
+    NextLine::Unreadable
 }

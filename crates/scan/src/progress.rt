@@ -8,7 +8,7 @@ use words::number_of;
 
 // The place of the next line; the numbers of D, R and L, as words (that of -1 where R or L is absent), and whether R and L were read; how many numbers of instructions,
 // kerns and entries.
-pub(crate) struct Progress {
+pub(crate) struct TextProgress {
     pub(crate) at: usize,
     pub(crate) design: u32,
     pub(crate) boundary: u32,
@@ -21,13 +21,13 @@ pub(crate) struct Progress {
 }
 
 // After a line: where the next one stands, or 16.
-pub(crate) enum Next {
-    At(Progress),
+pub(crate) enum NextLine {
+    At(TextProgress),
     Unreadable,
 }
 
 // What a text says beside its lists, at its end.
-pub(crate) fn heads_of(p: Progress, letters: u32) -> TextHeads
+pub(crate) fn heads_of(p: TextProgress, letters: u32) -> TextHeads
     ensures { λ r. ⌜ headNumbers r ≡ headsOf p (numberOf letters) ⌝ }
 {
     TextHeads {

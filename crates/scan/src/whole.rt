@@ -8,8 +8,8 @@ use crate::lines::next_line;
 use crate::numbers::line_ends;
 use crate::numbers::read_letters;
 use crate::numbers::read_number;
-use crate::progress::Next;
-use crate::progress::Progress;
+use crate::progress::NextLine;
+use crate::progress::TextProgress;
 use crate::progress::heads_of;
 use columns::FieldRead;
 use columns::TextRead;
@@ -17,17 +17,17 @@ use words::u8_at;
 use words::word_of;
 
 // D: one number.
-pub(crate) fn first_line(text: &[u8]) -> Next
+pub(crate) fn first_line(text: &[u8]) -> NextLine
     requires { ⌜ length (now text) ≤ 65536 ⌝ }
     ensures { λ r. ⌜ Opens (now (text .entry)) r ⌝ }
 {
     if u8_at(text, 0) != 68 {
-        return Next::Unreadable;
+        return NextLine::Unreadable;
     }
     let FieldRead::Number(z) = read_number(text, 1) else {
-        return Next::Unreadable;
+        return NextLine::Unreadable;
     };
-    Next::At(Progress {
+    NextLine::At(TextProgress {
         at: 14,
         design: word_of(z),
         boundary: 4294967295,
@@ -41,7 +41,7 @@ pub(crate) fn first_line(text: &[u8]) -> Next
 }
 
 // W: as many numbers as there are up to the end of the text.
-fn word_line(text: &[u8], p: Progress, word: &mut [u32; 64]) -> TextRead
+fn word_line(text: &[u8], p: TextProgress, word: &mut [u32; 64]) -> TextRead
     requires { ⌜ Before (now text) p ⌝ }
     ensures { λ r. ⌜ EndsWord (wordOn (drop (p .at + 1) (now (text .entry)))) p (now (word .entry)) r (now (word .exit)) ⌝ }
 {
@@ -66,7 +66,7 @@ fn word_line(text: &[u8], p: Progress, word: &mut [u32; 64]) -> TextRead
 // The lines after D, to lists of zeros.
 pub(crate) fn read_lines(
     text: &[u8],
-    first: Progress,
+    first: TextProgress,
     instructions: &mut [i32; 2048],
     kerns: &mut [i32; 512],
     entries: &mut [i32; 5040],
@@ -82,7 +82,7 @@ pub(crate) fn read_lines(
         if text[at] == 87 {
             return word_line(text, p, word);
         }
-        let Next::At(q) = next_line(text, p, instructions, kerns, entries) else {
+        let NextLine::At(q) = next_line(text, p, instructions, kerns, entries) else {
             return TextRead::Unreadable;
         };
         p = q;
