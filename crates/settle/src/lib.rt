@@ -154,12 +154,17 @@ fn turn(work: &mut [u32], n: usize, p: Progress) -> Progress
     }
 }
 
-// All that is met from row k, which is new. m rows have finished before; answers how many have then.
+// All that is met from row k, which is new. m rows have finished before; answers how many have then. A kern, which most rows have, waits for nothing.
 fn search(work: &mut [u32], n: usize, k: usize, m: usize) -> usize
     requires { ⌜ (Searching n (now work) 0 m) × (k < n) × (at (now work) k 5 ≡ 0) ⌝ }
     ensures { λ r. ⌜ Searched n (now (work .entry)) (now (work .exit)) k r ⌝ }
 {
     open_row(work, k, 0);
+    if get(work, k, 3) == 128 {
+        let right = get(work, k, 1);
+        finish(work, k, m, right, 0);
+        return m + 1;
+    }
     let mut p = Progress { path: 1, done: m };
     while 0 < p.path {
         p = turn(work, n, p);
