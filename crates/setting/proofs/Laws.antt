@@ -90,6 +90,15 @@ module _ (d d′ : List ℤ) (at : ℕ) where
       let n = subst Small e m in
       rw e (h ∙ (λ j. sets d at (pos 0 ∷ number-pos c (omega (arith, n .0)) j ∷ number-pos p (omega (arith, n .1)) j ∷ pos 1 ∷ pos 0 ∷ pos 0 ∷ [])))
 
+  pub put-ligature : {x : Answer} {c p n : ℕ} {a b : Bool} (l r : ℕ) → x ≡ Ligature c p n a b → Small x → numberOf l ≡ bitNumber a → numberOf r ≡ bitNumber b →
+      d′ ≡ sets d at (numberOf 1 ∷ numberOf c ∷ numberOf p ∷ numberOf n ∷ numberOf l ∷ numberOf r ∷ []) → d′ ≡ sets d at (answerReply x .values)
+  put-ligature {x} {c} {p} {n} l r e m f g h =
+      let q = subst Small e m in
+      rw e (h ∙ (λ j. sets d at (pos 1 ∷ number-pos c (omega (arith, q .0)) j ∷ number-pos p (omega (arith, q .1)) j ∷ number-pos n (omega (arith, q .2)) j ∷ f j ∷ g j ∷ [])))
+
+  pub put-kern : {x : Answer} {k : ℤ} (w : ℕ) → x ≡ Kern k → numberOf w ≡ k → d′ ≡ sets d at (numberOf 2 ∷ numberOf w ∷ numberOf 0 ∷ numberOf 0 ∷ numberOf 0 ∷ numberOf 0 ∷ []) → d′ ≡ sets d at (answerReply x .values)
+  put-kern {x} {k} w e q h = rw e (h ∙ (λ j. sets d at (pos 2 ∷ q j ∷ pos 0 ∷ pos 0 ∷ pos 0 ∷ pos 0 ∷ [])))
+
   -- where there is room for them
   module _ (r : at + 6 ≤ length d) where
     six-there : (vs : List ℤ) → d′ ≡ sixAt d at vs → d′ ≡ sets d at vs
@@ -100,15 +109,10 @@ module _ (d d′ : List ℤ) (at : ℕ) where
 
     pub six-ligature : {x : Answer} {c p n : ℕ} {a b : Bool} (l r : ℕ) → x ≡ Ligature c p n a b → Small x → numberOf l ≡ bitNumber a → numberOf r ≡ bitNumber b →
         d′ ≡ sixAt d at (numberOf 1 ∷ numberOf c ∷ numberOf p ∷ numberOf n ∷ numberOf l ∷ numberOf r ∷ []) → d′ ≡ sets d at (answerReply x .values)
-    six-ligature {x} {c} {p} {n} l r e m f g h =
-        let q = subst Small e m in
-        rw e
-        (six-there (numberOf 1 ∷ numberOf c ∷ numberOf p ∷ numberOf n ∷ numberOf l ∷ numberOf r ∷ []) h
-        ∙ (λ j. sets d at (pos 1 ∷ number-pos c (omega (arith, q .0)) j ∷ number-pos p (omega (arith, q .1)) j ∷ number-pos n (omega (arith, q .2)) j ∷ f j ∷ g j ∷ [])))
+    six-ligature {x} {c} {p} {n} l r e m f g h = put-ligature l r e m f g (six-there (numberOf 1 ∷ numberOf c ∷ numberOf p ∷ numberOf n ∷ numberOf l ∷ numberOf r ∷ []) h)
 
     pub six-kern : {x : Answer} {k : ℤ} (w : ℕ) → x ≡ Kern k → numberOf w ≡ k → d′ ≡ sixAt d at (numberOf 2 ∷ numberOf w ∷ numberOf 0 ∷ numberOf 0 ∷ numberOf 0 ∷ numberOf 0 ∷ []) → d′ ≡ sets d at (answerReply x .values)
-    six-kern {x} {k} w e q h =
-        rw e (six-there (numberOf 2 ∷ numberOf w ∷ numberOf 0 ∷ numberOf 0 ∷ numberOf 0 ∷ numberOf 0 ∷ []) h ∙ (λ j. sets d at (pos 2 ∷ q j ∷ pos 0 ∷ pos 0 ∷ pos 0 ∷ pos 0 ∷ [])))
+    six-kern w e q h = put-kern w e q (six-there (numberOf 2 ∷ numberOf w ∷ numberOf 0 ∷ numberOf 0 ∷ numberOf 0 ∷ numberOf 0 ∷ []) h)
 
 -- ---- what a reply tells
 

@@ -24,7 +24,7 @@ use Rattle.captions.specs.Begin.{edgesRefusal, wordRefusal}
 use Rattle.quick.specs.Quick.{plainCode, nextLetter, isQuick, quickLeft, foundPlace, givenPlain}
 use Rattle.quick.proofs.Theorems.{quick-is}
 use Rattle.stretch.specs.declared.Stop.{Stop}
-use Rattle.stretch.specs.Stretch.{least, leading, plainLeft, nextPlace, isFree, letterItem, plainState, movedBy, letterItems, freeLetters, stopPlace, Gave, mostLetters, Stretched}
+use Rattle.stretch.specs.Stretch.{least, leading, plainLeft, nextPlace, isFree, letterItem, plainState, movedBy, letterItems, freeLetters, stopPlace, stopAt, Gave, mostLetters, Stretched}
 use Rattle.stretch.proofs.Theorems.{leading-all, leading-stop, leading-few, state-none, state-more, state-read, state-given, state-op}
 
 module _ (word : List ℕ) (s : State) where
@@ -86,7 +86,7 @@ module _ (pairs : List ℤ) (word : List ℕ) (s : State) (n : ℕ) (items₀ : 
       stop-is b f = rw (lt-ltb i n h, f)
 
       -- a letter out of range
-      pub gave-range : 255 < y → Gave pairs word s n items₀ k (record { left = l; count = i; pair = pairCount pairs }) items
+      pub gave-range : 255 < y → Gave pairs word s n items₀ k (stopAt l i (pairCount pairs)) items
       gave-range o =
           let f : leb (nextLetter word u) 255 ≡ false = rw letter (lt-leb y 255 o) in
           record { count = stopped (rw f); left = g .left; pair = sym (stop-is false f); list = g .list }
@@ -99,7 +99,7 @@ module _ (pairs : List ℤ) (word : List ℕ) (s : State) (n : ℕ) (items₀ : 
         found = (λ j. foundPlace pairs (sym (g .left) j) (letter j)) ∙ sym q
 
         -- a pair
-        pub gave-pair : p < pairCount pairs → Gave pairs word s n items₀ k (record { left = l; count = i; pair = p }) items
+        pub gave-pair : p < pairCount pairs → Gave pairs word s n items₀ k (stopAt l i p) items
         gave-pair m =
             record { count = stopped (rw (in-range, found, lt-leb (pairCount pairs) p m)); left = g .left; pair = sym (stop-is true in-range ∙ found); list = g .list }
 
@@ -123,7 +123,7 @@ module _ (pairs : List ℤ) (word : List ℕ) (s : State) (n : ℕ) (items₀ : 
             }
 
     -- no letter is left
-    pub gave-all : n ≤ i → Gave pairs word s n items₀ k (record { left = l; count = i; pair = pairCount pairs }) items
+    pub gave-all : n ≤ i → Gave pairs word s n items₀ k (stopAt l i (pairCount pairs)) items
     gave-all h =
         let e : i ≡ n = omega (arith, g .few) in
         record {

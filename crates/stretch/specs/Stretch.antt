@@ -86,6 +86,9 @@ freeLetters pairs word s n = leading n (λ i. isFree pairs word (plainState word
 abbrev pub stopPlace : List ℤ → List ℕ → State → ℕ → ℕ → ℕ
 stopPlace pairs word s n m = cond (ltb m n) (nextPlace pairs word (plainState word s m)) (pairCount pairs)
 
+abbrev pub stopAt : ℕ → ℕ → ℕ → Stop
+stopAt left n pair = record { left = left; count = n; pair = pair }
+
 -- what the loop leaves
 pub record Gave (pairs : List ℤ) (word : List ℕ) (s : State) (n : ℕ) (items : List ℤ) (k : ℕ) (r : Stop) (items′ : List ℤ) : Type 0 where
   pub count : r .count ≡ freeLetters pairs word s n

@@ -7,7 +7,7 @@ ghost use lib.ListN.{length, set};
 ghost use lib.Seq.{sets};
 ghost use Rattle.words.specs.Words.{numberOf};
 ghost use Rattle.stretch.specs.Stretch as stretch;
-ghost use Rattle.stretch.specs.Stretch.{sixAt, plainLeft, movedBy, Gave, Stretched};
+ghost use Rattle.stretch.specs.Stretch.{sixAt, plainLeft, movedBy, stopAt, Gave, Stretched};
 use captions::Consumes;
 use captions::NextLeft;
 use captions::RunOptions;
@@ -84,6 +84,7 @@ pub fn put_six(
     write_six(items, at, kind, value, start, count, left, right);
 }
 
+// The smaller of two.
 fn least(a: usize, b: usize) -> usize
     ensures { λ r. ⌜ r ≡ stretch.least a b ⌝ }
 {
@@ -95,6 +96,17 @@ fn minus(a: usize, b: usize) -> usize
     ensures { λ r. ⌜ r ≡ a - b ⌝ }
 {
     if a < b { 0 } else { a - b }
+}
+
+// Where a stretch of n letters ends.
+fn stop_at(left: u32, n: usize, pair: usize) -> Stop
+    ensures { λ r. ⌜ r ≡ stopAt left n pair ⌝ }
+{
+    Stop {
+        left: left,
+        count: n,
+        pair: pair,
+    }
 }
 
 // At most n letters that are free are given, from item k on.
@@ -117,29 +129,17 @@ fn give(
         let at = s.read + i;
         let y = word[at];
         if 255 < y {
-            return Stop {
-                left: l,
-                count: i,
-                pair: none,
-            };
+            return stop_at(l, i, none);
         }
         let p = found_place(pairs, l, y);
         if p < none {
-            return Stop {
-                left: l,
-                count: i,
-                pair: p,
-            };
+            return stop_at(l, i, p);
         }
         write_six(items, 6 * (k + i), 0, l - 1, (s.given + i) as u32, 1, 0, 0);
         l = y + 1;
         i += 1;
     }
-    Stop {
-        left: l,
-        count: i,
-        pair: none,
-    }
+    stop_at(l, i, none)
 }
 
 // The state once n letters more are given, by the left that is then next.

@@ -1,11 +1,13 @@
 -- `stretch::give` meets its contract. The loop's invariant: the letters so far were free and are given, and `l` is the left that is next. The measure is what is left of
 -- n.
 -- Assumes nothing.
-use mathlib.Core.Path.{_≡_, refl}
+use mathlib.Core.Path.{refl, sym, subst}
 use Prim.Native.Nat.{_+_, _-_}
 use native.Mathlib.Omega.{arith}
 use lib.ListN.{length, getD}
 use denote.Ref.{now}
+use Rattle.stretch.specs.declared.Stop.{Stop}
+use Rattle.stretch.specs.Stretch.{Gave}
 use Rattle.stretch.proofs.Laws.{Giving, giving-none, giving-length, giving-more, gave-range, gave-pair, gave-all}
 use Rattle.stretch.proofs.give.Statement.{statement}
 use Rattle.stretch.proofs.give.Tie as tie
@@ -28,28 +30,38 @@ mul-y c = omega arith
 shared-slice-read-y : tie.Need-shared-slice-read-y Inv-loop μ-loop
 shared-slice-read-y c = omega arith
 
+stop-at-requires : tie.Need-stop-at-requires Inv-loop μ-loop
+stop-at-requires c κs = tt
+
 same-length : tie.Need-same-length Inv-loop μ-loop
 same-length c =
-    let l = c .before .before .before .before in
-    let a = c .before .before .before .before .before .before .args in omega (arith, giving-length (now (a .pairs)) (now (a .word)) (a .s) (a .n) (a .items .now) (a .k) (l .loop .l) (l .loop .items) (l .loop .i) (l .loop .inv))
+    let l = c .before .before .before .before .before in
+    let a = c .before .before .before .before .before .before .before .args in omega (arith, giving-length (now (a .pairs)) (now (a .word)) (a .s) (a .n) (a .items .now) (a .k) (l .loop .l) (l .loop .items) (l .loop .i) (l .loop .inv))
 
 returns : tie.Need-returns Inv-loop μ-loop
 returns c =
-    let l = c .before .before .before .before in
-    let a = c .before .before .before .before .before .before .args in gave-range (now (a .pairs)) (now (a .word)) (a .s) (a .n) (a .items .now) (a .k) (l .loop .l) (l .loop .items) (l .loop .i) (l .loop .inv) (c .before .before .before .loop-test .taken) (getD (now (a .word)) (a .s .read + l .loop .i) 0) refl (c .if1 .taken)
+    let l = c .before .before .before .before .before in
+    let a = c .before .before .before .before .before .before .before .args in
+    subst (λ (r : Stop). Gave (now (a .pairs)) (now (a .word)) (a .s) (a .n) (a .items .now) (a .k) r (l .loop .items)) (sym (c .stop-at .ensures))
+    (gave-range (now (a .pairs)) (now (a .word)) (a .s) (a .n) (a .items .now) (a .k) (l .loop .l) (l .loop .items) (l .loop .i) (l .loop .inv) (c .before .before .before .before .loop-test .taken) (getD (now (a .word)) (a .s .read + l .loop .i) 0) refl (c .before .if1 .taken))
 
 found-place-requires : tie.Need-found-place-requires Inv-loop μ-loop
 found-place-requires c κs = tt
 
+stop-at-requires-2 : tie.Need-stop-at-requires-2 Inv-loop μ-loop
+stop-at-requires-2 c κs = tt
+
 same-length-2 : tie.Need-same-length-2 Inv-loop μ-loop
 same-length-2 c =
-    let l = c .before .before .before .before .before .before in
-    let a = c .before .before .before .before .before .before .before .before .args in omega (arith, giving-length (now (a .pairs)) (now (a .word)) (a .s) (a .n) (a .items .now) (a .k) (l .loop .l) (l .loop .items) (l .loop .i) (l .loop .inv))
+    let l = c .before .before .before .before .before .before .before in
+    let a = c .before .before .before .before .before .before .before .before .before .args in omega (arith, giving-length (now (a .pairs)) (now (a .word)) (a .s) (a .n) (a .items .now) (a .k) (l .loop .l) (l .loop .items) (l .loop .i) (l .loop .inv))
 
 returns-2 : tie.Need-returns-2 Inv-loop μ-loop
 returns-2 c =
-    let l = c .before .before .before .before .before .before in
-    let a = c .before .before .before .before .before .before .before .before .args in gave-pair (now (a .pairs)) (now (a .word)) (a .s) (a .n) (a .items .now) (a .k) (l .loop .l) (l .loop .items) (l .loop .i) (l .loop .inv) (c .before .before .before .before .before .loop-test .taken) (getD (now (a .word)) (a .s .read + l .loop .i) 0) refl (c .before .before .if1 .left) (c .before .found-place .result) (c .before .found-place .ensures) (c .if2 .taken)
+    let l = c .before .before .before .before .before .before .before in
+    let a = c .before .before .before .before .before .before .before .before .before .args in
+    subst (λ (r : Stop). Gave (now (a .pairs)) (now (a .word)) (a .s) (a .n) (a .items .now) (a .k) r (l .loop .items)) (sym (c .stop-at2 .ensures))
+    (gave-pair (now (a .pairs)) (now (a .word)) (a .s) (a .n) (a .items .now) (a .k) (l .loop .l) (l .loop .items) (l .loop .i) (l .loop .inv) (c .before .before .before .before .before .before .loop-test .taken) (getD (now (a .word)) (a .s .read + l .loop .i) 0) refl (c .before .before .before .if1 .left) (c .before .before .found-place .result) (c .before .before .found-place .ensures) (c .before .if2 .taken))
 
 add-write-six : tie.Need-add-write-six Inv-loop μ-loop
 add-write-six c =
@@ -101,15 +113,18 @@ loop-again c =
     let l = c .before .before .before .before .before .before .before .before .before .before in
     let a = c .before .before .before .before .before .before .before .before .before .before .before .before .args in giving-more (now (a .pairs)) (now (a .word)) (a .s) (a .n) (a .items .now) (a .k) (l .loop .l) (l .loop .items) (l .loop .i) (l .loop .inv) (c .before .before .before .before .before .before .before .before .before .loop-test .taken) (getD (now (a .word)) (a .s .read + l .loop .i) 0) refl (c .before .before .before .before .before .before .if1 .left) (c .before .before .before .before .before .found-place .result) (c .before .before .before .before .before .found-place .ensures) (c .before .before .before .before .if2 .left) (c .before .write-six .last .0) (c .before .write-six .ensures)
 
+stop-at-requires-3 : tie.Need-stop-at-requires-3 Inv-loop μ-loop
+stop-at-requires-3 c κs = tt
+
 same-length-3 : tie.Need-same-length-3 Inv-loop μ-loop
 same-length-3 c =
-    let l = c .before in
-    let a = c .before .before .before .args in omega (arith, giving-length (now (a .pairs)) (now (a .word)) (a .s) (a .n) (a .items .now) (a .k) (l .loop .l) (l .loop .items) (l .loop .i) (l .loop .inv))
+    let l = c .before .before in
+    let a = c .before .before .before .before .args in omega (arith, giving-length (now (a .pairs)) (now (a .word)) (a .s) (a .n) (a .items .now) (a .k) (l .loop .l) (l .loop .items) (l .loop .i) (l .loop .inv))
 
 returns-3 : tie.Need-returns-3 Inv-loop μ-loop
 returns-3 c =
-    let l = c .before in
-    let a = c .before .before .before .args in gave-all (now (a .pairs)) (now (a .word)) (a .s) (a .n) (a .items .now) (a .k) (l .loop .l) (l .loop .items) (l .loop .i) (l .loop .inv) (c .loop-test .left)
+    let l = c .before .before in
+    let a = c .before .before .before .before .args in subst (λ (r : Stop). Gave (now (a .pairs)) (now (a .word)) (a .s) (a .n) (a .items .now) (a .k) r (l .loop .items)) (sym (c .stop-at3 .ensures)) (gave-all (now (a .pairs)) (now (a .word)) (a .s) (a .n) (a .items .now) (a .k) (l .loop .l) (l .loop .items) (l .loop .i) (l .loop .inv) (c .before .loop-test .left))
 
 pub give-spec : {M : Type 1} → statement M
 give-spec =
@@ -121,9 +136,11 @@ give-spec =
     add-at
     mul-y
     shared-slice-read-y
+    stop-at-requires
     same-length
     returns
     found-place-requires
+    stop-at-requires-2
     same-length-2
     returns-2
     add-write-six
@@ -136,5 +153,6 @@ give-spec =
     add-i
     loop-less
     loop-again
+    stop-at-requires-3
     same-length-3
     returns-3)
