@@ -29,7 +29,7 @@ use Rattle.setting.specs.Writing.{isItem, Small, Stops, Tells}
 use Rattle.setting.proofs.Laws.{item-then, item-six}
 use Rattle.indexed.specs.Indexed.{indexedStepOf}
 use Rattle.indexed_setting.specs.Whole.{itemsBy, indexedReply}
-use Rattle.indexed_setting.specs.Running.{Runs, none, more}
+use Rattle.plain_letters.specs.Running.{Runs, none, more}
 
 no : {A : Type 0} → _≡_ {A = Bool} false true → A
 no e = absurd (let z : _≡_ {A = ℕ} 0 1 = cc in omega arith)

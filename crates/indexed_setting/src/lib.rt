@@ -1,7 +1,6 @@
 // A word set whole by an index over its table: what `set_word` of crate setting does, with the steps of crate indexed. Letters that have no pair with the
-// character left of them are set in a loop of their own.
+// character left of them are set by crate plain_letters.
 //   writing  one item, and what is answered where a run stops
-//   letters  letters that have no pair, one after the other
 ghost use mathlib.Core.Path.{_≡_};
 ghost use Prim.Native.Nat.{_/_};
 ghost use lib.IntN.{pos};
@@ -10,7 +9,6 @@ ghost use Rattle.setting.specs.Writing.{Tells};
 ghost use Rattle.indexed.specs.Indexed.{indexedStepOf};
 ghost use Rattle.indexed_setting.specs.Whole.{itemsBy, indexedReply};
 
-mod letters;
 mod writing;
 
 use captions::Answer;
@@ -19,8 +17,8 @@ use captions::RunOptions;
 use captions::State;
 use indexed::step_indexed;
 use lang::Written;
-use letters::set_letters;
 use ligkern::begin::begin;
+use plain_letters::set_letters;
 use words::zero::zero_i32;
 use writing::is_item;
 use writing::put_item;

@@ -1,15 +1,15 @@
 // One item written, and what is answered where a run stops.
 ghost use mathlib.Core.Path.{_≡_};
 ghost use mathlib.Core.List.{[], _∷_};
-ghost use Prim.Native.Nat.{_+_, _<_, _≤_};
-ghost use lib.ListN.{length, set};
+ghost use Prim.Native.Nat.{_+_, _≤_};
+ghost use lib.ListN.{length};
 ghost use lib.Seq.{sets};
 ghost use Rattle.words.specs.Words.{numberOf};
 ghost use Rattle.captions.specs.Replies.{bitNumber, answerReply};
 ghost use Rattle.setting.specs.Writing.{isItem, Small, Stops};
 use captions::Answer;
 use lang::Written;
-use words::number_of;
+use words::put_word;
 use words::word_of;
 use words::zero::zero_i32;
 
@@ -33,15 +33,6 @@ fn bit(flag: bool) -> u32
     if flag { 1 } else { 0 }
 }
 
-// Number i, which is there, becomes the one whose bits are w.
-fn put_at(items: &mut [i32], i: usize, w: u32)
-    requires { ⌜ i < length (now items) ⌝ }
-    ensures { λ _. ⌜ now (items .exit) ≡ set (now (items .entry)) i (numberOf w) ⌝ }
-{
-    let x = number_of(w);
-    items[i] = x;
-}
-
 // Six numbers at a place.
 fn put_six(
     items: &mut [i32],
@@ -56,12 +47,12 @@ fn put_six(
     requires { ⌜ at + 6 ≤ length (now items) ⌝ }
     ensures { λ _. ⌜ now (items .exit) ≡ sets (now (items .entry)) at (numberOf kind ∷ numberOf value ∷ numberOf start ∷ numberOf count ∷ numberOf left ∷ numberOf right ∷ []) ⌝ }
 {
-    put_at(items, at, kind);
-    put_at(items, at + 1, value);
-    put_at(items, at + 2, start);
-    put_at(items, at + 3, count);
-    put_at(items, at + 4, left);
-    put_at(items, at + 5, right);
+    put_word(items, at, kind);
+    put_word(items, at + 1, value);
+    put_word(items, at + 2, start);
+    put_word(items, at + 3, count);
+    put_word(items, at + 4, left);
+    put_word(items, at + 5, right);
 }
 
 // The numbers of an item at a place; the end and a refusal have none.

@@ -27,10 +27,6 @@ Inv-loop index pairs ops boundary word options items₀ s₀ k₀ items s k = St
 abbrev μ-loop : tie.MeasureT-loop
 μ-loop index pairs ops boundary word options items₀ s₀ k₀ items s k = length items₀ / 6 - k
 
--- the list keeps its length
-kept : (c : tie.At-loop Inv-loop μ-loop) → length (c .loop .items) ≡ length (c .before .before .before .args .items .now)
-kept c = appending-length (c .before .before .before .args .items .now) (c .loop .inv .stored)
-
 -- where the run stands after the letters that have no pair
 stands : (c : tie.After-step-indexed Inv-loop μ-loop) → Standing (indexedStepOf (c .before .before .before .before .before .before .before .before .args .index .now) (c .before .before .before .before .before .before .before .before .args .pairs .now) (c .before .before .before .before .before .before .before .before .args .ops .now) (numberOf (wordOf (c .before .before .before .before .before .before .before .before .args .boundary))) (c .before .before .before .before .before .before .before .before .args .word .now) (c .before .before .before .before .before .before .before .before .args .options)) (c .before .before .before .before .before .before .before .before .args .state) (c .before .before .before .before .before .before .before .before .args .items .now) (c .before .before .before .set-letters .last .1 .1 .1 .1 .1 .1 .0) (c .before .before .before .set-letters .result .state) (c .before .before .before .set-letters .result .count)
 stands c = standing-runs (indexedStepOf (c .before .before .before .before .before .before .before .before .args .index .now) (c .before .before .before .before .before .before .before .before .args .pairs .now) (c .before .before .before .before .before .before .before .before .args .ops .now) (numberOf (wordOf (c .before .before .before .before .before .before .before .before .args .boundary))) (c .before .before .before .before .before .before .before .before .args .word .now) (c .before .before .before .before .before .before .before .before .args .options)) (c .before .before .before .before .before .before .before .before .args .state) (c .before .before .before .before .before .before .before .before .args .items .now) (c .before .before .before .set-letters .ensures (c .before .before .before .before .before .before .before .before .args .pairs .now)) (c .before .before .before .before .before .loop .inv)
@@ -53,9 +49,7 @@ loop-holds c =
     standing-none (indexedStepOf (a .index .now) (a .pairs .now) (a .ops .now) (numberOf (wordOf (a .boundary))) (a .word .now) (a .options)) (a .state) (a .items .now)
 
 set-letters-requires : tie.Need-set-letters-requires Inv-loop μ-loop
-set-letters-requires c κs =
-    let l = c .before in
-    omega (arith, kept l, l .loop .inv .few)
+set-letters-requires c κs = search needs
 
 step-indexed-requires : tie.Need-step-indexed-requires Inv-loop μ-loop
 step-indexed-requires c κs = search needs

@@ -1,20 +1,23 @@
-// Letters that have no pair with the character left of them, one after the other: that character is given for each.
+// Letters that have no pair with the character left of them, by an index over the table: that character is given for each, one after the other. The steps of crate
+// indexed, in a loop of their own.
 ghost use mathlib.Core.Path.{_≡_};
-ghost use mathlib.Core.Bool.{true};
 ghost use mathlib.Core.List.{List};
-ghost use Prim.Native.Nat.{ℕ, _+_, _*_, _/_, _<_, _≤_};
+ghost use Prim.Native.Nat.{_+_, _/_, _<_, _≤_};
 ghost use lib.IntN.{ℤ};
-ghost use lib.ListN.{length};
+ghost use lib.ListN.{length, set};
+ghost use lib.Seq.{sets};
+ghost use Rattle.words.specs.Words.{numberOf};
+ghost use Rattle.captions.specs.declared.Answer.the-variants.{Char};
+ghost use Rattle.captions.specs.Replies.{answerReply};
 ghost use Rattle.indexed.specs.Indexed.{indexedStepOf};
-ghost use Rattle.indexed_setting.specs.Running.{Runs, lettersState, PlainSet};
-use crate::writing::put_item;
-use captions::Answer;
+ghost use Rattle.plain_letters.specs.Running.{Runs, lettersState, PlainSet};
 use captions::Consumes;
 use captions::NextLeft;
 use captions::RunOptions;
 use captions::State;
 use index::has_bit;
 use quick::left::quick_left;
+use words::number_of;
 
 // How many letters were set as they stand, and the character that is next.
 struct Letters {
@@ -26,6 +29,28 @@ struct Letters {
 pub struct Stretch {
     pub state: State,
     pub count: usize,
+}
+
+// Number i, which is there, becomes the one whose bits are w.
+fn put_at(items: &mut [i32], i: usize, w: u32)
+    requires { ⌜ i < length (now items) ⌝ }
+    ensures { λ _. ⌜ now (items .exit) ≡ set (now (items .entry)) i (numberOf w) ⌝ }
+{
+    let x = number_of(w);
+    items[i] = x;
+}
+
+// The six numbers of a character at a place.
+fn put_character(items: &mut [i32], at: usize, c: u32, start: usize)
+    requires { ⌜ (at + 6 ≤ length (now items)) × (c ≤ 255) × (start ≤ 65535) ⌝ }
+    ensures { λ _. ⌜ now (items .exit) ≡ sets (now (items .entry)) at (answerReply (Char c start) .values) ⌝ }
+{
+    put_at(items, at, 0);
+    put_at(items, at + 1, c);
+    put_at(items, at + 2, start as u32);
+    put_at(items, at + 3, 1);
+    put_at(items, at + 4, 0);
+    put_at(items, at + 5, 0);
 }
 
 // The state after n letters that were set as they stand: the character c is next.
@@ -72,7 +97,7 @@ fn set_plain(
         if has_bit(index, c + 1, y) {
             return Letters { code: c, count: n };
         }
-        put_item(items, 6 * (k + n), Answer::Char(c, given + n));
+        put_character(items, 6 * (k + n), c, given + n);
         c = y;
         n += 1;
     }
@@ -86,7 +111,7 @@ fn smaller(a: usize, b: usize) -> usize
 }
 
 // The letters from a state on that have no pair; none where the state is not quick.
-pub(crate) fn set_letters(
+pub fn set_letters(
     index: &[u64],
     ops: &[i32],
     boundary: i32,
@@ -96,11 +121,11 @@ pub(crate) fn set_letters(
     items: &mut [i32],
     count: usize,
 ) -> Stretch
-    requires { ⌜ count ≤ length (now items) / 6 ⌝ }
     ensures { λ r. ⌜ ((pairs : List ℤ) → Runs (indexedStepOf (now (index .entry)) pairs (now (ops .entry)) boundary (now (word .entry)) options) state count (now (items .entry)) (r .state) (r .count) (now (items .exit))) ⌝ }
 {
     let left = quick_left(ops, boundary, word, options, state);
-    if left == 0 {
+    let room = items.len() / 6;
+    if left == 0 || room < count {
         return Stretch {
             state: state,
             count: count,
@@ -108,7 +133,7 @@ pub(crate) fn set_letters(
     }
     let read = state.read;
     let given = state.given;
-    let most = smaller(items.len() / 6 - count, word.len() - read);
+    let most = smaller(room - count, word.len() - read);
     let set = set_plain(index, word, left - 1, read, given, items, count, most);
     let after = after_letters(set.code, set.count, state);
     Stretch {

@@ -30,7 +30,7 @@ use Rattle.index.specs.declared.Looked.{Looked}
 use Rattle.index.specs.declared.Looked.the-variants.{Missing}
 use Rattle.index.specs.Index.{hasBit, lookedUp}
 use Rattle.indexed.specs.Indexed.{lookedStep, indexedStepOf}
-use Rattle.indexed_setting.specs.Running.{Runs, none, more, lettersState, Going, PlainSet}
+use Rattle.plain_letters.specs.Running.{Runs, none, more, lettersState, Going, PlainSet}
 
 -- a quick state
 module _ (ops : List ℤ) (boundary : ℤ) (word : List ℕ) (options : RunOptions) where

@@ -1,4 +1,4 @@
--- What the functions below set_word_indexed do: some steps of a run, whose items are written after k others.
+-- Some steps of a run, whose items are written after k others; and letters that have no bit with the character left of them, each a step by the index.
 use mathlib.Core.Path.{_≡_}
 use mathlib.Core.Bool.{true, false}
 use mathlib.Core.List.{List}

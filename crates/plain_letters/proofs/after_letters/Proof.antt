@@ -1,11 +1,11 @@
--- `indexed_setting::letters::after_letters` meets its contract, by whether there are letters.
+-- `plain_letters::after_letters` meets its contract, by whether there are letters.
 -- Assumes nothing.
 use mathlib.Core.Path.{refl, ap}
-use Rattle.indexed_setting.specs.Running.{lettersState}
-use Rattle.indexed_setting.proofs.Running.{letters-some}
+use Rattle.plain_letters.specs.Running.{lettersState}
+use Rattle.plain_letters.proofs.Running.{letters-some}
 use borrow.Author.Needs.{needs}
-use Rattle.indexed_setting.proofs.letters.after_letters.Statement.{statement}
-use Rattle.indexed_setting.proofs.letters.after_letters.Tie as tie
+use Rattle.plain_letters.proofs.after_letters.Statement.{statement}
+use Rattle.plain_letters.proofs.after_letters.Tie as tie
 
 returns : tie.Need-returns
 returns c = search needs

@@ -1,4 +1,4 @@
--- `indexed_setting::writing::put_at` meets its contract: the number that is stored is the one whose bits were passed.
+-- `plain_letters::put_at` meets its contract: the number that is stored is the one whose bits were passed.
 -- Assumes nothing.
 use mathlib.Core.Path.{_≡_, ap}
 use Prim.Native.Nat.{ℕ, _<_, _^_}
@@ -11,8 +11,8 @@ use denote.Ref.{now}
 use Rattle.words.specs.Words.{numberOf}
 use Rattle.words.proofs.Bits.{number-fits}
 use borrow.Author.Needs.{needs}
-use Rattle.indexed_setting.proofs.writing.put_at.Statement.{statement}
-use Rattle.indexed_setting.proofs.writing.put_at.Tie as tie
+use Rattle.plain_letters.proofs.put_at.Statement.{statement}
+use Rattle.plain_letters.proofs.put_at.Tie as tie
 
 stored : (w : ℕ) (z : ℤ) → z ≡ numberOf w → w < 2 ^ 32 → toZ w32 (ofZ w32 z) ≡ numberOf w
 stored w z e l = rw e (toZ-ofZ w32 (numberOf w) (number-fits w l))
