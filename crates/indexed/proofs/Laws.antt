@@ -16,6 +16,7 @@ use Rattle.captions.specs.declared.Step.{Step}
 use Rattle.captions.specs.Replies.{answerReply, isEnd}
 use Rattle.captions.specs.Tables.{pairCount}
 use Rattle.captions.specs.Steps.{refused, stepOf}
+use Rattle.captions.proofs.Replies.{answer-determined}
 use Rattle.quick.specs.Quick.{plainCode, nextLetter, isPlain, hasLetter, isQuick, quickLeft, isEntered, isReady, givenPlain, givenFirst, quickStep}
 use Rattle.index.specs.declared.Looked.{Looked}
 use Rattle.index.specs.declared.Looked.the-variants.{Missing, At, Wrong}
@@ -27,6 +28,11 @@ module _ (index : List ℕ) (pairs ops : List ℤ) (boundary : ℤ) (word : List
   pub answered-as : {r : Step} → r ≡ indexedStepOf index pairs ops boundary word options s → IndexedStepped index pairs ops boundary word options s r
   answered-as e =
       record { reply = ap (λ (t : Step). answerReply (t .answer)) e; ends = ap (λ (t : Step). isEnd (t .answer)) e; state = ap (λ (t : Step). t .state) e }
+
+  -- what meets the contract is the step of the definition
+  pub answered-is : {r : Step} → IndexedStepped index pairs ops boundary word options s r → r ≡ indexedStepOf index pairs ops boundary word options s
+  answered-is {r} h i =
+      record { answer = answer-determined (r .answer) (indexedStepOf index pairs ops boundary word options s .answer) (h .reply) (h .ends) i; state = h .state i }
 
   -- a state that is not quick
   pub other-is : {l : ℕ} {t : Step} → l ≡ quickLeft ops boundary word options s → l ≡ 0 → t ≡ stepOf pairs ops boundary word options s → t ≡ indexedStepOf index pairs ops boundary word options s

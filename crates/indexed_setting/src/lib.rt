@@ -1,0 +1,79 @@
+// A word set whole by an index over its table: what `set_word` of crate setting does, with the steps of crate indexed. Letters that have no pair with the
+// character left of them are set by crate plain_letters.
+//   writing  one item, and what is answered where a run stops
+ghost use mathlib.Core.Path.{_≡_};
+ghost use Prim.Native.Nat.{_/_};
+ghost use lib.IntN.{pos};
+ghost use lib.ListN.{length, replicate};
+ghost use Rattle.setting.specs.Writing.{Tells};
+ghost use Rattle.indexed.specs.Indexed.{indexedStepOf};
+ghost use Rattle.indexed_setting.specs.Whole.{itemsBy, indexedReply};
+
+mod writing;
+
+use captions::Answer;
+use captions::Begun;
+use captions::RunOptions;
+use captions::State;
+use indexed::step_indexed;
+use lang::Written;
+use ligkern::begin::begin;
+use plain_letters::set_letters;
+use words::zero::zero_i32;
+use writing::is_item;
+use writing::put_item;
+use writing::stopped;
+
+// The items from a state on, in a list of zeros.
+fn set_from(
+    index: &[u64],
+    pairs: &[i32],
+    ops: &[i32],
+    boundary: i32,
+    word: &[u32],
+    options: RunOptions,
+    state: State,
+    items: &mut [i32],
+) -> Written
+    requires { ⌜ now items ≡ replicate (length (now items)) (pos 0) ⌝ }
+    ensures { λ r. ⌜ Tells (itemsBy (indexedStepOf (now (index .entry)) (now (pairs .entry)) (now (ops .entry)) boundary (now (word .entry)) options) (length (now (items .entry)) / 6) state) (now (items .entry)) r (now (items .exit)) ⌝ }
+{
+    let mut s = state;
+    let mut k = 0;
+    loop {
+        let stretch = set_letters(index, ops, boundary, word, options, s, items, k);
+        let at = stretch.state;
+        let count = stretch.count;
+        let stepped = step_indexed(index, pairs, ops, boundary, word, options, at);
+        let answer = stepped.answer;
+        if !is_item(answer) {
+            return stopped(items, count, answer);
+        }
+        if items.len() / 6 <= count {
+            return stopped(items, count, Answer::Refused(15));
+        }
+        put_item(items, 6 * count, answer);
+        s = stepped.state;
+        k = count + 1;
+    }
+}
+
+// The items of a word up to its end, six numbers each as a T line has them, with zeros after them. Answers how many there are. Begin's numbers, then those of
+// the steps, then 15.
+pub fn set_word_indexed(
+    index: &[u64],
+    pairs: &[i32],
+    ops: &[i32],
+    boundary: i32,
+    word: &[u32],
+    options: RunOptions,
+    items: &mut [i32],
+) -> Written
+    ensures { λ r. ⌜ Tells (indexedReply (now (index .entry)) (now (pairs .entry)) (now (ops .entry)) boundary (now (word .entry)) options (length (now (items .entry)))) (now (items .entry)) r (now (items .exit)) ⌝ }
+{
+    zero_i32(items);
+    match begin(pairs, ops, boundary, word, options) {
+        Begun::Run(state) => set_from(index, pairs, ops, boundary, word, options, state, items),
+        Begun::Refused(n) => Written::Refused(n),
+    }
+}

@@ -1,0 +1,116 @@
+-- `plain_letters::set_plain` meets its contract. The loop's invariant: the letters passed were set as they stand. The measure is what is left of them.
+-- Assumes nothing.
+use mathlib.Core.Path.{refl, sym, _∙_}
+use Prim.Native.Nat.{_+_, _-_, _/_, _<_, _≤_}
+use native.Mathlib.Omega.{arith}
+use lib.ListN.{length}
+use denote.Ref.{now}
+use Rattle.plain_letters.specs.Running.{PlainSet}
+use Rattle.plain_letters.proofs.Running.{plain-none, plain-more}
+use borrow.Author.Needs.{needs}
+use Rattle.plain_letters.proofs.set_plain.Statement.{statement}
+use Rattle.plain_letters.proofs.set_plain.Tie as tie
+
+abbrev Inv-loop : tie.InvT-loop
+Inv-loop index word code read given items₀ k most c₀ n₀ items c n = PlainSet index word code read given k most items₀ c n items
+
+abbrev μ-loop : tie.MeasureT-loop
+μ-loop index word code read given items₀ k most c₀ n₀ items c n = most - n
+
+loop-holds : tie.Need-loop-holds Inv-loop μ-loop
+loop-holds c =
+    let a = c .before .before in
+    plain-none (now (a .args .index)) (now (a .args .word)) (a .args .code) (a .args .read) (a .args .given) (a .args .k) (a .args .most) (now (a .args .items)) (a .pre .0)
+
+-- there is a letter, and room for its item
+inside : (c : tie.In-loop Inv-loop μ-loop) → let l = c .before in let a = l .before .before .before .args in (a .read + l .loop .n < length (a .word .now)) × (a .given + l .loop .n ≤ 65535) × (a .k + l .loop .n < length (l .loop .items) / 6) × (l .loop .c ≤ 255)
+inside c =
+    let i = c .before .loop .inv in
+    let p = c .before .before .before .before .pre in
+    let t = c .loop-test .taken in
+    (omega (arith, p .1), omega (arith, p .2), omega (arith, p .3, i .same), i .small)
+
+add-y : tie.Need-add-y Inv-loop μ-loop
+add-y c = omega (arith, inside c .0)
+
+mul-y : tie.Need-mul-y Inv-loop μ-loop
+mul-y c = omega (arith, inside c .0, c .before .before .before .before .good .1 .0 .1)
+
+shared-slice-read-y : tie.Need-shared-slice-read-y Inv-loop μ-loop
+shared-slice-read-y c = inside (c .before) .0
+
+same-length : tie.Need-same-length Inv-loop μ-loop
+same-length c = c .before .before .before .loop .inv .same
+
+returns : tie.Need-returns Inv-loop μ-loop
+returns c = c .before .before .before .loop .inv
+
+add-has-bit : tie.Need-add-has-bit Inv-loop μ-loop
+add-has-bit c = omega (arith, inside (c .before .before) .3)
+
+has-bit-requires : tie.Need-has-bit-requires Inv-loop μ-loop
+has-bit-requires c κs = search needs
+
+same-length-2 : tie.Need-same-length-2 Inv-loop μ-loop
+same-length-2 c = c .before .before .before .before .before .loop .inv .same
+
+returns-2 : tie.Need-returns-2 Inv-loop μ-loop
+returns-2 c = c .before .before .before .before .before .loop .inv
+
+add-put-character : tie.Need-add-put-character Inv-loop μ-loop
+add-put-character c = omega (arith, inside (c .before .before .before .before .before) .2, c .before .before .before .before .before .before .loop .inv .same)
+
+mul-put-character : tie.Need-mul-put-character Inv-loop μ-loop
+mul-put-character c = omega (arith, inside (c .before .before .before .before .before) .2, c .before .before .before .before .before .before .loop .inv .same)
+
+add-put-character-2 : tie.Need-add-put-character-2 Inv-loop μ-loop
+add-put-character-2 c = omega (arith, inside (c .before .before .before .before .before) .1)
+
+put-character-requires : tie.Need-put-character-requires Inv-loop μ-loop
+put-character-requires c κs = let i = inside (c .before .before .before .before .before) in (omega (arith, i .2), i .3, i .1)
+
+add-n : tie.Need-add-n Inv-loop μ-loop
+add-n c = omega (arith, inside (c .before .before .before .before .before .before .before) .0)
+
+loop-less : tie.Need-loop-less Inv-loop μ-loop
+loop-less c = omega (arith, c .before .before .before .before .before .before .before .loop-test .taken)
+
+loop-again : tie.Need-loop-again Inv-loop μ-loop
+loop-again c =
+    let l = c .before .before .before .before .before .before .before .before in
+    let e = c .before .before .before .before .before in
+    let a = l .before .before .before in
+    plain-more (now (a .args .index)) (now (a .args .word)) (a .args .code) (a .args .read) (a .args .given) (a .args .k) (a .args .most) (now (a .args .items)) (l .loop .inv) (c .before .before .before .before .before .before .before .loop-test .taken) (a .pre .1) (a .pre .3) refl (e .if1 .left)
+    (sym (c .before .before .before .before .has-bit .ensures) ∙ c .before .before .before .if2 .left) (c .before .put-character .ensures)
+
+same-length-3 : tie.Need-same-length-3 Inv-loop μ-loop
+same-length-3 c = c .before .loop .inv .same
+
+returns-3 : tie.Need-returns-3 Inv-loop μ-loop
+returns-3 c = c .before .loop .inv
+
+pub set-plain-spec : {M : Type 1} → statement M
+set-plain-spec =
+    tie.close
+    (tie.spec
+    Inv-loop
+    μ-loop
+    loop-holds
+    add-y
+    mul-y
+    shared-slice-read-y
+    same-length
+    returns
+    add-has-bit
+    has-bit-requires
+    same-length-2
+    returns-2
+    add-put-character
+    mul-put-character
+    add-put-character-2
+    put-character-requires
+    add-n
+    loop-less
+    loop-again
+    same-length-3
+    returns-3)

@@ -1,0 +1,2 @@
+-- Some steps of a run, and letters that are set as they stand: Running.
+pub mod Running

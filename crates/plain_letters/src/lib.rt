@@ -1,0 +1,143 @@
+// Letters that have no pair with the character left of them, by an index over the table: that character is given for each, one after the other. The steps of crate
+// indexed, in a loop of their own.
+ghost use mathlib.Core.Path.{_≡_};
+ghost use mathlib.Core.List.{List};
+ghost use Prim.Native.Nat.{_+_, _/_, _<_, _≤_};
+ghost use lib.IntN.{ℤ};
+ghost use lib.ListN.{length, set};
+ghost use lib.Seq.{sets};
+ghost use Rattle.words.specs.Words.{numberOf};
+ghost use Rattle.captions.specs.declared.Answer.the-variants.{Char};
+ghost use Rattle.captions.specs.Replies.{answerReply};
+ghost use Rattle.indexed.specs.Indexed.{indexedStepOf};
+ghost use Rattle.plain_letters.specs.Running.{Runs, lettersState, PlainSet};
+use captions::Consumes;
+use captions::NextLeft;
+use captions::RunOptions;
+use captions::State;
+use index::has_bit;
+use quick::left::quick_left;
+use words::number_of;
+
+// How many letters were set as they stand, and the character that is next.
+struct Letters {
+    code: u32,
+    count: usize,
+}
+
+// Where a run stands, and how many items it has given.
+pub struct Stretch {
+    pub state: State,
+    pub count: usize,
+}
+
+// Number i, which is there, becomes the one whose bits are w.
+fn put_at(items: &mut [i32], i: usize, w: u32)
+    requires { ⌜ i < length (now items) ⌝ }
+    ensures { λ _. ⌜ now (items .exit) ≡ set (now (items .entry)) i (numberOf w) ⌝ }
+{
+    let x = number_of(w);
+    items[i] = x;
+}
+
+// The six numbers of a character at a place.
+fn put_character(items: &mut [i32], at: usize, c: u32, start: usize)
+    requires { ⌜ (at + 6 ≤ length (now items)) × (c ≤ 255) × (start ≤ 65535) ⌝ }
+    ensures { λ _. ⌜ now (items .exit) ≡ sets (now (items .entry)) at (answerReply (Char c start) .values) ⌝ }
+{
+    put_at(items, at, 0);
+    put_at(items, at + 1, c);
+    put_at(items, at + 2, start as u32);
+    put_at(items, at + 3, 1);
+    put_at(items, at + 4, 0);
+    put_at(items, at + 5, 0);
+}
+
+// The state after n letters that were set as they stand: the character c is next.
+fn after_letters(c: u32, n: usize, s: State) -> State
+    requires { ⌜ (s .read + n < 9223372036854775808) × (s .given + n < 9223372036854775808) ⌝ }
+    ensures { λ r. ⌜ r ≡ lettersState c n s ⌝ }
+{
+    if n == 0 {
+        return s;
+    }
+    State {
+        next_left: NextLeft::Char(c),
+        op: s.op,
+        ops: 0,
+        read: s.read + n,
+        given: s.given + n,
+        pending: 0,
+        pending_boundary: false,
+        consumes_left: Consumes::Nothing,
+    }
+}
+
+// At most `most` letters from `read` on that have no bit with the character left of them.
+fn set_plain(
+    index: &[u64],
+    word: &[u32],
+    code: u32,
+    read: usize,
+    given: usize,
+    items: &mut [i32],
+    k: usize,
+    most: usize,
+) -> Letters
+    requires { ⌜ (code ≤ 255) × (read + most ≤ length (now word)) × (given + most ≤ 65535) × (k + most ≤ length (now items) / 6) ⌝ }
+    ensures { λ r. ⌜ PlainSet (now (index .entry)) (now (word .entry)) code read given k most (now (items .entry)) (r .code) (r .count) (now (items .exit)) ⌝ }
+{
+    let mut c = code;
+    let mut n = 0;
+    while n < most {
+        let y = word[read + n];
+        if 255 < y {
+            return Letters { code: c, count: n };
+        }
+        if has_bit(index, c + 1, y) {
+            return Letters { code: c, count: n };
+        }
+        put_character(items, 6 * (k + n), c, given + n);
+        c = y;
+        n += 1;
+    }
+    Letters { code: c, count: n }
+}
+
+fn smaller(a: usize, b: usize) -> usize
+    ensures { λ r. ⌜ (r ≤ a) × (r ≤ b) ⌝ }
+{
+    if a < b { a } else { b }
+}
+
+// The letters from a state on that have no pair; none where the state is not quick.
+pub fn set_letters(
+    index: &[u64],
+    ops: &[i32],
+    boundary: i32,
+    word: &[u32],
+    options: RunOptions,
+    state: State,
+    items: &mut [i32],
+    count: usize,
+) -> Stretch
+    ensures { λ r. ⌜ ((pairs : List ℤ) → Runs (indexedStepOf (now (index .entry)) pairs (now (ops .entry)) boundary (now (word .entry)) options) state count (now (items .entry)) (r .state) (r .count) (now (items .exit))) ⌝ }
+{
+    let left = quick_left(ops, boundary, word, options, state);
+    let room = items.len() / 6;
+    if left == 0 || room < count {
+        return Stretch {
+            state: state,
+            count: count,
+        };
+    }
+    let read = state.read;
+    let given = state.given;
+    let most = smaller(room - count, word.len() - read);
+    let set = set_plain(index, word, left - 1, read, given, items, count, most);
+    let after = after_letters(set.code, set.count, state);
+    Stretch {
+        state: after,
+        count: count + set.count,
+    }
+}
