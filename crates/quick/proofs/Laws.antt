@@ -1,30 +1,27 @@
 -- The tests of the code, as the definitions have them. Assumes nothing.
 use mathlib.Core.Path.{_≡_, refl, sym, ap, subst, _∙_}
-use mathlib.Core.Bool.{Bool, true, false, cond}
+use mathlib.Core.Bool.{Bool, true, false}
 use mathlib.Core.List.{List}
-use mathlib.Core.Option.{none, some}
+use mathlib.Core.Option.{none}
 use Prim.Native.Nat.{ℕ, zero, suc, _+_, _-_, _*_, _/_, _%_, _^_, _<_, _≤_}
 use native.Mathlib.Numerals.{add-one}
 use native.Mathlib.Omega.{arith}
 use lib.IntN.{ℤ, pos}
 use lib.Dec.{ltb, leb, eqb}
 use lib.ListN.{length, getD}
-use borrow.Author.Tests.{ltb-true, ltb-false, lt-ltb, le-ltb, leb-true, le-leb, lt-leb, eq-eqb, ne-eqb}
-use Rattle.words.specs.Words.{Word, wordOf, numberOf}
-use Rattle.words.proofs.Bits.{read-lt, number-is}
+use borrow.Author.Tests.{ltb-true, ltb-false, lt-ltb, le-ltb, le-leb, lt-leb, eq-eqb, ne-eqb}
+use Rattle.words.specs.Words.{Word, wordOf}
 use Rattle.lang.specs.Checks.{orElse, unless}
-use Rattle.lang.specs.Every.{both}
 use Rattle.lang.proofs.Every.{both-left, both-right}
 use Rattle.captions.specs.declared.NextLeft.{NextLeft}
 use Rattle.captions.specs.declared.NextLeft.the-variants as next
 use Rattle.captions.specs.declared.State.{State}
-use Rattle.captions.specs.Tables.{pairCount, opCount, opKind, opValue, number, leftPlace, keyBy, keyAt, bisect, placeFor, find, opHolds, firstOp, countOf, recordFits}
+use Rattle.captions.specs.Tables.{pairCount, opKind, opValue, number, leftPlace, keyBy, keyAt, bisect, placeFor, opHolds}
 use Rattle.captions.specs.Steps.{opsPlaced, nextFits, placed}
 use Rattle.lookup.proofs.Bisection.{Searching, searching-up, searching-down}
 use Rattle.tables.proofs.Records.{op-code}
 use Rattle.turns.proofs.Laws.{placed-read, placed-given, placed-ops, placed-next}
-use Rattle.quick.specs.Quick.{plainCode, isCalm, hasLetter, placeOr, foundPlace, firstPlain}
-use Rattle.quick.proofs.Theorems.{plain-char}
+use Rattle.quick.specs.Quick.{plainCode, isCalm, hasLetter, foundPlace, firstPlain}
 
 -- ---- the call: three refusals, none of which holds
 

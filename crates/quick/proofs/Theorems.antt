@@ -9,13 +9,13 @@ use native.Mathlib.Omega.{arith}
 use lib.IntN.{ℤ}
 use lib.Dec.{ltb, leb, eqb}
 use lib.ListN.{length, getD}
-use borrow.Author.Tests.{ltb-true, lt-ltb, leb-true, le-ltb, le-leb, lt-leb, eqb-true, eq-eqb, ne-eqb}
+use borrow.Author.Tests.{ltb-true, lt-ltb, leb-true, le-ltb, le-leb, eqb-true, eq-eqb, ne-eqb}
 use Rattle.words.specs.Words.{wordOf}
 use Rattle.lang.specs.Every.{both}
 use Rattle.lang.specs.Records.{within}
 use Rattle.lang.proofs.Every.{both-left, both-right}
 use Rattle.lang.proofs.Records.{within-bound}
-use Rattle.reading.specs.Items.{item, plain}
+use Rattle.reading.specs.Items.{item}
 use Rattle.captions.specs.declared.RunOptions.{RunOptions}
 use Rattle.captions.specs.declared.NextLeft.{NextLeft}
 use Rattle.captions.specs.declared.NextLeft.the-variants as next
@@ -25,11 +25,11 @@ use Rattle.captions.specs.declared.Answer.the-variants.{Char, Kern}
 use Rattle.captions.specs.declared.Step.{Step}
 use Rattle.captions.specs.declared.Turned.{Turned}
 use Rattle.captions.specs.declared.Turned.the-variants.{Gives, Goes}
-use Rattle.captions.specs.Tables.{pairCount, opCount, number, opKind, opValue, keyBy, find, firstOp, countOf, lastCode, lastFlag, opHolds, opFits, recordFits}
-use Rattle.captions.specs.Steps.{refused, afterOp, afterRight, settled, giveCharacter, giveOp, opsFit, readOp, withNext, enteredAt, givesNothing, entryReads, turnBy, rightItem, turn, goesOn, byNext, runOn, opsPlaced, nextFits, placed, ranFrom, stepRefusal, handBack, steppedBy, stepOf}
+use Rattle.captions.specs.Tables.{pairCount, opCount, number, opKind, opValue, keyBy, find, firstOp, countOf, lastCode, lastFlag, opHolds, recordFits}
+use Rattle.captions.specs.Steps.{refused, afterOp, afterRight, settled, giveCharacter, opsFit, readOp, withNext, enteredAt, entryReads, turnBy, rightItem, turn, goesOn, byNext, runOn, opsPlaced, nextFits, placed, ranFrom, stepRefusal, handBack, steppedBy, stepOf}
 use Rattle.captions.proofs.Finding.{find-inside}
-use Rattle.items.proofs.Laws.{item-given, character-plain, op-character, op-kern, op-fit, step-with}
-use Rattle.quick.specs.Quick.{plainCode, nextLetter, isCalm, isPlain, hasLetter, isQuick, quickLeft, isKern, placeOr, foundPlace, firstPlain, isEntered, isReady, movedOn, givenPlain, givenFirst, quickStep, givenKern}
+use Rattle.items.proofs.Laws.{item-given, character-plain, op-character, op-kern, op-fit}
+use Rattle.quick.specs.Quick.{plainCode, nextLetter, isCalm, isPlain, hasLetter, isQuick, quickLeft, isKern, placeOr, foundPlace, firstPlain, isEntered, isReady, givenPlain, givenFirst, quickStep, givenKern}
 use Rattle.quick.specs.Purpose.{QuickPasses, QuickEnters, QuickSteps, QuickKerns}
 
 no : {A : Type 0} → _≡_ {A = Bool} false true → A

@@ -2,12 +2,10 @@
 ghost use mathlib.Core.Path.{_≡_};
 ghost use mathlib.Core.Bool.{true};
 ghost use Prim.Native.Nat.{_-_, _+_, _*_, _≤_, _<_};
-ghost use lib.Dec.{leb};
-ghost use lib.ListN.{length};
 ghost use Rattle.words.specs.Words.{Word};
 ghost use Rattle.reading.specs.Items.{item};
-ghost use Rattle.captions.specs.Tables.{pairCount, opCount, number, opHolds, recordFits};
-ghost use Rattle.captions.specs.Steps.{refused, afterRight};
+ghost use Rattle.captions.specs.Tables.{pairCount, opCount, number, opHolds};
+ghost use Rattle.captions.specs.Steps.{afterRight};
 ghost use Rattle.tables.specs.Parts.{lastFits};
 ghost use Rattle.quick.specs.Quick.{hasLetter, firstPlain, isEntered, isReady, movedOn, givenPlain, givenFirst, quickStep};
 use crate::calm::plain_code;

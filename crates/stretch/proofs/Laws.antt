@@ -1,18 +1,18 @@
 -- The loop of a stretch, letter by letter, and the state and the list that it leaves. Assumes nothing.
 use mathlib.Core.Path.{_≡_, refl, sym, ap, subst, _∙_}
 use mathlib.Core.Bool.{Bool, true, false, cond}
-use mathlib.Core.List.{List, [], _∷_, _++_, append-nil}
+use mathlib.Core.List.{List, [], _∷_, _++_}
 use Prim.Native.Nat.{ℕ, zero, suc, _+_, _-_, _*_, _/_, _<_, _≤_}
 use native.Mathlib.Numerals.{add-one}
 use native.Mathlib.Omega.{arith}
 use lib.IntN.{ℤ}
-use lib.Dec.{ltb, leb, eqb}
+use lib.Dec.{leb}
 use lib.ListN.{length, getD, length-append}
 use lib.Seq.{sets, length-sets}
 use borrow.Author.Tests.{leb-true, leb-false, le-leb, lt-leb, lt-ltb, le-ltb, ne-eqb}
 use Rattle.words.specs.Words.{numberOf}
 use Rattle.words.proofs.Lists.{sets-append}
-use Rattle.lang.specs.Every.{both, every}
+use Rattle.lang.specs.Every.{every}
 use Rattle.lang.proofs.Every.{every-none, every-more}
 use Rattle.lang.proofs.Refusals.{orElse-none, unless-none}
 use Rattle.captions.specs.declared.RunOptions.{RunOptions}
@@ -24,7 +24,7 @@ use Rattle.captions.specs.Begin.{edgesRefusal, wordRefusal}
 use Rattle.quick.specs.Quick.{plainCode, nextLetter, isQuick, quickLeft, foundPlace, givenPlain}
 use Rattle.quick.proofs.Theorems.{quick-is}
 use Rattle.stretch.specs.declared.Stop.{Stop}
-use Rattle.stretch.specs.Stretch.{least, leading, plainLeft, nextPlace, isFree, letterItem, plainState, movedBy, letterItems, freeLetters, stopPlace, stopAt, Gave, mostLetters, Stretched}
+use Rattle.stretch.specs.Stretch.{least, plainLeft, isFree, letterItem, plainState, movedBy, letterItems, freeLetters, stopPlace, stopAt, Gave, mostLetters, Stretched}
 use Rattle.stretch.proofs.Theorems.{leading-all, leading-stop, leading-few, state-none, state-more, state-read, state-given, state-op}
 
 module _ (word : List ℕ) (s : State) where

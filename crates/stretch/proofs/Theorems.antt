@@ -1,6 +1,6 @@
 -- The letters of a stretch are steps: specs/Purpose. And the laws of `leading` and `plainState` that it rests on.
 -- Assumes nothing.
-use mathlib.Core.Path.{_≡_, refl, sym, ap, subst, _∙_}
+use mathlib.Core.Path.{_≡_, refl, sym, subst}
 use mathlib.Core.Bool.{Bool, true, false, cond}
 use mathlib.Core.List.{List}
 use mathlib.Core.Logic.{_⊎_, inl, inr}
@@ -10,9 +10,9 @@ use native.Mathlib.Nat.{eq-or-lt-of-le, le-of-suc-le-suc}
 use native.Mathlib.Omega.{arith}
 use lib.IntN.{ℤ}
 use lib.Dec.{ltb, leb, eqb}
-use lib.ListN.{length, getD}
+use lib.ListN.{length}
 use borrow.Author.Tests.{ltb-true, leb-true, eqb-true, eq-eqb, ne-eqb}
-use Rattle.lang.specs.Every.{both, every}
+use Rattle.lang.specs.Every.{every}
 use Rattle.lang.proofs.Every.{both-left, both-right, every-at}
 use Rattle.captions.specs.declared.RunOptions.{RunOptions}
 use Rattle.captions.specs.declared.State.{State}
@@ -20,8 +20,8 @@ use Rattle.captions.specs.Tables.{pairCount, keyBy, find}
 use Rattle.captions.specs.Steps.{stepOf}
 use Rattle.captions.proofs.Finding.{find-inside}
 use Rattle.quick.specs.Quick.{nextLetter, isQuick, placeOr, foundPlace, givenPlain}
-use Rattle.quick.proofs.Theorems.{quick-is, quick-passes, quick-moves}
-use Rattle.stretch.specs.Stretch.{leading, plainLeft, nextPlace, isFree, plainState, freeLetters, stopPlace}
+use Rattle.quick.proofs.Theorems.{quick-passes, quick-moves}
+use Rattle.stretch.specs.Stretch.{leading, plainLeft, isFree, plainState, freeLetters, stopPlace}
 use Rattle.stretch.specs.Purpose.{StretchSteps, StretchStops}
 
 no : {A : Type 0} → _≡_ {A = Bool} false true → A

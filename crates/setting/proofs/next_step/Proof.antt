@@ -3,7 +3,7 @@
 use mathlib.Core.Path.{_≡_, sym, ap, _∙_}
 use lib.IntN.{ℤ}
 use denote.Ref.{now}
-use borrow.Author.Tests.{not-true, not-false}
+use borrow.Author.Tests.{not-false}
 use Rattle.words.specs.Words.{wordOf, numberOf}
 use Rattle.words.proofs.Bits.{number-word}
 use Rattle.captions.specs.Steps.{stepOf}

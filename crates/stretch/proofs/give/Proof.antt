@@ -4,7 +4,7 @@
 use mathlib.Core.Path.{refl, sym, subst}
 use Prim.Native.Nat.{_+_, _-_}
 use native.Mathlib.Omega.{arith}
-use lib.ListN.{length, getD}
+use lib.ListN.{getD}
 use denote.Ref.{now}
 use Rattle.stretch.specs.declared.Stop.{Stop}
 use Rattle.stretch.specs.Stretch.{Gave}

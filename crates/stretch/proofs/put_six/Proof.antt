@@ -1,6 +1,5 @@
 -- `stretch::put_six` meets its contract, by whether there is room.
 -- Assumes nothing.
-use mathlib.Core.Path.{_∙_, sym}
 use Prim.Native.Nat.{_+_}
 use native.Mathlib.Omega.{arith}
 use lib.ListN.{length}

@@ -1,7 +1,6 @@
 -- `quick::calm::is_calm` meets its contract, by its tests.
 -- Assumes nothing.
-use mathlib.Core.Path.{subst}
-use Prim.Native.Nat.{_<_, _≤_}
+use Prim.Native.Nat.{_≤_}
 use native.Mathlib.Omega.{arith}
 use denote.Ref.{now}
 use Rattle.quick.specs.Quick.{plainCode}

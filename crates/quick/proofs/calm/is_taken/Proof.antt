@@ -1,8 +1,6 @@
 -- `quick::calm::is_taken` meets its contract: each of the three refusals of a call is 0.
 -- Assumes nothing.
-use mathlib.Core.Path.{_≡_, sym, ap, _∙_}
-use mir.Syntax.{w32}
-use mir.Val.{SFits}
+use mathlib.Core.Path.{_≡_, sym, _∙_}
 use lib.ListN.{length}
 use lib.Dec.{leb}
 use denote.Ref.{now}

@@ -1,11 +1,10 @@
 -- `quick::first::is_entered` meets its contract: the last fits, the ops are among the ops, and the first is a character.
 -- Assumes nothing.
-use mathlib.Core.Path.{_≡_, sym, ap, _∙_}
-use mathlib.Core.Bool.{true}
+use mathlib.Core.Path.{sym, _∙_}
 use Prim.Native.Nat.{_+_}
 use denote.Ref.{now}
 use borrow.Author.Tests.{not-true, not-false, lt-leb, le-leb}
-use Rattle.captions.specs.Tables.{opCount, firstOp, countOf, recordFits}
+use Rattle.captions.specs.Tables.{opCount}
 use Rattle.tables.proofs.Records.{record-last, record-ops}
 use Rattle.quick.specs.Quick.{firstPlain}
 use borrow.Author.Needs.{needs}

@@ -1,6 +1,5 @@
 -- `quick::kern::give_kern` meets its contract, by whether the op is there.
 -- Assumes nothing.
-use mathlib.Core.Path.{_∙_}
 use denote.Ref.{now}
 use borrow.Author.Tests.{lt-ltb, le-ltb}
 use Rattle.words.proofs.Bits.{number-is, number-word}

@@ -1,12 +1,12 @@
 -- `quick::place::found_place` meets its contract: the pair where the search ends has the key, or there is none.
 -- Assumes nothing.
-use mathlib.Core.Path.{_≡_, refl, sym, ap, _∙_}
+use mathlib.Core.Path.{refl, sym, ap, _∙_}
 use Prim.Native.Nat.{ℕ}
 use native.Mathlib.Omega.{arith}
 use denote.Ref.{now}
 use Rattle.words.specs.Words.{wordOf}
 use Rattle.words.proofs.Bits.{read-lt}
-use Rattle.captions.specs.Tables.{pairCount, number, keyBy, keyAt}
+use Rattle.captions.specs.Tables.{pairCount, number, keyBy}
 use Rattle.quick.proofs.Laws.{none-past, none-other, found-there}
 use borrow.Author.Needs.{needs}
 use Rattle.quick.proofs.place.found_place.Statement.{statement}
