@@ -38,6 +38,19 @@ uint32_t ligkern_compile(const int32_t *instructions, size_t instructions_length
 uint32_t ligkern_set_word(const int32_t *pairs, size_t pairs_length, const int32_t *ops, size_t ops_length, int32_t boundary, const uint32_t *word, size_t word_length,
                           bool disable_left_boundary, int32_t right_boundary_override, int32_t *items, size_t items_length, uint64_t *count, size_t count_length);
 
+/* How many numbers an index has. */
+#define LIGKERN_INDEX 1285
+
+/* The index of a table, by which a pair is found with a bit test and a count of ones: LIGKERN_INDEX numbers, with zeros after them. Fill it once for a table that was
+   compiled, and again when the table changes. 7, 15. */
+uint32_t ligkern_fill_index(const int32_t *pairs, size_t pairs_length, uint64_t *index, size_t index_length);
+
+/* Sets a word whole as ligkern_set_word does, and finds pairs by an index. On the index that ligkern_fill_index wrote for these pairs it answers and writes what
+   ligkern_set_word does; any other index is taken too: a pair that it does not name is set as if it were none, and a wrong place is 7. 4, 6, 7, 15. */
+uint32_t ligkern_set_word_indexed(const uint64_t *index, size_t index_length, const int32_t *pairs, size_t pairs_length, const int32_t *ops, size_t ops_length, int32_t boundary,
+                                  const uint32_t *word, size_t word_length, bool disable_left_boundary, int32_t right_boundary_override, int32_t *items, size_t items_length,
+                                  uint64_t *count, size_t count_length);
+
 /* A fresh run over a word: nine numbers of state, with zeros after them. The table is checked whole. 4, 6, 7, 15. */
 uint32_t ligkern_begin(const int32_t *pairs, size_t pairs_length, const int32_t *ops, size_t ops_length, int32_t boundary, const uint32_t *word, size_t word_length,
                        bool disable_left_boundary, int32_t right_boundary_override, uint64_t *state, size_t state_length);

@@ -1,4 +1,4 @@
--- A word set whole, with its count: refused by set_word, refused by 15, or taken.
+-- A word set whole, with its count: refused by the function that set it, refused by 15, or taken. Of any reply that is told as `Tells` has it.
 -- Assumes nothing.
 use mathlib.Core.Path.{_≡_, sym, ap, _∙_}
 use mathlib.Core.List.{List, [], _∷_}
@@ -10,30 +10,26 @@ use Rattle.lang.specs.declared.Written.the-variants.{Count, Refused}
 use Rattle.lang.specs.Answers.{Reply, roomRefusal}
 use Rattle.lang.proofs.Refusals.{first-is}
 use Rattle.lang.proofs.Filled.{refused-list}
-use Rattle.captions.specs.declared.RunOptions.{RunOptions}
-use Rattle.setting.specs.Setting.{setReply, Sets}
+use Rattle.setting.specs.Writing.{Tells}
 use Rattle.c_captions.specs.Whole.{captionNumber, SetsCaption}
 use Rattle.c_counts.proofs.Replies.{replied-refused, replied-taken}
 use Rattle.c_states.proofs.Writing.{zeroed-length, written-front, with-room, without-room}
 
-module _ (pairs ops : List ℤ) (boundary : ℤ) (word : List ℕ) (options : RunOptions) (items items′ : List ℤ) (count zeros : List ℕ) (blank : zeros ≡ replicate (length count) 0) where
-  abbrev reply : Reply
-  reply = setReply pairs ops boundary word options (length items)
-
+module _ (reply : Reply) (items items′ : List ℤ) (count zeros : List ℕ) (blank : zeros ≡ replicate (length count) 0) where
   abbrev number : ℕ
-  number = captionNumber pairs ops boundary word options (length items) (length count)
+  number = captionNumber reply (length count)
 
   abbrev many : ℕ
   many = length (reply .values) / 6
 
-  pub caption-refused : (n : ℕ) → Sets pairs ops boundary word options items (Refused n) items′ → SetsCaption pairs ops boundary word options items count n items′ zeros
+  pub caption-refused : (n : ℕ) → Tells reply items (Refused n) items′ → SetsCaption reply items count n items′ zeros
   caption-refused n h =
       let q = replied-refused (reply .number) n (pos many) [] (h .answer) in
       let e : number ≡ reply .number = first-is (reply .number) (roomRefusal 1 (length count)) (λ z. q .1 (q .0 ∙ z)) in
       let k : n ≡ number = q .0 ∙ sym e in
       record { number = k; list = rw e (h .list); counted = refused-list 0 (length count) (many ∷ []) k (q .1) blank }
 
-  module _ (k : ℕ) (h : Sets pairs ops boundary word options items (Count k) items′) where
+  module _ (k : ℕ) (h : Tells reply items (Count k) items′) where
     taken : (reply .number ≡ 0) × (k ≡ many)
     taken =
         let q = replied-taken (reply .number) (pos many) [] (h .answer) in
@@ -41,7 +37,7 @@ module _ (pairs ops : List ℤ) (boundary : ℤ) (word : List ℕ) (options : Ru
         let e : k ≡ many = cc in
         (q .0, e)
 
-    pub caption-short : length zeros < 1 → (d : List ℤ) → d ≡ replicate (length items′) (pos 0) → length items′ ≡ length items → SetsCaption pairs ops boundary word options items count 15 d zeros
+    pub caption-short : length zeros < 1 → (d : List ℤ) → d ≡ replicate (length items′) (pos 0) → length items′ ≡ length items → SetsCaption reply items count 15 d zeros
     caption-short s d z same =
         let l : length zeros ≡ length count = zeroed-length 0 (length count) blank in
         let n : 15 ≡ number = sym (without-room 1 (length count) (taken .0) (omega (arith, l, s))) in
@@ -51,7 +47,7 @@ module _ (pairs ops : List ℤ) (boundary : ℤ) (word : List ℕ) (options : Ru
           counted = refused-list 0 (length count) (many ∷ []) n (λ o. omega (arith, o)) blank;
         }
 
-    pub caption-taken : 1 ≤ length zeros → SetsCaption pairs ops boundary word options items count 0 items′ (set zeros 0 k)
+    pub caption-taken : 1 ≤ length zeros → SetsCaption reply items count 0 items′ (set zeros 0 k)
     caption-taken s =
         let l : length zeros ≡ length count = zeroed-length 0 (length count) blank in
         let t = taken in

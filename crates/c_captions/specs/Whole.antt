@@ -1,26 +1,19 @@
--- A word set whole, with the count of its items in a list: the contract of `ligkern_set_word`. Document 01, 'Caption items' and 'The
--- column text'.
+-- A word set whole, with the count of its items in a list: the contract of `ligkern_set_word`, and of `ligkern_set_word_indexed` of crate
+-- c_indexed, by the reply of the function that each calls. Document 01, 'Caption items' and 'The column text'.
 use mathlib.Core.Path.{_≡_}
 use mathlib.Core.List.{List, [], _∷_}
 use Prim.Native.Nat.{ℕ, _/_}
 use lib.IntN.{ℤ, pos}
 use lib.ListN.{length}
 use Rattle.lang.specs.Checks.{orElse}
-use Rattle.lang.specs.Answers.{listOf, roomRefusal}
-use Rattle.captions.specs.declared.RunOptions.{RunOptions}
-use Rattle.setting.specs.Setting.{setReply}
+use Rattle.lang.specs.Answers.{Reply, listOf, roomRefusal}
 
--- set_word's numbers, for a list of `room` numbers, then 15 where n places do not hold the count
-abbrev pub captionNumber : List ℤ → List ℤ → ℤ → List ℕ → RunOptions → ℕ → ℕ → ℕ
-captionNumber pairs ops boundary word options room n = orElse (setReply pairs ops boundary word options room .number) (roomRefusal 1 n)
+-- the reply's number, then 15 where n places do not hold the count
+abbrev pub captionNumber : Reply → ℕ → ℕ
+captionNumber reply n = orElse (reply .number) (roomRefusal 1 n)
 
 -- the number, and what the two lists hold: the numbers of the items and how many items there are, with zeros after them; or zeros
-pub record SetsCaption (pairs ops : List ℤ) (boundary : ℤ) (word : List ℕ) (options : RunOptions) (items : List ℤ) (count : List ℕ)
-    (r : ℕ) (items′ : List ℤ) (count′ : List ℕ) : Type 0 where
-  pub number : r ≡ captionNumber pairs ops boundary word options (length items) (length count)
-  pub list : items′ ≡
-      listOf (captionNumber pairs ops boundary word options (length items) (length count)) (pos 0) (length items)
-      (setReply pairs ops boundary word options (length items) .values)
-  pub counted : count′ ≡
-      listOf (captionNumber pairs ops boundary word options (length items) (length count)) 0 (length count)
-      (length (setReply pairs ops boundary word options (length items) .values) / 6 ∷ [])
+pub record SetsCaption (reply : Reply) (items : List ℤ) (count : List ℕ) (r : ℕ) (items′ : List ℤ) (count′ : List ℕ) : Type 0 where
+  pub number : r ≡ captionNumber reply (length count)
+  pub list : items′ ≡ listOf (captionNumber reply (length count)) (pos 0) (length items) (reply .values)
+  pub counted : count′ ≡ listOf (captionNumber reply (length count)) 0 (length count) (length (reply .values) / 6 ∷ [])

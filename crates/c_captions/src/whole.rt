@@ -1,4 +1,6 @@
 // A word set whole, and how many items it has in a list of one number.
+ghost use lib.ListN.{length};
+ghost use Rattle.setting.specs.Setting.{setReply};
 ghost use Rattle.c_captions.specs.Whole.{SetsCaption};
 ghost use Rattle.c_states.specs.States.{optionsOf};
 use c_values::zero_u64;
@@ -19,7 +21,7 @@ pub extern "C" fn ligkern_set_word(
     items: &mut [i32],
     count: &mut [u64],
 ) -> u32
-    ensures { λ r. ⌜ SetsCaption (now (pairs .entry)) (now (ops .entry)) boundary (now (word .entry)) (optionsOf «disable_left_boundary» «right_boundary_override») (now (items .entry)) (now (count .entry)) r (now (items .exit)) (now (count .exit)) ⌝ }
+    ensures { λ r. ⌜ SetsCaption (setReply (now (pairs .entry)) (now (ops .entry)) boundary (now (word .entry)) (optionsOf «disable_left_boundary» «right_boundary_override») (length (now (items .entry)))) (now (items .entry)) (now (count .entry)) r (now (items .exit)) (now (count .exit)) ⌝ }
 {
     zero_u64(count);
     let options = RunOptions {

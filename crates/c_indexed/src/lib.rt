@@ -1,0 +1,54 @@
+// An index and a word set whole by it, for a host in C: slices and integers in, the number of document 01 out (0 where it is taken). The contracts are those of
+// index/specs/Index and c_captions/specs/Whole; what an index is for is indexed_setting/specs/Purpose.
+ghost use lib.ListN.{length};
+ghost use Rattle.index.specs.Index.{FillsIndex};
+ghost use Rattle.indexed_setting.specs.Whole.{indexedReply};
+ghost use Rattle.c_states.specs.States.{optionsOf};
+ghost use Rattle.c_captions.specs.Whole.{SetsCaption};
+use c_values::zero_u64;
+use captions::RunOptions;
+use fill_index::fill_index;
+use indexed_setting::set_word_indexed;
+use lang::Written;
+use words::zero::zero_i32;
+
+// The index of a table, 1,285 numbers with zeros after them. 7, 15.
+#[no_mangle]
+pub extern "C" fn ligkern_fill_index(pairs: &[i32], index: &mut [u64]) -> u32
+    ensures { λ r. ⌜ FillsIndex (now (pairs .entry)) (now (index .entry)) r (now (index .exit)) ⌝ }
+{
+    fill_index(pairs, index)
+}
+
+// The items of a word up to its end, six numbers each, with zeros after them, and their count. set_word_indexed's numbers, then 15 where the count has no room.
+#[no_mangle]
+pub extern "C" fn ligkern_set_word_indexed(
+    index: &[u64],
+    pairs: &[i32],
+    ops: &[i32],
+    boundary: i32,
+    word: &[u32],
+    disable_left_boundary: bool,
+    right_boundary_override: i32,
+    items: &mut [i32],
+    count: &mut [u64],
+) -> u32
+    ensures { λ r. ⌜ SetsCaption (indexedReply (now (index .entry)) (now (pairs .entry)) (now (ops .entry)) boundary (now (word .entry)) (optionsOf «disable_left_boundary» «right_boundary_override») (length (now (items .entry)))) (now (items .entry)) (now (count .entry)) r (now (items .exit)) (now (count .exit)) ⌝ }
+{
+    zero_u64(count);
+    let options = RunOptions {
+        disable_left_boundary: disable_left_boundary,
+        right_boundary_override: right_boundary_override,
+    };
+    match set_word_indexed(index, pairs, ops, boundary, word, options, items) {
+        Written::Refused(n) => n,
+        Written::Count(k) => {
+            if count.len() < 1 {
+                zero_i32(items);
+                return 15;
+            }
+            count[0] = k as u64;
+            0
+        }
+    }
+}
