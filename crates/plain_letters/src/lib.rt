@@ -26,7 +26,7 @@ struct Letters {
 }
 
 // Where a run stands, and how many items it has given.
-pub struct Stretch {
+pub struct LettersSet {
     pub state: State,
     pub count: usize,
 }
@@ -120,13 +120,13 @@ pub fn set_letters(
     state: State,
     items: &mut [i32],
     count: usize,
-) -> Stretch
+) -> LettersSet
     ensures { λ r. ⌜ ((pairs : List ℤ) → Runs (indexedStepOf (now (index .entry)) pairs (now (ops .entry)) boundary (now (word .entry)) options) state count (now (items .entry)) (r .state) (r .count) (now (items .exit))) ⌝ }
 {
     let left = quick_left(ops, boundary, word, options, state);
     let room = items.len() / 6;
     if left == 0 || room < count {
-        return Stretch {
+        return LettersSet {
             state: state,
             count: count,
         };
@@ -136,7 +136,7 @@ pub fn set_letters(
     let most = smaller(room - count, word.len() - read);
     let set = set_plain(index, word, left - 1, read, given, items, count, most);
     let after = after_letters(set.code, set.count, state);
-    Stretch {
+    LettersSet {
         state: after,
         count: count + set.count,
     }
