@@ -3,7 +3,7 @@
 use mathlib.Core.Path.{refl}
 use Rattle.words.specs.Words.{numberOf}
 use Rattle.pairs.proofs.OpTables as tables
-use Rattle.setting.proofs.Laws.{put-character}
+use Rattle.item_lists.proofs.Laws.{put-character}
 use borrow.Author.Needs.{needs}
 use Rattle.plain_letters.proofs.put_character.Statement.{statement}
 use Rattle.plain_letters.proofs.put_character.Tie as tie
