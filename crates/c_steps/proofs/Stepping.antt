@@ -23,7 +23,7 @@ use Rattle.captions.specs.declared.Step.{Step}
 use Rattle.captions.specs.Replies.{answerReply}
 use Rattle.captions.specs.Begin.{edgesRefusal, wordRefusal}
 use Rattle.captions.specs.Steps.{refused, ranFrom, rightItem, stepRefusal, handBack, steppedBy, stepOf}
-use Rattle.setting.specs.Writing.{isItem, Small}
+use Rattle.item_lists.specs.ItemLists.{isItem, Small}
 use Rattle.setting.proofs.Bounds.{step-small}
 use Rattle.c_states.specs.States.{numbersOf, isState, stateAt, stateRead, outside, orOutside, movedTo, PutsState}
 use Rattle.c_steps.specs.Step.{stepRunFrom, stepIn, stepNumber, itemNumbers, StepsRun}

@@ -5,7 +5,7 @@ ghost use lib.IntN.{pos};
 ghost use lib.Seq.{sets};
 ghost use Rattle.words.specs.Words.{numberOf};
 ghost use Rattle.captions.specs.Replies.{bitNumber, answerReply};
-ghost use Rattle.setting.specs.Writing.{Small};
+ghost use Rattle.item_lists.specs.ItemLists.{Small};
 ghost use Rattle.c_steps.specs.Step.{itemNumbers};
 use captions::Answer;
 use words::put_word;

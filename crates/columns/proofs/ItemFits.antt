@@ -27,7 +27,7 @@ use Rattle.captions.specs.Replies.{bitNumber, answerReply}
 use Rattle.captions.specs.Begin.{beginRefusal, freshState}
 use Rattle.captions.specs.Steps.{refused, taken, giveCharacter, giveLigature, afterOp, endsWord, opsFit, readOp, gathered, leftPlaceOf, afterRight, readOn, withNext, giveLeft, entryReads, turnBy, turnAtEnd, turn, goesOn, withNothingNext, byNext, stepBy, runOn, placed, rightItem, ranFrom, stepRefusal, handBack, steppedBy, stepOf}
 use Rattle.setting.specs.Setting.{andThen, itemsFrom, afterBegin, setReply}
-use Rattle.setting.specs.Writing.{Small}
+use Rattle.item_lists.specs.ItemLists.{Small}
 use Rattle.setting.proofs.Bounds.{step-small}
 use Rattle.columns.specs.Purpose.{isI32, allI32}
 use Rattle.columns.proofs.Fitting.{Fits, all-both}

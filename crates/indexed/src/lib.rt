@@ -1,38 +1,18 @@
 // One step of a run, by an index over its table: a pair is looked up by a bit and a count of ones, where the step bisects. The index may hold anything; on
 // the one that fill_index wrote for the table this is the step.
-ghost use mathlib.Core.Path.{_≡_};
-ghost use Rattle.captions.specs.Steps.{stepOf};
-ghost use Rattle.indexed.specs.Indexed.{lookedStep, IndexedStepped};
+ghost use Rattle.indexed.specs.Indexed.{IndexedStepped};
 use captions::Answer;
 use captions::RunOptions;
 use captions::State;
 use captions::Step;
 use index::Looked;
 use index::look_up;
+use ligkern::steps::kern_step;
 use ligkern::steps::step;
 use quick::first::is_ready;
 use quick::first::quick_step;
-use quick::kern::give_kern;
-use quick::kern::is_kern;
 use quick::left::quick_left;
 use words::u32_at;
-
-// The step as it is, a last kern at once.
-fn other_step(
-    pairs: &[i32],
-    ops: &[i32],
-    boundary: i32,
-    word: &[u32],
-    options: RunOptions,
-    state: State,
-) -> Step
-    ensures { λ r. ⌜ r ≡ stepOf (now (pairs .entry)) (now (ops .entry)) boundary (now (word .entry)) options state ⌝ }
-{
-    if is_kern(ops, boundary, word, options, state) {
-        return give_kern(ops, state);
-    }
-    step(pairs, ops, boundary, word, options, state)
-}
 
 // One step: its answer and the state that it leaves.
 pub fn step_indexed(
@@ -48,7 +28,7 @@ pub fn step_indexed(
 {
     let left = quick_left(ops, boundary, word, options, state);
     if left == 0 {
-        return other_step(pairs, ops, boundary, word, options, state);
+        return kern_step(pairs, ops, boundary, word, options, state);
     }
     let read = state.read;
     match look_up(index, pairs, left, u32_at(word, read)) {

@@ -20,7 +20,7 @@ use Rattle.captions.specs.declared.State.{State}
 use Rattle.captions.specs.Tables.{opKind, opValue, firstOp, countOf, opHolds, recordFits}
 use Rattle.captions.specs.Begin.{edgesRefusal, wordRefusal}
 use Rattle.captions.specs.Steps.{stepOf}
-use Rattle.setting.specs.Writing.{Small}
+use Rattle.item_lists.specs.ItemLists.{Small}
 use Rattle.setting.proofs.Bounds.{step-small}
 use Rattle.quick.specs.Quick.{plainCode, nextLetter, isQuick, firstPlain, isEntered, givenPlain, givenFirst}
 use Rattle.quick.proofs.Theorems.{quick-is}

@@ -24,15 +24,14 @@ use Rattle.captions.specs.declared.Answer.the-variants.{Char, Ligature, Kern, E
 use Rattle.captions.specs.declared.Step.{Step}
 use Rattle.captions.specs.Replies.{answerReply}
 use Rattle.captions.specs.Begin.{beginRefusal, freshState, begunBy, beginOf}
+use Rattle.item_lists.specs.ItemLists.{isItem, Small, Stops}
+use Rattle.item_lists.proofs.Laws.{no, item-six}
 use Rattle.setting.specs.Setting.{before, andThen, afterBegin}
-use Rattle.setting.specs.Writing.{isItem, Small, Stops, Tells}
-use Rattle.setting.proofs.Laws.{item-then, item-six}
+use Rattle.setting.specs.Writing.{Tells}
+use Rattle.setting.proofs.Laws.{item-then}
 use Rattle.indexed.specs.Indexed.{indexedStepOf}
 use Rattle.indexed_setting.specs.Whole.{itemsBy, indexedReply}
 use Rattle.plain_letters.specs.Running.{Runs, none, more}
-
-no : {A : Type 0} → _≡_ {A = Bool} false true → A
-no e = absurd (let z : _≡_ {A = ℕ} 0 1 = cc in omega arith)
 
 -- ---- numbers before a reply
 

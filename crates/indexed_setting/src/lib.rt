@@ -1,6 +1,5 @@
 // A word set whole by an index over its table: what `set_word` of crate setting does, with the steps of crate indexed. Letters that have no pair with the
 // character left of them are set by crate plain_letters.
-//   writing  one item, and what is answered where a run stops
 ghost use mathlib.Core.Path.{_≡_};
 ghost use Prim.Native.Nat.{_/_};
 ghost use lib.IntN.{pos};
@@ -8,21 +7,18 @@ ghost use lib.ListN.{length, replicate};
 ghost use Rattle.setting.specs.Writing.{Tells};
 ghost use Rattle.indexed.specs.Indexed.{indexedStepOf};
 ghost use Rattle.indexed_setting.specs.Whole.{itemsBy, indexedReply};
-
-mod writing;
-
 use captions::Answer;
 use captions::Begun;
 use captions::RunOptions;
 use captions::State;
 use indexed::step_indexed;
+use item_lists::is_item;
+use item_lists::put_item;
+use item_lists::stopped;
 use lang::Written;
 use ligkern::begin::begin;
 use plain_letters::set_letters;
 use words::zero::zero_i32;
-use writing::is_item;
-use writing::put_item;
-use writing::stopped;
 
 // The items from a state on, in a list of zeros.
 fn set_from(
@@ -41,9 +37,9 @@ fn set_from(
     let mut s = state;
     let mut k = 0;
     loop {
-        let stretch = set_letters(index, ops, boundary, word, options, s, items, k);
-        let at = stretch.state;
-        let count = stretch.count;
+        let letters = set_letters(index, ops, boundary, word, options, s, items, k);
+        let at = letters.state;
+        let count = letters.count;
         let stepped = step_indexed(index, pairs, ops, boundary, word, options, at);
         let answer = stepped.answer;
         if !is_item(answer) {

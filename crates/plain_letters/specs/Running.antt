@@ -12,7 +12,7 @@ use Rattle.captions.specs.declared.Consumes.the-variants as consumes
 use Rattle.captions.specs.declared.State.{State}
 use Rattle.captions.specs.declared.Step.{Step}
 use Rattle.captions.specs.Replies.{answerReply}
-use Rattle.setting.specs.Writing.{isItem}
+use Rattle.item_lists.specs.ItemLists.{isItem}
 use Rattle.quick.specs.Quick.{plainCode, isPlain}
 use Rattle.indexed.specs.Indexed.{indexedStepOf}
 

@@ -4,11 +4,7 @@ ghost use mathlib.Core.Path.{_≡_};
 ghost use mathlib.Core.List.{List};
 ghost use Prim.Native.Nat.{_+_, _/_, _<_, _≤_};
 ghost use lib.IntN.{ℤ};
-ghost use lib.ListN.{length, set};
-ghost use lib.Seq.{sets};
-ghost use Rattle.words.specs.Words.{numberOf};
-ghost use Rattle.captions.specs.declared.Answer.the-variants.{Char};
-ghost use Rattle.captions.specs.Replies.{answerReply};
+ghost use lib.ListN.{length};
 ghost use Rattle.indexed.specs.Indexed.{indexedStepOf};
 ghost use Rattle.plain_letters.specs.Running.{Runs, lettersState, PlainSet};
 use captions::Consumes;
@@ -17,7 +13,7 @@ use captions::RunOptions;
 use captions::State;
 use index::has_bit;
 use quick::left::quick_left;
-use words::number_of;
+use stretch::put_six;
 
 // How many letters were set as they stand, and the character that is next.
 struct Letters {
@@ -26,31 +22,9 @@ struct Letters {
 }
 
 // Where a run stands, and how many items it has given.
-pub struct Stretch {
+pub struct LettersSet {
     pub state: State,
     pub count: usize,
-}
-
-// Number i, which is there, becomes the one whose bits are w.
-fn put_at(items: &mut [i32], i: usize, w: u32)
-    requires { ⌜ i < length (now items) ⌝ }
-    ensures { λ _. ⌜ now (items .exit) ≡ set (now (items .entry)) i (numberOf w) ⌝ }
-{
-    let x = number_of(w);
-    items[i] = x;
-}
-
-// The six numbers of a character at a place.
-fn put_character(items: &mut [i32], at: usize, c: u32, start: usize)
-    requires { ⌜ (at + 6 ≤ length (now items)) × (c ≤ 255) × (start ≤ 65535) ⌝ }
-    ensures { λ _. ⌜ now (items .exit) ≡ sets (now (items .entry)) at (answerReply (Char c start) .values) ⌝ }
-{
-    put_at(items, at, 0);
-    put_at(items, at + 1, c);
-    put_at(items, at + 2, start as u32);
-    put_at(items, at + 3, 1);
-    put_at(items, at + 4, 0);
-    put_at(items, at + 5, 0);
 }
 
 // The state after n letters that were set as they stand: the character c is next.
@@ -97,7 +71,7 @@ fn set_plain(
         if has_bit(index, c + 1, y) {
             return Letters { code: c, count: n };
         }
-        put_character(items, 6 * (k + n), c, given + n);
+        put_six(items, 6 * (k + n), 0, c, (given + n) as u32, 1, 0, 0);
         c = y;
         n += 1;
     }
@@ -120,13 +94,13 @@ pub fn set_letters(
     state: State,
     items: &mut [i32],
     count: usize,
-) -> Stretch
+) -> LettersSet
     ensures { λ r. ⌜ ((pairs : List ℤ) → Runs (indexedStepOf (now (index .entry)) pairs (now (ops .entry)) boundary (now (word .entry)) options) state count (now (items .entry)) (r .state) (r .count) (now (items .exit))) ⌝ }
 {
     let left = quick_left(ops, boundary, word, options, state);
     let room = items.len() / 6;
     if left == 0 || room < count {
-        return Stretch {
+        return LettersSet {
             state: state,
             count: count,
         };
@@ -136,7 +110,7 @@ pub fn set_letters(
     let most = smaller(room - count, word.len() - read);
     let set = set_plain(index, word, left - 1, read, given, items, count, most);
     let after = after_letters(set.code, set.count, state);
-    Stretch {
+    LettersSet {
         state: after,
         count: count + set.count,
     }

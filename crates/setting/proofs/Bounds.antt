@@ -33,7 +33,7 @@ use Rattle.captions.specs.Steps.{taken, takesBoundary, settled, giveItem, giveC
 use Rattle.turns.specs.Turns.{turnNext, turnOnce, turnsLeft, Within}
 use Rattle.turns.proofs.Laws.{gathered-read}
 use Rattle.turns.proofs.Turning.{Running, running-begin, running-less, running-more, running-end, placed-within}
-use Rattle.setting.specs.Writing.{Small}
+use Rattle.item_lists.specs.ItemLists.{Small}
 
 -- ---- a step whose answer has small numbers
 

@@ -13,8 +13,8 @@ use Rattle.captions.specs.declared.Answer.{Answer}
 use Rattle.captions.specs.declared.Answer.the-variants.{Char, Ligature, Kern, End, Refused}
 use Rattle.captions.specs.Replies.{answerReply}
 use Rattle.captions.specs.Steps.{stepOf}
+use Rattle.item_lists.specs.ItemLists.{Small}
 use Rattle.setting.specs.Setting.{andThen, itemsFrom}
-use Rattle.setting.specs.Writing.{Small}
 use Rattle.setting.proofs.Bounds.{step-small}
 
 same : (n : ℕ) (vs : List ℤ) → n ≤ 15 → replyOf n vs .number ≤ 15

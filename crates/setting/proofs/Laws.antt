@@ -9,10 +9,7 @@ use native.Mathlib.Omega.{arith}
 use lib.IntN.{ℤ, pos}
 use lib.ListN.{length, replicate, length-append, length-replicate}
 use lib.Seq.{sets, length-sets}
-use borrow.Author.Tests.{le-leb}
-use Rattle.words.specs.Words.{numberOf}
 use Rattle.words.specs.Lists.{Appending}
-use Rattle.words.proofs.Bits.{number-pos}
 use Rattle.words.proofs.Lists.{appending-none, appending-more, appending-length, appending-rest, sets-append}
 use Rattle.lang.specs.declared.Written.{Written}
 use Rattle.lang.specs.declared.Written.the-variants as written
@@ -25,21 +22,20 @@ use Rattle.captions.specs.declared.Begun.the-variants as begun
 use Rattle.captions.specs.declared.Answer.{Answer}
 use Rattle.captions.specs.declared.Answer.the-variants.{Char, Ligature, Kern, End, Refused}
 use Rattle.captions.specs.declared.Step.{Step}
-use Rattle.captions.specs.Replies.{bitNumber, answerReply}
+use Rattle.captions.specs.Replies.{answerReply}
 use Rattle.captions.specs.Begin.{beginRefusal, freshState, begunBy, beginOf}
 use Rattle.captions.specs.Tables.{pairCount}
 use Rattle.captions.specs.Steps.{stepOf}
 use Rattle.quick.specs.Quick.{nextLetter, isQuick, foundPlace, givenPlain}
 use Rattle.stretch.specs.declared.Stretch.{Stretch}
-use Rattle.stretch.specs.Stretch.{sixAt, plainLeft, isFree, letterItem, plainState, letterItems, freeLetters, stopPlace, mostLetters, Stretched}
+use Rattle.stretch.specs.Stretch.{plainLeft, isFree, letterItem, plainState, letterItems, freeLetters, stopPlace, mostLetters, Stretched}
 use Rattle.stretch.proofs.Theorems.{leading-few, state-none, state-more, steps-along, stops-at}
 use Rattle.stretch.proofs.Laws.{items-long, items-none, items-more, give-asks}
+use Rattle.item_lists.specs.ItemLists.{isItem, Small, Stops}
+use Rattle.item_lists.proofs.Laws.{no, item-six, put-character}
 use Rattle.setting.specs.Setting.{before, andThen, itemsFrom, afterBegin, setReply, Sets}
-use Rattle.setting.specs.Writing.{isItem, Small, NextPair, Stops, Tells}
+use Rattle.setting.specs.Writing.{NextPair, Tells}
 use Rattle.setting.proofs.Bounds.{step-small}
-
-no : {A : Type 0} → _≡_ {A = Bool} false true → A
-no e = absurd (let z : _≡_ {A = ℕ} 0 1 = cc in omega arith)
 
 -- a list of zeros is as long as the one that was zeroed
 pub blank : (d₀ d : List ℤ) → d ≡ replicate (length d₀) (pos 0) → d ≡ replicate (length d) (pos 0)
@@ -74,45 +70,6 @@ item-then (Ligature c p n a b) r h = refl
 item-then (Kern k) r h = refl
 item-then End r h = no h
 item-then (Refused n) r h = no h
-
-pub item-six : (a : Answer) → isItem a ≡ true → length (answerReply a .values) ≡ 6
-item-six (Char c p) h = refl
-item-six (Ligature c p n a b) h = refl
-item-six (Kern k) h = refl
-item-six End h = no h
-item-six (Refused n) h = no h
-
--- ---- the six numbers of an item, as they are stored
-
-module _ (d d′ : List ℤ) (at : ℕ) where
-  pub put-character : {x : Answer} {c p : ℕ} → x ≡ Char c p → Small x → d′ ≡ sets d at (numberOf 0 ∷ numberOf c ∷ numberOf p ∷ numberOf 1 ∷ numberOf 0 ∷ numberOf 0 ∷ []) → d′ ≡ sets d at (answerReply x .values)
-  put-character {x} {c} {p} e m h =
-      let n = subst Small e m in
-      rw e (h ∙ (λ j. sets d at (pos 0 ∷ number-pos c (omega (arith, n .0)) j ∷ number-pos p (omega (arith, n .1)) j ∷ pos 1 ∷ pos 0 ∷ pos 0 ∷ [])))
-
-  pub put-ligature : {x : Answer} {c p n : ℕ} {a b : Bool} (l r : ℕ) → x ≡ Ligature c p n a b → Small x → numberOf l ≡ bitNumber a → numberOf r ≡ bitNumber b →
-      d′ ≡ sets d at (numberOf 1 ∷ numberOf c ∷ numberOf p ∷ numberOf n ∷ numberOf l ∷ numberOf r ∷ []) → d′ ≡ sets d at (answerReply x .values)
-  put-ligature {x} {c} {p} {n} l r e m f g h =
-      let q = subst Small e m in
-      rw e (h ∙ (λ j. sets d at (pos 1 ∷ number-pos c (omega (arith, q .0)) j ∷ number-pos p (omega (arith, q .1)) j ∷ number-pos n (omega (arith, q .2)) j ∷ f j ∷ g j ∷ [])))
-
-  pub put-kern : {x : Answer} {k : ℤ} (w : ℕ) → x ≡ Kern k → numberOf w ≡ k → d′ ≡ sets d at (numberOf 2 ∷ numberOf w ∷ numberOf 0 ∷ numberOf 0 ∷ numberOf 0 ∷ numberOf 0 ∷ []) → d′ ≡ sets d at (answerReply x .values)
-  put-kern {x} {k} w e q h = rw e (h ∙ (λ j. sets d at (pos 2 ∷ q j ∷ pos 0 ∷ pos 0 ∷ pos 0 ∷ pos 0 ∷ [])))
-
-  -- where there is room for them
-  module _ (r : at + 6 ≤ length d) where
-    six-there : (vs : List ℤ) → d′ ≡ sixAt d at vs → d′ ≡ sets d at vs
-    six-there vs e = e ∙ ap (λ (b : Bool). cond b (sets d at vs) d) (le-leb (at + 6) (length d) r)
-
-    pub six-character : {x : Answer} {c p : ℕ} → x ≡ Char c p → Small x → d′ ≡ sixAt d at (numberOf 0 ∷ numberOf c ∷ numberOf p ∷ numberOf 1 ∷ numberOf 0 ∷ numberOf 0 ∷ []) → d′ ≡ sets d at (answerReply x .values)
-    six-character {x} {c} {p} e m h = put-character e m (six-there (numberOf 0 ∷ numberOf c ∷ numberOf p ∷ numberOf 1 ∷ numberOf 0 ∷ numberOf 0 ∷ []) h)
-
-    pub six-ligature : {x : Answer} {c p n : ℕ} {a b : Bool} (l r : ℕ) → x ≡ Ligature c p n a b → Small x → numberOf l ≡ bitNumber a → numberOf r ≡ bitNumber b →
-        d′ ≡ sixAt d at (numberOf 1 ∷ numberOf c ∷ numberOf p ∷ numberOf n ∷ numberOf l ∷ numberOf r ∷ []) → d′ ≡ sets d at (answerReply x .values)
-    six-ligature {x} {c} {p} {n} l r e m f g h = put-ligature l r e m f g (six-there (numberOf 1 ∷ numberOf c ∷ numberOf p ∷ numberOf n ∷ numberOf l ∷ numberOf r ∷ []) h)
-
-    pub six-kern : {x : Answer} {k : ℤ} (w : ℕ) → x ≡ Kern k → numberOf w ≡ k → d′ ≡ sixAt d at (numberOf 2 ∷ numberOf w ∷ numberOf 0 ∷ numberOf 0 ∷ numberOf 0 ∷ numberOf 0 ∷ []) → d′ ≡ sets d at (answerReply x .values)
-    six-kern w e q h = put-kern w e q (six-there (numberOf 2 ∷ numberOf w ∷ numberOf 0 ∷ numberOf 0 ∷ numberOf 0 ∷ numberOf 0 ∷ []) h)
 
 -- ---- what a reply tells
 

@@ -17,10 +17,11 @@ use Rattle.captions.specs.declared.Step.{Step}
 use Rattle.captions.specs.Replies.{answerReply}
 use Rattle.captions.specs.Steps.{stepOf}
 use Rattle.captions.specs.Runs.{answers, Shown, shows, ends, shown, thenEnds}
+use Rattle.item_lists.specs.ItemLists.{isItem}
+use Rattle.item_lists.proofs.Laws.{item-six}
 use Rattle.setting.specs.Setting.{before, itemsFrom, setReply}
-use Rattle.setting.specs.Writing.{isItem}
 use Rattle.setting.specs.Purpose.{valuesOf, EveryWord}
-use Rattle.setting.proofs.Laws.{item-then, item-six, from-suc, from-stops, set-run}
+use Rattle.setting.proofs.Laws.{item-then, from-suc, from-stops, set-run}
 
 -- ---- an answer by what it shows
 

@@ -1,21 +1,21 @@
 // A word set whole: a run from its begin to its end, each item as the six numbers of a T line. Document 01, 'Caption items' and 'The column text'; after the loop
 // over what `run_with_options` of ligkern/mod.rs returns.
 ghost use mathlib.Core.Path.{_≡_};
-ghost use Prim.Native.Nat.{_+_, _/_, _≤_};
+ghost use Prim.Native.Nat.{_/_};
 ghost use lib.ListN.{length, replicate};
-ghost use lib.Seq.{sets};
 ghost use lib.IntN.{pos};
-ghost use Rattle.words.specs.Words.{numberOf};
 ghost use Rattle.captions.specs.Begin.{freshState};
-ghost use Rattle.captions.specs.Replies.{bitNumber, answerReply};
 ghost use Rattle.captions.specs.Steps.{stepOf};
 ghost use Rattle.setting.specs.Setting.{itemsFrom, Sets};
-ghost use Rattle.setting.specs.Writing.{isItem, Small, NextPair, Stops, Tells};
+ghost use Rattle.setting.specs.Writing.{NextPair, Tells};
 use captions::Answer;
 use captions::Begun;
 use captions::RunOptions;
 use captions::State;
 use captions::Step;
+use item_lists::is_item;
+use item_lists::put_item;
+use item_lists::stopped;
 use lang::Written;
 use ligkern::begin::begin;
 use ligkern::begin::fresh_state;
@@ -23,61 +23,7 @@ use ligkern::steps::kern_step;
 use quick::first::is_ready;
 use quick::first::quick_step;
 use stretch::give_letters;
-use stretch::put_six;
-use words::word_of;
 use words::zero::zero_i32;
-
-// Neither the end nor a refusal.
-fn is_item(answer: Answer) -> bool
-    ensures { λ r. ⌜ r ≡ isItem answer ⌝ }
-{
-    match answer {
-        Answer::Char(_, _) => true,
-        Answer::Ligature(_, _, _, _, _) => true,
-        Answer::Kern(_) => true,
-        Answer::End => false,
-        Answer::Refused(_) => false,
-    }
-}
-
-// 1 where a flag is set.
-fn bit(flag: bool) -> u32
-    ensures { λ r. ⌜ numberOf r ≡ bitNumber flag ⌝ }
-{
-    if flag { 1 } else { 0 }
-}
-
-// The numbers of an item at a place; the end and a refusal have none.
-fn put_item(items: &mut [i32], at: usize, answer: Answer)
-    requires { ⌜ (at + 6 ≤ length (now items)) × (Small answer) ⌝ }
-    ensures { λ _. ⌜ now (items .exit) ≡ sets (now (items .entry)) at (answerReply answer .values) ⌝ }
-{
-    match answer {
-        Answer::Char(c, start) => put_six(items, at, 0, c, start as u32, 1, 0, 0),
-        Answer::Ligature(c, start, n, l, r) => {
-            put_six(items, at, 1, c, start as u32, n as u32, bit(l), bit(r))
-        }
-        Answer::Kern(value) => put_six(items, at, 2, word_of(value), 0, 0, 0, 0),
-        Answer::End => {}
-        Answer::Refused(_) => {}
-    }
-}
-
-// What is answered where a run stops after k items: their count; or the number of a refusal, with zeros for the items.
-fn stopped(items: &mut [i32], k: usize, answer: Answer) -> Written
-    ensures { λ r. ⌜ Stops answer k (now (items .entry)) r (now (items .exit)) ⌝ }
-{
-    match answer {
-        Answer::Char(_, _) => Written::Count(k),
-        Answer::Ligature(_, _, _, _, _) => Written::Count(k),
-        Answer::Kern(_) => Written::Count(k),
-        Answer::End => Written::Count(k),
-        Answer::Refused(n) => {
-            zero_i32(items);
-            Written::Refused(n)
-        }
-    }
-}
 
 // The step from a state in which a stretch of letters ended, and the pair that ended it if there is one: its first op at once, or a last kern, and else by turns.
 fn next_step(

@@ -23,15 +23,15 @@ finish c e =
 quick-left-requires : tie.Need-quick-left-requires
 quick-left-requires c κs = search needs
 
-other-step-requires : tie.Need-other-step-requires
-other-step-requires c κs = search needs
+kern-step-requires : tie.Need-kern-step-requires
+kern-step-requires c κs = search needs
 
 returns : tie.Need-returns
 returns c =
     let q = c .before .before in
     let st = q .before .before .before in
     let a = st .args in
-    finish st (other-is (now (a .index)) (now (a .pairs)) (now (a .ops)) (numberOf (wordOf (a .boundary))) (now (a .word)) (a .options) (a .state) (q .quick-left .ensures) (c .before .if1 .taken) (c .other-step .ensures))
+    finish st (other-is (now (a .index)) (now (a .pairs)) (now (a .ops)) (numberOf (wordOf (a .boundary))) (now (a .word)) (a .options) (a .state) (q .quick-left .ensures) (c .before .if1 .taken) (c .kern-step .ensures))
 
 u32-at-requires : tie.Need-u32-at-requires
 u32-at-requires c κs = search needs
@@ -110,7 +110,7 @@ step-indexed-spec =
     tie.close
     (tie.spec
     quick-left-requires
-    other-step-requires
+    kern-step-requires
     returns
     u32-at-requires
     look-up-requires

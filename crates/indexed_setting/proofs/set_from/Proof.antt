@@ -11,7 +11,9 @@ use Rattle.words.specs.Words.{wordOf, numberOf}
 use Rattle.words.proofs.Bits.{number-word}
 use Rattle.words.proofs.Lists.{appending-length}
 use Rattle.captions.specs.declared.Step.{Step}
-use Rattle.setting.specs.Writing.{Small, Tells}
+use Rattle.item_lists.specs.ItemLists.{Small}
+use Rattle.item_lists.proofs.Laws.{item-there}
+use Rattle.setting.specs.Writing.{Tells}
 use Rattle.indexed.specs.Indexed.{indexedStepOf}
 use Rattle.indexed.proofs.Laws.{answered-is}
 use Rattle.indexed_setting.specs.Whole.{itemsBy}
@@ -95,7 +97,7 @@ mul-put-item : tie.Need-mul-put-item Inv-loop μ-loop
 mul-put-item c = omega (arith, c .before .if2 .left, held (c .before .before .before .before), c .before .before .before .before .before .before .before .before .before .before .before .before .good .1 .1 .1 .1 .1 .1 .1 .0 .0)
 
 put-item-requires : tie.Need-put-item-requires Inv-loop μ-loop
-put-item-requires c κs = (omega (arith, c .before .if2 .left), small (c .before .before .before .before))
+put-item-requires c κs = search needs
 
 add-k : tie.Need-add-k Inv-loop μ-loop
 add-k c = omega (arith, c .before .before .before .before .if2 .left, held (c .before .before .before .before .before .before .before), c .before .before .before .before .before .before .before .before .before .before .before .before .before .before .before .good .1 .1 .1 .1 .1 .1 .1 .0 .0)
@@ -111,7 +113,10 @@ loop-again c =
     let st = l .before .before .before in
     let a = st .args in
     let y = c .before .before .put-item in
-    standing-more (indexedStepOf (a .index .now) (a .pairs .now) (a .ops .now) (numberOf (wordOf (a .boundary))) (a .word .now) (a .options)) (a .state) (a .items .now) (x .last .1 .1 .1 .1 .1 .1 .0) (x .result .state) (x .result .count) (stands t) (t .step-indexed .result) (step-is t) (sym (c .before .before .before .before .before .before .is-item .ensures) ∙ not-false _ (c .before .before .before .before .before .if1 .left)) (c .before .before .before .before .if2 .left) (y .last .0) (y .ensures)
+    let d = x .last .1 .1 .1 .1 .1 .1 .0 in
+    let k = x .result .count in
+    let fits : 6 * k + 6 ≤ length d = omega (arith, c .before .before .before .before .if2 .left) in
+    standing-more (indexedStepOf (a .index .now) (a .pairs .now) (a .ops .now) (numberOf (wordOf (a .boundary))) (a .word .now) (a .options)) (a .state) (a .items .now) d (x .result .state) k (stands t) (t .step-indexed .result) (step-is t) (sym (c .before .before .before .before .before .before .is-item .ensures) ∙ not-false _ (c .before .before .before .before .before .if1 .left)) (c .before .before .before .before .if2 .left) (y .last .0) (item-there d (y .last .0) (6 * k) (t .step-indexed .result .answer) fits (small t) (y .ensures))
 
 pub set-from-spec : {M : Type 1} → statement M
 set-from-spec =

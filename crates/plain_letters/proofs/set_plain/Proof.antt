@@ -1,10 +1,13 @@
 -- `plain_letters::set_plain` meets its contract. The loop's invariant: the letters passed were set as they stand. The measure is what is left of them.
 -- Assumes nothing.
 use mathlib.Core.Path.{refl, sym, _∙_}
-use Prim.Native.Nat.{_+_, _-_, _/_, _<_, _≤_}
+use mathlib.Core.List.{[], _∷_}
+use Prim.Native.Nat.{_+_, _-_, _*_, _/_, _<_, _≤_}
 use native.Mathlib.Omega.{arith}
 use lib.ListN.{length}
 use denote.Ref.{now}
+use Rattle.words.specs.Words.{numberOf}
+use Rattle.item_lists.proofs.Laws.{put-character, six-there}
 use Rattle.plain_letters.specs.Running.{PlainSet}
 use Rattle.plain_letters.proofs.Running.{plain-none, plain-more}
 use borrow.Author.Needs.{needs}
@@ -57,17 +60,20 @@ same-length-2 c = c .before .before .before .before .before .loop .inv .same
 returns-2 : tie.Need-returns-2 Inv-loop μ-loop
 returns-2 c = c .before .before .before .before .before .loop .inv
 
-add-put-character : tie.Need-add-put-character Inv-loop μ-loop
-add-put-character c = omega (arith, inside (c .before .before .before .before .before) .2, c .before .before .before .before .before .before .loop .inv .same)
+add-put-six : tie.Need-add-put-six Inv-loop μ-loop
+add-put-six c = omega (arith, inside (c .before .before .before .before .before) .2, c .before .before .before .before .before .before .loop .inv .same)
 
-mul-put-character : tie.Need-mul-put-character Inv-loop μ-loop
-mul-put-character c = omega (arith, inside (c .before .before .before .before .before) .2, c .before .before .before .before .before .before .loop .inv .same)
+mul-put-six : tie.Need-mul-put-six Inv-loop μ-loop
+mul-put-six c = omega (arith, inside (c .before .before .before .before .before) .2, c .before .before .before .before .before .before .loop .inv .same)
 
-add-put-character-2 : tie.Need-add-put-character-2 Inv-loop μ-loop
-add-put-character-2 c = omega (arith, inside (c .before .before .before .before .before) .1)
+add-put-six-2 : tie.Need-add-put-six-2 Inv-loop μ-loop
+add-put-six-2 c = omega (arith, inside (c .before .before .before .before .before) .1)
 
-put-character-requires : tie.Need-put-character-requires Inv-loop μ-loop
-put-character-requires c κs = let i = inside (c .before .before .before .before .before) in (omega (arith, i .2), i .3, i .1)
+cast-put-six : tie.Need-cast-put-six Inv-loop μ-loop
+cast-put-six c = record { fits = omega (arith, inside (c .before .before .before .before .before) .1) }
+
+put-six-requires : tie.Need-put-six-requires Inv-loop μ-loop
+put-six-requires c κs = search needs
 
 add-n : tie.Need-add-n Inv-loop μ-loop
 add-n c = omega (arith, inside (c .before .before .before .before .before .before .before) .0)
@@ -80,8 +86,13 @@ loop-again c =
     let l = c .before .before .before .before .before .before .before .before in
     let e = c .before .before .before .before .before in
     let a = l .before .before .before in
+    let i = inside (c .before .before .before .before .before .before .before) in
+    let x = c .before .put-six in
+    let start = a .args .given + l .loop .n in
+    let at = 6 * (a .args .k + l .loop .n) in
+    let room : at + 6 ≤ length (l .loop .items) = omega (arith, i .2) in
     plain-more (now (a .args .index)) (now (a .args .word)) (a .args .code) (a .args .read) (a .args .given) (a .args .k) (a .args .most) (now (a .args .items)) (l .loop .inv) (c .before .before .before .before .before .before .before .loop-test .taken) (a .pre .1) (a .pre .3) refl (e .if1 .left)
-    (sym (c .before .before .before .before .has-bit .ensures) ∙ c .before .before .before .if2 .left) (c .before .put-character .ensures)
+    (sym (c .before .before .before .before .has-bit .ensures) ∙ c .before .before .before .if2 .left) (put-character (l .loop .items) (x .last .0) at refl (i .3, i .1) (six-there (l .loop .items) (x .last .0) at (numberOf 0 ∷ numberOf (l .loop .c) ∷ numberOf start ∷ numberOf 1 ∷ numberOf 0 ∷ numberOf 0 ∷ []) room (x .ensures)))
 
 same-length-3 : tie.Need-same-length-3 Inv-loop μ-loop
 same-length-3 c = c .before .loop .inv .same
@@ -105,10 +116,11 @@ set-plain-spec =
     has-bit-requires
     same-length-2
     returns-2
-    add-put-character
-    mul-put-character
-    add-put-character-2
-    put-character-requires
+    add-put-six
+    mul-put-six
+    add-put-six-2
+    cast-put-six
+    put-six-requires
     add-n
     loop-less
     loop-again

@@ -10,6 +10,7 @@ use borrow.Author.Tests.{not-true, not-false}
 use Rattle.words.specs.Words.{wordOf, numberOf}
 use Rattle.words.proofs.Bits.{number-word}
 use Rattle.words.proofs.Lists.{appending-length}
+use Rattle.item_lists.proofs.Laws.{item-there}
 use Rattle.setting.specs.Setting.{itemsFrom}
 use Rattle.setting.specs.Writing.{Tells}
 use Rattle.setting.proofs.Laws.{Setting, setting-none, item-small, setting-more, setting-full, setting-stop, setting-letters, next-pair}
@@ -92,14 +93,7 @@ mul-put-item : tie.Need-mul-put-item Inv-loop μ-loop
 mul-put-item c = let b = c .before .before .before .before .before .before .before .before .before .before .before .before .good in omega (arith, c .before .if2 .left, kept (c .before .before .before .before .before .before .before .before))
 
 put-item-requires : tie.Need-put-item-requires Inv-loop μ-loop
-put-item-requires c κs =
-    let t = c .before .before .before .before .next-step in
-    let g = c .before .before .before .before .before .before .before .before in
-    let l = c .before .before .before .before .before .before .before .before .before .before in
-    let s = c .before .before .before .before .before .before .before .before .before .before .before .before in
-    let a = s .args in
-    let r : 6 * (l .loop .k + g .give-letters .result .count) + 6 ≤ length (g .give-letters .last .1 .1 .1 .1 .1 .1 .0) = omega (arith, c .before .if2 .left) in
-    (r, item-small (a .pairs .now) (a .ops .now) (numberOf (wordOf (a .boundary))) (a .word .now) (a .options) (a .state) (a .items .now) (g .give-letters .last .1 .1 .1 .1 .1 .1 .0) (g .give-letters .result .state) (l .loop .k + g .give-letters .result .count) (letters g) (t .result) (t .ensures))
+put-item-requires c κs = tt
 
 -- there is room for the item of the step
 room : (c : tie.Else2 Inv-loop μ-loop) → c .before .before .before .before .before .before .before .before .before .loop .k + c .before .before .before .before .before .before .before .give-letters .result .count < length (c .before .before .before .before .before .before .before .before .before .before .before .args .items .now) / 6
@@ -114,7 +108,11 @@ more c =
     let g = c .before .before .before .before .before .before .before .before .before in
     let l = c .before .before .before .before .before .before .before .before .before .before .before in
     let a = c .before .before .before .before .before .before .before .before .before .before .before .before .before .args in
-    setting-more (a .pairs .now) (a .ops .now) (numberOf (wordOf (a .boundary))) (a .word .now) (a .options) (a .state) (a .items .now) (g .give-letters .last .1 .1 .1 .1 .1 .1 .0) (g .give-letters .result .state) (l .loop .k + g .give-letters .result .count) (letters g) (t .result) (t .ensures) (sym (i .ensures) ∙ not-false _ (c .before .before .before .if1 .left)) (c .before .before .if2 .left) (x .last .0) (x .ensures)
+    let d = g .give-letters .last .1 .1 .1 .1 .1 .1 .0 in
+    let k = l .loop .k + g .give-letters .result .count in
+    let fits : 6 * k + 6 ≤ length d = omega (arith, c .before .before .if2 .left) in
+    let small = item-small (a .pairs .now) (a .ops .now) (numberOf (wordOf (a .boundary))) (a .word .now) (a .options) (a .state) (a .items .now) d (g .give-letters .result .state) k (letters g) (t .result) (t .ensures) in
+    setting-more (a .pairs .now) (a .ops .now) (numberOf (wordOf (a .boundary))) (a .word .now) (a .options) (a .state) (a .items .now) d (g .give-letters .result .state) k (letters g) (t .result) (t .ensures) (sym (i .ensures) ∙ not-false _ (c .before .before .before .if1 .left)) (c .before .before .if2 .left) (x .last .0) (item-there d (x .last .0) (6 * k) (t .result .answer) fits small (x .ensures))
 
 add-k-2 : tie.Need-add-k-2 Inv-loop μ-loop
 add-k-2 c = let b = c .before .before .before .before .before .before .before .before .before .before .before .before .before .before .before .good in omega (arith, room (c .before .before .before .before))

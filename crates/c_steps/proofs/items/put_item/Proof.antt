@@ -6,8 +6,8 @@ use lib.IntN.{pos}
 use lib.ListN.{set}
 use Rattle.words.proofs.Bits.{number-is}
 use Rattle.lang.proofs.Records.{word-passed}
-use Rattle.setting.specs.Writing.{isItem, Small}
-use Rattle.setting.proofs.Laws.{put-character, put-ligature, put-kern}
+use Rattle.item_lists.specs.ItemLists.{isItem, Small}
+use Rattle.item_lists.proofs.Laws.{put-character, put-ligature, put-kern}
 use Rattle.c_steps.proofs.Stepping.{stored-told}
 use borrow.Author.Needs.{needs}
 use Rattle.c_steps.proofs.items.put_item.Statement.{statement}

@@ -1,9 +1,9 @@
--- `indexed_setting::writing::stopped` meets its contract: each arm is a clause of its definition.
+-- `item_lists::stopped` meets its contract: each arm is a clause of its definition.
 -- Assumes nothing.
 use mathlib.Core.Path.{refl}
 use borrow.Author.Needs.{needs}
-use Rattle.indexed_setting.proofs.writing.stopped.Statement.{statement}
-use Rattle.indexed_setting.proofs.writing.stopped.Tie as tie
+use Rattle.item_lists.proofs.stopped.Statement.{statement}
+use Rattle.item_lists.proofs.stopped.Tie as tie
 
 enum-told : tie.Need-enum-told
 enum-told c = search needs

@@ -1,20 +1,20 @@
--- `indexed_setting::writing::put_item` meets its contract, by the arm that is taken: the numbers of its case; the end and a refusal have none.
+-- `item_lists::write_item` meets its contract, by the arm that is taken: the numbers of its case; the end and a refusal have none.
 -- Assumes nothing.
 use mathlib.Core.Path.{subst}
 use native.Mathlib.Omega.{arith}
 use Rattle.words.proofs.Bits.{number-is}
 use Rattle.lang.proofs.Records.{word-passed}
-use Rattle.setting.specs.Writing.{Small}
-use Rattle.setting.proofs.Laws.{put-character, put-ligature, put-kern}
+use Rattle.item_lists.specs.ItemLists.{Small}
+use Rattle.item_lists.proofs.Laws.{character-numbers, ligature-numbers, kern-numbers, six-as, six-none}
 use borrow.Author.Needs.{needs}
-use Rattle.indexed_setting.proofs.writing.put_item.Statement.{statement}
-use Rattle.indexed_setting.proofs.writing.put_item.Tie as tie
+use Rattle.item_lists.proofs.write_item.Statement.{statement}
+use Rattle.item_lists.proofs.write_item.Tie as tie
 
 enum-known-answer : tie.Need-enum-known-answer
 enum-known-answer c = search needs
 
 cast-put-six : tie.Need-cast-put-six
-cast-put-six c = let v = c .before .before in record { fits = omega (arith, subst Small (v .answer .given .1) (v .before .before .pre .1) .1) }
+cast-put-six c = let v = c .before .before in record { fits = omega (arith, subst Small (v .answer .given .1) (v .before .before .pre) .1) }
 
 put-six-requires : tie.Need-put-six-requires
 put-six-requires c κs = search needs
@@ -23,10 +23,10 @@ enum-known-answer-2 : tie.Need-enum-known-answer-2
 enum-known-answer-2 c = search needs
 
 cast-put-six-2 : tie.Need-cast-put-six-2
-cast-put-six-2 c = let v = c .before .before in record { fits = omega (arith, subst Small (v .answer2 .given .1) (v .before .before .pre .1) .1) }
+cast-put-six-2 c = let v = c .before .before in record { fits = omega (arith, subst Small (v .answer2 .given .1) (v .before .before .pre) .1) }
 
 cast-put-six-3 : tie.Need-cast-put-six-3
-cast-put-six-3 c = let v = c .before .before in record { fits = omega (arith, subst Small (v .answer2 .given .1) (v .before .before .pre .1) .2) }
+cast-put-six-3 c = let v = c .before .before in record { fits = omega (arith, subst Small (v .answer2 .given .1) (v .before .before .pre) .2) }
 
 bit-requires : tie.Need-bit-requires
 bit-requires c κs = search needs
@@ -60,7 +60,7 @@ returns c =
     let x = c .before .put-six in
     let v = c .before .before .before .before in
     let s = v .before .before in
-    put-character (s .args .items .now) (x .last .0) (s .args .at) (v .answer .given .1) (s .pre .1) (x .ensures)
+    six-as (s .args .items .now) (x .last .0) (s .args .at) (character-numbers (v .answer .given .1) (s .pre)) (x .ensures)
 
 same-length-2 : tie.Need-same-length-2
 same-length-2 c = search needs
@@ -72,7 +72,7 @@ returns-2 c =
     let r = c .before .before .bit2 in
     let v = c .before .before .before .before .before .before in
     let s = v .before .before in
-    put-ligature (s .args .items .now) (x .last .0) (s .args .at) (l .result) (r .result) (v .answer2 .given .1) (s .pre .1) (l .ensures) (r .ensures) (x .ensures)
+    six-as (s .args .items .now) (x .last .0) (s .args .at) (ligature-numbers (l .result) (r .result) (v .answer2 .given .1) (s .pre) (l .ensures) (r .ensures)) (x .ensures)
 
 same-length-3 : tie.Need-same-length-3
 same-length-3 c = search needs
@@ -83,16 +83,16 @@ returns-3 c =
     let w = c .before .before .word-of in
     let v = c .before .before .before .before .before in
     let s = v .before .before in
-    put-kern (s .args .items .now) (x .last .0) (s .args .at) (w .result) (v .answer3 .given .1) (number-is (word-passed {x = v .answer3 .given .0 .0} (record { sfits = search needs }) (w .ensures))) (x .ensures)
+    six-as (s .args .items .now) (x .last .0) (s .args .at) (kern-numbers (w .result) (v .answer3 .given .1) (number-is (word-passed {x = v .answer3 .given .0 .0} (record { sfits = search needs }) (w .ensures)))) (x .ensures)
 
 returns-4 : tie.Need-returns-4
-returns-4 c = search needs
+returns-4 c = let a = c .before .before .args in rw (c .enum-told .given .1) (six-none (a .items .now) (a .at))
 
 returns-5 : tie.Need-returns-5
-returns-5 c = search needs
+returns-5 c = let a = c .before .before .args in rw (c .enum-told2 .given .1) (six-none (a .items .now) (a .at))
 
-pub put-item-spec : {M : Type 1} → statement M
-put-item-spec =
+pub write-item-spec : {M : Type 1} → statement M
+write-item-spec =
     tie.close
     (tie.spec
     enum-known-answer
