@@ -1,16 +1,13 @@
 // Letters that have no pair with the character left of them, by an index over the table: that character is given for each, one after the other. The steps of crate
 // indexed, in a loop of their own.
 ghost use mathlib.Core.Path.{_≡_};
-ghost use mathlib.Core.List.{List};
 ghost use Prim.Native.Nat.{_+_, _/_, _<_, _≤_};
-ghost use lib.IntN.{ℤ};
 ghost use lib.ListN.{length, set};
 ghost use lib.Seq.{sets};
 ghost use Rattle.words.specs.Words.{numberOf};
 ghost use Rattle.captions.specs.declared.Answer.the-variants.{Char};
 ghost use Rattle.captions.specs.Replies.{answerReply};
-ghost use Rattle.indexed.specs.Indexed.{indexedStepOf};
-ghost use Rattle.plain_letters.specs.Running.{Runs, lettersState, PlainSet};
+ghost use Rattle.plain_letters.specs.Running.{lesser, lettersState, PlainDone, LettersSet};
 use captions::Consumes;
 use captions::NextLeft;
 use captions::RunOptions;
@@ -85,7 +82,7 @@ fn set_plain(
     most: usize,
 ) -> Letters
     requires { ⌜ (code ≤ 255) × (read + most ≤ length (now word)) × (given + most ≤ 65535) × (k + most ≤ length (now items) / 6) ⌝ }
-    ensures { λ r. ⌜ PlainSet (now (index .entry)) (now (word .entry)) code read given k most (now (items .entry)) (r .code) (r .count) (now (items .exit)) ⌝ }
+    ensures { λ r. ⌜ PlainDone (now (index .entry)) (now (word .entry)) code read given k most (now (items .entry)) (r .code) (r .count) (now (items .exit)) ⌝ }
 {
     let mut c = code;
     let mut n = 0;
@@ -105,7 +102,7 @@ fn set_plain(
 }
 
 fn smaller(a: usize, b: usize) -> usize
-    ensures { λ r. ⌜ (r ≤ a) × (r ≤ b) ⌝ }
+    ensures { λ r. ⌜ r ≡ lesser a b ⌝ }
 {
     if a < b { a } else { b }
 }
@@ -121,11 +118,17 @@ pub fn set_letters(
     items: &mut [i32],
     count: usize,
 ) -> Stretch
-    ensures { λ r. ⌜ ((pairs : List ℤ) → Runs (indexedStepOf (now (index .entry)) pairs (now (ops .entry)) boundary (now (word .entry)) options) state count (now (items .entry)) (r .state) (r .count) (now (items .exit))) ⌝ }
+    ensures { λ r. ⌜ LettersSet (now (index .entry)) (now (ops .entry)) boundary (now (word .entry)) options state count (now (items .entry)) (r .state) (r .count) (now (items .exit)) ⌝ }
 {
     let left = quick_left(ops, boundary, word, options, state);
+    if left == 0 {
+        return Stretch {
+            state: state,
+            count: count,
+        };
+    }
     let room = items.len() / 6;
-    if left == 0 || room < count {
+    if room < count {
         return Stretch {
             state: state,
             count: count,
