@@ -4,13 +4,14 @@ use mathlib.Core.Path.{_≡_, refl, sym, ap, ap₂, subst, _∙_}
 use mathlib.Core.Bool.{Bool, true, false, cond}
 use mathlib.Core.List.{List}
 use Prim.Native.Nat.{ℕ, zero, suc, _+_, _-_, _*_, _/_, _<_, _≤_}
+use native.Mathlib.Nat.{zero-add}
 use native.Mathlib.Numerals.{add-one}
 use native.Mathlib.Omega.{arith}
 use lib.IntN.{ℤ}
 use lib.Dec.{ltb, leb, eqb}
 use lib.ListN.{length, getD}
 use lib.Seq.{sets, length-sets}
-use borrow.Author.Tests.{lt-ltb, le-leb, eq-eqb, leb-true}
+use borrow.Author.Tests.{ltb-true, ltb-false, lt-ltb, le-leb, lt-leb, eq-eqb, leb-true}
 use Rattle.lang.specs.Every.{both}
 use Rattle.lang.proofs.Every.{both-left, both-right}
 use Rattle.lang.proofs.Refusals.{orElse-none, unless-none}
@@ -30,7 +31,7 @@ use Rattle.index.specs.declared.Looked.{Looked}
 use Rattle.index.specs.declared.Looked.the-variants.{Missing}
 use Rattle.index.specs.Index.{hasBit, lookedUp}
 use Rattle.indexed.specs.Indexed.{lookedStep, indexedStepOf}
-use Rattle.plain_letters.specs.Running.{Runs, none, more, lettersState, Going, PlainSet}
+use Rattle.plain_letters.specs.Running.{Runs, none, more, isAlone, lettersAlone, lesser, lettersFrom, lettersState, Going, PlainSet, PlainDone, LettersSet}
 
 -- a quick state
 module _ (ops : List ℤ) (boundary : ℤ) (word : List ℕ) (options : RunOptions) where
@@ -118,8 +119,40 @@ module _ (index word : List ℕ) (code read given k most : ℕ) (d : List ℤ) w
         small = l;
         first = λ _. refl;
         same = refl;
+        alone = let z : read + 0 ≡ read = omega arith in let y : most - 0 ≡ most = omega arith in sym (ap₂ (λ (a b : ℕ). 0 + lettersAlone index word code a b) z y ∙ zero-add (lettersAlone index word code read most));
         runs = λ pairs ops boundary options s g. subst (λ (m : ℕ). Runs (indexedStepOf index pairs ops boundary word options) s k d s m d) (sym e) none;
       }
+
+  -- a letter that is alone, and one that is not
+  module _ (c n y : ℕ) (ys : y ≡ getD word (read + n) 0) where
+    one-alone : y ≤ 255 → hasBit index (c + 1) y ≡ false → n < most → n + lettersAlone index word c (read + n) (most - n) ≡ n + 1 + lettersAlone index word y (read + (n + 1)) (most - (n + 1))
+    unfolding lettersAlone
+    one-alone letter b l =
+        let m : most - n ≡ suc (most - (n + 1)) = omega arith in
+        let r : suc (read + n) ≡ read + (n + 1) = omega arith in
+        let h : hasBit index (suc c) y ≡ false = ap (λ (i : ℕ). hasBit index i y) (sym (add-one c)) ∙ b in
+        rw (m, ← ys, h, le-leb y 255 letter, r) (omega arith)
+
+    none-by : (m : ℕ) → isAlone index c y ≡ false → lettersAlone index word c (read + n) m ≡ 0
+    unfolding lettersAlone
+    none-by zero h = refl
+    none-by (suc m) h = rw (← ys, h)
+
+  module _ {c n : ℕ} {d′ : List ℤ} (p : PlainSet index word code read given k most d c n d′) where
+    done-by : lettersAlone index word c (read + n) (most - n) ≡ 0 → PlainDone index word code read given k most d c n d′
+    done-by z = record { set = p; all = p .alone ∙ ap (λ (m : ℕ). n + m) z ∙ omega arith }
+
+    pub plain-past : {y : ℕ} → y ≡ getD word (read + n) 0 → 255 < y → PlainDone index word code read given k most d c n d′
+    plain-past {y} ys h = done-by (none-by c n y ys (most - n) (rw (lt-leb y 255 h)))
+
+    pub plain-bit : {y : ℕ} → y ≡ getD word (read + n) 0 → y ≤ 255 → hasBit index (c + 1) y ≡ true → PlainDone index word code read given k most d c n d′
+    plain-bit {y} ys l h =
+        let b : hasBit index (suc c) y ≡ true = ap (λ (i : ℕ). hasBit index i y) (sym (add-one c)) ∙ h in
+        done-by (none-by c n y ys (most - n) (rw (b, le-leb y 255 l)))
+
+    pub plain-end : most ≤ n → PlainDone index word code read given k most d c n d′
+    unfolding lettersAlone
+    plain-end h = let z : most - n ≡ 0 = omega arith in done-by (rw z)
 
   pub plain-more : {c n : ℕ} {d′ d″ : List ℤ} {y : ℕ} → PlainSet index word code read given k most d c n d′ → n < most → read + most ≤ length word → k + most ≤ length d / 6 → y ≡ getD word (read + n) 0 → y ≤ 255 → hasBit index (c + 1) y ≡ false →
       d″ ≡ sets d′ (6 * (k + n)) (answerReply (Char c (given + n)) .values) → PlainSet index word code read given k most d y (n + 1) d″
@@ -129,6 +162,7 @@ module _ (index word : List ℕ) (code read given k most : ℕ) (d : List ℤ) w
         small = letter;
         first = λ z. absurd (omega (arith, z));
         same = ap length e ∙ length-sets d′ (6 * (k + n)) (answerReply (Char c (given + n)) .values) ∙ p .same;
+        alone = p .alone ∙ one-alone c n y ys letter b l;
         runs =
             λ pairs ops boundary options s g.
             more (p .runs pairs ops boundary options s g) (record { answer = Char c (given + n); state = lettersState y (suc n) s })
@@ -175,3 +209,44 @@ quickly ops boundary word options s l e h =
     is-quick : (b : Bool) → l ≡ cond b (suc (plainCode (s .«next_left»))) 0 → (b ≡ true) × (l ≡ suc (plainCode (s .«next_left»)))
     is-quick true f = (refl, f)
     is-quick false f = absurd (h f)
+
+-- ---- how many letters are set from a state on
+
+module _ (index : List ℕ) (ops : List ℤ) (boundary : ℤ) (word : List ℕ) (options : RunOptions) (s : State) where
+  from-by : (l m : ℕ) (b : Bool) → l ≡ cond b (suc (plainCode (s .«next_left»))) 0 → (n : ℕ) → (l ≡ 0 → n ≡ 0) → ((l ≡ 0 → ⊥) → lettersAlone index word (l - 1) (s .read) m ≡ n) →
+      cond b (lettersAlone index word (plainCode (s .«next_left»)) (s .read) m) 0 ≡ n
+  from-by l m true e n f g =
+      let c : plainCode (s .«next_left») ≡ l - 1 = omega arith in
+      ap (λ (i : ℕ). lettersAlone index word i (s .read) m) c ∙ g (λ z. omega arith)
+  from-by l m false e n f g = sym (f e)
+
+  -- the state is not quick
+  pub from-none : {l : ℕ} → l ≡ quickLeft ops boundary word options s → l ≡ 0 → (room : ℕ) → lettersFrom index ops boundary word options s room ≡ 0
+  from-none {l} e z room = from-by l (lesser room (length word - s .read)) (isQuick ops boundary word options s) e 0 (λ _. refl) (λ h. absurd (h z))
+
+  -- it is
+  pub from-quick : {l : ℕ} → l ≡ quickLeft ops boundary word options s → (l ≡ 0 → ⊥) → (room n : ℕ) → lettersAlone index word (l - 1) (s .read) (lesser room (length word - s .read)) ≡ n → lettersFrom index ops boundary word options s room ≡ n
+  from-quick {l} e h room n a = from-by l (lesser room (length word - s .read)) (isQuick ops boundary word options s) e n (λ z. absurd (h z)) (λ _. a)
+
+  -- there is no room
+  pub from-full : (room : ℕ) → room ≡ 0 → lettersFrom index ops boundary word options s room ≡ 0
+  unfolding lettersAlone
+  from-full room z = go (isQuick ops boundary word options s) (lesser room (length word - s .read)) least
+    where
+      least : lesser room (length word - s .read) ≡ 0
+      least = by (ltb room (length word - s .read)) refl
+        where
+          by : (t : Bool) → ltb room (length word - s .read) ≡ t → cond t room (length word - s .read) ≡ 0
+          by true e = z
+          by false e = omega (arith, ltb-false room (length word - s .read) e)
+
+      go : (b : Bool) (m : ℕ) → m ≡ 0 → cond b (lettersAlone index word (plainCode (s .«next_left»)) (s .read) m) 0 ≡ 0
+      go true m e = rw e
+      go false m e = refl
+
+pub lesser-fits : (a b : ℕ) → (lesser a b ≤ a) × (lesser a b ≤ b)
+lesser-fits a b = by (ltb a b) refl
+  where
+    by : (t : Bool) → ltb a b ≡ t → (cond t a b ≤ a) × (cond t a b ≤ b)
+    by true e = (omega arith, omega (arith, ltb-true a b e))
+    by false e = (omega (arith, ltb-false a b e), omega arith)

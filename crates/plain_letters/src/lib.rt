@@ -1,12 +1,9 @@
 // Letters that have no pair with the character left of them, by an index over the table: that character is given for each, one after the other. The steps of crate
 // indexed, in a loop of their own.
 ghost use mathlib.Core.Path.{_≡_};
-ghost use mathlib.Core.List.{List};
 ghost use Prim.Native.Nat.{_+_, _/_, _<_, _≤_};
-ghost use lib.IntN.{ℤ};
 ghost use lib.ListN.{length};
-ghost use Rattle.indexed.specs.Indexed.{indexedStepOf};
-ghost use Rattle.plain_letters.specs.Running.{Runs, lettersState, PlainSet};
+ghost use Rattle.plain_letters.specs.Running.{lesser, lettersState, PlainDone, LettersSet};
 use captions::Consumes;
 use captions::NextLeft;
 use captions::RunOptions;
@@ -22,7 +19,7 @@ struct Letters {
 }
 
 // Where a run stands, and how many items it has given.
-pub struct LettersSet {
+pub struct PlainStretch {
     pub state: State,
     pub count: usize,
 }
@@ -59,7 +56,7 @@ fn set_plain(
     most: usize,
 ) -> Letters
     requires { ⌜ (code ≤ 255) × (read + most ≤ length (now word)) × (given + most ≤ 65535) × (k + most ≤ length (now items) / 6) ⌝ }
-    ensures { λ r. ⌜ PlainSet (now (index .entry)) (now (word .entry)) code read given k most (now (items .entry)) (r .code) (r .count) (now (items .exit)) ⌝ }
+    ensures { λ r. ⌜ PlainDone (now (index .entry)) (now (word .entry)) code read given k most (now (items .entry)) (r .code) (r .count) (now (items .exit)) ⌝ }
 {
     let mut c = code;
     let mut n = 0;
@@ -79,7 +76,7 @@ fn set_plain(
 }
 
 fn smaller(a: usize, b: usize) -> usize
-    ensures { λ r. ⌜ (r ≤ a) × (r ≤ b) ⌝ }
+    ensures { λ r. ⌜ r ≡ lesser a b ⌝ }
 {
     if a < b { a } else { b }
 }
@@ -94,13 +91,19 @@ pub fn set_letters(
     state: State,
     items: &mut [i32],
     count: usize,
-) -> LettersSet
-    ensures { λ r. ⌜ ((pairs : List ℤ) → Runs (indexedStepOf (now (index .entry)) pairs (now (ops .entry)) boundary (now (word .entry)) options) state count (now (items .entry)) (r .state) (r .count) (now (items .exit))) ⌝ }
+) -> PlainStretch
+    ensures { λ r. ⌜ LettersSet (now (index .entry)) (now (ops .entry)) boundary (now (word .entry)) options state count (now (items .entry)) (r .state) (r .count) (now (items .exit)) ⌝ }
 {
     let left = quick_left(ops, boundary, word, options, state);
+    if left == 0 {
+        return PlainStretch {
+            state: state,
+            count: count,
+        };
+    }
     let room = items.len() / 6;
-    if left == 0 || room < count {
-        return LettersSet {
+    if room < count {
+        return PlainStretch {
             state: state,
             count: count,
         };
@@ -110,7 +113,7 @@ pub fn set_letters(
     let most = smaller(room - count, word.len() - read);
     let set = set_plain(index, word, left - 1, read, given, items, count, most);
     let after = after_letters(set.code, set.count, state);
-    LettersSet {
+    PlainStretch {
         state: after,
         count: count + set.count,
     }

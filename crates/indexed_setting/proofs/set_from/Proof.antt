@@ -31,13 +31,13 @@ abbrev μ-loop : tie.MeasureT-loop
 
 -- where the run stands after the letters that have no pair
 stands : (c : tie.After-step-indexed Inv-loop μ-loop) → Standing (indexedStepOf (c .before .before .before .before .before .before .before .before .args .index .now) (c .before .before .before .before .before .before .before .before .args .pairs .now) (c .before .before .before .before .before .before .before .before .args .ops .now) (numberOf (wordOf (c .before .before .before .before .before .before .before .before .args .boundary))) (c .before .before .before .before .before .before .before .before .args .word .now) (c .before .before .before .before .before .before .before .before .args .options)) (c .before .before .before .before .before .before .before .before .args .state) (c .before .before .before .before .before .before .before .before .args .items .now) (c .before .before .before .set-letters .last .1 .1 .1 .1 .1 .1 .0) (c .before .before .before .set-letters .result .state) (c .before .before .before .set-letters .result .count)
-stands c = standing-runs (indexedStepOf (c .before .before .before .before .before .before .before .before .args .index .now) (c .before .before .before .before .before .before .before .before .args .pairs .now) (c .before .before .before .before .before .before .before .before .args .ops .now) (numberOf (wordOf (c .before .before .before .before .before .before .before .before .args .boundary))) (c .before .before .before .before .before .before .before .before .args .word .now) (c .before .before .before .before .before .before .before .before .args .options)) (c .before .before .before .before .before .before .before .before .args .state) (c .before .before .before .before .before .before .before .before .args .items .now) (c .before .before .before .set-letters .ensures (c .before .before .before .before .before .before .before .before .args .pairs .now)) (c .before .before .before .before .before .loop .inv)
+stands c = standing-runs (indexedStepOf (c .before .before .before .before .before .before .before .before .args .index .now) (c .before .before .before .before .before .before .before .before .args .pairs .now) (c .before .before .before .before .before .before .before .before .args .ops .now) (numberOf (wordOf (c .before .before .before .before .before .before .before .before .args .boundary))) (c .before .before .before .before .before .before .before .before .args .word .now) (c .before .before .before .before .before .before .before .before .args .options)) (c .before .before .before .before .before .before .before .before .args .state) (c .before .before .before .before .before .before .before .before .args .items .now) (c .before .before .before .set-letters .ensures .runs (c .before .before .before .before .before .before .before .before .args .pairs .now)) (c .before .before .before .before .before .loop .inv)
 
 held : (c : tie.After-step-indexed Inv-loop μ-loop) → length (c .before .before .before .set-letters .last .1 .1 .1 .1 .1 .1 .0) ≡ length (c .before .before .before .before .before .before .before .before .args .items .now)
 held c = appending-length (c .before .before .before .before .before .before .before .before .args .items .now) (stands c .stored)
 
 up : (c : tie.After-step-indexed Inv-loop μ-loop) → c .before .before .before .before .before .loop .k ≤ c .before .before .before .set-letters .result .count
-up c = runs-up (c .before .before .before .set-letters .ensures (c .before .before .before .before .before .before .before .before .args .pairs .now))
+up c = runs-up (c .before .before .before .set-letters .ensures .runs (c .before .before .before .before .before .before .before .before .args .pairs .now))
 
 step-is : (c : tie.After-step-indexed Inv-loop μ-loop) → c .step-indexed .result ≡ (indexedStepOf (c .before .before .before .before .before .before .before .before .args .index .now) (c .before .before .before .before .before .before .before .before .args .pairs .now) (c .before .before .before .before .before .before .before .before .args .ops .now) (numberOf (wordOf (c .before .before .before .before .before .before .before .before .args .boundary))) (c .before .before .before .before .before .before .before .before .args .word .now) (c .before .before .before .before .before .before .before .before .args .options)) (c .before .before .before .set-letters .result .state)
 step-is c = answered-is (c .before .before .before .before .before .before .before .before .args .index .now) (c .before .before .before .before .before .before .before .before .args .pairs .now) (c .before .before .before .before .before .before .before .before .args .ops .now) (numberOf (wordOf (c .before .before .before .before .before .before .before .before .args .boundary))) (c .before .before .before .before .before .before .before .before .args .word .now) (c .before .before .before .before .before .before .before .before .args .options) (c .before .before .before .set-letters .result .state) (c .step-indexed .ensures)

@@ -9,7 +9,7 @@ use denote.Ref.{now}
 use Rattle.words.specs.Words.{numberOf}
 use Rattle.item_lists.proofs.Laws.{put-character, six-there}
 use Rattle.plain_letters.specs.Running.{PlainSet}
-use Rattle.plain_letters.proofs.Running.{plain-none, plain-more}
+use Rattle.plain_letters.proofs.Running.{plain-none, plain-more, plain-past, plain-bit, plain-end}
 use borrow.Author.Needs.{needs}
 use Rattle.plain_letters.proofs.set_plain.Statement.{statement}
 use Rattle.plain_letters.proofs.set_plain.Tie as tie
@@ -46,7 +46,7 @@ same-length : tie.Need-same-length Inv-loop μ-loop
 same-length c = c .before .before .before .loop .inv .same
 
 returns : tie.Need-returns Inv-loop μ-loop
-returns c = c .before .before .before .loop .inv
+returns c = let a = c .before .before .before .before .before .before .args in plain-past (now (a .index)) (now (a .word)) (a .code) (a .read) (a .given) (a .k) (a .most) (now (a .items)) (c .before .before .before .loop .inv) refl (c .if1 .taken)
 
 add-has-bit : tie.Need-add-has-bit Inv-loop μ-loop
 add-has-bit c = omega (arith, inside (c .before .before) .3)
@@ -58,7 +58,9 @@ same-length-2 : tie.Need-same-length-2 Inv-loop μ-loop
 same-length-2 c = c .before .before .before .before .before .loop .inv .same
 
 returns-2 : tie.Need-returns-2 Inv-loop μ-loop
-returns-2 c = c .before .before .before .before .before .loop .inv
+returns-2 c =
+    let a = c .before .before .before .before .before .before .before .before .args in
+    plain-bit (now (a .index)) (now (a .word)) (a .code) (a .read) (a .given) (a .k) (a .most) (now (a .items)) (c .before .before .before .before .before .loop .inv) refl (c .before .before .if1 .left) (sym (c .before .has-bit .ensures) ∙ c .if2 .taken)
 
 add-put-six : tie.Need-add-put-six Inv-loop μ-loop
 add-put-six c = omega (arith, inside (c .before .before .before .before .before) .2, c .before .before .before .before .before .before .loop .inv .same)
@@ -98,7 +100,7 @@ same-length-3 : tie.Need-same-length-3 Inv-loop μ-loop
 same-length-3 c = c .before .loop .inv .same
 
 returns-3 : tie.Need-returns-3 Inv-loop μ-loop
-returns-3 c = c .before .loop .inv
+returns-3 c = let a = c .before .before .before .before .args in plain-end (now (a .index)) (now (a .word)) (a .code) (a .read) (a .given) (a .k) (a .most) (now (a .items)) (c .before .loop .inv) (c .loop-test .left)
 
 pub set-plain-spec : {M : Type 1} → statement M
 set-plain-spec =
