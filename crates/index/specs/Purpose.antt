@@ -12,9 +12,11 @@ use Rattle.index.specs.Index.{indexOfTable, FillsIndex, lookedUp, looked
 
 abbrev pub LooksUpAsFound : Type 0
 LooksUpAsFound =
-    (pairs : List ℤ) (rest : List ℕ) (l r : ℕ) → every (pairCount pairs) (keyForm pairs) ≡ true → l ≤ 256 → r ≤ 255 → lookedUp (indexOfTable pairs ++ rest) pairs l r ≡ lookedAt (find pairs (keyBy l r))
+    (pairs : List ℤ) (rest : List ℕ) (l r : ℕ) → every (pairCount pairs) (keyForm pairs) ≡ true → l ≤ 256 → r ≤ 255 →
+    lookedUp (indexOfTable pairs ++ rest) pairs l r ≡ lookedAt (find pairs (keyBy l r))
 
 -- the same of the list that the filling call wrote, where it was not refused
 abbrev pub FilledLooksUp : Type 0
 FilledLooksUp =
-    (pairs : List ℤ) (index index′ : List ℕ) (l r : ℕ) → FillsIndex pairs index 0 index′ → l ≤ 256 → r ≤ 255 → lookedUp index′ pairs l r ≡ lookedAt (find pairs (keyBy l r))
+    (pairs : List ℤ) (index index′ : List ℕ) (l r : ℕ) → FillsIndex pairs index 0 index′ → l ≤ 256 → r ≤ 255 →
+    lookedUp index′ pairs l r ≡ lookedAt (find pairs (keyBy l r))

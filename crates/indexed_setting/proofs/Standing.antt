@@ -26,7 +26,7 @@ use Rattle.captions.specs.Replies.{answerReply}
 use Rattle.captions.specs.Begin.{beginRefusal, freshState, begunBy, beginOf}
 use Rattle.item_lists.specs.ItemLists.{isItem, Small, Stops}
 use Rattle.item_lists.proofs.Laws.{no, item-six}
-use Rattle.setting.specs.Setting.{before, andThen, afterBegin}
+use Rattle.setting.specs.Setting.{numbersBefore, andThen, afterBegin}
 use Rattle.setting.specs.Writing.{Tells}
 use Rattle.setting.proofs.Laws.{item-then}
 use Rattle.indexed.specs.Indexed.{indexedStepOf}
@@ -35,16 +35,16 @@ use Rattle.plain_letters.specs.Running.{Runs, none, more}
 
 -- ---- numbers before a reply
 
-before-none : (n : ℕ) (vs : List ℤ) → before [] (replyOf n vs) ≡ replyOf n vs
+before-none : (n : ℕ) (vs : List ℤ) → numbersBefore [] (replyOf n vs) ≡ replyOf n vs
 before-none zero vs = refl
 before-none (suc n) vs = refl
 
-before-more : (xs ys : List ℤ) (n : ℕ) (vs : List ℤ) → before xs (replyOf n (ys ++ vs)) ≡ replyOf n ((xs ++ ys) ++ vs)
+before-more : (xs ys : List ℤ) (n : ℕ) (vs : List ℤ) → numbersBefore xs (replyOf n (ys ++ vs)) ≡ replyOf n ((xs ++ ys) ++ vs)
 before-more xs ys zero vs = ap (replyOf 0) (sym (append-assoc xs ys vs))
 before-more xs ys (suc n) vs = refl
 
 -- a reply that a step begins is its number alone where it is refused
-then-normal : (a : Answer) (r : Reply) → before [] (andThen a r) ≡ andThen a r
+then-normal : (a : Answer) (r : Reply) → numbersBefore [] (andThen a r) ≡ andThen a r
 then-normal (Char c p) r = before-none (r .number) (answerReply (Char c p) .values ++ r .values)
 then-normal (Ligature c p n a b) r = before-none (r .number) (answerReply (Ligature c p n a b) .values ++ r .values)
 then-normal (Kern k) r = before-none (r .number) (answerReply (Kern k) .values ++ r .values)
@@ -65,7 +65,7 @@ tells-refused d₀ d n e = record { answer = refl; list = e }
 -- ---- the items from a state on, by the step from it
 
 module _ (step : State → Step) where
-  from-normal : (n : ℕ) (s : State) → before [] (itemsBy step n s) ≡ itemsBy step n s
+  from-normal : (n : ℕ) (s : State) → numbersBefore [] (itemsBy step n s) ≡ itemsBy step n s
   unfolding itemsBy
   from-normal zero s = then-normal (step s .answer) (replyOf 15 [])
   from-normal (suc n) s = then-normal (step s .answer) (itemsBy step n (step s .state))
@@ -91,12 +91,12 @@ module _ (step : State → Step) where
     pub many : length done ≡ 6 * k
     pub stored : Appending done d₀ d
     pub few : k ≤ length d₀ / 6
-    pub rest : itemsBy step (length d₀ / 6) s₀ ≡ before done (itemsBy step (length d₀ / 6 - k) s)
+    pub rest : itemsBy step (length d₀ / 6) s₀ ≡ numbersBefore done (itemsBy step (length d₀ / 6 - k) s)
 
   pub standing-none : (s : State) (d : List ℤ) → Standing s d d s 0
   standing-none s d =
       let e : length d / 6 - 0 ≡ length d / 6 = omega arith in
-      record { done = []; many = refl; stored = appending-none d; few = omega arith; rest = sym (ap (λ (n : ℕ). before [] (itemsBy step n s)) e ∙ from-normal (length d / 6) s) }
+      record { done = []; many = refl; stored = appending-none d; few = omega arith; rest = sym (ap (λ (n : ℕ). numbersBefore [] (itemsBy step n s)) e ∙ from-normal (length d / 6) s) }
 
   module _ (s₀ : State) (d₀ d : List ℤ) (s : State) (k : ℕ) (i : Standing s₀ d₀ d s k) (t : Step) (e : t ≡ step s) where
     -- one item more
@@ -118,8 +118,8 @@ module _ (step : State → Step) where
             few = omega (arith, l, same);
             rest =
                 i .rest
-                ∙ ap (λ (m : ℕ). before (i .done) (itemsBy step m s)) less
-                ∙ ap (before (i .done)) (from-suc s t e n ∙ item-then (t .answer) (itemsBy step n (t .state)) h)
+                ∙ ap (λ (m : ℕ). numbersBefore (i .done) (itemsBy step m s)) less
+                ∙ ap (numbersBefore (i .done)) (from-suc s t e n ∙ item-then (t .answer) (itemsBy step n (t .state)) h)
                 ∙ before-more (i .done) v (itemsBy step n (t .state) .number) (itemsBy step n (t .state) .values);
           }
 
@@ -130,8 +130,8 @@ module _ (step : State → Step) where
           let zero-left : length d₀ / 6 - k ≡ 0 = omega (arith, l, same) in
           subst (λ (r : Reply). Tells r d₀ x d′)
           (sym
-          (i .rest ∙ ap (λ (m : ℕ). before (i .done) (itemsBy step m s)) zero-left
-          ∙ ap (before (i .done)) (from-zero s t e ∙ item-then (t .answer) (replyOf 15 []) h)))
+          (i .rest ∙ ap (λ (m : ℕ). numbersBefore (i .done) (itemsBy step m s)) zero-left
+          ∙ ap (numbersBefore (i .done)) (from-zero s t e ∙ item-then (t .answer) (replyOf 15 []) h)))
           (rw (w .0) (tells-refused d₀ d′ 14 (w .1 ∙ ap (λ (j : ℕ). replicate j (pos 0)) same)))
 
     -- the end, or a refusal
@@ -142,13 +142,13 @@ module _ (step : State → Step) where
     stop-by End q m h x d′ w z =
         subst (λ (r : Reply). Tells r d₀ x d′)
         (sym
-        (i .rest ∙ ap (before (i .done)) (from-stops s t e (length d₀ / 6 - k) End (replyOf 0 []) q (λ r. refl))
+        (i .rest ∙ ap (numbersBefore (i .done)) (from-stops s t e (length d₀ / 6 - k) End (replyOf 0 []) q (λ r. refl))
         ∙ ap (replyOf 0) (append-nil (i .done))))
         (rw (w .0, w .1) (tells-count d₀ d (i .done) k (i .many) (i .stored) z))
     stop-by (Refused zero) q m h x d′ w z = absurd (omega (arith, m))
     stop-by (Refused (suc n)) q m h x d′ w z =
         subst (λ (r : Reply). Tells r d₀ x d′)
-        (sym (i .rest ∙ ap (before (i .done)) (from-stops s t e (length d₀ / 6 - k) (Refused (suc n)) (replyOf (suc n) []) q (λ r. refl))))
+        (sym (i .rest ∙ ap (numbersBefore (i .done)) (from-stops s t e (length d₀ / 6 - k) (Refused (suc n)) (replyOf (suc n) []) q (λ r. refl))))
         (rw (w .0) (tells-refused d₀ d′ n (w .1 ∙ ap (λ (j : ℕ). replicate j (pos 0)) (appending-length d₀ (i .stored)))))
 
     pub standing-stop : Small (t .answer) → isItem (t .answer) ≡ false → (x : Written) (d′ : List ℤ) → Stops (t .answer) k d x d′ → d₀ ≡ replicate (length d₀) (pos 0) → Tells (itemsBy step (length d₀ / 6) s₀) d₀ x d′

@@ -1,4 +1,5 @@
--- Some steps of a run, whose items are written after k others; and letters that have no bit with the character left of them, each a step by the index.
+-- Some steps of a run, whose items are written after k others; and letters that have no bit with the character left of them, each a
+-- step by the index.
 use mathlib.Core.Path.{_≡_}
 use mathlib.Core.Bool.{Bool, true, false, cond, not}
 use mathlib.Core.List.{List}
@@ -22,8 +23,10 @@ use Rattle.indexed.specs.Indexed.{indexedStepOf}
 -- from a state and a list with k items: some steps, each an item that has room and is written after the others
 pub data Runs (step : State → Step) (s : State) (k : ℕ) (d : List ℤ) : State → ℕ → List ℤ → Type 0 where
   none : Runs step s k d s k d
-  more : {s′ : State} {k′ : ℕ} {d′ : List ℤ} → Runs step s k d s′ k′ d′ → (t : Step) → t ≡ step s′ → isItem (t .answer) ≡ true → k′ < length d′ / 6 →
-      (s″ : State) (k″ : ℕ) (d″ : List ℤ) → s″ ≡ t .state → k″ ≡ k′ + 1 → d″ ≡ sets d′ (6 * k′) (answerReply (t .answer) .values) → Runs step s k d s″ k″ d″
+  more : {s′ : State} {k′ : ℕ} {d′ : List ℤ} → Runs step s k d s′ k′ d′ → (t : Step) → t ≡ step s′ → isItem (t .answer) ≡ true →
+      k′ < length d′ / 6 →
+      (s″ : State) (k″ : ℕ) (d″ : List ℤ) → s″ ≡ t .state → k″ ≡ k′ + 1 → d″ ≡ sets d′ (6 * k′) (answerReply (t .answer) .values) →
+      Runs step s k d s″ k″ d″
 
 -- letter y is a character, and has no bit with the character c
 abbrev pub isAlone : List ℕ → ℕ → ℕ → Bool
@@ -85,7 +88,9 @@ pub record PlainDone (index : List ℕ) (word : List ℕ) (code read given k mos
   pub set : PlainSet index word code read given k most d c n d′
   pub all : lettersAlone index word code read most ≡ n
 
--- the contract of set_letters: the letters that are alone were set, as many as there is room for. They are steps by the index, whatever the table.
-pub record LettersSet (index : List ℕ) (ops : List ℤ) (boundary : ℤ) (word : List ℕ) (options : RunOptions) (s : State) (k : ℕ) (d : List ℤ) (s′ : State) (k′ : ℕ) (d′ : List ℤ) : Type 0 where
+-- the contract of set_letters: the letters that are alone were set, as many as there is room for. They are steps by the index, whatever
+-- the table.
+pub record LettersSet (index : List ℕ) (ops : List ℤ) (boundary : ℤ) (word : List ℕ) (options : RunOptions) (s : State) (k : ℕ)
+    (d : List ℤ) (s′ : State) (k′ : ℕ) (d′ : List ℤ) : Type 0 where
   pub many : k′ ≡ k + lettersFrom index ops boundary word options s (length d / 6 - k)
   pub runs : (pairs : List ℤ) → Runs (indexedStepOf index pairs ops boundary word options) s k d s′ k′ d′

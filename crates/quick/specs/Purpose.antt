@@ -9,7 +9,8 @@ use Rattle.captions.specs.declared.RunOptions.{RunOptions}
 use Rattle.captions.specs.declared.State.{State}
 use Rattle.captions.specs.Tables.{keyBy, find}
 use Rattle.captions.specs.Steps.{stepOf}
-use Rattle.quick.specs.Quick.{plainCode, nextLetter, isQuick, isKern, foundPlace, isEntered, isReady, givenPlain, givenFirst, quickStep, givenKern}
+use Rattle.quick.specs.Quick.{plainCode, nextLetter, isQuick, isKern, foundPlace, isEntered, isReady, givenPlain, givenFirst}
+use Rattle.quick.specs.Quick.{quickStep, givenKern}
 
 -- a character that has no entry with the letter is given as it stands
 abbrev pub QuickPasses : Type 0

@@ -1,5 +1,6 @@
--- What a step does most often, over any table and any state: a character that stands left of a letter with nothing pending, and the last op of a
--- pair where it is a kern. Each is said by a test, and by the step that is then given; specs/Purpose says that `stepOf` is that step.
+-- What a step does most often, over any table and any state: a character that stands left of a letter with nothing pending, and the
+-- last op of a pair where it is a kern. Each is said by a test, and by the step that is then given; specs/Purpose says that `stepOf` is
+-- that step.
 use mathlib.Core.Bool.{Bool, true, false, cond}
 use mathlib.Core.List.{List}
 use mathlib.Core.Option.{Option, none, some}
@@ -17,7 +18,8 @@ use Rattle.captions.specs.declared.Consumes.the-variants as consumes
 use Rattle.captions.specs.declared.State.{State}
 use Rattle.captions.specs.declared.Answer.the-variants.{Char, Kern}
 use Rattle.captions.specs.declared.Step.{Step}
-use Rattle.captions.specs.Tables.{pairCount, opCount, opKind, opValue, keyBy, find, firstOp, countOf, lastCode, lastFlag, opHolds, recordFits}
+use Rattle.captions.specs.Tables.{pairCount, opCount, opKind, opValue, keyBy, find, firstOp, countOf, lastCode, lastFlag, opHolds}
+use Rattle.captions.specs.Tables.{recordFits}
 use Rattle.captions.specs.Steps.{refused, afterOp, afterRight, stepRefusal, placed}
 
 -- ---- which states

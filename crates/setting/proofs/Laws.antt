@@ -33,7 +33,7 @@ use Rattle.stretch.proofs.Theorems.{leading-few, state-none, state-more, steps-
 use Rattle.stretch.proofs.Laws.{items-long, items-none, items-more, give-asks}
 use Rattle.item_lists.specs.ItemLists.{isItem, Small, Stops}
 use Rattle.item_lists.proofs.Laws.{no, item-six, put-character}
-use Rattle.setting.specs.Setting.{before, andThen, itemsFrom, afterBegin, setReply, Sets}
+use Rattle.setting.specs.Setting.{numbersBefore, andThen, itemsFrom, afterBegin, setReply, Sets}
 use Rattle.setting.specs.Writing.{NextPair, Tells}
 use Rattle.setting.proofs.Bounds.{step-small}
 
@@ -43,19 +43,19 @@ blank d₀ d e = e ∙ ap (λ (n : ℕ). replicate n (pos 0)) (sym (ap length e 
 
 -- ---- numbers before a reply
 
-before-none : (n : ℕ) (vs : List ℤ) → before [] (replyOf n vs) ≡ replyOf n vs
+before-none : (n : ℕ) (vs : List ℤ) → numbersBefore [] (replyOf n vs) ≡ replyOf n vs
 before-none zero vs = refl
 before-none (suc n) vs = refl
 
-before-more : (xs ys : List ℤ) (n : ℕ) (vs : List ℤ) → before xs (replyOf n (ys ++ vs)) ≡ replyOf n ((xs ++ ys) ++ vs)
+before-more : (xs ys : List ℤ) (n : ℕ) (vs : List ℤ) → numbersBefore xs (replyOf n (ys ++ vs)) ≡ replyOf n ((xs ++ ys) ++ vs)
 before-more xs ys zero vs = ap (replyOf 0) (sym (append-assoc xs ys vs))
 before-more xs ys (suc n) vs = refl
 
-before-both : (xs ys : List ℤ) (r : Reply) → before xs (before ys r) ≡ before (xs ++ ys) r
+before-both : (xs ys : List ℤ) (r : Reply) → numbersBefore xs (numbersBefore ys r) ≡ numbersBefore (xs ++ ys) r
 before-both xs ys r = before-more xs ys (r .number) (r .values)
 
 -- a reply that a step begins is its number alone where it is refused
-then-normal : (a : Answer) (r : Reply) → before [] (andThen a r) ≡ andThen a r
+then-normal : (a : Answer) (r : Reply) → numbersBefore [] (andThen a r) ≡ andThen a r
 then-normal (Char c p) r = before-none (r .number) (answerReply (Char c p) .values ++ r .values)
 then-normal (Ligature c p n a b) r = before-none (r .number) (answerReply (Ligature c p n a b) .values ++ r .values)
 then-normal (Kern k) r = before-none (r .number) (answerReply (Kern k) .values ++ r .values)
@@ -64,7 +64,7 @@ then-normal (Refused zero) r = refl
 then-normal (Refused (suc n)) r = refl
 
 -- an item is six numbers before what follows
-pub item-then : (a : Answer) (r : Reply) → isItem a ≡ true → andThen a r ≡ before (answerReply a .values) r
+pub item-then : (a : Answer) (r : Reply) → isItem a ≡ true → andThen a r ≡ numbersBefore (answerReply a .values) r
 item-then (Char c p) r h = refl
 item-then (Ligature c p n a b) r h = refl
 item-then (Kern k) r h = refl
@@ -87,7 +87,7 @@ module _ (pairs ops : List ℤ) (boundary : ℤ) (word : List ℕ) (options : Ru
   abbrev from : ℕ → State → Reply
   from = itemsFrom pairs ops boundary word options
 
-  from-normal : (n : ℕ) (s : State) → before [] (from n s) ≡ from n s
+  from-normal : (n : ℕ) (s : State) → numbersBefore [] (from n s) ≡ from n s
   unfolding itemsFrom
   from-normal zero s = then-normal (stepOf pairs ops boundary word options s .answer) (replyOf 15 [])
   from-normal (suc n) s = then-normal (stepOf pairs ops boundary word options s .answer) (from n (stepOf pairs ops boundary word options s .state))
@@ -113,12 +113,12 @@ module _ (pairs ops : List ℤ) (boundary : ℤ) (word : List ℕ) (options : Ru
     pub many : length done ≡ 6 * k
     pub stored : Appending done d₀ d
     pub few : k ≤ length d₀ / 6
-    pub rest : from (length d₀ / 6) s₀ ≡ before done (from (length d₀ / 6 - k) s)
+    pub rest : from (length d₀ / 6) s₀ ≡ numbersBefore done (from (length d₀ / 6 - k) s)
 
   pub setting-none : (s : State) (d : List ℤ) → Setting s d d s 0
   setting-none s d =
       let e : length d / 6 - 0 ≡ length d / 6 = omega arith in
-      record { done = []; many = refl; stored = appending-none d; few = omega arith; rest = sym (ap (λ (n : ℕ). before [] (from n s)) e ∙ from-normal (length d / 6) s) }
+      record { done = []; many = refl; stored = appending-none d; few = omega arith; rest = sym (ap (λ (n : ℕ). numbersBefore [] (from n s)) e ∙ from-normal (length d / 6) s) }
 
   module _ (s₀ : State) (d₀ d : List ℤ) (s : State) (k : ℕ) (i : Setting s₀ d₀ d s k) (t : Step) (e : t ≡ stepOf pairs ops boundary word options s) where
     pub item-small : Small (t .answer)
@@ -143,8 +143,8 @@ module _ (pairs ops : List ℤ) (boundary : ℤ) (word : List ℕ) (options : Ru
             few = omega (arith, l, same);
             rest =
                 i .rest
-                ∙ ap (λ (m : ℕ). before (i .done) (from m s)) less
-                ∙ ap (before (i .done)) (from-suc s t e n ∙ item-then (t .answer) (from n (t .state)) h)
+                ∙ ap (λ (m : ℕ). numbersBefore (i .done) (from m s)) less
+                ∙ ap (numbersBefore (i .done)) (from-suc s t e n ∙ item-then (t .answer) (from n (t .state)) h)
                 ∙ before-both (i .done) v (from n (t .state));
           }
 
@@ -155,8 +155,8 @@ module _ (pairs ops : List ℤ) (boundary : ℤ) (word : List ℕ) (options : Ru
           let none : length d₀ / 6 - k ≡ 0 = omega (arith, l, same) in
           subst (λ (r : Reply). Tells r d₀ x d′)
           (sym
-          (i .rest ∙ ap (λ (m : ℕ). before (i .done) (from m s)) none
-          ∙ ap (before (i .done)) (from-zero s t e ∙ item-then (t .answer) (replyOf 15 []) h)))
+          (i .rest ∙ ap (λ (m : ℕ). numbersBefore (i .done) (from m s)) none
+          ∙ ap (numbersBefore (i .done)) (from-zero s t e ∙ item-then (t .answer) (replyOf 15 []) h)))
           (rw (w .0) (tells-refused d₀ d′ 14 (w .1 ∙ ap (λ (j : ℕ). replicate j (pos 0)) same)))
 
     -- the end, or a refusal
@@ -167,13 +167,13 @@ module _ (pairs ops : List ℤ) (boundary : ℤ) (word : List ℕ) (options : Ru
     stop-by End q m h x d′ w z =
         subst (λ (r : Reply). Tells r d₀ x d′)
         (sym
-        (i .rest ∙ ap (before (i .done)) (from-stops s t e (length d₀ / 6 - k) End (replyOf 0 []) q (λ r. refl))
+        (i .rest ∙ ap (numbersBefore (i .done)) (from-stops s t e (length d₀ / 6 - k) End (replyOf 0 []) q (λ r. refl))
         ∙ ap (replyOf 0) (append-nil (i .done))))
         (rw (w .0, w .1) (tells-count d₀ d (i .done) k (i .many) (i .stored) z))
     stop-by (Refused zero) q m h x d′ w z = absurd (omega (arith, m))
     stop-by (Refused (suc n)) q m h x d′ w z =
         subst (λ (r : Reply). Tells r d₀ x d′)
-        (sym (i .rest ∙ ap (before (i .done)) (from-stops s t e (length d₀ / 6 - k) (Refused (suc n)) (replyOf (suc n) []) q (λ r. refl))))
+        (sym (i .rest ∙ ap (numbersBefore (i .done)) (from-stops s t e (length d₀ / 6 - k) (Refused (suc n)) (replyOf (suc n) []) q (λ r. refl))))
         (rw (w .0) (tells-refused d₀ d′ n (w .1 ∙ ap (λ (j : ℕ). replicate j (pos 0)) (appending-length d₀ (i .stored)))))
 
     pub setting-stop : isItem (t .answer) ≡ false → (x : Written) (d′ : List ℤ) → Stops (t .answer) k d x d′ → d₀ ≡ replicate (length d₀) (pos 0) → Tells (from (length d₀ / 6) s₀) d₀ x d′

@@ -19,7 +19,7 @@ use Rattle.captions.specs.Steps.{stepOf}
 use Rattle.captions.specs.Runs.{answers, Shown, shows, ends, shown, thenEnds}
 use Rattle.item_lists.specs.ItemLists.{isItem}
 use Rattle.item_lists.proofs.Laws.{item-six}
-use Rattle.setting.specs.Setting.{before, itemsFrom, setReply}
+use Rattle.setting.specs.Setting.{numbersBefore, itemsFrom, setReply}
 use Rattle.setting.specs.Purpose.{valuesOf, EveryWord}
 use Rattle.setting.proofs.Laws.{item-then, from-suc, from-stops, set-run}
 
@@ -88,7 +88,7 @@ module _ (pairs ops : List ℤ) (boundary : ℤ) (word : List ℕ) (options : Ru
           values =
               from-suc pairs ops boundary word options s t refl n
               ∙ item-then (t .answer) (itemsFrom pairs ops boundary word options n (t .state)) i
-              ∙ ap (before v) (h .values);
+              ∙ ap (numbersBefore v) (h .values);
           many = omega (arith, sum, item-six (t .answer) i, h .many);
         }
 

@@ -1,5 +1,5 @@
--- What a word set whole is, for a font that compile accepts: demand 3 speaks of any number of steps, and `Answered` of captions/specs/Demand3
--- says what they answer. The theorem is `every-word` of proofs/Theorems.
+-- What a word set whole is, for a font that compile accepts: demand 3 speaks of any number of steps, and `Answered` of
+-- captions/specs/Demand3 says what they answer. The theorem is `every-word` of proofs/Theorems.
 use mathlib.Core.Path.{_≡_}
 use mathlib.Core.List.{List, [], _∷_, _++_, map}
 use Prim.Native.Nat.{ℕ, _*_, _/_, _≤_}

@@ -1,5 +1,5 @@
--- A word set whole: the items of a run up to its end, six numbers each as a T line has them. Document 01, 'Caption items' and 'The column text'.
--- The contract of `set_word`.
+-- A word set whole: the items of a run up to its end, six numbers each as a T line has them. Document 01, 'Caption items' and 'The
+-- column text'. The contract of `set_word`.
 use mathlib.Core.Path.{_≡_}
 use mathlib.Core.List.{List, [], _∷_, _++_}
 use Prim.Native.Nat.{ℕ, zero, suc, _/_}
@@ -16,14 +16,14 @@ use Rattle.captions.specs.Begin.{beginRefusal, freshState}
 use Rattle.captions.specs.Steps.{stepOf}
 
 -- an item's numbers before those of the items after it; a refusal after it stays one
-abbrev pub before : List ℤ → Reply → Reply
-before vs r = replyOf (r .number) (vs ++ r .values)
+abbrev pub numbersBefore : List ℤ → Reply → Reply
+numbersBefore vs r = replyOf (r .number) (vs ++ r .values)
 
 -- by the answer of a step: an item and then what follows, the end, or the number of a refused step
 abbrev pub andThen : Answer → Reply → Reply
-andThen (Char c start) r = before (answerReply (Char c start) .values) r
-andThen (Ligature c start n left right) r = before (answerReply (Ligature c start n left right) .values) r
-andThen (Kern k) r = before (answerReply (Kern k) .values) r
+andThen (Char c start) r = numbersBefore (answerReply (Char c start) .values) r
+andThen (Ligature c start n left right) r = numbersBefore (answerReply (Ligature c start n left right) .values) r
+andThen (Kern k) r = numbersBefore (answerReply (Kern k) .values) r
 andThen End r = replyOf 0 []
 andThen (Refused k) r = record { number = k; values = [] }
 
@@ -43,10 +43,12 @@ afterBegin (suc k) r = record { number = suc k; values = [] }
 -- begin's numbers first; then the items of the run, of which a list of `room` numbers takes one in six
 abbrev pub setReply : List ℤ → List ℤ → ℤ → List ℕ → RunOptions → ℕ → Reply
 setReply pairs ops boundary word options room =
-    afterBegin (beginRefusal pairs ops boundary word options) (itemsFrom pairs ops boundary word options (room / 6) (freshState word options))
+    afterBegin (beginRefusal pairs ops boundary word options)
+    (itemsFrom pairs ops boundary word options (room / 6) (freshState word options))
 
 -- the contract of set_word: how many items there are, and their numbers and zeros; or the number, and zeros
-pub record Sets (pairs ops : List ℤ) (boundary : ℤ) (word : List ℕ) (options : RunOptions) (items : List ℤ) (r : Written) (items′ : List ℤ) : Type 0 where
+pub record Sets (pairs ops : List ℤ) (boundary : ℤ) (word : List ℕ) (options : RunOptions) (items : List ℤ) (r : Written)
+    (items′ : List ℤ) : Type 0 where
   pub answer : writtenReply r ≡
       replyOf (setReply pairs ops boundary word options (length items) .number)
       (pos (length (setReply pairs ops boundary word options (length items) .values) / 6) ∷ [])

@@ -24,7 +24,7 @@ use Rattle.captions.specs.Begin.{edgesRefusal, wordRefusal}
 use Rattle.quick.specs.Quick.{plainCode, nextLetter, isQuick, quickLeft, foundPlace, givenPlain}
 use Rattle.quick.proofs.Theorems.{quick-is}
 use Rattle.stretch.specs.declared.Stop.{Stop}
-use Rattle.stretch.specs.Stretch.{least, plainLeft, isFree, letterItem, plainState, movedBy, letterItems, freeLetters, stopPlace, stopAt, Gave, mostLetters, Stretched}
+use Rattle.stretch.specs.Stretch.{least, plainLeft, isFree, letterItem, plainState, lettersMoved, letterItems, freeLetters, stopPlace, stopAt, Gave, mostLetters, Stretched}
 use Rattle.stretch.proofs.Theorems.{leading-all, leading-stop, leading-few, state-none, state-more, state-read, state-given, state-op}
 
 module _ (word : List ℕ) (s : State) where
@@ -42,7 +42,7 @@ module _ (word : List ℕ) (s : State) where
   items-more n = rw add-one
 
   -- the state after some letters, by the left that is then next
-  pub moved-is : (l n : ℕ) → l ≡ plainLeft (plainState word s n) → movedBy s l n ≡ plainState word s n
+  pub moved-is : (l n : ℕ) → l ≡ plainLeft (plainState word s n) → lettersMoved s l n ≡ plainState word s n
   moved-is l zero e = sym (state-none word s)
   moved-is l (suc n) e =
       let u = plainState word s n in
@@ -183,7 +183,7 @@ module _ (pairs ops : List ℤ) (boundary : ℤ) (word : List ℕ) (options : Ru
           let m : t .count ≤ n = omega (arith, g .count, leading-few (λ j. isFree pairs word (plainState word s j)) n) in
           (omega (arith, g .left), omega (arith, f, b, word-short, r .there, m), omega (arith, f, b, word-short, r .there, r .waits, m))
 
-      pub stretched : (v : State) → v ≡ movedBy s (t .left) (t .count) → Stretched pairs ops boundary word options s items k (record { state = v; count = t .count; pair = t .pair }) items′
+      pub stretched : (v : State) → v ≡ lettersMoved s (t .left) (t .count) → Stretched pairs ops boundary word options s items k (record { state = v; count = t .count; pair = t .pair }) items′
       stretched v e =
           record {
             count = rw q (g .count ∙ ap (freeLetters pairs word s) f);

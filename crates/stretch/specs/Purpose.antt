@@ -1,5 +1,5 @@
--- What a stretch is for: each of its letters is the step of the run from where the letters before it lead, and where it ends at a pair, that is the pair
--- which the next step looks up. Proved in proofs/Theorems.
+-- What a stretch is for: each of its letters is the step of the run from where the letters before it lead, and where it ends at a pair,
+-- that is the pair which the next step looks up. Proved in proofs/Theorems.
 use mathlib.Core.Path.{_≡_}
 use mathlib.Core.Bool.{true}
 use mathlib.Core.List.{List}
@@ -26,4 +26,5 @@ StretchStops =
     stopPlace pairs word s n (freeLetters pairs word s n) < pairCount pairs →
     (isQuick ops boundary word options (plainState word s (freeLetters pairs word s n)) ≡ true)
     × (stopPlace pairs word s n (freeLetters pairs word s n)
-    ≡ foundPlace pairs (plainLeft (plainState word s (freeLetters pairs word s n))) (nextLetter word (plainState word s (freeLetters pairs word s n))))
+    ≡ foundPlace pairs (plainLeft (plainState word s (freeLetters pairs word s n)))
+    (nextLetter word (plainState word s (freeLetters pairs word s n))))

@@ -1,5 +1,5 @@
--- The letters that a quick state gives as they stand, one after the other, each an item of six numbers: how many they are, the state after them, and what
--- is written. Over any table, word and list.
+-- The letters that a quick state gives as they stand, one after the other, each an item of six numbers: how many they are, the state
+-- after them, and what is written. Over any table, word and list.
 use mathlib.Core.Path.{_≡_}
 use mathlib.Core.Bool.{Bool, false, cond}
 use mathlib.Core.List.{List, [], _∷_, _++_}
@@ -59,8 +59,8 @@ plainState word s zero = s
 plainState word s (suc n) = givenPlain word (plainState word s n) .state
 
 -- .. by the left that is then next
-abbrev pub movedBy : State → ℕ → ℕ → State
-movedBy s left n =
+abbrev pub lettersMoved : State → ℕ → ℕ → State
+lettersMoved s left n =
     cond (eqb n 0) s
     (record {
       «next_left» = next.Char (left - 1);
@@ -102,9 +102,12 @@ pub record Gave (pairs : List ℤ) (word : List ℕ) (s : State) (n : ℕ) (item
 abbrev pub mostLetters : List ℕ → State → List ℤ → ℕ → ℕ
 mostLetters word s items k = least (length items / 6 - k) (length word - s .read)
 
--- the contract of give_letters: how many letters a quick state gives, and none does another; the state after them, the pair that stopped them, and the list
-pub record Stretched (pairs ops : List ℤ) (boundary : ℤ) (word : List ℕ) (options : RunOptions) (s : State) (items : List ℤ) (k : ℕ) (r : Stretch) (items′ : List ℤ) : Type 0 where
+-- the contract of give_letters: how many letters a quick state gives, and none does another; the state after them, the pair that
+-- stopped them, and the list
+pub record Stretched (pairs ops : List ℤ) (boundary : ℤ) (word : List ℕ) (options : RunOptions) (s : State) (items : List ℤ) (k : ℕ)
+    (r : Stretch) (items′ : List ℤ) : Type 0 where
   pub count : r .count ≡ cond (isQuick ops boundary word options s) (freeLetters pairs word s (mostLetters word s items k)) 0
   pub state : r .state ≡ plainState word s (r .count)
-  pub pair : r .pair ≡ cond (isQuick ops boundary word options s) (stopPlace pairs word s (mostLetters word s items k) (r .count)) (pairCount pairs)
+  pub pair : r .pair ≡ cond (isQuick ops boundary word options s) (stopPlace pairs word s (mostLetters word s items k) (r .count))
+      (pairCount pairs)
   pub list : items′ ≡ sets items (6 * k) (letterItems word s (r .count))

@@ -7,7 +7,7 @@ ghost use lib.ListN.{length, set};
 ghost use lib.Seq.{sets};
 ghost use Rattle.words.specs.Words.{numberOf};
 ghost use Rattle.stretch.specs.Stretch as stretch;
-ghost use Rattle.stretch.specs.Stretch.{sixAt, plainLeft, movedBy, stopAt, Gave, Stretched};
+ghost use Rattle.stretch.specs.Stretch.{sixAt, plainLeft, lettersMoved, stopAt, Gave, Stretched};
 use captions::Consumes;
 use captions::NextLeft;
 use captions::RunOptions;
@@ -145,7 +145,7 @@ fn give(
 // The state once n letters more are given, by the left that is then next.
 fn moved_by(s: State, left: u32, n: usize) -> State
     requires { ⌜ (0 < left) × (s .read + n ≤ 65535) × (s .given + n ≤ 65535) ⌝ }
-    ensures { λ r. ⌜ r ≡ movedBy s left n ⌝ }
+    ensures { λ r. ⌜ r ≡ lettersMoved s left n ⌝ }
 {
     if n == 0 {
         return s;
