@@ -77,10 +77,10 @@ pub written-more : {n end : ℕ} {l d : List ℕ} {i m : ℕ} → Written n end 
 written-more w e h = more-by (w .left) (w .done) (w .whole) (w .few) (w .less) (w .place) (w .ten) (w .stored) h (written-place w e .0)
 
 -- the two digits of what is left over the hundreds
-pub rest-tens : (n : ℕ) → (n - 100 * (n / 100)) / 10 ≡ n / 10 % 10
+rest-tens : (n : ℕ) → (n - 100 * (n / 100)) / 10 ≡ n / 10 % 10
 rest-tens n = omega arith
 
-pub rest-ones : (n : ℕ) → (n - 100 * (n / 100)) % 10 ≡ n % 10
+rest-ones : (n : ℕ) → (n - 100 * (n / 100)) % 10 ≡ n % 10
 rest-ones n = omega arith
 
 -- two digits more

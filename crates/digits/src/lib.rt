@@ -25,7 +25,7 @@ fn put_low(out: &mut [u8], at: usize, n: u32) -> u32
     ensures { λ r. ⌜ (r ≡ n / 100) × (now (out .exit) ≡ sets (now (out .entry)) at ((48 + n / 10 % 10) ∷ (48 + n % 10) ∷ [])) ⌝ }
 {
     let others = n / 100;
-    let both = digit_pair(n - 100 * others);
+    let both = digit_pair(n % 100);
     out[at] = (both % 256) as u8;
     out[at + 1] = (both / 256) as u8;
     others

@@ -22,15 +22,15 @@ pub record Fit (last from n at room : ℕ) : Type 0 where
 
 pub fit-of : (last from n at room : ℕ) → fieldsFit last from n at room ≡ true → Fit last from n at room
 fit-of last from n at room t =
-    let c = leb (12 * n) (room - at) in
-    let r₁ : both (leb from last) (both (leb at room) c) ≡ true = both-right (leb n 6) _ t in
-    let r₂ : both (leb at room) c ≡ true = both-right (leb from last) _ r₁ in
-    let p = leb-true at room (both-left (leb at room) _ r₂) in
-    let q = leb-true (12 * n) (room - at) (both-right (leb at room) _ r₂) in
+    let c = leb at (room - 12 * n) in
+    let r₁ : both (leb from last) (both (leb (12 * n) room) c) ≡ true = both-right (leb n 6) _ t in
+    let r₂ : both (leb (12 * n) room) c ≡ true = both-right (leb from last) _ r₁ in
+    let p = leb-true (12 * n) room (both-left (leb (12 * n) room) _ r₂) in
+    let q = leb-true at (room - 12 * n) (both-right (leb (12 * n) room) _ r₂) in
     record { six = leb-true n 6 (both-left (leb n 6) _ t); first = leb-true from last (both-left (leb from last) _ r₁); place = omega (arith, p, q) }
 
 pub fit-is : (last from n at room : ℕ) → n ≤ 6 → from ≤ last → at + 12 * n ≤ room → fieldsFit last from n at room ≡ true
-fit-is last from n at room s f p = rw (le-leb n 6 s, le-leb from last f, le-leb at room (omega arith), le-leb (12 * n) (room - at) (omega arith))
+fit-is last from n at room s f p = rw (le-leb n 6 s, le-leb from last f, le-leb (12 * n) room (omega arith), le-leb at (room - 12 * n) (omega arith))
 
 module _ (out : List ℕ) (at : ℕ) (zs : List ℤ) {t : Bool} where
   pub where-fits : {d : List ℕ} → t ≡ true → d ≡ sets out at (fieldsOf zs) → d ≡ fieldsWhere t out at zs

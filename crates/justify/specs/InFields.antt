@@ -20,7 +20,7 @@ fiveFrom pairs first = numbersFrom pairs first 4 ++ (getD pairs (first + 5) (pos
 
 -- fields that are taken: at most six, of numbers from a place up to `last` on, and room for all of them
 abbrev pub fieldsFit : ℕ → ℕ → ℕ → ℕ → ℕ → Bool
-fieldsFit last from n at room = both (leb n 6) (both (leb from last) (both (leb at room) (leb (12 * n) (room - at))))
+fieldsFit last from n at room = both (leb n 6) (both (leb from last) (both (leb (12 * n) room) (leb at (room - 12 * n))))
 
 -- fields are written at a place where they are taken; else nothing is
 abbrev pub fieldsWhere : Bool → List ℕ → ℕ → List ℤ → List ℕ

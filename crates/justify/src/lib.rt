@@ -25,10 +25,10 @@ fn fields_fit(last: usize, from: usize, n: usize, at: usize, room: usize) -> boo
     if last < from {
         return false;
     }
-    if room < at {
+    if room < 12 * n {
         return false;
     }
-    12 * n <= room - at
+    at <= room - 12 * n
 }
 
 // The fields of n numbers from a place of the list on. Fields that are not taken are not written.

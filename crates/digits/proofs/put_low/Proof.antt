@@ -1,25 +1,19 @@
 -- `digits::put_low` meets its contract: two digits of what is left over a hundred.
 -- Assumes nothing.
-use mathlib.Core.Path.{refl, _∙_}
+use mathlib.Core.Path.{_≡_, refl, _∙_}
 use mathlib.Core.List.{[], _∷_}
-use Prim.Native.Nat.{_+_, _-_, _*_, _/_, _%_, _<_}
+use Prim.Native.Nat.{_+_, _/_, _%_, _<_}
 use native.Mathlib.Omega.{arith}
 use lib.ListN.{length-set}
 use lib.Seq.{sets}
-use Rattle.digits.proofs.Decimal.{pair-second, pair-stored, rest-tens, rest-ones}
+use Rattle.digits.proofs.Decimal.{pair-second, pair-stored}
 use borrow.Author.Needs.{needs}
 use Rattle.digits.proofs.put_low.Statement.{statement}
 use Rattle.digits.proofs.put_low.Tie as tie
 
 -- what is left over a hundred is below it
-rest : (c : tie.After-digit-pair) → let n = c .before .before .args .n in n - 100 * (n / 100) < 100
+rest : (c : tie.After-digit-pair) → let n = c .before .before .args .n in n % 100 < 100
 rest c = omega arith
-
-mul-digit-pair : tie.Need-mul-digit-pair
-mul-digit-pair c = search needs
-
-sub-digit-pair : tie.Need-sub-digit-pair
-sub-digit-pair c = search needs
 
 digit-pair-requires : tie.Need-digit-pair-requires
 digit-pair-requires c κs = search needs
@@ -46,14 +40,14 @@ returns : tie.Need-returns
 returns c =
     let a = c .before .before .args in
     let n = a .n in
-    (refl, pair-stored (rest c) (c .digit-pair .ensures) (a .out .now) (a .at) ∙ (λ i. sets (a .out .now) (a .at) ((48 + rest-tens n i) ∷ (48 + rest-ones n i) ∷ [])))
+    let tens : n % 100 / 10 ≡ n / 10 % 10 = omega arith in
+    let ones : n % 100 % 10 ≡ n % 10 = omega arith in
+    (refl, pair-stored (rest c) (c .digit-pair .ensures) (a .out .now) (a .at) ∙ (λ i. sets (a .out .now) (a .at) ((48 + tens i) ∷ (48 + ones i) ∷ [])))
 
 pub put-low-spec : {M : Type 1} → statement M
 put-low-spec =
     tie.close
     (tie.spec
-    mul-digit-pair
-    sub-digit-pair
     digit-pair-requires
     cast-out
     slice-write-out
