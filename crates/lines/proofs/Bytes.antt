@@ -1,4 +1,4 @@
--- Lines as bytes: one after the other, and how many. Numbers as fields, the same.
+-- Lines as bytes: one after the other, and how many.
 -- Assumes nothing.
 use mathlib.Core.Path.{_≡_, refl, sym, ap, _∙_}
 use mathlib.Core.List.{List, [], _∷_, _++_, append-assoc, append-nil}
@@ -14,17 +14,6 @@ use Rattle.columns.specs.Lines.{Line, fieldsOf, writeLine, textOf}
 use Rattle.columns.specs.Replying.{bytesOf}
 use Rattle.columns.proofs.ReadBack.{fields-long}
 use Rattle.lines.specs.Writing.{lineBytes}
-
--- ---- fields
-
-pub fields-append : (ys zs : List ℤ) → fieldsOf (ys ++ zs) ≡ fieldsOf ys ++ fieldsOf zs
-unfolding fieldsOf
-fields-append [] zs = refl
-fields-append (y ∷ ys) zs = ap (λ (t : List ℕ). fieldOf y ++ t) (fields-append ys zs) ∙ sym (append-assoc (fieldOf y) (fieldsOf ys) (fieldsOf zs))
-
-pub fields-one : (z : ℤ) → fieldsOf (z ∷ []) ≡ fieldOf z
-unfolding fieldsOf
-fields-one z = append-nil (fieldOf z)
 
 -- ---- lines
 

@@ -60,7 +60,10 @@ module _ (letter n : ℕ) (numbers : List ℤ) (k count : ℕ) (l : List ℕ) (a
   pub index-fits : length l < 2 ^ 63 → (i : ℕ) → i < count → k + i < 2 ^ 64
   index-fits f i h = let q : count ≤ count * (12 * n + 2) = le-mul-of-pos-right count (omega arith) in omega (arith, fit .first, fit .all)
 
-  pub place-fits : length l < 2 ^ 63 → (i : ℕ) → i < count → n * (k + i) + n < 2 ^ 64
+  pub six-numbers : n ≤ 6
+  six-numbers = fit .six
+
+  pub place-fits : length l < 2 ^ 63 → (i : ℕ) → i < count → n * (k + i) + 6 < 2 ^ 64
   place-fits f i h =
       let p : n * k ≤ 6 * 2 ^ 60 = mul-le-mul (fit .six) (fit .first) in
       let w : n ≤ 12 * n + 2 = omega arith in

@@ -2,25 +2,16 @@
 use mathlib.Core.Path.{_≡_}
 use mathlib.Core.Bool.{Bool, cond}
 use mathlib.Core.List.{List, [], _∷_, _++_}
-use Prim.Native.Nat.{ℕ, _+_, _-_, _*_, _/_, _^_, _<_, _≤_}
-use lib.IntN.{ℤ, pos}
+use Prim.Native.Nat.{ℕ, _+_, _-_, _*_, _/_, _^_, _≤_}
+use lib.IntN.{ℤ}
 use lib.Dec.{leb}
-use lib.ListN.{length, getD}
+use lib.ListN.{length}
 use lib.Seq.{sets}
-use Rattle.words.specs.Words.{numberOf}
 use Rattle.words.specs.Lists.{tabulate}
 use Rattle.lang.specs.Every.{both}
-use Rattle.columns.specs.Numbers.{spelled}
 use Rattle.columns.specs.Lines.{Line, writeLine}
 use Rattle.columns.specs.Replying.{lineOf}
-
--- n numbers of a list from a place on, 0 past its end
-abbrev pub numbersFrom : List ℤ → ℕ → ℕ → List ℤ
-numbersFrom numbers from n = tabulate n (λ j. getD numbers (from + j) (pos 0))
-
--- of the six numbers of a pair from a place on: all but where its ops begin
-abbrev pub fiveFrom : List ℤ → ℕ → List ℤ
-fiveFrom pairs first = numbersFrom pairs first 4 ++ (getD pairs (first + 5) (pos 0) ∷ [])
+use Rattle.justify.specs.InFields.{numbersFrom}
 
 -- of lines of n numbers each: line k
 abbrev pub lineAt : ℕ → ℕ → List ℤ → ℕ → Line
@@ -33,15 +24,6 @@ linesFrom letter n numbers k count = tabulate count (λ i. lineAt letter n numbe
 -- a line with its line feed
 abbrev pub lineBytes : Line → List ℕ
 lineBytes l = writeLine l ++ (10 ∷ [])
-
--- the size of the number whose 32 bits are w
-pub record Sizes (w n : ℕ) : Type 0 where
-  pub positive : (w < 2 ^ 31 → n ≡ w)
-  pub negative : (2 ^ 31 ≤ w → n ≡ 4294967295 - w + 1)
-
--- the number whose 32 bits are w, spelled at the end of the 12 columns from a place on
-abbrev pub spells : List ℕ → ℕ → ℕ → List ℕ
-spells out at w = sets out (at + (12 - length (spelled (numberOf w)))) (spelled (numberOf w))
 
 -- there is room for bytes at a place
 abbrev pub HasRoom : List ℕ → List ℕ → ℕ → Type 0

@@ -11,7 +11,8 @@ use Rattle.words.specs.Lists.{tabulate}
 use Rattle.words.proofs.Lists.{tabulate-ext}
 use Rattle.columns.specs.Lines.{Line}
 use Rattle.columns.specs.Replying.{lineOf, opLine, loopLine, itemLine, bytesOf}
-use Rattle.lines.specs.Writing.{numbersFrom, lineAt, linesFrom, lineBytes, HasRoom, Puts, linesFit, PutsWhere}
+use Rattle.justify.specs.InFields.{numbersFrom}
+use Rattle.lines.specs.Writing.{lineAt, linesFrom, lineBytes, HasRoom, Puts, linesFit, PutsWhere}
 use Rattle.lines.proofs.Taken.{where-puts, taken-is}
 use Rattle.lines.proofs.Bytes.{bytes-one, line-length, lines-length}
 

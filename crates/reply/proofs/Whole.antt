@@ -27,7 +27,7 @@ use Rattle.lang.proofs.Filled.{refused-list}
 use Rattle.columns.specs.Lines.{Line}
 use Rattle.columns.specs.Replying.{lineOf, loopLine, itemLine, wordLines, bytesOf, replyBytes, replyRefusal, WritesReply}
 use Rattle.lines.specs.Writing.{linesFrom, lineBytes, HasRoom, Puts, linesFit, PutsWhere}
-use Rattle.lines.proofs.Stores.{sets-after}
+use Rattle.digits.proofs.Stores.{sets-after}
 use Rattle.lines.proofs.Bytes.{bytes-none, bytes-first, line-length}
 use Rattle.lines.proofs.Steps.{puts-both, puts-length}
 use Rattle.reply.specs.Sizes.{cappedSize, tableBytes}

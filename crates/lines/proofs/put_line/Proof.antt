@@ -3,7 +3,9 @@
 use mathlib.Core.Path.{_∙_}
 use Prim.Native.Nat.{_+_, _*_}
 use native.Mathlib.Omega.{arith}
-use lib.ListN.{length-set}
+use lib.ListN.{length, set, length-set}
+use Rattle.justify.specs.InFields.{numbersFrom}
+use Rattle.justify.proofs.Fit.{fit-is, fits-where}
 use Rattle.lines.proofs.Steps.{line-puts}
 use borrow.Author.Needs.{needs}
 use Rattle.lines.proofs.put_line.Statement.{statement}
@@ -16,9 +18,7 @@ add-put-fields : tie.Need-add-put-fields
 add-put-fields c = search needs
 
 put-fields-requires : tie.Need-put-fields-requires
-put-fields-requires c κs =
-    let s = c .before .before in
-    (s .pre .0, omega (arith, length-set (s .args .out .now) (s .args .at) (s .args .letter), s .pre .1))
+put-fields-requires c κs = search needs
 
 add-out : tie.Need-add-out
 add-out c = search needs
@@ -33,7 +33,7 @@ slice-write-out-2 : tie.Need-slice-write-out-2
 slice-write-out-2 c =
     let x = c .before .before .put-fields in
     let s = c .before .before .before .before .before in
-    omega (arith, x .kept .1 .1 .1 .0, length-set (s .args .out .now) (s .args .at) (s .args .letter), s .pre .1)
+    omega (arith, x .kept .1 .1 .1 .0, length-set (s .args .out .now) (s .args .at) (s .args .letter), s .pre .2)
 
 add-result : tie.Need-add-result
 add-result c = search needs
@@ -53,8 +53,12 @@ same-length c =
 returns : tie.Need-returns
 returns c =
     let x = c .before .before .put-fields in
-    let a = c .before .before .before .before .before .args in
-    line-puts (a .letter) (a .numbers .now) (a .from) (a .n) (a .out .now) (x .last .1 .1 .1 .0) (a .at) (x .ensures)
+    let s = c .before .before .before .before .before in
+    let a = s .args in
+    let l = set (a .out .now) (a .at) (a .letter) in
+    let fits = fit-is 18446744073709551609 (a .from) (a .n) (a .at + 1) (length l) (s .pre .0) (omega (arith, s .pre .1)) (omega (arith, length-set (a .out .now) (a .at) (a .letter), s .pre .2)) in
+    line-puts (a .letter) (a .numbers .now) (a .from) (a .n) (a .out .now) (x .last .1 .1 .1 .0) (a .at)
+    (fits-where l (a .at + 1) (numbersFrom (a .numbers .now) (a .from) (a .n)) fits (x .ensures))
 
 pub put-line-spec : {M : Type 1} → statement M
 put-line-spec =

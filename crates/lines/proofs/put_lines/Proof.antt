@@ -9,7 +9,7 @@ use borrow.Author.Tests.{not-true, not-false}
 use Rattle.columns.specs.Replying.{bytesOf}
 use Rattle.lines.specs.Writing.{linesFrom, linesFit, Puts}
 use Rattle.lines.proofs.Steps.{puts-length, lines-none, lines-more}
-use Rattle.lines.proofs.Taken.{line-fits, index-fits, place-fits, where-taken, where-left}
+use Rattle.lines.proofs.Taken.{line-fits, six-numbers, index-fits, place-fits, where-taken, where-left}
 use Rattle.lines.proofs.put_lines.Statement.{statement}
 use Rattle.lines.proofs.put_lines.Tie as tie
 
@@ -39,7 +39,7 @@ loop-holds : tie.Need-loop-holds Inv-loop μ-loop
 loop-holds c = let a = c .before .before .before .args in (omega arith, lines-none (a .letter) (a .n) (a .numbers .now) (a .k) (a .out .now) (a .at))
 
 -- a place among the numbers fits
-place : (c : tie.In-loop Inv-loop μ-loop) → let a = c .before .before .before .before .before .args in a .n * (a .k + c .before .loop .i) + a .n < 2 ^ 64
+place : (c : tie.In-loop Inv-loop μ-loop) → let a = c .before .before .before .before .before .args in a .n * (a .k + c .before .loop .i) + 6 < 2 ^ 64
 place c =
     let l = c .before in
     let s = l .before .before .before .before in
@@ -61,7 +61,7 @@ put-line-requires c κs =
     let i = c .before in
     let l = i .before in
     let a = l .before .before .before .before .args in
-    (place i, line-fits (a .letter) (a .n) (a .numbers .now) (a .k) (a .count) (a .out .now) (a .at) (fitting (l .before)) (l .loop .i) (i .loop-test .taken) (l .loop .inv .1))
+    (six-numbers (a .letter) (a .n) (a .numbers .now) (a .k) (a .count) (a .out .now) (a .at) (fitting (l .before)), place i, line-fits (a .letter) (a .n) (a .numbers .now) (a .k) (a .count) (a .out .now) (a .at) (fitting (l .before)) (l .loop .i) (i .loop-test .taken) (l .loop .inv .1))
 
 add-i : tie.Need-add-i Inv-loop μ-loop
 add-i c = omega arith

@@ -2,11 +2,13 @@
 -- Assumes nothing.
 use mathlib.Core.Path.{_≡_, sym, _∙_}
 use mathlib.Core.Bool.{true, false}
-use Prim.Native.Nat.{_+_, _^_, _≤_}
+use Prim.Native.Nat.{_+_, _*_, _^_, _≤_}
 use native.Mathlib.Omega.{arith}
-use lib.ListN.{length, length-set}
+use lib.ListN.{length, set, length-set}
 use borrow.Author.Tests.{not-true, not-false}
 use Rattle.columns.specs.Replying.{pairLine}
+use Rattle.justify.specs.InFields.{fiveFrom}
+use Rattle.justify.proofs.Fit.{fit-is, fits-where}
 use Rattle.lines.specs.Writing.{lineBytes, linesFit}
 use Rattle.lines.proofs.Steps.{pair-puts}
 use Rattle.lines.proofs.Taken.{pair-fits, where-taken, where-left}
@@ -40,9 +42,7 @@ add-put-pair-fields : tie.Need-add-put-pair-fields
 add-put-pair-fields c = omega (arith, room (c .before), c .before .before .before .before .good)
 
 put-pair-fields-requires : tie.Need-put-pair-fields-requires
-put-pair-fields-requires c κs =
-    let a = c .before .before .before .before .args in
-    (omega (arith, room (c .before)), omega (arith, room (c .before), length-set (a .out .now) (a .at) 80))
+put-pair-fields-requires c κs = search needs
 
 add-out : tie.Need-add-out
 add-out c = let i = c .before .before .before .before in omega (arith, room i, i .before .before .before .good)
@@ -68,8 +68,11 @@ returns-2 c =
     let x = c .before .before in
     let i = x .before .before in
     let a = i .before .before .before .args in
+    let l = set (a .out .now) (a .at) 80 in
+    let fits = fit-is 9223372036854775808 (6 * a .k) 5 (a .at + 1) (length l) (omega arith) (omega (arith, room i .1)) (omega (arith, room i .0, length-set (a .out .now) (a .at) 80)) in
     where-taken (linesFit 5 (a .k) 1 (a .at) (length (a .out .now))) (fitting i)
-    (pair-puts (a .pairs .now) (a .k) (a .out .now) (x .put-pair-fields .last .1 .1 .0) (a .at) (x .put-pair-fields .ensures))
+    (pair-puts (a .pairs .now) (a .k) (a .out .now) (x .put-pair-fields .last .1 .1 .0) (a .at)
+    (fits-where l (a .at + 1) (fiveFrom (a .pairs .now) (6 * a .k)) fits (x .put-pair-fields .ensures)))
 
 pub put-pair-spec : {M : Type 1} → statement M
 put-pair-spec =
