@@ -39,6 +39,26 @@ extern "C" {
         count_length: usize,
     ) -> u32;
 
+    pub fn ligkern_fill_index(pairs: *const i32, pairs_length: usize, index: *mut u64, index_length: usize) -> u32;
+
+    pub fn ligkern_set_word_indexed(
+        index: *const u64,
+        index_length: usize,
+        pairs: *const i32,
+        pairs_length: usize,
+        ops: *const i32,
+        ops_length: usize,
+        boundary: i32,
+        word: *const u32,
+        word_length: usize,
+        disable_left_boundary: bool,
+        right_boundary_override: i32,
+        items: *mut i32,
+        items_length: usize,
+        count: *mut u64,
+        count_length: usize,
+    ) -> u32;
+
     pub fn ligkern_begin(
         pairs: *const i32,
         pairs_length: usize,

@@ -105,7 +105,7 @@ impl Both {
     pub fn ask(&mut self, ask: &Ask, font: &Font, tally: &mut Tally) -> Result<(), Box<Mismatch>> {
         let (compiled, table) = (&self.compiled, &mut self.table);
         let (published, given) = match ask {
-            Ask::SetWord(s) | Ask::Steps(s) => {
+            Ask::SetWord(s) | Ask::Steps(s) | Ask::Indexed(s) => {
                 let published = asked::set_word(compiled, &s.word, s.disable_left_boundary, s.over);
                 return self.ask_word(ask, published, font, tally).map(|_| ());
             }
@@ -118,7 +118,7 @@ impl Both {
         agree(ask, font, Answers { published, library: library::answer(given) }, tally).map(|_| ())
     }
 
-    /// A word set whole or by steps, where the Rust has answered already.
+    /// A word set whole, by an index or by steps, where the Rust has answered already.
     fn ask_word(
         &mut self,
         ask: &Ask,
@@ -130,13 +130,14 @@ impl Both {
         let given = match ask {
             Ask::Steps(setting) => self.table.steps(setting, room),
             Ask::SetWord(setting) => self.table.set_word(setting, room),
+            Ask::Indexed(setting) => self.table.set_word_indexed(setting, room),
             _ => unreachable!("no word is set"),
         };
         agree(ask, font, Answers { published, library: library::answer(given) }, tally)
     }
 
-    /// A word set both whole and by steps; the Rust is asked once.
-    pub fn ask_both_ways(
+    /// A word set whole, by an index and by steps; the Rust is asked once.
+    pub fn ask_all_ways(
         &mut self,
         setting: Setting,
         font: &Font,
@@ -147,6 +148,9 @@ impl Both {
         let published = self.ask_word(&whole, published, font, tally)?.published;
         tally.set(&published);
         let Ask::SetWord(setting) = whole else { unreachable!("a word is set") };
+        let indexed = Ask::Indexed(setting);
+        let published = self.ask_word(&indexed, published, font, tally)?.published;
+        let Ask::Indexed(setting) = indexed else { unreachable!("a word is set") };
         let steps = Ask::Steps(setting);
         self.ask_word(&steps, published, font, tally)?;
         let Ask::Steps(setting) = steps else { unreachable!("a word is set") };
@@ -260,6 +264,7 @@ impl Both {
         let given = match ask {
             Ask::SetWord(setting) => self.table.set_word(setting, 8),
             Ask::Steps(setting) => self.table.steps(setting, 8),
+            Ask::Indexed(setting) => self.table.set_word_indexed(setting, 8),
             Ask::HasReplacement { left, right, .. } => self.table.has_replacement(*left, *right),
             _ => unreachable!("no number of this question can be out of range"),
         };
@@ -284,6 +289,7 @@ impl Both {
         let given = match ask {
             Ask::SetWord(setting) => table.set_word(setting, 8),
             Ask::Steps(setting) => table.steps(setting, 8),
+            Ask::Indexed(setting) => table.set_word_indexed(setting, 8),
             Ask::AllPairs { .. } => table.all_pairs(),
             _ => table.is_seven_bit_safe(),
         };
@@ -298,7 +304,7 @@ impl Both {
 /// The design size of a question about a table.
 fn design(ask: &Ask) -> Option<i32> {
     match ask {
-        Ask::SetWord(s) | Ask::Steps(s) => Some(s.design),
+        Ask::SetWord(s) | Ask::Steps(s) | Ask::Indexed(s) => Some(s.design),
         Ask::HasReplacement { design, .. } | Ask::AllPairs { design } | Ask::TableSafe { design } => Some(*design),
         Ask::Compile { design } => Some(*design),
         _ => None,

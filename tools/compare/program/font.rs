@@ -16,6 +16,7 @@ pub enum Ask {
     Compile { design: i32 },
     SetWord(Setting),
     Steps(Setting),
+    Indexed(Setting),
     HasReplacement { design: i32, left: i32, right: i32 },
     AllPairs { design: i32 },
     TableSafe { design: i32 },
@@ -47,7 +48,7 @@ pub struct Damage {
 }
 
 /// The calls, in the order of `Ask`.
-pub const CALLS: [&str; 14] = [
+pub const CALLS: [&str; 15] = [
     "ligkern_compile",
     "ligkern_set_word",
     "ligkern_begin, ligkern_step",
@@ -62,6 +63,7 @@ pub const CALLS: [&str; 14] = [
     "ligkern_pack_kerns",
     "ligkern_unpack_kerns",
     "ligkern_validate_and_fix",
+    "ligkern_fill_index, ligkern_set_word_indexed",
 ];
 
 impl Ask {
@@ -82,6 +84,7 @@ impl Ask {
             Ask::PackKerns => 11,
             Ask::UnpackKerns => 12,
             Ask::Repair(_) => 13,
+            Ask::Indexed(_) => 14,
         }
     }
 }
@@ -131,7 +134,7 @@ pub fn request(ask: &Ask, font: &Font) -> String {
             out.push('C');
             put(&mut out, *design);
         }
-        Ask::SetWord(setting) | Ask::Steps(setting) => {
+        Ask::SetWord(setting) | Ask::Steps(setting) | Ask::Indexed(setting) => {
             out.push('W');
             put_setting(&mut out, setting);
         }

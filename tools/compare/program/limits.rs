@@ -89,7 +89,7 @@ fn letters(tally: &mut Tally) -> Asked {
     let mut word: Vec<u8> = (0..LETTERS).map(|i| [65, 66, 67, 65, 65, 68][i * i % 6]).collect();
     for disable_left_boundary in [false, true] {
         let setting = Setting { design: DESIGN, word: word.clone(), disable_left_boundary, over: 66 };
-        both.ask_both_ways(setting, &font, tally)?;
+        both.ask_all_ways(setting, &font, tally)?;
     }
     word.push(65);
     let setting = Setting { design: DESIGN, word, disable_left_boundary: false, over: -1 };

@@ -45,7 +45,7 @@ fn table(r: &mut Random, drawn: &Drawn, spare: usize, tally: &mut Tally) -> Aske
         for over in [-1, r.pick(&drawn.letters)] {
             for disable_left_boundary in [false, true] {
                 let setting = Setting { design, word: word.clone(), disable_left_boundary, over };
-                both.ask_both_ways(setting, font, tally)?;
+                both.ask_all_ways(setting, font, tally)?;
             }
         }
     }

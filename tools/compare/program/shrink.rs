@@ -130,6 +130,7 @@ fn smaller_asks(ask: &Ask) -> Vec<Ask> {
     match ask {
         Ask::SetWord(s) => smaller_settings(s).into_iter().map(Ask::SetWord).collect(),
         Ask::Steps(s) => smaller_settings(s).into_iter().map(Ask::Steps).collect(),
+        Ask::Indexed(s) => smaller_settings(s).into_iter().map(Ask::Indexed).collect(),
         Ask::Compile { .. } => vec![Ask::Compile { design: DESIGN }],
         Ask::AllPairs { .. } => vec![Ask::AllPairs { design: DESIGN }],
         Ask::TableSafe { .. } => vec![Ask::TableSafe { design: DESIGN }],

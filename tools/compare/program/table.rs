@@ -11,14 +11,26 @@ pub struct Table {
     ops: Input<i32>,
     boundary: i32,
     spare: usize,
+    index: Option<Output<u64>>,
 }
 
+const INDEX: usize = 1285;
 const STATE: usize = 9;
 const ITEM: usize = 7;
 
+/// How many items, and the items.
+fn counted(number: u32, items: &Output<i32>, count: &Output<u64>) -> Given {
+    taken(number, &[items, count])?;
+    let count = count.taken(1)?[0];
+    let mut numbers = Vec::with_capacity(1 + 6 * count as usize);
+    numbers.push(count as i64);
+    put(&mut numbers, items.taken(6 * count as usize)?);
+    Ok(numbers)
+}
+
 impl Table {
     pub fn new(pairs: Vec<i32>, ops: Vec<i32>, boundary: i32, spare: usize) -> Table {
-        Table { pairs: Input::new(pairs), ops: Input::new(ops), boundary, spare }
+        Table { pairs: Input::new(pairs), ops: Input::new(ops), boundary, spare, index: None }
     }
 
     /// The pairs and the ops.
@@ -60,12 +72,52 @@ impl Table {
             )
         };
         word.unchanged("word")?;
-        taken(number, &[&items, &count])?;
-        let count = count.taken(1)?[0];
-        let mut numbers = Vec::with_capacity(1 + 6 * count as usize);
-        numbers.push(count as i64);
-        put(&mut numbers, items.taken(6 * count as usize)?);
-        Ok(numbers)
+        counted(number, &items, &count)
+    }
+
+    /// The index of the table, which is filled once.
+    fn fill_index(&mut self) -> Result<(), Stop> {
+        if self.index.is_some() {
+            return Ok(());
+        }
+        let mut index = Output::<u64>::new("index", INDEX + self.spare);
+        let number = unsafe {
+            ligkern_fill_index(self.pairs.pointer(), self.pairs.length(), index.pointer(), index.length())
+        };
+        taken(number, &[&index])?;
+        index.taken(INDEX)?;
+        self.index = Some(index);
+        Ok(())
+    }
+
+    /// As set_word, by the index.
+    pub fn set_word_indexed(&mut self, setting: &Setting, room: usize) -> Given {
+        self.fill_index()?;
+        let index = self.index.as_mut().expect("it is filled");
+        let mut word = Input::<u32>::new(setting.word.iter().map(|c| *c as u32).collect());
+        let mut items = Output::<i32>::new("items", 6 * room + self.spare);
+        let mut count = Output::<u64>::new("count", 1 + self.spare);
+        let number = unsafe {
+            ligkern_set_word_indexed(
+                index.pointer(),
+                index.length(),
+                self.pairs.pointer(),
+                self.pairs.length(),
+                self.ops.pointer(),
+                self.ops.length(),
+                self.boundary,
+                word.pointer(),
+                word.length(),
+                setting.disable_left_boundary,
+                setting.over,
+                items.pointer(),
+                items.length(),
+                count.pointer(),
+                count.length(),
+            )
+        };
+        word.unchanged("word")?;
+        counted(number, &items, &count)
     }
 
     fn begin(&mut self, word: &mut Input<u32>, setting: &Setting, state: &mut Output<u64>) -> Result<(), Stop> {

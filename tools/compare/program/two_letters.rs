@@ -103,7 +103,7 @@ pub fn questions(rules: &Rules, number: u64, tally: &mut Tally) -> Result<(), Bo
             {
                 setting.disable_left_boundary = disable_left_boundary;
                 setting.over = over;
-                setting = both.ask_both_ways(setting, &font, tally)?;
+                setting = both.ask_all_ways(setting, &font, tally)?;
             }
         }
         both.unchanged(&font, DESIGN)?;
