@@ -1,6 +1,6 @@
 /* setter FONT LETTERS CALL HOW N: one call of the setter's library on the numbers of FONT (tools/bench/font) and the first LETTERS letters of its word.
 
-   CALL  compile; begin; word (set_word); step (steps on a fresh state to the end, the end among them).
+   CALL  compile; begin; index (fill_index); word (set_word); indexed (set_word_indexed, on the index of the table); step (steps on a fresh state to the end, the end among them).
    HOW   answer: writes the table, the ops, the loops and the items that the call leaves, and N is not looked at; count, time: see meter.h.
 
    What is lent: room for 512 pairs, or 4,096, or 65,792, whichever is enough first, for four ops a pair, 64 loops and three items a letter. */
@@ -16,7 +16,7 @@ static struct list instructions, kerns, entries, pairs, ops, loops, items;
 static int32_t boundary, left_entry, design;
 static uint32_t *word, *work, said;
 static size_t letters, pair_room;
-static uint64_t counts[3], count, state[9], fresh[9], steps;
+static uint64_t counts[3], count, state[9], fresh[9], index_of[LIGKERN_INDEX], steps;
 static int32_t item[7];
 
 static long next_number(char **at) {
@@ -67,6 +67,14 @@ static void begin(void) {
 
 static void set_word(void) {
     said = ligkern_set_word(pairs.at, 6 * counts[0], ops.at, 2 * counts[1], boundary, word, letters, false, -1, items.at, items.n, &count, 1);
+}
+
+static void fill_index(void) {
+    said = ligkern_fill_index(pairs.at, 6 * counts[0], index_of, LIGKERN_INDEX);
+}
+
+static void set_word_indexed(void) {
+    said = ligkern_set_word_indexed(index_of, LIGKERN_INDEX, pairs.at, 6 * counts[0], ops.at, 2 * counts[1], boundary, word, letters, false, -1, items.at, items.n, &count, 1);
 }
 
 static void step_to_end(void) {
@@ -121,11 +129,14 @@ int main(int argc, char **argv) {
     begin();
     if (said) die("begin refused");
     memcpy(fresh, state, sizeof state);
+    fill_index();
+    if (said) die("fill_index refused");
 
     const char *call = argv[3], *how = argv[4];
     int stepped = !strcmp(call, "step");
     if (!strcmp(how, "answer")) {
         if (stepped) collect_steps();
+        else if (!strcmp(call, "indexed")) set_word_indexed();
         else set_word();
         put("pairs", pairs.at, counts[0], 6);
         put("ops", ops.at, counts[1], 2);
@@ -136,6 +147,8 @@ int main(int argc, char **argv) {
         if (!strcmp(call, "compile")) meter(how, n, nothing, compile);
         else if (!strcmp(call, "begin")) meter(how, n, nothing, begin);
         else if (!strcmp(call, "word")) meter(how, n, nothing, set_word);
+        else if (!strcmp(call, "index")) meter(how, n, nothing, fill_index);
+        else if (!strcmp(call, "indexed")) meter(how, n, nothing, set_word_indexed);
         else if (stepped) meter(how, n, start_again, step_to_end);
         else die("no such call");
     }
