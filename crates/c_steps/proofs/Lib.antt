@@ -1,2 +1,3 @@
--- Laws of a step whose state stands in a list: Stepping.
+-- Stepping: a step by what it answers. Told: a quick step, told at once.
 pub mod Stepping
+pub mod Told

@@ -4,11 +4,11 @@ use mathlib.Core.Path.{_≡_, refl, sym, ap, subst, _∙_}
 use mathlib.Core.Bool.{Bool, true, false, cond}
 use mathlib.Core.List.{List, _∷_, _++_}
 use mathlib.Core.Option.{Option, none, some}
-use Prim.Native.Nat.{ℕ, zero, suc, _≤_, _<_}
+use Prim.Native.Nat.{ℕ, zero, suc, _+_, _≤_, _<_}
 use native.Mathlib.Omega.{arith}
 use lib.IntN.{ℤ, pos}
 use lib.Dec.{leb}
-use lib.ListN.{length, set, drop, replicate}
+use lib.ListN.{length, set, drop, replicate, length-set}
 use lib.Seq.{sets}
 use borrow.Author.Tests.{leb-true, lt-leb}
 use Rattle.lang.specs.Checks.{orElse}
@@ -24,6 +24,7 @@ use Rattle.captions.specs.Replies.{answerReply}
 use Rattle.captions.specs.Begin.{edgesRefusal, wordRefusal}
 use Rattle.captions.specs.Steps.{refused, ranFrom, rightItem, stepRefusal, handBack, steppedBy, stepOf}
 use Rattle.item_lists.specs.ItemLists.{isItem, Small}
+use Rattle.item_lists.proofs.Laws.{no}
 use Rattle.setting.proofs.Bounds.{step-small}
 use Rattle.c_states.specs.States.{numbersOf, isState, stateAt, stateRead, outside, orOutside, movedTo, PutsState}
 use Rattle.c_steps.specs.Step.{stepRunFrom, stepIn, stepNumber, itemNumbers, StepsRun}
@@ -32,9 +33,6 @@ use Rattle.c_states.proofs.ReadBack.{read-back, state-long}
 
 -- ---- an item's numbers
 
-no : {A : Type 0} → _≡_ {A = Bool} false true → A
-no e = absurd (let z : _≡_ {A = ℕ} 0 1 = cc in omega arith)
-
 item-told : (a : Answer) → isItem a ≡ true → itemNumbers a ≡ pos 1 ∷ answerReply a .values
 item-told (Char c p) h = refl
 item-told (Ligature c p n a b) h = refl
@@ -42,9 +40,19 @@ item-told (Kern k) h = refl
 item-told End h = no h
 item-told (Refused n) h = no h
 
--- stored after a 1
-pub stored-told : (d d′ : List ℤ) (a : Answer) → isItem a ≡ true → d′ ≡ sets (set d 0 (pos 1)) 1 (answerReply a .values) → d′ ≡ sets d 0 (itemNumbers a)
-stored-told d d′ a h e = e ∙ ap (sets d 0) (sym (item-told a h))
+-- stored after a 1, where there is room for both
+pub stored-told : (d d₁ d₂ : List ℤ) (a : Answer) → isItem a ≡ true → 7 ≤ length d → d₁ ≡ set d 0 (pos 1) → (1 + 6 ≤ length d₁ → d₂ ≡ sets d₁ 1 (answerReply a .values)) → d₂ ≡ sets d 0 (itemNumbers a)
+stored-told d d₁ d₂ a h r e f =
+    let l : length d₁ ≡ length d = ap length e ∙ length-set d 0 (pos 1) in
+    f (omega (arith, l, r)) ∙ ap (λ (t : List ℤ). sets t 1 (answerReply a .values)) e ∙ ap (sets d 0) (sym (item-told a h))
+
+-- nothing is stored of what is no item
+pub none-told : (d : List ℤ) (a : Answer) → isItem a ≡ false → d ≡ sets d 0 (itemNumbers a)
+none-told d (Char c p) h = no (sym h)
+none-told d (Ligature c p n a b) h = no (sym h)
+none-told d (Kern k) h = no (sym h)
+none-told d End h = refl
+none-told d (Refused n) h = refl
 
 item-few : (a : Answer) → length (itemNumbers a) ≤ 7
 item-few (Char c p) = omega arith

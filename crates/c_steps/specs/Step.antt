@@ -1,5 +1,6 @@
 -- One step of a run whose state stands in a list: the contract of `ligkern_step`. Document 01, 'Caption items'.
 use mathlib.Core.Path.{_≡_}
+use mathlib.Core.Bool.{Bool, true, false}
 use mathlib.Core.List.{List, [], _∷_}
 use mathlib.Core.Option.{Option, none, some}
 use Prim.Native.Nat.{ℕ}
@@ -37,6 +38,14 @@ itemNumbers (Ligature c start n left right) = pos 1 ∷ answerReply (Ligature c 
 itemNumbers (Kern k) = pos 1 ∷ answerReply (Kern k) .values
 itemNumbers End = []
 itemNumbers (Refused n) = []
+
+-- a character as it stands, which is what a quick step gives
+abbrev pub isCharItem : Answer → Bool
+isCharItem (Char c start) = true
+isCharItem (Ligature c start n left right) = false
+isCharItem (Kern k) = false
+isCharItem End = false
+isCharItem (Refused n) = false
 
 -- the number, and what the two lists hold; what is left in place of a state is read back as the state that the step leaves
 pub record StepsRun (pairs ops : List ℤ) (boundary : ℤ) (word : List ℕ) (options : RunOptions) (state : List ℕ) (item : List ℤ) (r : ℕ)

@@ -1,16 +1,53 @@
-// One step of a run whose state stands in a list, for a host in C: slices and integers in, the number of document 01 out (0 where it is taken).
+// One step of a run whose state stands in a list, for a host in C: slices and integers in, the number of document 01 out (0 where it is taken). A quick step (crate
+// quick) whose item has exactly its seven places is told at once; every other one goes by `any_step`. `any_step` reads the state from its list anew, so that on the
+// quick path no state is built in memory for it.
 //   items  an item, in a list of seven numbers
+ghost use mathlib.Core.Path.{_≡_};
 ghost use Rattle.c_states.specs.States.{optionsOf};
 ghost use Rattle.c_steps.specs.Step.{StepsRun};
 use c_states::states::put_state;
 use c_states::states::state_in;
 use captions::RunOptions;
-use items::put_item;
 use items::refusal_of;
-use ligkern::steps::step;
+use items::tell;
+use items::tell_character;
+use ligkern::steps::kern_step;
+use quick::first::is_ready;
+use quick::first::quick_step;
+use quick::left::quick_left;
+use quick::place::found_place;
+use words::u32_at;
 use words::zero::zero_i32;
 
 mod items;
+
+// One step from whatever state stands in the list, into an item list of any length.
+fn any_step(
+    pairs: &[i32],
+    ops: &[i32],
+    boundary: i32,
+    word: &[u32],
+    options: RunOptions,
+    state: &mut [u64],
+    item: &mut [i32],
+) -> u32
+    ensures { λ r. ⌜ StepsRun (now (pairs .entry)) (now (ops .entry)) boundary (now (word .entry)) options (now (state .entry)) (now (item .entry)) r (now (state .exit)) (now (item .exit)) ⌝ }
+{
+    zero_i32(item);
+    let from = state_in(state);
+    let stepped = kern_step(pairs, ops, boundary, word, options, from);
+    let answer = stepped.answer;
+    let number = refusal_of(answer);
+    if number != 0 {
+        return number;
+    }
+    if item.len() < 7 {
+        return 15;
+    }
+    tell(item, answer);
+    let next = stepped.state;
+    put_state(state, next)
+}
 
 // One step: 1 and the six numbers of its item, or zeros at the end; the next state in place of the last. A refused step leaves the state as it was. A step's
 // numbers, with 7 for numbers that are no state, then 15 where the item has no room.
@@ -27,22 +64,26 @@ pub extern "C" fn ligkern_step(
 ) -> u32
     ensures { λ r. ⌜ StepsRun (now (pairs .entry)) (now (ops .entry)) boundary (now (word .entry)) (optionsOf «disable_left_boundary» «right_boundary_override») (now (state .entry)) (now (item .entry)) r (now (state .exit)) (now (item .exit)) ⌝ }
 {
-    zero_i32(item);
     let options = RunOptions {
         disable_left_boundary: disable_left_boundary,
         right_boundary_override: right_boundary_override,
     };
+    if item.len() != 7 {
+        return any_step(pairs, ops, boundary, word, options, state, item);
+    }
     let from = state_in(state);
-    let stepped = step(pairs, ops, boundary, word, options, from);
+    let left = quick_left(ops, boundary, word, options, from);
+    if left == 0 {
+        return any_step(pairs, ops, boundary, word, options, state, item);
+    }
+    let read = from.read;
+    let k = found_place(pairs, left, u32_at(word, read));
+    if !is_ready(pairs, ops, k) {
+        return any_step(pairs, ops, boundary, word, options, state, item);
+    }
+    let stepped = quick_step(pairs, ops, word, k, from);
     let answer = stepped.answer;
-    let number = refusal_of(answer);
-    if number != 0 {
-        return number;
-    }
-    if item.len() < 7 {
-        return 15;
-    }
-    put_item(item, answer);
-    let next = stepped.state;
-    put_state(state, next)
+    tell_character(item, answer);
+    let moved = stepped.state;
+    put_state(state, moved)
 }

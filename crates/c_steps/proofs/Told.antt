@@ -1,0 +1,90 @@
+-- A quick step whose item has exactly its seven places: what is told into them is what would be told over zeros.
+-- Assumes nothing.
+use mathlib.Core.Path.{_≡_, refl, sym, ap, ap₂, subst, _∙_}
+use mathlib.Core.Bool.{Bool, true, false, cond}
+use mathlib.Core.List.{List, [], _++_}
+use Prim.Native.Nat.{ℕ, suc, _≤_}
+use native.Mathlib.Omega.{arith}
+use lib.IntN.{ℤ, pos}
+use lib.Dec.{ltb}
+use lib.ListN.{length, drop, replicate, length-replicate, drop-of-length-le}
+use lib.Seq.{sets}
+use borrow.Author.Tests.{lt-ltb}
+use Rattle.words.proofs.Lists.{sets-front}
+use Rattle.captions.specs.declared.RunOptions.{RunOptions}
+use Rattle.captions.specs.declared.State.{State}
+use Rattle.captions.specs.declared.Answer.{Answer}
+use Rattle.captions.specs.declared.Answer.the-variants.{Char, Ligature, Kern, End, Refused}
+use Rattle.captions.specs.declared.Step.{Step}
+use Rattle.captions.specs.Replies.{answerReply}
+use Rattle.captions.specs.Tables.{pairCount}
+use Rattle.captions.specs.Steps.{refused, stepOf}
+use Rattle.quick.specs.Quick.{plainCode, nextLetter, hasLetter, isQuick, quickLeft, foundPlace, isReady, givenPlain, givenFirst, quickStep}
+use Rattle.quick.proofs.Theorems.{left-quick, quick-is, quick-steps}
+use Rattle.item_lists.specs.ItemLists.{Small}
+use Rattle.item_lists.proofs.Laws.{no}
+use Rattle.c_states.specs.States.{stateRead, orOutside, PutsState}
+use Rattle.c_steps.specs.Step.{stepIn, itemNumbers, isCharItem, StepsRun}
+use Rattle.c_steps.proofs.Stepping.{from-is, given-small, steps-taken}
+
+-- ---- a character as it stands
+
+char-number : (a : Answer) → isCharItem a ≡ true → answerReply a .number ≡ 0
+char-number (Char c p) h = refl
+char-number (Ligature c p n a b) h = no h
+char-number (Kern k) h = no h
+char-number End h = no h
+char-number (Refused n) h = no h
+
+char-seven : (a : Answer) → isCharItem a ≡ true → length (itemNumbers a) ≡ 7
+char-seven (Char c p) h = refl
+char-seven (Ligature c p n a b) h = no h
+char-seven (Kern k) h = no h
+char-seven End h = no h
+char-seven (Refused n) h = no h
+
+-- what was there does not matter where all of it is written
+all-set : (xs l m : List ℤ) → length l ≡ length xs → length m ≡ length xs → sets l 0 xs ≡ sets m 0 xs
+all-set xs l m p q =
+    sets-front xs l (omega (arith, p)) ∙ ap (λ (t : List ℤ). xs ++ t) (drop-of-length-le l {i = length xs} (omega (arith, p)) ∙ sym (drop-of-length-le m {i = length xs} (omega (arith, q))))
+    ∙ sym (sets-front xs m (omega (arith, q)))
+
+module _ (pairs ops : List ℤ) (boundary : ℤ) (word : List ℕ) (options : RunOptions) (state : List ℕ) {from : State} (read : from ≡ orOutside (stateRead state)) {l y k : ℕ}
+    (left : l ≡ quickLeft ops boundary word options from) (some : l ≡ 0 → ⊥) (letter : y ≡ nextLetter word from) (place : k ≡ foundPlace pairs l y) (ready : isReady pairs ops k ≡ true) {t : Step} (given : t ≡ quickStep pairs ops word k from) where
+  quick : (isQuick ops boundary word options from ≡ true) × (l ≡ suc (plainCode (from .«next_left»)))
+  quick = left-quick ops boundary word options from l left some
+
+  given-step : t ≡ stepIn pairs ops boundary word options state
+  given-step =
+      given ∙ sym (quick-steps pairs ops boundary word options from k (quick .0) (place ∙ ap₂ (foundPlace pairs) (quick .1) letter) ready)
+      ∙ ap (stepOf pairs ops boundary word options) read ∙ from-is pairs ops boundary word options (stateRead state)
+
+  has-letter : hasLetter word from ≡ true
+  has-letter =
+      let q = quick-is ops boundary word options from (quick .0) in
+      rw (lt-ltb (from .read) (length word) (q .there), lt-ltb (from .given) (from .read) (q .waits))
+
+  by-place : (b : Bool) → isCharItem (cond b (givenFirst pairs ops k from) (givenPlain word from) .answer) ≡ true
+  by-place true = refl
+  by-place false = refl
+
+  given-char : isCharItem (t .answer) ≡ true
+  given-char =
+      ap (λ (u : Step). isCharItem (u .answer)) (given ∙ ap (λ (b : Bool). cond b (cond (ltb k (pairCount pairs)) (givenFirst pairs ops k from) (givenPlain word from)) (refused 7 from)) has-letter)
+      ∙ by-place (ltb k (pairCount pairs))
+
+  module _ (item : List ℤ) where
+    abbrev zeros : List ℤ
+    zeros = replicate (length item) (pos 0)
+
+    -- what tell_character asks
+    pub told-asks : length item ≡ 7 → Small (t .answer) × (7 ≤ length item) × (isCharItem (t .answer) ≡ true)
+    told-asks h = (given-small pairs ops boundary word options state item zeros refl t given-step, omega (arith, h), given-char)
+
+    -- told into seven places, and the state moved on
+    pub steps-told : length item ≡ 7 → (item′ : List ℤ) → item′ ≡ sets item 0 (itemNumbers (t .answer)) → (r : ℕ) (state′ : List ℕ) → PutsState (t .state) state r state′ → StepsRun pairs ops boundary word options state item r state′ item′
+    steps-told h item′ told r state′ put =
+        let s = char-seven (t .answer) given-char in
+        let z : length zeros ≡ length item = length-replicate (length item) (pos 0) in
+        steps-taken pairs ops boundary word options state item zeros refl t given-step (answerReply (t .answer) .number) refl (char-number (t .answer) given-char) (omega (arith, z, h)) item′
+        (told ∙ all-set (itemNumbers (t .answer)) item zeros (omega (arith, h, s)) (omega (arith, z, h, s))) r state′ put

@@ -1,0 +1,111 @@
+-- `c_steps::any_step` meets its contract: proofs/Stepping.
+-- Assumes nothing.
+use mathlib.Core.Path.{_≡_, _∙_}
+use native.Mathlib.Omega.{arith}
+use Rattle.words.specs.Words.{wordOf, numberOf}
+use Rattle.words.proofs.Bits.{number-word}
+use Rattle.captions.specs.Steps.{stepOf}
+use Rattle.c_states.specs.States.{stateRead}
+use Rattle.c_steps.specs.Step.{stepIn}
+use Rattle.c_steps.proofs.Stepping.{from-is, given-small, steps-refused, steps-short, steps-taken}
+use borrow.Author.Needs.{needs}
+use Rattle.c_steps.proofs.any_step.Statement.{statement}
+use Rattle.c_steps.proofs.any_step.Tie as tie
+
+-- the step is handed the state that stands in the list, and the boundary character as it was lent
+stepped : (c : tie.After-kern-step) → let a = c .before .before .before .before .before .before .before .before .args in c .kern-step .result ≡ stepIn (a .pairs .now) (a .ops .now) (a .boundary) (a .word .now) (a .options) (a .state .now)
+stepped c =
+    let s = c .before .before .before .before .before .before .before .before in
+    let a = s .args in
+    c .kern-step .ensures
+    ∙ (λ j. stepOf (a .pairs .now) (a .ops .now) (number-word (a .boundary) (s .fits .boundary) j) (a .word .now) (a .options) (c .before .state-in .ensures j))
+    ∙ from-is (a .pairs .now) (a .ops .now) (a .boundary) (a .word .now) (a .options) (stateRead (a .state .now))
+
+zero-i32-requires : tie.Need-zero-i32-requires
+zero-i32-requires c κs = search needs
+
+state-in-requires : tie.Need-state-in-requires
+state-in-requires c κs = search needs
+
+kern-step-requires : tie.Need-kern-step-requires
+kern-step-requires c κs = search needs
+
+refusal-of-requires : tie.Need-refusal-of-requires
+refusal-of-requires c κs = search needs
+
+same-length : tie.Need-same-length
+same-length c = search needs
+
+same-length-2 : tie.Need-same-length-2
+same-length-2 c = search needs
+
+returns : tie.Need-returns
+returns c =
+    let g = c .before .before in
+    let z = g .before .before .before .before .zero-i32 in
+    let a = g .before .before .before .before .before .before .before .before .args in
+    let n = c .before .refusal-of in
+    steps-refused (a .pairs .now) (a .ops .now) (a .boundary) (a .word .now) (a .options) (a .state .now) (a .item .now) (z .last .0) (z .ensures) (g .kern-step .result) (stepped g) (n .result) (n .ensures) (c .if1 .taken)
+
+same-length-3 : tie.Need-same-length-3
+same-length-3 c = search needs
+
+same-length-4 : tie.Need-same-length-4
+same-length-4 c = search needs
+
+returns-2 : tie.Need-returns-2
+returns-2 c =
+    let g = c .before .before .before in
+    let z = g .before .before .before .before .zero-i32 in
+    let a = g .before .before .before .before .before .before .before .before .args in
+    let n = c .before .before .refusal-of in
+    steps-short (a .pairs .now) (a .ops .now) (a .boundary) (a .word .now) (a .options) (a .state .now) (a .item .now) (z .last .0) (z .ensures) (g .kern-step .result) (stepped g) (n .result) (n .ensures) (c .before .if1 .left) (omega (arith, c .if2 .taken))
+
+tell-requires : tie.Need-tell-requires
+tell-requires c κs =
+    let g = c .before .before .before .before in
+    let z = g .before .before .before .before .zero-i32 in
+    let a = g .before .before .before .before .before .before .before .before .args in (
+      given-small (a .pairs .now) (a .ops .now) (a .boundary) (a .word .now) (a .options) (a .state .now) (a .item .now) (z .last .0) (z .ensures) (g .kern-step .result) (stepped g),
+      omega (arith, c .before .if2 .left),
+    )
+
+put-state-requires : tie.Need-put-state-requires
+put-state-requires c κs = search needs
+
+same-length-5 : tie.Need-same-length-5
+same-length-5 c = search needs
+
+same-length-6 : tie.Need-same-length-6
+same-length-6 c = search needs
+
+returns-3 : tie.Need-returns-3
+returns-3 c =
+    let i = c .before .before .before .before .before .before in
+    let u = i .before .before in
+    let g = u .before .before .before in
+    let z = g .before .before .before .before .zero-i32 in
+    let a = g .before .before .before .before .before .before .before .before .args in
+    let n = u .before .before .refusal-of in
+    let p = c .before .before .put-state in
+    steps-taken (a .pairs .now) (a .ops .now) (a .boundary) (a .word .now) (a .options) (a .state .now) (a .item .now) (z .last .0) (z .ensures) (g .kern-step .result) (stepped g) (n .result) (n .ensures) (u .before .if1 .left) (u .if2 .left) (i .tell .last .0) (i .tell .ensures) (p .result) (p .last .0) (p .ensures)
+
+pub any-step-spec : {M : Type 1} → statement M
+any-step-spec =
+    tie.close
+    (tie.spec
+    zero-i32-requires
+    state-in-requires
+    kern-step-requires
+    refusal-of-requires
+    same-length
+    same-length-2
+    returns
+    same-length-3
+    same-length-4
+    returns-2
+    tell-requires
+    put-state-requires
+    same-length-5
+    same-length-6
+    returns-3)
