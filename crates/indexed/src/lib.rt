@@ -5,12 +5,12 @@ use captions::Answer;
 use captions::RunOptions;
 use captions::State;
 use captions::Step;
+use first_ops::is_ready;
+use first_ops::quick_step;
 use index::Looked;
 use index::look_up;
 use ligkern::steps::kern_step;
 use ligkern::steps::step;
-use quick::first::is_ready;
-use quick::first::quick_step;
 use quick::left::quick_left;
 use words::u32_at;
 

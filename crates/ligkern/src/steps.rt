@@ -9,12 +9,12 @@ use captions::Answer;
 use captions::RunOptions;
 use captions::State;
 use captions::Step;
-use quick::first::is_ready;
-use quick::first::quick_step;
+use first_ops::is_ready;
+use first_ops::quick_step;
+use places::found_place;
 use quick::kern::give_kern;
 use quick::kern::is_kern;
 use quick::left::quick_left;
-use quick::place::found_place;
 use words::word_of;
 
 // The right item of a word, as its bits: the override, else the boundary character.

@@ -2,24 +2,11 @@
 ghost use mathlib.Core.Path.{_≡_};
 ghost use lib.Dec.{eqb};
 ghost use Rattle.captions.specs.Steps.{opsPlaced, stepRefusal};
-ghost use Rattle.quick.specs.Quick.{plainCode, isCalm, isPlain};
-use captions::NextLeft;
+ghost use Rattle.quick.specs.Quick.{isCalm, isPlain};
+use crate::left::plain_code;
 use captions::RunOptions;
 use captions::State;
 use checks::absent_refusal;
-
-// The code of a character; 256 of any other next left.
-pub(crate) fn plain_code(x: NextLeft) -> u32
-    ensures { λ r. ⌜ r ≡ plainCode x ⌝ }
-{
-    match x {
-        NextLeft::Boundary => 256,
-        NextLeft::Char(c) => c,
-        NextLeft::Lig(_) => 256,
-        NextLeft::FinalLig(_) => 256,
-        NextLeft::None => 256,
-    }
-}
 
 // An i32 counts the ops, and those that are to be given are among them.
 fn ops_placed(ops: &[i32], s: State) -> bool

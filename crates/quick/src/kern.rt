@@ -4,13 +4,12 @@ ghost use Prim.Native.Nat.{_-_, _<_};
 ghost use Rattle.captions.specs.Steps.{afterOp};
 ghost use Rattle.quick.specs.Quick.{isKern, givenKern};
 use crate::calm::is_plain;
-use crate::first::less_one;
-use crate::place::word_in;
 use captions::Answer;
 use captions::RunOptions;
 use captions::State;
 use captions::Step;
 use words::number_of;
+use words::word_at;
 
 // One op is to be given, a kern, and a step refuses nothing.
 pub fn is_kern(ops: &[i32], boundary: i32, word: &[u32], options: RunOptions, s: State) -> bool
@@ -23,7 +22,14 @@ pub fn is_kern(ops: &[i32], boundary: i32, word: &[u32], options: RunOptions, s:
         return false;
     }
     let op = s.op;
-    word_in(ops, 2 * op) == 2
+    word_at(ops, 2 * op) == 2
+}
+
+// One less, or none.
+fn less_one(n: usize) -> usize
+    ensures { λ r. ⌜ r ≡ n - 1 ⌝ }
+{
+    if n == 0 { 0 } else { n - 1 }
 }
 
 // The state after a last op.
@@ -58,7 +64,7 @@ pub fn give_kern(ops: &[i32], s: State) -> Step
         };
     }
     let state = after_op(s);
-    let value = number_of(word_in(ops, 2 * op + 1));
+    let value = number_of(word_at(ops, 2 * op + 1));
     Step {
         answer: Answer::Kern(value),
         state: state,

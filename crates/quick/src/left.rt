@@ -1,13 +1,26 @@
-// A quick state: no op is to be given, and a character stands left of a letter.
+// A quick state: no op is to be given, and a character stands left of a letter. Its character, its letter, and its left.
 ghost use mathlib.Core.Path.{_≡_};
-ghost use Rattle.quick.specs.Quick.{hasLetter, isQuick, quickLeft};
+ghost use Rattle.quick.specs.Quick.{plainCode, hasLetter, isQuick, quickLeft};
 use crate::calm::is_plain;
-use crate::calm::plain_code;
+use captions::NextLeft;
 use captions::RunOptions;
 use captions::State;
 
+// The code of a character; 256 of any other next left.
+pub fn plain_code(x: NextLeft) -> u32
+    ensures { λ r. ⌜ r ≡ plainCode x ⌝ }
+{
+    match x {
+        NextLeft::Boundary => 256,
+        NextLeft::Char(c) => c,
+        NextLeft::Lig(_) => 256,
+        NextLeft::FinalLig(_) => 256,
+        NextLeft::None => 256,
+    }
+}
+
 // There is a letter to be read, and one that was read and not given.
-pub(crate) fn has_letter(word: &[u32], s: State) -> bool
+pub fn has_letter(word: &[u32], s: State) -> bool
     ensures { λ r. ⌜ r ≡ hasLetter (now (word .entry)) s ⌝ }
 {
     if word.len() <= s.read {

@@ -13,6 +13,8 @@ use captions::Begun;
 use captions::RunOptions;
 use captions::State;
 use captions::Step;
+use first_ops::is_ready;
+use first_ops::quick_step;
 use item_lists::is_item;
 use item_lists::put_item;
 use item_lists::stopped;
@@ -20,8 +22,6 @@ use lang::Written;
 use ligkern::begin::begin;
 use ligkern::begin::fresh_state;
 use ligkern::steps::kern_step;
-use quick::first::is_ready;
-use quick::first::quick_step;
 use stretch::give_letters;
 use words::zero::zero_i32;
 

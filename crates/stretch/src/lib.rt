@@ -12,8 +12,8 @@ use captions::Consumes;
 use captions::NextLeft;
 use captions::RunOptions;
 use captions::State;
+use places::found_place;
 use quick::left::quick_left;
-use quick::place::found_place;
 use words::number_of;
 
 // Where a stretch ends: the left that is next (one more than its code), how many letters were given, and the pair that stopped it; the number of pairs where

@@ -14,14 +14,14 @@ returns c = let a = c .before .args in rw (le-ltb (a .s .op) (opCount (now (a .o
 after-op-requires : tie.Need-after-op-requires
 after-op-requires c κs = search needs
 
-mul-word-in : tie.Need-mul-word-in
-mul-word-in c = search needs
+mul-word-at : tie.Need-mul-word-at
+mul-word-at c = search needs
 
-add-word-in : tie.Need-add-word-in
-add-word-in c = search needs
+add-word-at : tie.Need-add-word-at
+add-word-at c = search needs
 
-word-in-requires : tie.Need-word-in-requires
-word-in-requires c κs = search needs
+word-at-requires : tie.Need-word-at-requires
+word-at-requires c κs = search needs
 
 number-of-requires : tie.Need-number-of-requires
 number-of-requires c κs = search needs
@@ -29,7 +29,7 @@ number-of-requires c κs = search needs
 returns-2 : tie.Need-returns-2
 returns-2 c =
     let a = c .before .before .before .before .args in
-    let v = c .before .word-in .ensures in
+    let v = c .before .word-at .ensures in
     rw (lt-ltb (a .s .op) (opCount (now (a .ops))) (c .before .before .before .if1 .left), c .number-of .ensures, number-is v, number-word (opValue (now (a .ops)) (a .s .op)) (v .fits), c .before .before .after-op .ensures)
 
 pub give-kern-spec : {M : Type 1} → statement M
@@ -38,8 +38,8 @@ give-kern-spec =
     (tie.spec
     returns
     after-op-requires
-    mul-word-in
-    add-word-in
-    word-in-requires
+    mul-word-at
+    add-word-at
+    word-at-requires
     number-of-requires
     returns-2)

@@ -38,15 +38,15 @@ is-plain-requires c κs = search needs
 returns-2 : tie.Need-returns-2
 returns-2 c = rw (eq-eqb (c .before .before .before .before .before .args .s .ops) 1 (c .before .before .if1 .left), sym (tested (c .before)) ∙ not-true _ (c .if2 .taken))
 
-mul-word-in : tie.Need-mul-word-in
-mul-word-in c = omega (arith, there c)
+mul-word-at : tie.Need-mul-word-at
+mul-word-at c = omega (arith, there c)
 
-word-in-requires : tie.Need-word-in-requires
-word-in-requires c κs = omega (arith, there c)
+word-at-requires : tie.Need-word-at-requires
+word-at-requires c κs = omega (arith, there c)
 
 returns-3 : tie.Need-returns-3
-returns-3 c = rw (eq-eqb (c .before .before .before .before .before .before .args .s .ops) 1 (c .before .before .before .if1 .left), plain (c .before), c .word-in .ensures .is)
+returns-3 c = rw (eq-eqb (c .before .before .before .before .before .before .args .s .ops) 1 (c .before .before .before .if1 .left), plain (c .before), c .word-at .ensures .is)
 
 pub is-kern-spec : {M : Type 1} → statement M
 is-kern-spec =
-    tie.close (tie.spec returns is-plain-requires returns-2 mul-word-in word-in-requires returns-3)
+    tie.close (tie.spec returns is-plain-requires returns-2 mul-word-at word-at-requires returns-3)
