@@ -8,14 +8,14 @@ ghost use Rattle.c_steps.specs.Step.{StepsRun};
 use c_states::states::put_state;
 use c_states::states::state_in;
 use captions::RunOptions;
+use first_ops::is_ready;
+use first_ops::quick_step;
 use items::refusal_of;
 use items::tell;
 use items::tell_character;
 use ligkern::steps::kern_step;
-use quick::first::is_ready;
-use quick::first::quick_step;
+use places::found_place;
 use quick::left::quick_left;
-use quick::place::found_place;
 use words::u32_at;
 use words::zero::zero_i32;
 

@@ -47,6 +47,10 @@ module _ {x : Answer} where
   pub kern-numbers : {k : ℤ} (w : ℕ) → x ≡ Kern k → numberOf w ≡ k → numberOf 2 ∷ numberOf w ∷ numberOf 0 ∷ numberOf 0 ∷ numberOf 0 ∷ numberOf 0 ∷ [] ≡ answerReply x .values
   kern-numbers {k} w e q = rw e (λ j. pos 2 ∷ q j ∷ pos 0 ∷ pos 0 ∷ pos 0 ∷ pos 0 ∷ [])
 
+module _ (d d′ : List ℤ) (at : ℕ) where
+  pub put-character : {x : Answer} {c p : ℕ} → x ≡ Char c p → Small x → d′ ≡ sets d at (numberOf 0 ∷ numberOf c ∷ numberOf p ∷ numberOf 1 ∷ numberOf 0 ∷ numberOf 0 ∷ []) → d′ ≡ sets d at (answerReply x .values)
+  put-character e m h = h ∙ ap (sets d at) (character-numbers e m)
+
 -- .. and where there may be no room for them
 pub six-as : (d d′ : List ℤ) (at : ℕ) {vs ws : List ℤ} → vs ≡ ws → d′ ≡ sixAt d at vs → d′ ≡ sixAt d at ws
 six-as d d′ at e h = h ∙ ap (sixAt d at) e
