@@ -26,7 +26,7 @@ use Rattle.captions.specs.Tables.{opKind, opValue, keyBy, find}
 use Rattle.captions.specs.Replies.{bitNumber, answerReply}
 use Rattle.captions.specs.Begin.{beginRefusal, freshState}
 use Rattle.captions.specs.Steps.{refused, taken, giveCharacter, giveLigature, afterOp, endsWord, opsFit, readOp, gathered, leftPlaceOf, afterRight, readOn, withNext, giveLeft, entryReads, turnBy, turnAtEnd, turn, goesOn, withNothingNext, byNext, stepBy, runOn, placed, rightItem, ranFrom, stepRefusal, handBack, steppedBy, stepOf}
-use Rattle.setting.specs.Setting.{andThen, itemsFrom, afterBegin, setReply}
+use Rattle.setting.specs.Setting.{andThen, itemsBy, itemsFrom, afterBegin, setReply}
 use Rattle.item_lists.specs.ItemLists.{Small}
 use Rattle.setting.proofs.Bounds.{step-small}
 use Rattle.columns.specs.Purpose.{isI32, allI32}
@@ -182,7 +182,7 @@ then-sixes (Refused n) r m k h = no-sixes
 
 module _ (pairs ops : List ℤ) (fits : Fits ops) (boundary : ℤ) (word : List ℕ) (options : RunOptions) where
   from-sixes : (n : ℕ) (s : State) → Sixes (itemsFrom pairs ops boundary word options n s .values)
-  unfolding itemsFrom
+  unfolding itemsBy
   from-sixes zero s =
       then-sixes (stepOf pairs ops boundary word options s .answer) (replyOf 15 []) (step-small pairs ops boundary word options s) (step-fits pairs ops fits boundary word options s) no-sixes
   from-sixes (suc n) s =

@@ -29,7 +29,7 @@ use Rattle.captions.specs.Begin.{lettersRefusal}
 use Rattle.captions.specs.Steps.{stepOf}
 use Rattle.captions.specs.Runs.{answers, Shown, shows, ends, shown, thenEnds}
 use Rattle.captions.specs.Demand3.{Answered, Reads}
-use Rattle.setting.specs.Setting.{andThen, itemsFrom, setReply}
+use Rattle.setting.specs.Setting.{andThen, itemsBy, itemsFrom, setReply}
 use Rattle.setting.specs.Purpose.{SetAs}
 use Rattle.setting.proofs.Laws.{set-run}
 use Rattle.setting.proofs.Theorems.{every-word}
@@ -107,7 +107,7 @@ othersOf (x ∷ xs) = xs
 module _ (pairs ops : List ℤ) (boundary : ℤ) (word : List ℕ) (options : RunOptions) where
   few-items : (items : List Out) (n : ℕ) (s : State) → ((m : ℕ) → map shown (answers pairs ops boundary word options m s) ≡ thenEnds m items) →
       itemsFrom pairs ops boundary word options n s .number ≡ 0 → length items ≤ n
-  unfolding answers thenEnds itemsFrom
+  unfolding answers thenEnds itemsBy
   few-items [] n s h e = omega arith
   few-items (o ∷ items) zero s h e =
       let t = stepOf pairs ops boundary word options s in

@@ -1,34 +1,18 @@
 // The index of a table, into a lent list: one pass over the pairs sets their bits, and one over the lefts counts the pairs before each. Linear in both.
 ghost use mathlib.Core.Path.{_≡_};
 ghost use mathlib.Core.Bool.{true};
-ghost use mathlib.Core.List.{List};
-ghost use Prim.Native.Nat.{ℕ, _+_, _*_, _/_, _%_, _^_, _<_, _≤_};
+ghost use Prim.Native.Nat.{_+_, _*_, _/_, _%_, _^_, _<_, _≤_};
 ghost use lib.Bits.{bitOr};
 ghost use lib.ListN.{length, getD, set, replicate};
-ghost use Rattle.words.specs.Words.{wordOf};
 ghost use Rattle.lang.specs.Every.{every};
-ghost use Rattle.captions.specs.Tables.{pairCount, number, leftPlace};
+ghost use Rattle.captions.specs.Tables.{pairCount};
 ghost use Rattle.captions.specs.Form.{keyForm};
 ghost use Rattle.index.specs.Index.{pairsBefore, indexRefusal, FillsIndex};
 ghost use Rattle.fill_index.specs.Filling.{Filled};
 use c_values::zero_u64;
-use form::key_form;
+use form::keys::keys_form;
 use lookup::left_place;
 use tables::number_at;
-
-// Left and right of every pair are in range, and the pairs ascend.
-fn keys_form(pairs: &[i32]) -> bool
-    ensures { λ r. ⌜ r ≡ every (pairCount (now (pairs .entry))) (keyForm (now (pairs .entry))) ⌝ }
-{
-    let mut k = 0;
-    while k < pairs.len() / 6 {
-        if !key_form(pairs, k) {
-            return false;
-        }
-        k += 1;
-    }
-    true
-}
 
 // 7, or 15 where a list of `room` places is too short for an index.
 fn index_refusal(pairs: &[i32], room: usize) -> u32

@@ -33,7 +33,7 @@ use Rattle.captions.specs.declared.Answer.the-variants.{Refused}
 use Rattle.captions.specs.Form.{tableRefusal}
 use Rattle.captions.specs.Begin.{freshState, edgesRefusal, lettersRefusal, wordRefusal, beginRefusal}
 use Rattle.captions.specs.Steps.{rightItem, ranFrom, stepRefusal, steppedBy, stepOf}
-use Rattle.setting.specs.Setting.{andThen, itemsFrom, afterBegin, setReply}
+use Rattle.setting.specs.Setting.{andThen, itemsBy, itemsFrom, afterBegin, setReply}
 use Rattle.setting.specs.Writing.{Tells}
 use Rattle.setting.proofs.Few.{items-few, items-sixes}
 use Rattle.columns.specs.Replying.{replyBytes, replyRefusal, WritesReply}
@@ -211,7 +211,7 @@ module _ (pairs ops : List ℤ) (boundary : ℤ) (word : List ℕ) (edges : edge
       ap (λ (n : ℕ). steppedBy n s (ranFrom pairs ops (rightItem boundary (negsuc 0)) word s) .answer) e
 
   run-long : (n : ℕ) (s : State) → itemsFrom pairs ops boundary word columnOptions n s ≡ replyOf 6 []
-  unfolding itemsFrom
+  unfolding itemsBy
   run-long zero s = ap (λ (x : Answer). andThen x (replyOf 15 [])) (step-long s)
   run-long (suc n) s = ap (λ (x : Answer). andThen x (itemsFrom pairs ops boundary word columnOptions n (stepOf pairs ops boundary word columnOptions s .state))) (step-long s)
 

@@ -1,9 +1,13 @@
 // The form of a pair table: document 01, last paragraph before the marked readings. The whole of it is tested by crate one_pass; here are
 // the refusal and the key of one pair.
+//   keys  the keys of all pairs
 ghost use mathlib.Core.Path.{_≡_};
 ghost use Rattle.words.specs.Words.{numberOf};
 ghost use Rattle.lang.specs.Records.{absentOr};
 ghost use Rattle.captions.specs.Form.{comesAfter, keyForm, tableRefusal};
+
+pub mod keys;
+
 use lookup::key_at;
 use one_pass::table_form;
 use tables::number_at;

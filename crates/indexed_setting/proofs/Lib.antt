@@ -1,5 +1,4 @@
--- Standing: the items of a run, one step after the other, and the list that they are written to. Small: what keeps an item's numbers i32. Theorems: what
--- specs/Purpose states.
-pub mod Standing
+-- Running: several steps of a run, whose items are written. Small: what keeps an item's numbers i32. Theorems: what specs/Purpose states.
+pub mod Running
 pub mod Small
 pub mod Theorems

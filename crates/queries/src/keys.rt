@@ -3,26 +3,10 @@ ghost use mathlib.Core.Path.{_≡_};
 ghost use mathlib.Core.List.{_++_};
 ghost use Prim.Native.Nat.{_*_, _≤_};
 ghost use lib.ListN.{length, drop};
-ghost use Rattle.lang.specs.Every.{every};
 ghost use Rattle.captions.specs.Tables.{pairCount};
-ghost use Rattle.captions.specs.Form.{keyForm};
 ghost use Rattle.captions.specs.Queries.{keysOf, keysRefusal};
-use form::key_form;
+use form::keys::keys_form;
 use tables::number_at;
-
-// Left and right of every pair are in range, and the pairs ascend.
-fn keys_form(pairs: &[i32]) -> bool
-    ensures { λ r. ⌜ r ≡ every (pairCount (now (pairs .entry))) (keyForm (now (pairs .entry))) ⌝ }
-{
-    let mut k = 0;
-    while k < pairs.len() / 6 {
-        if !key_form(pairs, k) {
-            return false;
-        }
-        k += 1;
-    }
-    true
-}
 
 // 7, or 15 where a list of `room` places is too short for two numbers a pair.
 pub(crate) fn keys_refusal(pairs: &[i32], room: usize) -> u32

@@ -14,7 +14,7 @@ use Rattle.captions.specs.declared.Answer.the-variants.{Char, Ligature, Kern, E
 use Rattle.captions.specs.Replies.{answerReply}
 use Rattle.captions.specs.Steps.{stepOf}
 use Rattle.item_lists.specs.ItemLists.{Small}
-use Rattle.setting.specs.Setting.{andThen, itemsFrom}
+use Rattle.setting.specs.Setting.{andThen, itemsBy, itemsFrom}
 use Rattle.setting.proofs.Bounds.{step-small}
 
 same : (n : ℕ) (vs : List ℤ) → n ≤ 15 → replyOf n vs .number ≤ 15
@@ -41,14 +41,14 @@ then-sixes (Refused k) r h = refl
 
 module _ (pairs ops : List ℤ) (boundary : ℤ) (word : List ℕ) (options : RunOptions) where
   pub items-few : (n : ℕ) (s : State) → itemsFrom pairs ops boundary word options n s .number ≤ 15
-  unfolding itemsFrom
+  unfolding itemsBy
   items-few zero s = then-few (stepOf pairs ops boundary word options s .answer) (replyOf 15 []) (step-small pairs ops boundary word options s) (omega arith)
   items-few (suc n) s =
       then-few (stepOf pairs ops boundary word options s .answer) (itemsFrom pairs ops boundary word options n (stepOf pairs ops boundary word options s .state))
       (step-small pairs ops boundary word options s) (items-few n (stepOf pairs ops boundary word options s .state))
 
   pub items-sixes : (n : ℕ) (s : State) → length (itemsFrom pairs ops boundary word options n s .values) % 6 ≡ 0
-  unfolding itemsFrom
+  unfolding itemsBy
   items-sixes zero s = then-sixes (stepOf pairs ops boundary word options s .answer) (replyOf 15 []) refl
   items-sixes (suc n) s =
       then-sixes (stepOf pairs ops boundary word options s .answer) (itemsFrom pairs ops boundary word options n (stepOf pairs ops boundary word options s .state))

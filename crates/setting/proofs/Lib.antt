@@ -1,9 +1,11 @@
 -- The laws of a word set whole.
 --   Bounds    whatever the table and the state, the numbers of a step's answer are small
---   Laws      the items up to the end, one step after the other, and the list that they are written to
+--   Standing  the items up to the end by any step, one after the other, and the list that they are written to
+--   Laws      the steps of a run: stretches of letters, and the contract of set_word
 --   Few       its number is at most 15, and it has six numbers an item
 --   Theorems  what is set is what demand 3 promises: specs/Purpose
 pub mod Bounds
+pub mod Standing
 pub mod Laws
 pub mod Few
 pub mod Theorems

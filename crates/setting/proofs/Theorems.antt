@@ -21,7 +21,8 @@ use Rattle.item_lists.specs.ItemLists.{isItem}
 use Rattle.item_lists.proofs.Laws.{item-six}
 use Rattle.setting.specs.Setting.{numbersBefore, itemsFrom, setReply}
 use Rattle.setting.specs.Purpose.{valuesOf, EveryWord}
-use Rattle.setting.proofs.Laws.{item-then, from-suc, from-stops, set-run}
+use Rattle.setting.proofs.Standing.{item-then, from-suc, from-stops}
+use Rattle.setting.proofs.Laws.{set-run}
 
 -- ---- an answer by what it shows
 
@@ -65,7 +66,7 @@ module _ (pairs ops : List ℤ) (boundary : ℤ) (word : List ℕ) (options : Ru
     unfolding answers thenEnds valuesOf
     no-items n e =
         let q : t .answer ≡ End = shown-end (t .answer) (ap firstOf e) in
-        record { held = []; same = refl; values = from-stops pairs ops boundary word options s t refl n End (replyOf 0 []) q (λ r. refl); many = refl }
+        record { held = []; same = refl; values = from-stops (stepOf pairs ops boundary word options) s t refl n End (replyOf 0 []) q (λ r. refl); many = refl }
 
     first-item : (o : Out) (items : List Out) → map shown (answers pairs ops boundary word options 1 s) ≡ thenEnds 1 (o ∷ items) → shown (t .answer) ≡ shows o
     unfolding answers thenEnds
@@ -86,7 +87,7 @@ module _ (pairs ops : List ℤ) (boundary : ℤ) (word : List ℕ) (options : Ru
           held = t .answer ∷ h .held;
           same = λ j. e j ∷ h .same j;
           values =
-              from-suc pairs ops boundary word options s t refl n
+              from-suc (stepOf pairs ops boundary word options) s t refl n
               ∙ item-then (t .answer) (itemsFrom pairs ops boundary word options n (t .state)) i
               ∙ ap (numbersBefore v) (h .values);
           many = omega (arith, sum, item-six (t .answer) i, h .many);

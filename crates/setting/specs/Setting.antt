@@ -11,6 +11,7 @@ use Rattle.captions.specs.declared.RunOptions.{RunOptions}
 use Rattle.captions.specs.declared.State.{State}
 use Rattle.captions.specs.declared.Answer.{Answer}
 use Rattle.captions.specs.declared.Answer.the-variants.{Char, Ligature, Kern, End, Refused}
+use Rattle.captions.specs.declared.Step.{Step}
 use Rattle.captions.specs.Replies.{answerReply}
 use Rattle.captions.specs.Begin.{beginRefusal, freshState}
 use Rattle.captions.specs.Steps.{stepOf}
@@ -27,13 +28,14 @@ andThen (Kern k) r = numbersBefore (answerReply (Kern k) .values) r
 andThen End r = replyOf 0 []
 andThen (Refused k) r = record { number = k; values = [] }
 
--- the numbers of the items up to the end, from a state on; 15 where there are more than n items
-unfoldable pub itemsFrom : List ℤ → List ℤ → ℤ → List ℕ → RunOptions → ℕ → State → Reply
-itemsFrom pairs ops boundary word options zero s =
-    andThen (stepOf pairs ops boundary word options s .answer) (replyOf 15 [])
-itemsFrom pairs ops boundary word options (suc n) s =
-    andThen (stepOf pairs ops boundary word options s .answer)
-    (itemsFrom pairs ops boundary word options n (stepOf pairs ops boundary word options s .state))
+-- the numbers of the items up to the end, by a step, from a state on; 15 where there are more than n items
+unfoldable pub itemsBy : (State → Step) → ℕ → State → Reply
+itemsBy step zero s = andThen (step s .answer) (replyOf 15 [])
+itemsBy step (suc n) s = andThen (step s .answer) (itemsBy step n (step s .state))
+
+-- .. by the steps of a run
+abbrev pub itemsFrom : List ℤ → List ℤ → ℤ → List ℕ → RunOptions → ℕ → State → Reply
+itemsFrom pairs ops boundary word options = itemsBy (stepOf pairs ops boundary word options)
 
 -- by the number of begin: a run that began, or the number alone
 abbrev pub afterBegin : ℕ → Reply → Reply

@@ -2,7 +2,7 @@
 -- after them. The measure is the room that is left.
 -- Assumes nothing.
 use mathlib.Core.Path.{_≡_, sym, subst, _∙_}
-use Prim.Native.Nat.{ℕ, _+_, _-_, _*_, _/_, _≤_}
+use Prim.Native.Nat.{_+_, _-_, _*_, _/_, _≤_}
 use native.Mathlib.Omega.{arith}
 use lib.IntN.{ℤ}
 use lib.ListN.{length}
@@ -13,12 +13,13 @@ use Rattle.words.proofs.Lists.{appending-length}
 use Rattle.captions.specs.declared.Step.{Step}
 use Rattle.item_lists.specs.ItemLists.{Small}
 use Rattle.item_lists.proofs.Laws.{item-there}
+use Rattle.setting.specs.Setting.{itemsBy}
 use Rattle.setting.specs.Writing.{Tells}
+use Rattle.setting.proofs.Standing.{Standing, standing-none, standing-more, standing-full, standing-stop}
 use Rattle.indexed.specs.Indexed.{indexedStepOf}
 use Rattle.indexed.proofs.Laws.{answered-is}
-use Rattle.indexed_setting.specs.Whole.{itemsBy}
 use Rattle.indexed_setting.proofs.Small.{indexed-small}
-use Rattle.indexed_setting.proofs.Standing.{Standing, standing-none, standing-more, standing-full, standing-stop, standing-runs, runs-up}
+use Rattle.indexed_setting.proofs.Running.{standing-runs, runs-up}
 use borrow.Author.Needs.{needs}
 use Rattle.indexed_setting.proofs.set_from.Statement.{statement}
 use Rattle.indexed_setting.proofs.set_from.Tie as tie

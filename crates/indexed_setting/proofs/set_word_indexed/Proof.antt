@@ -8,9 +8,9 @@ use Rattle.words.proofs.Bits.{number-word}
 use Rattle.lang.specs.declared.Written.the-variants.{Refused}
 use Rattle.captions.proofs.Replies.{begin-is}
 use Rattle.setting.specs.Writing.{Tells}
-use Rattle.setting.proofs.Laws.{blank}
+use Rattle.setting.proofs.Standing.{blank, tells-run, tells-no-run}
+use Rattle.indexed.specs.Indexed.{indexedStepOf}
 use Rattle.indexed_setting.specs.Whole.{indexedReply}
-use Rattle.indexed_setting.proofs.Standing.{tells-run, tells-no-run}
 use borrow.Author.Needs.{needs}
 use Rattle.indexed_setting.proofs.set_word_indexed.Statement.{statement}
 use Rattle.indexed_setting.proofs.set_word_indexed.Tie as tie
@@ -44,7 +44,7 @@ returns c =
     let s = z .before .before .before .before in
     let a = s .args in
     subst (λ (y : ℤ). Tells (indexedReply (a .index .now) (a .pairs .now) (a .ops .now) y (a .word .now) (a .options) (length (a .items .now))) (a .items .now) (x .result) (x .last .1 .1 .1 .1 .1 .1 .1 .0)) (number-word (a .boundary) (s .fits .boundary))
-    (tells-run (a .index .now) (a .pairs .now) (a .ops .now) (numberOf (wordOf (a .boundary))) (a .word .now) (a .options) (a .items .now) (z .zero-i32 .last .0) (v .state .given .0 .0) (sym (v .state .given .1) ∙ begin-is (a .pairs .now) (a .ops .now) (numberOf (wordOf (a .boundary))) (a .word .now) (a .options) (g .begin .result) (g .begin .ensures)) (z .zero-i32 .kept .0) (x .result) (x .last .1 .1 .1 .1 .1 .1 .1 .0) (x .ensures))
+    (tells-run (indexedStepOf (a .index .now) (a .pairs .now) (a .ops .now) (numberOf (wordOf (a .boundary))) (a .word .now) (a .options)) (a .pairs .now) (a .ops .now) (numberOf (wordOf (a .boundary))) (a .word .now) (a .options) (a .items .now) (z .zero-i32 .last .0) (v .state .given .0 .0) (sym (v .state .given .1) ∙ begin-is (a .pairs .now) (a .ops .now) (numberOf (wordOf (a .boundary))) (a .word .now) (a .options) (g .begin .result) (g .begin .ensures)) (z .zero-i32 .kept .0) (x .result) (x .last .1 .1 .1 .1 .1 .1 .1 .0) (x .ensures))
 
 same-length-2 : tie.Need-same-length-2
 same-length-2 c = search needs
@@ -57,7 +57,7 @@ returns-2 c =
     let s = z .before .before .before .before in
     let a = s .args in
     subst (λ (y : ℤ). Tells (indexedReply (a .index .now) (a .pairs .now) (a .ops .now) y (a .word .now) (a .options) (length (a .items .now))) (a .items .now) (Refused (v .n .given .0 .0)) (z .zero-i32 .last .0)) (number-word (a .boundary) (s .fits .boundary))
-    (tells-no-run (a .index .now) (a .pairs .now) (a .ops .now) (numberOf (wordOf (a .boundary))) (a .word .now) (a .options) (a .items .now) (z .zero-i32 .last .0) (v .n .given .0 .0) (sym (v .n .given .1) ∙ begin-is (a .pairs .now) (a .ops .now) (numberOf (wordOf (a .boundary))) (a .word .now) (a .options) (g .begin .result) (g .begin .ensures)) (z .zero-i32 .ensures))
+    (tells-no-run (indexedStepOf (a .index .now) (a .pairs .now) (a .ops .now) (numberOf (wordOf (a .boundary))) (a .word .now) (a .options)) (a .pairs .now) (a .ops .now) (numberOf (wordOf (a .boundary))) (a .word .now) (a .options) (a .items .now) (z .zero-i32 .last .0) (v .n .given .0 .0) (sym (v .n .given .1) ∙ begin-is (a .pairs .now) (a .ops .now) (numberOf (wordOf (a .boundary))) (a .word .now) (a .options) (g .begin .result) (g .begin .ensures)) (z .zero-i32 .ensures))
 
 pub set-word-indexed-spec : {M : Type 1} → statement M
 set-word-indexed-spec =

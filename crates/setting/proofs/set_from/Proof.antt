@@ -10,21 +10,23 @@ use borrow.Author.Tests.{not-true, not-false}
 use Rattle.words.specs.Words.{wordOf, numberOf}
 use Rattle.words.proofs.Bits.{number-word}
 use Rattle.words.proofs.Lists.{appending-length}
+use Rattle.captions.specs.Steps.{stepOf}
 use Rattle.item_lists.proofs.Laws.{item-there}
 use Rattle.setting.specs.Setting.{itemsFrom}
 use Rattle.setting.specs.Writing.{Tells}
-use Rattle.setting.proofs.Laws.{Setting, setting-none, item-small, setting-more, setting-full, setting-stop, setting-letters, next-pair}
+use Rattle.setting.proofs.Standing.{Standing, standing-none, standing-more, standing-full, standing-stop}
+use Rattle.setting.proofs.Laws.{item-small, setting-letters, next-pair}
 use Rattle.setting.proofs.set_from.Statement.{statement}
 use Rattle.setting.proofs.set_from.Tie as tie
 
 abbrev Inv-loop : tie.InvT-loop
-Inv-loop pairs ops boundary word options items₀ s₀ k₀ items s k = Setting pairs ops (numberOf boundary) word options s₀ items₀ items s k
+Inv-loop pairs ops boundary word options items₀ s₀ k₀ items s k = Standing (stepOf pairs ops (numberOf boundary) word options) s₀ items₀ items s k
 
 abbrev μ-loop : tie.MeasureT-loop
 μ-loop pairs ops boundary word options items₀ s₀ k₀ items s k = length items₀ / 6 - k
 
 -- the letters that stand before the next step are written
-letters : (g : tie.After-give-letters Inv-loop μ-loop) → let l = g .before .before in let a = g .before .before .before .before .args in Setting (a .pairs .now) (a .ops .now) (numberOf (wordOf (a .boundary))) (a .word .now) (a .options) (a .state) (a .items .now) (g .give-letters .last .1 .1 .1 .1 .1 .1 .0) (g .give-letters .result .state) (l .loop .k + g .give-letters .result .count)
+letters : (g : tie.After-give-letters Inv-loop μ-loop) → let l = g .before .before in let a = g .before .before .before .before .args in Standing (stepOf (a .pairs .now) (a .ops .now) (numberOf (wordOf (a .boundary))) (a .word .now) (a .options)) (a .state) (a .items .now) (g .give-letters .last .1 .1 .1 .1 .1 .1 .0) (g .give-letters .result .state) (l .loop .k + g .give-letters .result .count)
 letters g =
     let l = g .before .before in
     let a = g .before .before .before .before .args in
@@ -34,7 +36,7 @@ kept : (g : tie.After-give-letters Inv-loop μ-loop) → length (g .give-letters
 kept g = appending-length (g .before .before .before .before .args .items .now) (letters g .stored)
 
 loop-holds : tie.Need-loop-holds Inv-loop μ-loop
-loop-holds c = let a = c .before .args in setting-none (a .pairs .now) (a .ops .now) (numberOf (wordOf (a .boundary))) (a .word .now) (a .options) (a .state) (a .items .now)
+loop-holds c = let a = c .before .args in standing-none (stepOf (a .pairs .now) (a .ops .now) (numberOf (wordOf (a .boundary))) (a .word .now) (a .options)) (a .state) (a .items .now)
 
 give-letters-requires : tie.Need-give-letters-requires Inv-loop μ-loop
 give-letters-requires c κs = tt
@@ -69,7 +71,7 @@ returns c =
     let s = c .before .before .before .before .before .before .before .before .before .before .before .before .before in
     let a = s .args in
     subst (λ (z : ℤ). Tells (itemsFrom (a .pairs .now) (a .ops .now) z (a .word .now) (a .options) (length (a .items .now) / 6) (a .state)) (a .items .now) (x .result) (x .last .0)) (number-word (a .boundary) (s .fits .boundary))
-    (setting-stop (a .pairs .now) (a .ops .now) (numberOf (wordOf (a .boundary))) (a .word .now) (a .options) (a .state) (a .items .now) (g .give-letters .last .1 .1 .1 .1 .1 .1 .0) (g .give-letters .result .state) (l .loop .k + g .give-letters .result .count) (letters g) (t .result) (t .ensures) (sym (i .ensures) ∙ not-true _ (c .before .before .before .if1 .taken)) (x .result) (x .last .0) (x .ensures) (s .pre))
+    (standing-stop (stepOf (a .pairs .now) (a .ops .now) (numberOf (wordOf (a .boundary))) (a .word .now) (a .options)) (a .state) (a .items .now) (g .give-letters .last .1 .1 .1 .1 .1 .1 .0) (g .give-letters .result .state) (l .loop .k + g .give-letters .result .count) (letters g) (t .result) (t .ensures) (item-small (a .pairs .now) (a .ops .now) (numberOf (wordOf (a .boundary))) (a .word .now) (a .options) (g .give-letters .result .state) (t .result) (t .ensures)) (sym (i .ensures) ∙ not-true _ (c .before .before .before .if1 .taken)) (x .result) (x .last .0) (x .ensures) (s .pre))
 
 stopped-requires-2 : tie.Need-stopped-requires-2 Inv-loop μ-loop
 stopped-requires-2 c κs = tt
@@ -87,7 +89,7 @@ returns-2 c =
     let s = c .before .before .before .before .before .before .before .before .before .before .before .before .before .before in
     let a = s .args in
     subst (λ (z : ℤ). Tells (itemsFrom (a .pairs .now) (a .ops .now) z (a .word .now) (a .options) (length (a .items .now) / 6) (a .state)) (a .items .now) (x .result) (x .last .0)) (number-word (a .boundary) (s .fits .boundary))
-    (setting-full (a .pairs .now) (a .ops .now) (numberOf (wordOf (a .boundary))) (a .word .now) (a .options) (a .state) (a .items .now) (g .give-letters .last .1 .1 .1 .1 .1 .1 .0) (g .give-letters .result .state) (l .loop .k + g .give-letters .result .count) (letters g) (t .result) (t .ensures) (sym (i .ensures) ∙ not-false _ (c .before .before .before .before .if1 .left)) (c .before .before .before .if2 .taken) (x .result) (x .last .0) (x .ensures))
+    (standing-full (stepOf (a .pairs .now) (a .ops .now) (numberOf (wordOf (a .boundary))) (a .word .now) (a .options)) (a .state) (a .items .now) (g .give-letters .last .1 .1 .1 .1 .1 .1 .0) (g .give-letters .result .state) (l .loop .k + g .give-letters .result .count) (letters g) (t .result) (t .ensures) (sym (i .ensures) ∙ not-false _ (c .before .before .before .before .if1 .left)) (c .before .before .before .if2 .taken) (x .result) (x .last .0) (x .ensures))
 
 mul-put-item : tie.Need-mul-put-item Inv-loop μ-loop
 mul-put-item c = let b = c .before .before .before .before .before .before .before .before .before .before .before .before .good in omega (arith, c .before .if2 .left, kept (c .before .before .before .before .before .before .before .before))
@@ -100,7 +102,7 @@ room : (c : tie.Else2 Inv-loop μ-loop) → c .before .before .before .before .b
 room c = omega (arith, c .if2 .left, kept (c .before .before .before .before .before .before .before))
 
 -- .. and it is written
-more : (c : tie.After-put-item Inv-loop μ-loop) → let g = c .before .before .before .before .before .before .before .before .before in let l = c .before .before .before .before .before .before .before .before .before .before .before in let a = c .before .before .before .before .before .before .before .before .before .before .before .before .before .args in Setting (a .pairs .now) (a .ops .now) (numberOf (wordOf (a .boundary))) (a .word .now) (a .options) (a .state) (a .items .now) (c .put-item .last .0) (c .before .before .before .before .before .next-step .result .state) (l .loop .k + g .give-letters .result .count + 1)
+more : (c : tie.After-put-item Inv-loop μ-loop) → let g = c .before .before .before .before .before .before .before .before .before in let l = c .before .before .before .before .before .before .before .before .before .before .before in let a = c .before .before .before .before .before .before .before .before .before .before .before .before .before .args in Standing (stepOf (a .pairs .now) (a .ops .now) (numberOf (wordOf (a .boundary))) (a .word .now) (a .options)) (a .state) (a .items .now) (c .put-item .last .0) (c .before .before .before .before .before .next-step .result .state) (l .loop .k + g .give-letters .result .count + 1)
 more c =
     let x = c .put-item in
     let i = c .before .before .before .before .is-item in
@@ -111,8 +113,8 @@ more c =
     let d = g .give-letters .last .1 .1 .1 .1 .1 .1 .0 in
     let k = l .loop .k + g .give-letters .result .count in
     let fits : 6 * k + 6 ≤ length d = omega (arith, c .before .before .if2 .left) in
-    let small = item-small (a .pairs .now) (a .ops .now) (numberOf (wordOf (a .boundary))) (a .word .now) (a .options) (a .state) (a .items .now) d (g .give-letters .result .state) k (letters g) (t .result) (t .ensures) in
-    setting-more (a .pairs .now) (a .ops .now) (numberOf (wordOf (a .boundary))) (a .word .now) (a .options) (a .state) (a .items .now) d (g .give-letters .result .state) k (letters g) (t .result) (t .ensures) (sym (i .ensures) ∙ not-false _ (c .before .before .before .if1 .left)) (c .before .before .if2 .left) (x .last .0) (item-there d (x .last .0) (6 * k) (t .result .answer) fits small (x .ensures))
+    let small = item-small (a .pairs .now) (a .ops .now) (numberOf (wordOf (a .boundary))) (a .word .now) (a .options) (g .give-letters .result .state) (t .result) (t .ensures) in
+    standing-more (stepOf (a .pairs .now) (a .ops .now) (numberOf (wordOf (a .boundary))) (a .word .now) (a .options)) (a .state) (a .items .now) d (g .give-letters .result .state) k (letters g) (t .result) (t .ensures) (sym (i .ensures) ∙ not-false _ (c .before .before .before .if1 .left)) (c .before .before .if2 .left) (x .last .0) (item-there d (x .last .0) (6 * k) (t .result .answer) fits small (x .ensures))
 
 add-k-2 : tie.Need-add-k-2 Inv-loop μ-loop
 add-k-2 c = let b = c .before .before .before .before .before .before .before .before .before .before .before .before .before .before .before .good in omega (arith, room (c .before .before .before .before))

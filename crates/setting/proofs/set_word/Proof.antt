@@ -7,7 +7,8 @@ use Rattle.words.proofs.Bits.{number-word}
 use Rattle.lang.specs.declared.Written.the-variants.{Refused}
 use Rattle.captions.proofs.Replies.{begin-is}
 use Rattle.setting.specs.Setting.{Sets}
-use Rattle.setting.proofs.Laws.{blank, sets-run, sets-refused}
+use Rattle.setting.proofs.Standing.{blank}
+use Rattle.setting.proofs.Laws.{sets-run, sets-refused}
 use borrow.Author.Needs.{needs}
 use Rattle.setting.proofs.set_word.Statement.{statement}
 use Rattle.setting.proofs.set_word.Tie as tie

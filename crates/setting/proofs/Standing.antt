@@ -1,8 +1,7 @@
--- The items of a run, one step after the other, and the list that they are written to: what is written so far, and what the steps that are left give. After
--- setting/proofs/Laws, over any step.
+-- The items of a run by any step, one after the other, and the list that they are written to: what is written so far, and what the steps that are left give.
 -- Assumes nothing.
 use mathlib.Core.Path.{_≡_, refl, sym, ap, subst, _∙_}
-use mathlib.Core.Bool.{Bool, true, false}
+use mathlib.Core.Bool.{true, false}
 use mathlib.Core.List.{List, [], _∷_, _++_, append-nil, append-assoc}
 use Prim.Native.Nat.{ℕ, zero, suc, _+_, _-_, _*_, _/_, _<_, _≤_}
 use native.Mathlib.Omega.{arith}
@@ -26,12 +25,12 @@ use Rattle.captions.specs.Replies.{answerReply}
 use Rattle.captions.specs.Begin.{beginRefusal, freshState, begunBy, beginOf}
 use Rattle.item_lists.specs.ItemLists.{isItem, Small, Stops}
 use Rattle.item_lists.proofs.Laws.{no, item-six}
-use Rattle.setting.specs.Setting.{numbersBefore, andThen, afterBegin}
+use Rattle.setting.specs.Setting.{numbersBefore, andThen, itemsBy, afterBegin}
 use Rattle.setting.specs.Writing.{Tells}
-use Rattle.setting.proofs.Laws.{item-then}
-use Rattle.indexed.specs.Indexed.{indexedStepOf}
-use Rattle.indexed_setting.specs.Whole.{itemsBy, indexedReply}
-use Rattle.plain_letters.specs.Running.{Runs, none, more}
+
+-- a list of zeros is as long as the one that was zeroed
+pub blank : (d₀ d : List ℤ) → d ≡ replicate (length d₀) (pos 0) → d ≡ replicate (length d) (pos 0)
+blank d₀ d e = e ∙ ap (λ (n : ℕ). replicate n (pos 0)) (sym (ap length e ∙ length-replicate (length d₀) (pos 0)))
 
 -- ---- numbers before a reply
 
@@ -52,6 +51,14 @@ then-normal End r = refl
 then-normal (Refused zero) r = refl
 then-normal (Refused (suc n)) r = refl
 
+-- an item is six numbers before what follows
+pub item-then : (a : Answer) (r : Reply) → isItem a ≡ true → andThen a r ≡ numbersBefore (answerReply a .values) r
+item-then (Char c p) r h = refl
+item-then (Ligature c p n a b) r h = refl
+item-then (Kern k) r h = refl
+item-then End r h = no h
+item-then (Refused n) r h = no h
+
 -- ---- what a reply tells
 
 tells-count : (d₀ d done : List ℤ) (k : ℕ) → length done ≡ 6 * k → Appending done d₀ d → d₀ ≡ replicate (length d₀) (pos 0) → Tells (replyOf 0 done) d₀ (written.Count k) d
@@ -61,6 +68,14 @@ tells-count d₀ d done k m w z =
 
 tells-refused : (d₀ d : List ℤ) (n : ℕ) → d ≡ replicate (length d₀) (pos 0) → Tells (replyOf (suc n) []) d₀ (written.Refused (suc n)) d
 tells-refused d₀ d n e = record { answer = refl; list = e }
+
+-- the same reply, and a list as long
+tells-same : (r q : Reply) → r ≡ q → (d d₀ : List ℤ) → length d ≡ length d₀ → (x : Written) (d′ : List ℤ) → Tells r d x d′ → Tells q d₀ x d′
+tells-same r q e d d₀ l x d′ h =
+    record {
+      answer = h .answer ∙ ap (λ (r : Reply). replyOf (r .number) (pos (length (r .values) / 6) ∷ [])) e;
+      list = h .list ∙ (λ j. listOf (e j .number) (pos 0) (l j) (e j .values));
+    }
 
 -- ---- the items from a state on, by the step from it
 
@@ -75,12 +90,12 @@ module _ (step : State → Step) where
     unfolding itemsBy
     from-zero = ap (λ (u : Step). andThen (u .answer) (replyOf 15 [])) (sym e)
 
-    from-suc : (n : ℕ) → itemsBy step (suc n) s ≡ andThen (t .answer) (itemsBy step n (t .state))
+    pub from-suc : (n : ℕ) → itemsBy step (suc n) s ≡ andThen (t .answer) (itemsBy step n (t .state))
     unfolding itemsBy
     from-suc n = ap (λ (u : Step). andThen (u .answer) (itemsBy step n (u .state))) (sym e)
 
     -- a step that gives no item
-    from-stops : (n : ℕ) (a : Answer) (q : Reply) → t .answer ≡ a → ((r : Reply) → andThen a r ≡ q) → itemsBy step n s ≡ q
+    pub from-stops : (n : ℕ) (a : Answer) (q : Reply) → t .answer ≡ a → ((r : Reply) → andThen a r ≡ q) → itemsBy step n s ≡ q
     from-stops zero a q h f = from-zero ∙ ap (λ (x : Answer). andThen x (replyOf 15 [])) h ∙ f (replyOf 15 [])
     from-stops (suc n) a q h f = from-suc n ∙ ap (λ (x : Answer). andThen x (itemsBy step n (t .state))) h ∙ f (itemsBy step n (t .state))
 
@@ -154,16 +169,9 @@ module _ (step : State → Step) where
     pub standing-stop : Small (t .answer) → isItem (t .answer) ≡ false → (x : Written) (d′ : List ℤ) → Stops (t .answer) k d x d′ → d₀ ≡ replicate (length d₀) (pos 0) → Tells (itemsBy step (length d₀ / 6) s₀) d₀ x d′
     standing-stop m h x d′ w z = stop-by (t .answer) refl m h x d′ w z
 
-  -- several steps
-  pub standing-runs : (s₀ : State) (d₀ : List ℤ) {s : State} {k : ℕ} {d : List ℤ} {s′ : State} {k′ : ℕ} {d′ : List ℤ} → Runs step s k d s′ k′ d′ → Standing s₀ d₀ d s k → Standing s₀ d₀ d′ s′ k′
-  standing-runs s₀ d₀ none i = i
-  standing-runs s₀ d₀ (more {s′} {k′} {d′} r t e h l s″ k″ d″ p q w) i =
-      rw (p, q) (standing-more s₀ d₀ d′ s′ k′ (standing-runs s₀ d₀ r i) t e h l d″ w)
-
--- no item is taken back
-pub runs-up : {step : State → Step} {s : State} {k : ℕ} {d : List ℤ} {s′ : State} {k′ : ℕ} {d′ : List ℤ} → Runs step s k d s′ k′ d′ → k ≤ k′
-runs-up none = omega arith
-runs-up (more r t e h l s″ k″ d″ p q w) = omega (arith, runs-up r, q)
+  -- items in a list that was zeroed, from a state that is this one
+  pub tells-zeroed : (d₀ d : List ℤ) (s t : State) → s ≡ t → length d ≡ length d₀ → (x : Written) (d′ : List ℤ) → Tells (itemsBy step (length d / 6) s) d x d′ → Tells (itemsBy step (length d₀ / 6) t) d₀ x d′
+  tells-zeroed d₀ d s t e l = tells-same (itemsBy step (length d / 6) s) (itemsBy step (length d₀ / 6) t) (λ j. itemsBy step (l j / 6) (e j)) d d₀ l
 
 -- ---- from begin on
 
@@ -179,25 +187,25 @@ refusal-is : (m n : ℕ) (r : Reply) → m ≡ n → (n ≡ 0 → ⊥) → after
 refusal-is zero n r e h = absurd (h (sym e))
 refusal-is (suc m) n r e h = e
 
-module _ (index : List ℕ) (pairs ops : List ℤ) (boundary : ℤ) (word : List ℕ) (options : RunOptions) where
-  abbrev by : ℕ → State → Reply
-  by = itemsBy (indexedStepOf index pairs ops boundary word options)
+module _ (step : State → Step) (pairs ops : List ℤ) (boundary : ℤ) (word : List ℕ) (options : RunOptions) where
+  -- begin's numbers, and then the items
+  abbrev replyBy : ℕ → Reply
+  replyBy room = afterBegin (beginRefusal pairs ops boundary word options) (itemsBy step (room / 6) (freshState word options))
 
   -- a run that begins
-  pub tells-run : (d₀ d : List ℤ) (s : State) → begun.Run s ≡ beginOf pairs ops boundary word options → length d ≡ length d₀ → (x : Written) (d′ : List ℤ) → Tells (by (length d / 6) s) d x d′ → Tells (indexedReply index pairs ops boundary word options (length d₀)) d₀ x d′
-  tells-run d₀ d s e l x d′ h =
+  pub run-items : (s : State) → begun.Run s ≡ beginOf pairs ops boundary word options → (room : ℕ) → replyBy room ≡ itemsBy step (room / 6) s
+  run-items s e room =
       let m = begun-run (beginRefusal pairs ops boundary word options) (freshState word options) s e in
-      let q : by (length d / 6) s ≡ indexedReply index pairs ops boundary word options (length d₀) =
-      ap (λ (n : ℕ). by (n / 6) s) l ∙ sym (λ j. afterBegin (m .0 j) (by (length d₀ / 6) (m .1 j))) in
-      record {
-        answer = h .answer ∙ ap (λ (r : Reply). replyOf (r .number) (pos (length (r .values) / 6) ∷ [])) q;
-        list = h .list ∙ (λ j. listOf (q j .number) (pos 0) (l j) (q j .values));
-      }
+      λ j. afterBegin (m .0 j) (itemsBy step (room / 6) (m .1 j))
+
+  pub tells-run : (d₀ d : List ℤ) (s : State) → begun.Run s ≡ beginOf pairs ops boundary word options → length d ≡ length d₀ → (x : Written) (d′ : List ℤ) → Tells (itemsBy step (length d / 6) s) d x d′ → Tells (replyBy (length d₀)) d₀ x d′
+  tells-run d₀ d s e l =
+      tells-same (itemsBy step (length d / 6) s) (replyBy (length d₀)) (ap (λ (n : ℕ). itemsBy step (n / 6) s) l ∙ sym (run-items s e (length d₀))) d d₀ l
 
   -- a begin that is refused
-  pub tells-no-run : (d₀ d : List ℤ) (n : ℕ) → begun.Refused n ≡ beginOf pairs ops boundary word options → d ≡ replicate (length d₀) (pos 0) → Tells (indexedReply index pairs ops boundary word options (length d₀)) d₀ (written.Refused n) d
+  pub tells-no-run : (d₀ d : List ℤ) (n : ℕ) → begun.Refused n ≡ beginOf pairs ops boundary word options → d ≡ replicate (length d₀) (pos 0) → Tells (replyBy (length d₀)) d₀ (written.Refused n) d
   tells-no-run d₀ d n e z =
       let m = begun-refused (beginRefusal pairs ops boundary word options) n (freshState word options) e in
-      let r = indexedReply index pairs ops boundary word options (length d₀) in
-      let q : n ≡ r .number = sym (refusal-is (beginRefusal pairs ops boundary word options) n (by (length d₀ / 6) (freshState word options)) (m .0) (m .1)) in
+      let r = replyBy (length d₀) in
+      let q : n ≡ r .number = sym (refusal-is (beginRefusal pairs ops boundary word options) n (itemsBy step (length d₀ / 6) (freshState word options)) (m .0) (m .1)) in
       record { answer = refused-answer (length (r .values) / 6) q (m .1); list = refused-list (pos 0) (length d₀) (r .values) q (m .1) z }

@@ -1,5 +1,5 @@
--- `fill_index::keys_form` meets its contract. The loop's invariant: every pair passed has its left and right in range, and ascends. The measure is
--- what is left of the pairs.
+-- `form::keys::keys_form` meets its contract. The loop's invariant: every pair passed has its left and right in range, and ascends. The measure
+-- is what is left of the pairs.
 -- Assumes nothing.
 use mathlib.Core.Path.{_≡_, sym, _∙_}
 use mathlib.Core.Bool.{true}
@@ -12,8 +12,8 @@ use Rattle.lang.proofs.Every.{every-none, every-more, every-fails, every-to}
 use Rattle.captions.specs.Tables.{pairCount}
 use Rattle.captions.specs.Form.{keyForm}
 use borrow.Author.Needs.{needs}
-use Rattle.fill_index.proofs.keys_form.Statement.{statement}
-use Rattle.fill_index.proofs.keys_form.Tie as tie
+use Rattle.form.proofs.keys.keys_form.Statement.{statement}
+use Rattle.form.proofs.keys.keys_form.Tie as tie
 
 abbrev Inv-loop : tie.InvT-loop
 Inv-loop pairs k₀ k = (k ≤ pairCount pairs) × (every k (keyForm pairs) ≡ true)
@@ -31,7 +31,7 @@ returns : tie.Need-returns Inv-loop μ-loop
 returns c =
     let l = c .before .before .before in
     let s = now (l .before .args .pairs) in
-    sym (every-fails (pairCount s) (l .loop .k) (keyForm s) (c .before .before .loop-test .taken) (sym (c .before .key-form .ensures) ∙ not-true _ (c .if1 .taken)))
+    sym (every-fails (pairCount s) (l .loop .k) (keyForm s) (omega arith) (sym (c .before .key-form .ensures) ∙ not-true _ (c .if1 .taken)))
 
 add-k : tie.Need-add-k Inv-loop μ-loop
 add-k c = omega arith
