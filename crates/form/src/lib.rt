@@ -5,12 +5,11 @@ ghost use mathlib.Core.Path.{_≡_};
 ghost use Rattle.words.specs.Words.{numberOf};
 ghost use Rattle.lang.specs.Records.{absentOr};
 ghost use Rattle.captions.specs.Form.{comesAfter, keyForm, tableRefusal};
-
-pub mod keys;
-
 use lookup::key_at;
 use one_pass::table_form;
 use tables::number_at;
+
+pub mod keys;
 
 // Pair k comes after the pair before it.
 fn comes_after(pairs: &[i32], k: usize) -> bool
