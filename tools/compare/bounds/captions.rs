@@ -47,10 +47,11 @@ pub fn compiled(r: &mut Random, drawn: &Drawn, counts: &mut Counts) -> Tried {
     let pairs = Content { width: 4, bytes: left[0].bytes[..24 * left[4].count(0)].to_vec() };
     let table = Table { pairs, ops: left[1].clone(), boundary: font.boundary };
     table.questions(r, &drawn.letters, counts)?;
+    let index = table.index(counts)?;
     for disable_left_boundary in [false, true] {
         for over in [-1, r.pick(&drawn.letters)] {
             let word: Vec<u32> = word(r, &drawn.letters).iter().map(|c| *c as u32).collect();
-            table.word(&Run { word, disable_left_boundary, over }, counts)?;
+            table.word(&Run { word, disable_left_boundary, over }, &index, counts)?;
         }
     }
     Ok(())
@@ -66,6 +67,9 @@ fn compile_call(font: &Font, design: i32) -> impl Fn(&[List], &[List]) -> u32 {
         )
     }
 }
+
+/// How many numbers an index has.
+const INDEX: usize = 1285;
 
 /// The pairs and the ops that compiling wrote.
 struct Table {
@@ -127,8 +131,19 @@ impl Table {
         Call { name, refusals: &[], sources: self.sources(), sinks: vec![values(1)], call: &call }.try_all(counts).map(|_| ())
     }
 
-    /// A word set whole, begun, and set step by step.
-    fn word(&self, run: &Run, counts: &mut Counts) -> Tried {
+    /// The index of the table.
+    fn index(&self, counts: &mut Counts) -> Result<Content, String> {
+        let call = |i: &[List], o: &[List]| unsafe {
+            ligkern_fill_index(i[0].pointer(), i[0].length, o[0].pointer(), o[0].length)
+        };
+        let sinks = vec![sink(8, INDEX, 15)];
+        let tried = Call { name: "ligkern_fill_index", refusals: &[], sources: self.pairs(), sinks, call: &call };
+        let left = tried.try_all(counts)?.ok_or("a table that was compiled has no index")?;
+        Ok(left[0].clone())
+    }
+
+    /// A word set whole, by the table and by its index, begun, and set step by step.
+    fn word(&self, run: &Run, index: &Content, counts: &mut Counts) -> Tried {
         let mut sources = self.sources();
         sources.push(source(of_u32(&run.word), None));
         let call = self.set_word_call(run);
@@ -139,7 +154,24 @@ impl Table {
         });
         let name = "ligkern_set_word";
         Call { name, refusals: &[], sources, sinks: vec![sink(4, 6 * items, 15), values(1)], call: &call }.try_all(counts)?;
+        self.word_indexed(run, index, items, counts)?;
         self.steps(run, items, counts)
+    }
+
+    /// An index one number short is another index, of which only memcheck judges.
+    fn word_indexed(&self, run: &Run, index: &Content, items: usize, counts: &mut Counts) -> Tried {
+        let call = |i: &[List], o: &[List]| unsafe {
+            ligkern_set_word_indexed(
+                i[3].pointer(), i[3].length, i[0].pointer(), i[0].length, i[1].pointer(), i[1].length, self.boundary,
+                i[2].pointer(), i[2].length, run.disable_left_boundary, run.over, o[0].pointer(), o[0].length,
+                o[1].pointer(), o[1].length,
+            )
+        };
+        let mut sources = self.sources();
+        sources.push(source(of_u32(&run.word), None));
+        sources.push(source(index.clone(), None));
+        let sinks = vec![sink(4, 6 * items, 15), values(1)];
+        Call { name: "ligkern_set_word_indexed", refusals: &[], sources, sinks, call: &call }.try_all(counts).map(|_| ())
     }
 
     fn set_word_call<'a>(&'a self, run: &'a Run) -> impl Fn(&[List], &[List]) -> u32 + 'a {
@@ -165,8 +197,8 @@ impl Table {
         Ok(left[0].clone())
     }
 
-    /// Steps to the end and one further, each tried with the item and the state one short too: a refused step leaves
-    /// the state as it was.
+    /// Steps to the end and one further, each tried with the item and the state one short too, and with a longer item: a
+    /// refused step leaves the state as it was, and zeros stand after an item.
     fn steps(&self, run: &Run, items: usize, counts: &mut Counts) -> Tried {
         let mut state = self.begin(run, counts)?;
         for place in 0..items.min(40) + 2 {
@@ -178,6 +210,11 @@ impl Table {
                 counts.short_step();
             }
             let (number, after, item) = self.step(run, &state, 7);
+            let (wide_number, wide_after, wide_item) = self.step(run, &state, 10);
+            let (front, back) = wide_item.bytes.split_at(item.bytes.len());
+            if (wide_number, &wide_after.bytes, front) != (number, &after.bytes, &item.bytes[..]) || back.iter().any(|b| *b != 0) {
+                return Err(format!("ligkern_step: a longer item is not the same at step {place}, or has no zeros after it"));
+            }
             let ended = item.bytes[..4] == [0; 4];
             if number != 0 || ended != (place >= items) {
                 return Err(format!("ligkern_step: step {place} of {items} items gave {number}"));
