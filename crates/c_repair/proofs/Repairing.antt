@@ -6,7 +6,7 @@ use native.Mathlib.Omega.{arith}
 use lib.IntN.{ℤ, pos}
 use lib.ListN.{length, set, replicate}
 use Rattle.lang.specs.Checks.{orElse}
-use Rattle.lang.specs.Answers.{Reply, replyOf, roomRefusal, listOf}
+use Rattle.lang.specs.Answers.{replyOf, roomRefusal}
 use Rattle.lang.proofs.Refusals.{orElse-none, room-is, room-short}
 use Rattle.lang.proofs.Filled.{refused-list}
 use Rattle.repairs.specs.declared.Validated.{Validated}

@@ -1,13 +1,13 @@
 -- A quick step whose item has exactly its seven places: what is told into them is what would be told over zeros.
 -- Assumes nothing.
-use mathlib.Core.Path.{_≡_, refl, sym, ap, ap₂, subst, _∙_}
+use mathlib.Core.Path.{_≡_, refl, sym, ap, ap₂, _∙_}
 use mathlib.Core.Bool.{Bool, true, false, cond}
-use mathlib.Core.List.{List, [], _++_}
+use mathlib.Core.List.{List, _++_}
 use Prim.Native.Nat.{ℕ, suc, _≤_}
 use native.Mathlib.Omega.{arith}
 use lib.IntN.{ℤ, pos}
 use lib.Dec.{ltb}
-use lib.ListN.{length, drop, replicate, length-replicate, drop-of-length-le}
+use lib.ListN.{length, replicate, length-replicate, drop-of-length-le}
 use lib.Seq.{sets}
 use borrow.Author.Tests.{lt-ltb}
 use Rattle.words.proofs.Lists.{sets-front}

@@ -2,7 +2,6 @@
 // quick) whose item has exactly its seven places is told at once; every other one goes by `any_step`. `any_step` reads the state from its list anew, so that on the
 // quick path no state is built in memory for it.
 //   items  an item, in a list of seven numbers
-ghost use mathlib.Core.Path.{_≡_};
 ghost use Rattle.c_states.specs.States.{optionsOf};
 ghost use Rattle.c_steps.specs.Step.{StepsRun};
 use c_states::states::put_state;

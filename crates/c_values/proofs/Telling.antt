@@ -1,14 +1,13 @@
 -- Laws of telling: the values over zeros, and a list that is kept or zeroed by the number. Assumes nothing.
 use mathlib.Core.Path.{_≡_, refl, sym, ap, subst, _∙_}
-use mathlib.Core.List.{List, [], _∷_, _++_, map}
-use Prim.Native.Nat.{ℕ, zero, suc, _-_, _<_, _≤_}
+use mathlib.Core.List.{List, [], _++_, map}
+use Prim.Native.Nat.{ℕ, zero, suc, _<_, _≤_}
 use native.Mathlib.Nat.{sub-zero}
 use native.Mathlib.Omega.{arith}
 use lib.IntN.{ℤ}
 use lib.ListN.{length, drop, replicate, length-map, length-replicate}
 use lib.Seq.{sets}
 use Rattle.words.proofs.Lists.{drop-replicate, sets-front}
-use Rattle.lang.specs.Checks.{orElse}
 use Rattle.lang.specs.Answers.{Reply, replyOf, roomRefusal, listOf}
 use Rattle.lang.proofs.Refusals.{orElse-none, room-is, room-short}
 use Rattle.lang.proofs.Filled.{refused-list}
@@ -49,9 +48,6 @@ tells-taken vs values h g w =
 pub zeroed : {A : Type 0} (o : A) (n : ℕ) (xs : List A) {d : List A} → (n ≡ 0 → ⊥) → d ≡ replicate (length xs) o → d ≡ kept n o xs
 zeroed o zero xs h e = absurd (h refl)
 zeroed o (suc n) xs h e = e
-
-pub unchanged : {A : Type 0} (o : A) (n : ℕ) (xs : List A) → n ≡ 0 → xs ≡ kept n o xs
-unchanged o n xs e = rw e
 
 -- ---- the answer of a function, told
 

@@ -66,13 +66,6 @@ if-right false b h = absurd (let z : _≡_ {A = ℕ} 0 1 = cc in omega arith)
 pub form-ops : (l : Left) (r : ℕ) (q : Res) → formed l r q ≡ true → opsForm l (q .outs) (q .last) ≡ true
 form-ops l r q h = if-right (lastForm r (q .last)) (opsForm l (q .outs) (q .last)) h
 
-pub no-plain-first : (os : List Out) → noPlain os ≡ true → plainFirst os ≡ true
-unfolding noPlain plainFirst
-no-plain-first [] h = refl
-no-plain-first (glyph (item true c) ∷ os) h = h
-no-plain-first (glyph (item false c) ∷ os) h = absurd (let z : _≡_ {A = ℕ} 0 1 = cc in omega arith)
-no-plain-first (kern k ∷ os) h = no-plain-first os h
-
 pub left-plain-first : (a : ℕ) (os : List Out) (x : Item) → opsForm (chr a) os x ≡ true → plainFirst os ≡ true
 unfolding opsForm plainFirst
 left-plain-first a [] x h = refl

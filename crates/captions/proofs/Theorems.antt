@@ -25,7 +25,7 @@ use Rattle.reading.proofs.Theorems as Reading
 use Rattle.fonts.specs.declared.Compiled.the-variants.{Tables}
 use Rattle.fonts.specs.Numbers.{opsOf, entryOf, opNumbers, opsBefore, opsTable, loopNumbers}
 use Rattle.fonts.specs.Fonts.{Font, pairsOf, rulesOf}
-use Rattle.fonts.specs.Compiled.{Room, roomIn, finishedOf, loopsOfFont, totalOps, fontTable, fontOps, fontLoops, fontRefusal, pairsRefusal, kernRefusal, opsRefusal, loopsRefusal, tablesRefusal, compileRefusal, compiledReply, fontCounts, ListsWritten, Compiles}
+use Rattle.fonts.specs.Compiled.{Room, roomIn, finishedOf, loopsOfFont, totalOps, fontTable, fontOps, fontLoops, fontRefusal, pairsRefusal, kernRefusal, opsRefusal, loopsRefusal, tablesRefusal, compileRefusal, compiledReply, fontCounts, ListsWritten}
 use Rattle.fonts.proofs.Theorems as Compiling
 use Rattle.captions.specs.declared.RunOptions.{RunOptions}
 use Rattle.captions.specs.Tables.{opCount, entries}

@@ -2,7 +2,7 @@
 -- 91. Which instruction is the rule (`ruleIndex`) and what it does (`actsAs`) are two definitions. Both are said of a count and of a
 -- function from an index to an instruction, so that they hold of any form in which a program is lent.
 use mathlib.Core.Path.{_≡_}
-use mathlib.Core.Bool.{Bool, true, false, cond}
+use mathlib.Core.Bool.{cond}
 use mathlib.Core.List.{List, [], _∷_}
 use mathlib.Core.Option.{Option, none, some}
 use Prim.Native.Nat.{ℕ, zero, suc, _+_, _/_, _%_}
@@ -10,7 +10,6 @@ use lib.IntN.{ℤ, pos}
 use lib.Dec.{ltb, eqb}
 use lib.ListN.{length, getD}
 use Rattle.words.specs.Words.{wordOf}
-use Rattle.tfm.specs.declared.FixWord.{FixWord}
 use Rattle.lang.specs.declared.operation.Operation.{Operation}
 use Rattle.lang.specs.declared.operation.Operation.the-variants.{Kern, KernAtIndex, Ligature, EntrypointRedirect}
 use Rattle.lang.specs.declared.instruction.NextInstruction.{NextInstruction}
@@ -21,7 +20,7 @@ use Rattle.chain.specs.declared.Next.the-variants.{At, End}
 use Rattle.chain.specs.declared.FoundRule.{FoundRule}
 use Rattle.chain.specs.declared.FoundRule.the-variants.{Rule, Nothing}
 use Rattle.lang.specs.Operations.{fromBytes}
-use Rattle.lang.specs.Records.{count, field, instructionAt}
+use Rattle.lang.specs.Records.{count, instructionAt}
 use Rattle.lang.specs.Checks.{programRefusal, rangeRefusal, orElse}
 use Rattle.lang.specs.declared.Written.{Written}
 use Rattle.lang.specs.Answers.{roomRefusal, writtenReply, replyOf, listOf}

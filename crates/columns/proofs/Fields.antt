@@ -4,16 +4,16 @@ use mathlib.Core.Path.{_≡_, refl, sym, ap, _∙_}
 use mathlib.Core.Bool.{Bool, true, false, cond}
 use mathlib.Core.List.{List, [], _∷_, _++_}
 use mathlib.Core.Option.{Option, none, some, Option·some-injective}
-use Prim.Native.Nat.{ℕ, zero, suc, _+_, _-_, _*_, _/_, _%_, _≤_}
+use Prim.Native.Nat.{ℕ, zero, suc, _-_, _*_, _≤_}
 use native.Mathlib.Omega.{arith}
 use lib.IntN.{ℤ, pos, negsuc}
 use lib.Dec.{leb, eqb}
 use lib.ListN.{length, take, drop, replicate, length-drop, take-append-drop}
 use lib.Seq.{length-take-le}
 use borrow.Author.Tests.{leb-true, eqb-true}
-use Rattle.columns.specs.Numbers.{unsigned, withSign, withoutSign, readField, digits, spelled, fieldOf}
+use Rattle.columns.specs.Numbers.{unsigned, withSign, withoutSign, readField, spelled, fieldOf}
 use Rattle.columns.specs.Lines.{onFirst, afterFeed, linesOf, readFields, fieldsOf, textOf}
-use Rattle.columns.proofs.Options.{none-some, cond-some, Both, and-some}
+use Rattle.columns.proofs.Options.{none-some, cond-some, and-some}
 use Rattle.columns.proofs.Digits.{unsigned-written}
 
 with-sign : (bs : List ℕ) (r : Option ℕ) (z : ℤ) → unsigned bs ≡ r → withSign r ≡ some z → spelled z ≡ 45 ∷ bs

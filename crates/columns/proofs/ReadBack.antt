@@ -4,21 +4,20 @@ use mathlib.Core.Path.{_≡_, refl, sym, ap, _∙_, subst}
 use mathlib.Core.Bool.{Bool, true, false, cond}
 use mathlib.Core.List.{List, [], _∷_, _++_}
 use mathlib.Core.Logic.{_⊎_, inl, inr}
-use mathlib.Core.Option.{Option, none, some, Option·some-injective}
+use mathlib.Core.Option.{some, Option·some-injective}
 use Prim.Native.Nat.{ℕ, zero, suc, _+_, _-_, _*_, _/_, _%_, _<_, _≤_}
 use native.Mathlib.Omega.{arith}
 use lib.IntN.{ℤ, pos, negsuc}
-use lib.Dec.{leb, ltb, eqb}
-use lib.ListN.{length, take, drop, replicate, length-append, length-replicate}
+use lib.Dec.{ltb}
+use lib.ListN.{length, drop, replicate, length-append, length-replicate}
 use lib.Seq.{take-at, drop-at}
-use borrow.Author.Tests.{lt-ltb, le-ltb, le-leb, eqb-true, ne-eqb, leb-true}
+use borrow.Author.Tests.{lt-ltb, le-ltb, le-leb, ne-eqb, leb-true}
 use Rattle.words.proofs.Tests.{less-or-not}
-use Rattle.lang.specs.Every.{both}
 use Rattle.lang.proofs.Every.{both-left, both-right}
 use Rattle.columns.specs.Numbers.{isDigit, moreDigits, ifNone, unsigned, withSign, withoutSign, readField, digits, spelled, fieldOf}
-use Rattle.columns.specs.Lines.{Line, andNumber, readFields, lettered, readLine, fieldsOf, writeLine}
+use Rattle.columns.specs.Lines.{andNumber, readFields, fieldsOf}
 use Rattle.columns.specs.Purpose.{isI32, allI32}
-use Rattle.columns.proofs.Options.{none-some, cond-some}
+use Rattle.columns.proofs.Options.{cond-some}
 use Rattle.columns.proofs.Digits.{limit, digit-is}
 
 -- ---- digits

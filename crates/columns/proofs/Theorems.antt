@@ -1,15 +1,13 @@
 -- What is proved of the column text: the statements of specs/Purpose.
 -- Assumes nothing.
-use mathlib.Core.Path.{_≡_, refl, sym, ap, _∙_}
-use mathlib.Core.Bool.{true, cond}
-use mathlib.Core.List.{List, [], _∷_}
-use mathlib.Core.Option.{Option, none, some}
-use Prim.Native.Nat.{ℕ, _*_, _/_, _%_}
+use mathlib.Core.Path.{_≡_, sym, ap}
+use mathlib.Core.List.{[], _∷_}
+use Prim.Native.Nat.{_*_, _/_, _%_}
 use native.Mathlib.Omega.{arith}
 use lib.Dec.{eqb}
 use lib.ListN.{length}
 use borrow.Author.Tests.{eqb-true}
-use Rattle.columns.specs.Lines.{Line, readFields, lettered, readLine, fieldsOf, writeLine}
+use Rattle.columns.specs.Lines.{readFields, lettered, fieldsOf}
 use Rattle.columns.specs.Purpose.{FieldWritten, FieldReadsBack, LineWritten, LineRead, LinesWritten}
 use Rattle.columns.proofs.Options.{none-some, cond-some, lettered-some}
 use Rattle.columns.proofs.Fields as fields

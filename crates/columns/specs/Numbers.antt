@@ -1,6 +1,6 @@
 -- A number in a field of 12 columns: right-justified decimal, no leading zeros. Document 01, 'The column text'. A lone minus sign, -0
 -- and what is beyond an i32 are unreadable. Bytes are those of ASCII: 32 a blank, 45 a minus sign, 48 to 57 the digits.
-use mathlib.Core.Bool.{Bool, true, false, cond}
+use mathlib.Core.Bool.{Bool, cond}
 use mathlib.Core.List.{List, [], _∷_, _++_}
 use mathlib.Core.Option.{Option, none, some}
 use Prim.Native.Nat.{ℕ, zero, suc, _+_, _-_, _*_, _/_, _%_}

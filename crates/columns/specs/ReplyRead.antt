@@ -1,7 +1,7 @@
 -- A reply read back, and what is proved of every text that is answered (proofs/Answered): nothing is lost in the format, the X lines
 -- are a true meter of loops, and where there is none the T lines are the reading of the word. No contract cites this.
 use mathlib.Core.Path.{_≡_}
-use mathlib.Core.Bool.{true, false, cond}
+use mathlib.Core.Bool.{cond}
 use mathlib.Core.List.{List, [], _∷_, _++_}
 use mathlib.Core.Logic.{_⊎_, _↔_}
 use mathlib.Core.Option.{Option, none, some}

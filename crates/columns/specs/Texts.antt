@@ -1,10 +1,10 @@
 -- A text as a font and a word: document 01, 'The column text'. D first and once; then R and L at most once each and I, K and E
 -- repeated, in any order; then at most one W, and nothing after it. At most 65,536 bytes, 512 I, 512 K and 64 characters a word. What
 -- does not read so is 16.
-use mathlib.Core.Bool.{Bool, true, false, cond}
+use mathlib.Core.Bool.{cond}
 use mathlib.Core.List.{List, [], _∷_, _++_}
 use mathlib.Core.Option.{Option, none, some}
-use Prim.Native.Nat.{ℕ, zero, suc, _*_, _/_}
+use Prim.Native.Nat.{ℕ, suc, _/_}
 use lib.IntN.{ℤ, negsuc}
 use lib.Dec.{leb, eqb}
 use lib.ListN.{length}

@@ -15,7 +15,7 @@ use borrow.Author.Tests.{lt-ltb, le-ltb, le-leb, lt-leb}
 use Rattle.words.specs.Words.{numberOf}
 use Rattle.words.proofs.Bits.{number-pos, number-neg}
 use Rattle.words.proofs.Tests.{less-or-not}
-use Rattle.columns.specs.Numbers.{digits, spelled, fieldOf}
+use Rattle.columns.specs.Numbers.{digits, spelled}
 use Rattle.columns.proofs.Digits.{limit}
 use Rattle.columns.proofs.ReadBack.{field-long}
 use Rattle.digits.specs.Spelling.{digitPair, spells, spellsWhere}

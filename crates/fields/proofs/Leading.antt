@@ -67,10 +67,6 @@ module _ (text : List ℕ) where
   pub blanks-all : {from end r : ℕ} → from ≤ r → r ≤ end → end ≤ r → Blank text from r → BlanksEnd text from end r
   blanks-all o h l p = record { after = o; before = h; blank = p; other = λ s. absurd (omega (arith, s)) }
 
-  -- blanks before blanks
-  pub blanks-before : {a b end r : ℕ} → a ≤ b → Blank text a b → BlanksEnd text b end r → BlanksEnd text a end r
-  blanks-before o p e = record { after = omega (arith, e .after); before = e .before; blank = blank-join (e .after) p (e .blank); other = e .other }
-
   -- after the blanks of a field
   pub unblank : {at end r : ℕ} → WithinText text at end → BlanksEnd text at end r → Unblank text r end
   unblank w e =

@@ -1,25 +1,24 @@
 -- An index while it is filled: zeros; one pair more; one left more; and at the end it is the index of the table.
 -- Assumes nothing.
-use mathlib.Core.Path.{_≡_, refl, sym, ap, ap₂, _∙_}
-use mathlib.Core.Bool.{Bool, true, false, cond}
-use mathlib.Core.List.{List, _++_}
+use mathlib.Core.Path.{_≡_, refl, sym, ap, _∙_}
+use mathlib.Core.Bool.{Bool, true, cond}
+use mathlib.Core.List.{List}
 use mathlib.Core.Logic.{_⊎_, inl, inr}
-use Prim.Native.Nat.{ℕ, suc, _+_, _-_, _*_, _/_, _%_, _^_, _<_, _≤_}
+use Prim.Native.Nat.{ℕ, _+_, _-_, _*_, _/_, _%_, _^_, _<_, _≤_}
 use native.Mathlib.Omega.{arith}
 use lib.IntN.{ℤ}
 use lib.Bits.{bitOr}
-use lib.Dec.{ltb, leb, eqb}
+use lib.Dec.{ltb, eqb}
 use lib.ListN.{length, getD, set, replicate, length-append, length-replicate, length-set, getD-replicate, List·getD-append, List·getD-eq-default}
 use lib.Seq.{getD-set-same, getD-set-other, getD-append-add, ext-getD}
-use borrow.Author.Tests.{lt-ltb, le-ltb, eq-eqb, ne-eqb}
+use borrow.Author.Tests.{lt-ltb, le-ltb, ne-eqb}
 use Rattle.words.specs.Words.{Word, wordOf}
-use Rattle.words.specs.Lists.{tabulate}
 use Rattle.words.proofs.Lists.{length-tabulate, getD-tabulate}
 use Rattle.words.proofs.Tests.{same-or-not, less-or-not}
 use Rattle.lang.proofs.Records.{eqb-both}
 use Rattle.lang.specs.Answers.{padded}
 use Rattle.captions.specs.Tables.{pairCount, number, keyBy, leftPlace, keyAt}
-use Rattle.index.specs.Index.{bitsBy, isAmong, rightsOf, pairsBefore, indexNumber, indexOfTable}
+use Rattle.index.specs.Index.{isAmong, rightsOf, pairsBefore, indexNumber, indexOfTable}
 use Rattle.index.proofs.Tests.{any-none, any-more}
 use Rattle.index.proofs.Bits.{bits-ext, bits-none, bits-or, andAlso}
 use Rattle.fill_index.specs.Filling.{filledNumber, Filled}

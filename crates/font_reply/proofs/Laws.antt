@@ -2,27 +2,24 @@
 -- Assumes nothing.
 use mathlib.Core.Path.{_≡_, refl, sym, ap, subst, _∙_}
 use mathlib.Core.Bool.{Bool, true, false, cond}
-use mathlib.Core.List.{List, [], _∷_, _++_, map}
+use mathlib.Core.List.{List, [], _∷_}
 use mathlib.Core.Logic.{_⊎_, inl, inr}
-use Prim.Native.Nat.{ℕ, zero, suc, _+_, _-_, _*_, _/_, _%_, _<_, _≤_}
+use Prim.Native.Nat.{ℕ, zero, suc, _+_, _-_, _*_, _/_, _<_, _≤_}
 use native.Mathlib.Omega.{arith}
 use lib.IntN.{ℤ, pos, negsuc}
 use lib.Dec.{leb}
 use lib.ListN.{length, replicate, take, length-append, length-replicate}
 use lib.Seq.{take-at}
-use mir.Syntax.{w32}
-use mir.Val.{SFits}
-use borrow.Author.Tests.{le-leb, lt-leb, leb-true}
-use Rattle.words.specs.Words.{Word, wordOf, numberOf}
+use borrow.Author.Tests.{le-leb, lt-leb}
+use Rattle.words.specs.Words.{Word}
 use Rattle.words.proofs.Bits.{read-pos, read-neg}
 use Rattle.words.proofs.Tests.{less-or-not}
 use Rattle.lang.specs.declared.Written.{Written}
 use Rattle.lang.specs.declared.Written.the-variants as written
-use Rattle.lang.specs.Every.{both, every}
-use Rattle.lang.specs.Checks.{orElse, unless}
-use Rattle.lang.specs.Answers.{Reply, replyOf, writtenReply, padded, listOf}
-use Rattle.lang.proofs.Every.{both-left, both-right}
-use Rattle.lang.proofs.Refusals.{first-is, second-is, orElse-none, unless-none}
+use Rattle.lang.specs.Every.{every}
+use Rattle.lang.specs.Checks.{orElse}
+use Rattle.lang.specs.Answers.{Reply, replyOf, writtenReply, listOf}
+use Rattle.lang.proofs.Refusals.{first-is, second-is, orElse-none}
 use Rattle.fonts.specs.Fonts.{Font}
 use Rattle.fonts.specs.declared.Compiled.the-variants as compiled
 use Rattle.fonts.specs.Compiled.{roomOf, roomIn, loopsOfFont, totalOps, fontTable, tablePairs, fontOps, fontLoops, compileRefusal, Compiles}
@@ -35,10 +32,10 @@ use Rattle.captions.specs.Begin.{freshState, edgesRefusal, lettersRefusal, word
 use Rattle.captions.specs.Steps.{rightItem, ranFrom, stepRefusal, steppedBy, stepOf}
 use Rattle.setting.specs.Setting.{andThen, itemsBy, itemsFrom, afterBegin, setReply}
 use Rattle.setting.specs.Writing.{Tells}
-use Rattle.setting.proofs.Few.{items-few, items-sixes}
+use Rattle.setting.proofs.Few.{items-sixes}
 use Rattle.columns.specs.Replying.{replyBytes, replyRefusal, WritesReply}
 use Rattle.columns.proofs.FontBegins.{font-begins}
-use Rattle.columns.specs.Ligcols.{columnRoom, columnOptions, itemRoom, columnItems, columnBytes, lower, columnNumber, lengthOr}
+use Rattle.columns.specs.Ligcols.{columnRoom, columnOptions, itemRoom, columnItems, columnBytes, lower, columnNumber}
 use Rattle.font_reply.specs.Answering.{AnswersBytes, freshItems, freshBytes, freshNumber}
 
 -- ---- numbers

@@ -7,7 +7,7 @@ use lib.ListN.{length}
 use Rattle.lang.specs.declared.Written.{Written}
 use Rattle.lang.specs.Checks.{orElse}
 use Rattle.lang.specs.Answers.{Reply, replyOf, writtenReply, listOf}
-use Rattle.captions.specs.Begin.{freshState, lettersRefusal}
+use Rattle.captions.specs.Begin.{freshState}
 use Rattle.setting.specs.Setting.{itemsFrom}
 use Rattle.columns.specs.Replying.{replyBytes, replyRefusal}
 use Rattle.columns.specs.Ligcols.{columnOptions}

@@ -1,24 +1,20 @@
 -- A font's pairs are all that have a rule.
 -- Assumes nothing.
-use mathlib.Core.Path.{_≡_, refl, sym, ap, _∙_, fun-ext}
+use mathlib.Core.Path.{_≡_, refl}
 use mathlib.Core.Bool.{Bool, true, false, cond}
 use mathlib.Core.List.{List, [], _∷_, _++_, List·Memᴰ, List·Memᴰ·head, Memᴰ·append-left, Memᴰ·append-right}
 use mathlib.Core.Logic.{_⊎_, inl, inr}
 use mathlib.Core.Option.{Option, none, some}
-use Prim.Native.Nat.{ℕ, zero, suc, _+_, _*_, _%_, _<_, _≤_}
+use Prim.Native.Nat.{ℕ, zero, suc, _<_}
 use native.Mathlib.Nat.{eq-or-lt-of-le, le-of-suc-le-suc}
 use native.Mathlib.Omega.{arith}
 use lib.Dec.{ltb, eqb}
 use lib.IntN.{ℤ, pos, negsuc}
-use lib.ListN.{length, getD}
-use borrow.Author.Tests.{eqb-true, lt-ltb, le-ltb}
+use borrow.Author.Tests.{eqb-true, le-ltb}
 use native.Mathlib.Decide.{decLt}
-use Rattle.lang.specs.declared.operation.Operation.{Operation}
-use Rattle.lang.specs.Records.{count, instructionAt, rightOf, field}
-use Rattle.words.specs.Words.{wordOf}
-use Rattle.chain.specs.Chains.{Program, firstFor, ruleIndexOf, chainOf}
-use Rattle.reading.specs.Items.{Left, bnd, chr, Rule, free, Rules}
-use Rattle.reading.specs.Depth.{Pair}
+use Rattle.lang.specs.Records.{instructionAt}
+use Rattle.chain.specs.Chains.{Program, firstFor, chainOf}
+use Rattle.reading.specs.Items.{Left, bnd, chr, free}
 use Rattle.reading.specs.Loops.{Ruled}
 use Rattle.reading.proofs.Covers.{Covers}
 use Rattle.fonts.specs.Fonts.{Font, leftOf, numberOfLeft, indexOf, leftEntry, ruleFrom, ruledBy, rowPairs, leftPairs, pairsBy, pairsOf, tableOf, rulesOf, ruleOfIndex}

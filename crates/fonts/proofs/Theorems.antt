@@ -9,7 +9,7 @@ use Prim.Native.Nat.{ℕ, _<_}
 use native.Mathlib.Omega.{arith}
 use lib.Dec.{T}
 use Rattle.reading.specs.Items.{Left, Rule, free, Rules, plain, Head, at, key, head, Out}
-use Rattle.reading.specs.Reading.{act, read, Read, done, more, NeverEnds, Ends}
+use Rattle.reading.specs.Reading.{act, read, done, more, NeverEnds, Ends}
 use Rattle.reading.specs.Depth.{Res, Pair}
 use Rattle.reading.specs.Cycles.{OnePerCycle}
 use Rattle.reading.specs.Form.{formed}

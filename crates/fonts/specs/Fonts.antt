@@ -1,23 +1,20 @@
 -- A font as it is lent, its rules, and the pairs that have one. Document 01, 'What goes in' and 'The pair table'.
-use mathlib.Core.Path.{_≡_}
-use mathlib.Core.Bool.{Bool, true, false, cond}
+use mathlib.Core.Bool.{cond}
 use mathlib.Core.List.{List, [], _∷_, _++_}
 use mathlib.Core.Option.{Option, none, some}
-use Prim.Native.Nat.{ℕ, zero, suc, _+_, _*_, _/_}
+use Prim.Native.Nat.{ℕ, zero, suc}
 use lib.IntN.{ℤ, pos, negsuc}
-use lib.Dec.{ltb, leb, eqb}
-use lib.ListN.{length, getD}
-use Rattle.tfm.specs.declared.FixWord.{FixWord}
+use lib.Dec.{ltb}
+use lib.ListN.{getD}
 use Rattle.tfm.specs.declared.ToScaled.{ToScaled}
 use Rattle.tfm.specs.declared.ToScaled.the-variants.{Scaled, NegativeDesignSize, TooLarge}
 use Rattle.tfm.specs.Scaled.{toScaled}
 use Rattle.lang.specs.declared.operation.Operation.{Operation}
 use Rattle.lang.specs.declared.operation.Operation.the-variants.{Kern, KernAtIndex, Ligature, EntrypointRedirect}
-use Rattle.lang.specs.Records.{count, instructionAt}
+use Rattle.lang.specs.Records.{instructionAt}
 use Rattle.lang.specs.Entries.{entriesTable}
 use Rattle.chain.specs.Chains.{ruleIndexOf, actsAs}
 use Rattle.reading.specs.Items.{Left, bnd, chr, Rule, free, kerned, lig, Rules}
-use Rattle.reading.specs.Depth.{Pair}
 use Rattle.reading.specs.Loops.{Ruled}
 
 -- A font as it is lent. A boundary, a left entry and an override of -1 are absent.

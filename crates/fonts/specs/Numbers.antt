@@ -7,7 +7,7 @@ use mathlib.Core.Option.{Option, none, some}
 use Prim.Native.Nat.{ℕ, zero, suc, _+_}
 use lib.IntN.{ℤ, pos, negsuc}
 use lib.ListN.{length, getD}
-use Rattle.reading.specs.Items.{Left, bnd, chr, Item, item, code, flag, Out, glyph, kern}
+use Rattle.reading.specs.Items.{Left, bnd, chr, item, code, flag, Out, glyph, kern}
 use Rattle.reading.specs.Depth.{Res, Finished, Pair}
 use Rattle.reading.specs.Loops.{Ruled}
 

@@ -4,7 +4,7 @@ use mathlib.Core.Path.{_≡_, refl, sym, ap, subst, _∙_}
 use mathlib.Core.Bool.{Bool, true, false, cond}
 use mathlib.Core.List.{List, [], _∷_, map}
 use mathlib.Core.Option.{Option, none, some}
-use Prim.Native.Nat.{ℕ, zero, suc, _+_, _-_, _*_, _/_, _%_, _<_, _≤_}
+use Prim.Native.Nat.{ℕ, zero, suc, _-_, _*_, _/_, _%_, _<_, _≤_}
 use native.Mathlib.Omega.{arith}
 use lib.IntN.{ℤ, pos, negsuc}
 use lib.Dec.{leb, eqb}
@@ -17,8 +17,8 @@ use Rattle.lang.specs.declared.Written.{Written}
 use Rattle.lang.specs.declared.Written.the-variants as written
 use Rattle.lang.specs.Every.{both, every}
 use Rattle.lang.specs.Records.{count, isInstruction, absentOr}
-use Rattle.lang.specs.Checks.{orElse, unless, sizeRefusal, recordRefusal, programRefusal, kernsRefusal, entriesRefusal, absentRefusal, designRefusal, entryFits}
-use Rattle.lang.specs.Answers.{Reply, replyOf, writtenReply, listOf}
+use Rattle.lang.specs.Checks.{orElse, sizeRefusal, recordRefusal, programRefusal, kernsRefusal, entriesRefusal, absentRefusal, designRefusal, entryFits}
+use Rattle.lang.specs.Answers.{Reply, replyOf, listOf}
 use Rattle.lang.proofs.Every.{both-left}
 use Rattle.lang.proofs.Refusals.{orElse-none, unless-none}
 use Rattle.fonts.specs.Fonts.{Font, fontOf, pairsOf}
@@ -26,12 +26,12 @@ use Rattle.fonts.specs.Compiled.{fontRefusal, pairsRefusal, kernRefusal, opsRef
 use Rattle.captions.specs.Form.{tableForm, tableRefusal}
 use Rattle.captions.specs.Begin.{freshState, edgesRefusal, lettersRefusal, wordRefusal, beginRefusal}
 use Rattle.setting.specs.Setting.{itemsFrom, afterBegin}
-use Rattle.setting.proofs.Bounds.{unless-few, orElse-few}
+use Rattle.setting.proofs.Bounds.{orElse-few}
 use Rattle.setting.proofs.Few.{items-few}
 use Rattle.columns.specs.declared.TextHeads.{TextHeads}
 use Rattle.columns.specs.declared.TextRead.the-variants as text
 use Rattle.columns.specs.Texts.{Text, readText, orAbsent, fontOfText}
-use Rattle.columns.specs.Scanned.{lettersOf, lengthOfWord, headNumbers, textReadReply, textRefusal, saidBy, textHeads, ReadsText}
+use Rattle.columns.specs.Scanned.{lettersOf, lengthOfWord, headNumbers, textRefusal, saidBy, textHeads, ReadsText}
 use Rattle.columns.specs.Replying.{replyRefusal}
 use Rattle.columns.specs.Ligcols.{columnRoom, columnOptions, columnItems, columnBytes, lower, columnNumber, wordOfText, numberOfText, bytesOfText, lengthOr, AnswersText}
 use Rattle.font_reply.specs.Answering.{AnswersBytes}

@@ -13,13 +13,11 @@ use lib.Count.{ones, ones-le}
 use lib.Pow.{pow-pos, shl-exact}
 use lib.ListN.{getD}
 use borrow.Author.Tests.{ne-eqb, ltb-true, lt-ltb, le-ltb, leb-true, le-leb, lt-leb}
-use Rattle.words.specs.Words.{Word, wordOf}
+use Rattle.words.specs.Words.{Word}
 use Rattle.words.proofs.Bits.{word-lt}
-use Rattle.lang.specs.Every.{both}
 use Rattle.lang.proofs.Every.{both-left}
 use Rattle.lang.proofs.Records.{eqb-both}
 use Rattle.captions.specs.Tables.{pairCount, number, keyBy, leftPlace, keyAt}
-use Rattle.index.specs.declared.Looked.{Looked}
 use Rattle.index.specs.declared.Looked.the-variants.{Missing, At, Wrong}
 use Rattle.index.specs.Index.{hasBit, onesFrom, placeIn, standsAt, lookedUp}
 

@@ -1,19 +1,17 @@
 -- Proves what specs/Purpose states: in the index of a table in ascending order a look-up finds what bisection finds. Word by word the index has the bits of
 -- the rights that have a pair; so the place that is counted is how many keys come before the pair's.
 -- Assumes nothing.
-use mathlib.Core.Path.{_≡_, refl, sym, ap, ap₂, _∙_, subst}
-use mathlib.Core.Bool.{Bool, true, false, cond}
+use mathlib.Core.Path.{_≡_, refl, sym, ap, ap₂, _∙_}
+use mathlib.Core.Bool.{Bool, true, false}
 use mathlib.Core.List.{List, _++_}
 use mathlib.Core.Option.{Option, none, some}
 use Prim.Native.Nat.{ℕ, zero, suc, _+_, _-_, _*_, _/_, _%_, _^_, _<_, _≤_}
-use native.Mathlib.Nat.{mod-lt}
 use native.Mathlib.Omega.{arith}
 use lib.IntN.{ℤ}
-use lib.Dec.{ltb, leb, eqb}
+use lib.Dec.{eqb}
 use lib.Count.{ones}
 use lib.ListN.{length, getD, replicate, List·getD-append}
 use borrow.Author.Tests.{le-leb, lt-ltb, eq-eqb, ne-eqb, eqb-true}
-use Rattle.words.specs.Lists.{tabulate}
 use Rattle.words.proofs.Lists.{length-tabulate, getD-tabulate}
 use Rattle.lang.specs.Every.{both, every}
 use Rattle.lang.specs.Checks.{unless}
@@ -24,9 +22,8 @@ use Rattle.captions.specs.Tables.{pairCount, keyBy, keyAt, find}
 use Rattle.captions.specs.Form.{keyForm}
 use Rattle.captions.proofs.Bisecting.{finds}
 use Rattle.captions.proofs.Finding.{find-inside}
-use Rattle.index.specs.declared.Looked.{Looked}
-use Rattle.index.specs.declared.Looked.the-variants.{Missing, At, Wrong}
-use Rattle.index.specs.Index.{howMany, bitsBy, isAmong, rightsOf, pairsBefore, indexNumber, indexOfTable, FillsIndex, hasBit, onesFrom, onesBelow, placeIn, lookedUp, lookedAt}
+use Rattle.index.specs.declared.Looked.the-variants.{Missing}
+use Rattle.index.specs.Index.{howMany, isAmong, rightsOf, pairsBefore, indexNumber, indexOfTable, FillsIndex, hasBit, onesFrom, onesBelow, placeIn, lookedUp, lookedAt}
 use Rattle.index.specs.Purpose.{LooksUpAsFound, FilledLooksUp}
 use Rattle.index.proofs.Tests.{one, any-at, any-witness, many-add}
 use Rattle.index.proofs.Bits.{bits-at, bits-low, ones-bits}

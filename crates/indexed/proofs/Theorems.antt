@@ -4,25 +4,24 @@ use mathlib.Core.Path.{_≡_, refl, sym, ap, _∙_}
 use mathlib.Core.Bool.{Bool, true, false, cond}
 use mathlib.Core.List.{List}
 use mathlib.Core.Option.{Option, none, some}
-use Prim.Native.Nat.{ℕ, suc, _%_, _≤_}
+use Prim.Native.Nat.{ℕ, suc, _%_}
 use native.Mathlib.Omega.{arith}
 use lib.IntN.{ℤ}
-use lib.Dec.{leb, eqb}
+use lib.Dec.{eqb}
 use lib.ListN.{length}
 use borrow.Author.Tests.{leb-true, le-leb}
 use Rattle.lang.specs.Every.{both, every}
 use Rattle.lang.proofs.Every.{both-left, both-right, every-at, every-all}
 use Rattle.captions.specs.declared.RunOptions.{RunOptions}
 use Rattle.captions.specs.declared.State.{State}
-use Rattle.captions.specs.declared.Step.{Step}
 use Rattle.captions.specs.Tables.{pairCount, opCount, keyBy, find, opFits}
-use Rattle.captions.specs.Form.{opsEnd, keyForm, pairForm, sizesForm, tableForm}
+use Rattle.captions.specs.Form.{opsEnd, keyForm, pairForm, sizesForm}
 use Rattle.captions.specs.Steps.{stepOf}
-use Rattle.quick.specs.Quick.{plainCode, nextLetter, isQuick, isEntered, givenPlain, givenFirst}
+use Rattle.quick.specs.Quick.{plainCode, nextLetter, isQuick, isEntered, givenFirst}
 use Rattle.quick.proofs.Theorems.{quick-is, quick-passes, quick-enters}
-use Rattle.index.specs.Index.{indexRefusal, FillsIndex, lookedUp, lookedAt}
+use Rattle.index.specs.Index.{FillsIndex, lookedUp, lookedAt}
 use Rattle.index.proofs.Theorems.{filled-looks-up}
-use Rattle.indexed.specs.Indexed.{lookedStep, indexedStepOf}
+use Rattle.indexed.specs.Indexed.{lookedStep}
 use Rattle.indexed.specs.Purpose.{IndexedSteps, FormIsIndexed}
 
 module _ (pairs ops : List ℤ) (boundary : ℤ) (word : List ℕ) (options : RunOptions) (s : State) where

@@ -1,16 +1,15 @@
 -- What keeps an item's numbers i32: a code is a character's, and a start and a length are within the longest word.
 -- Assumes nothing.
-use mathlib.Core.Path.{_≡_, refl, sym, ap, subst, _∙_}
+use mathlib.Core.Path.{_≡_, refl}
 use mathlib.Core.Bool.{Bool, true, false, cond}
 use mathlib.Core.List.{List}
-use Prim.Native.Nat.{ℕ, suc, _+_, _<_, _≤_}
+use Prim.Native.Nat.{ℕ, suc, _≤_}
 use native.Mathlib.Omega.{arith}
 use lib.IntN.{ℤ}
 use lib.Dec.{leb, ltb, eqb}
 use lib.ListN.{length}
 use borrow.Author.Tests.{leb-true, eqb-true}
 use Rattle.words.specs.Words.{wordOf}
-use Rattle.lang.specs.Every.{both}
 use Rattle.lang.specs.Records.{within}
 use Rattle.lang.proofs.Every.{both-left, both-right}
 use Rattle.lang.proofs.Records.{within-bound}
@@ -22,7 +21,7 @@ use Rattle.captions.specs.Begin.{edgesRefusal, wordRefusal}
 use Rattle.captions.specs.Steps.{stepOf}
 use Rattle.item_lists.specs.ItemLists.{Small}
 use Rattle.setting.proofs.Bounds.{step-small}
-use Rattle.quick.specs.Quick.{plainCode, nextLetter, isQuick, firstPlain, isEntered, givenPlain, givenFirst}
+use Rattle.quick.specs.Quick.{plainCode, nextLetter, isQuick, firstPlain, isEntered, givenFirst}
 use Rattle.quick.proofs.Theorems.{quick-is}
 use Rattle.index.specs.declared.Looked.{Looked}
 use Rattle.index.specs.declared.Looked.the-variants.{Missing, At, Wrong}

@@ -1,6 +1,6 @@
 -- Kern values and kern indices, one for the other, after `pack_kerns` and `unpack_kerns` of ligkern/lang.rs.
 use mathlib.Core.Path.{_≡_}
-use mathlib.Core.Bool.{Bool, true, false, cond}
+use mathlib.Core.Bool.{Bool, cond}
 use mathlib.Core.List.{List, [], _∷_, _++_}
 use Prim.Native.Nat.{ℕ, zero, suc, _/_, _%_}
 use lib.IntN.{ℤ, pos}

@@ -1,5 +1,5 @@
 -- What a function that fills a list answers, and what the list then holds: the answer and zeros, or zeros alone where it is refused.
-use mathlib.Core.Bool.{Bool, true, false, cond}
+use mathlib.Core.Bool.{cond}
 use mathlib.Core.List.{List, [], _∷_, _++_}
 use Prim.Native.Nat.{ℕ, zero, suc, _-_}
 use lib.IntN.{pos}

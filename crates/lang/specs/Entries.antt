@@ -2,7 +2,7 @@
 -- at 256 too. Document 01, 'All 256 entries and the left boundary fill one table of 257 places'.
 use mathlib.Core.List.{List}
 use Prim.Native.Nat.{ℕ, zero, suc, _/_}
-use lib.IntN.{ℤ, pos, negsuc}
+use lib.IntN.{ℤ, negsuc}
 use lib.ListN.{length, set, replicate}
 use Rattle.words.specs.Words.{wordOf}
 use Rattle.lang.specs.Checks.{charAt, entryAt}

@@ -2,15 +2,14 @@
 -- character, c = 0 the right, and a is the cursor's advance. TFtoPL 77: any other acts as 0, and is reported.
 use mathlib.Core.Bool.{Bool, true, false, cond}
 use Prim.Native.Nat.{ℕ, zero, suc, _+_, _-_, _*_, _/_, _%_}
-use lib.Dec.{leb, ltb, eqb}
-use Rattle.tfm.specs.declared.Char.{Char}
+use lib.Dec.{leb, ltb}
 use Rattle.lang.specs.declared.operation.PostLigOperation.{PostLigOperation}
 use Rattle.lang.specs.declared.operation.PostLigOperation.the-variants.{RetainBothMoveNowhere, RetainBothMoveToInserted}
 use Rattle.lang.specs.declared.operation.PostLigOperation.the-variants.{RetainBothMoveToRight, RetainRightMoveToInserted}
 use Rattle.lang.specs.declared.operation.PostLigOperation.the-variants.{RetainRightMoveToRight, RetainLeftMoveNowhere}
 use Rattle.lang.specs.declared.operation.PostLigOperation.the-variants.{RetainLeftMoveToInserted, RetainNeitherMoveToInserted}
 use Rattle.lang.specs.declared.operation.Operation.{Operation}
-use Rattle.lang.specs.declared.operation.Operation.the-variants.{Kern, KernAtIndex, Ligature, EntrypointRedirect}
+use Rattle.lang.specs.declared.operation.Operation.the-variants.{KernAtIndex, Ligature}
 
 -- a, b and c of an op byte below 128
 abbrev pub advance : ℕ → ℕ

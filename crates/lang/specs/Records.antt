@@ -6,10 +6,8 @@ use lib.IntN.{ℤ, pos, negsuc}
 use lib.Dec.{leb, ltb, eqb}
 use lib.ListN.{length, getD}
 use Rattle.words.specs.Words.{wordOf}
-use Rattle.tfm.specs.declared.Char.{Char}
-use Rattle.tfm.specs.declared.FixWord.{FixWord}
 use Rattle.lang.specs.declared.operation.Operation.{Operation}
-use Rattle.lang.specs.declared.operation.Operation.the-variants.{Kern, KernAtIndex, Ligature, EntrypointRedirect}
+use Rattle.lang.specs.declared.operation.Operation.the-variants.{Kern, KernAtIndex, EntrypointRedirect}
 use Rattle.lang.specs.declared.instruction.NextInstruction.{NextInstruction}
 use Rattle.lang.specs.declared.instruction.NextInstruction.the-variants.{Stop, Skip}
 use Rattle.lang.specs.declared.instruction.Instruction.{Instruction}

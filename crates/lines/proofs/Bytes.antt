@@ -1,15 +1,13 @@
 -- Lines as bytes: one after the other, and how many.
 -- Assumes nothing.
 use mathlib.Core.Path.{_≡_, refl, sym, ap, _∙_}
-use mathlib.Core.List.{List, [], _∷_, _++_, append-assoc, append-nil}
+use mathlib.Core.List.{List, [], _∷_, _++_, append-assoc}
 use mathlib.Core.Logic.{_⊎_, inl, inr}
 use Prim.Native.Nat.{ℕ, zero, suc, _+_, _*_, _<_, _≤_}
 use native.Mathlib.Nat.{eq-or-lt-of-le, le-of-suc-le-suc, suc-mul}
 use native.Mathlib.Omega.{arith}
-use lib.IntN.{ℤ}
 use lib.ListN.{length, length-append}
 use Rattle.words.specs.Lists.{tabulate}
-use Rattle.columns.specs.Numbers.{fieldOf}
 use Rattle.columns.specs.Lines.{Line, fieldsOf, writeLine, textOf}
 use Rattle.columns.specs.Replying.{bytesOf}
 use Rattle.columns.proofs.ReadBack.{fields-long}

@@ -1,21 +1,18 @@
 -- Lines and runs of lines, each written after the one before it.
 -- Assumes nothing.
-use mathlib.Core.Path.{_≡_, refl, sym, ap, subst, _∙_}
-use mathlib.Core.List.{List, [], _∷_, _++_, append-nil}
-use Prim.Native.Nat.{ℕ, suc, _+_, _-_, _*_, _<_}
+use mathlib.Core.Path.{_≡_, refl, ap, _∙_}
+use mathlib.Core.List.{List, [], _∷_, _++_}
+use Prim.Native.Nat.{ℕ, suc, _+_, _*_}
 use native.Mathlib.Numerals.{add-one}
 use native.Mathlib.Omega.{arith}
 use lib.IntN.{ℤ, pos}
-use lib.ListN.{length, getD, set, replicate, length-append, replicate-append-replicate}
+use lib.ListN.{length, getD, set, length-append}
 use lib.Seq.{sets, length-sets}
-use Rattle.words.specs.Words.{Word}
 use Rattle.words.specs.Lists.{tabulate}
-use Rattle.words.proofs.Bits.{number-is}
-use Rattle.words.proofs.Lists.{sets-append, length-tabulate}
-use Rattle.columns.specs.Numbers.{spelled, fieldOf}
+use Rattle.words.proofs.Lists.{length-tabulate}
 use Rattle.columns.specs.Lines.{Line, fieldsOf, textOf}
 use Rattle.columns.specs.Replying.{lineOf, pairLine, bytesOf}
-use Rattle.columns.proofs.ReadBack.{field-long, fields-long}
+use Rattle.columns.proofs.ReadBack.{fields-long}
 use Rattle.digits.proofs.Stores.{sets-after}
 use Rattle.justify.specs.InFields.{numbersFrom, fiveFrom}
 use Rattle.justify.proofs.Fill.{from-length}

@@ -5,7 +5,7 @@ use mathlib.Core.Bool.{Bool, true}
 use mathlib.Core.List.{List, [], _∷_, _++_}
 use Prim.Native.Nat.{ℕ, zero, suc, _+_, _*_, _/_, _%_, _<_, _≤_, min}
 use native.Mathlib.Omega.{arith}
-use lib.IntN.{ℤ, pos, negsuc}
+use lib.IntN.{ℤ, pos}
 use lib.Dec.{ltb}
 use lib.ListN.{length, replicate}
 use lib.Seq.{sets}
@@ -22,7 +22,7 @@ use Rattle.fonts.specs.Fonts.{Font, leftOf}
 use Rattle.fonts.specs.Numbers.{leftNumber}
 use Rattle.fonts.specs.Compiled.{loopsOfFont}
 use Rattle.pairs.specs.declared.WalkedFont.the-variants as walked
-use Rattle.pairs.specs.Rows.{at, pairAt}
+use Rattle.pairs.specs.Rows.{at}
 use Rattle.pairs.specs.LoopSteps.{Listing}
 use Rattle.pairs.proofs.LoopLaws.{listedPair, left-small}
 use Rattle.prepare.specs.Prepares.{prepareRefusal}

@@ -18,9 +18,8 @@ use Rattle.lang.specs.Operations.{fromBytes}
 use Rattle.lang.specs.Answers.{Reply, replyOf}
 use Rattle.labels.specs.Labels.{labelsOf}
 use Rattle.pack.specs.Packing.{Packable, packable, packedEntryNumber, fontOffset, fontRedirects, front}
-use Rattle.reading.specs.Items.{Left, bnd, chr, Rule, free, lig, Rules}
+use Rattle.reading.specs.Items.{bnd, chr, Rule, free, lig, Rules}
 use Rattle.reading.specs.Reading.{Reading, ended, going, reading}
-use Rattle.reading.specs.Depth.{Pair}
 use Rattle.reading.specs.Loops.{Ruled, loopList}
 use Rattle.pairs.specs.RowNumbers.{byteOfOperation}
 use Rattle.fonts.specs.Fonts.{Font, fontOf, rulesOf}

@@ -7,7 +7,7 @@ use Prim.Native.Nat.{ℕ, zero, suc, _+_, _*_, _/_, _<_, _≤_}
 use native.Mathlib.Omega.{arith}
 use lib.IntN.{ℤ, pos, negsuc}
 use lib.Dec.{leb, eqb}
-use lib.ListN.{length, length-append, take, drop, replicate}
+use lib.ListN.{length, length-append, take}
 use lib.Seq.{sets, length-sets}
 use lib.Signed.{nonNeg}
 use mir.Syntax.{w32}

@@ -1,17 +1,15 @@
 -- How long the lists are that the passes of repair write: at most two numbers an entry, four a warning, and five warnings a step beside its skip's.
 -- Assumes nothing.
-use mathlib.Core.Path.{_≡_, refl, sym, ap, _∙_}
+use mathlib.Core.Path.{_≡_, sym, ap, _∙_}
 use mathlib.Core.Bool.{Bool, true, false, cond, not}
 use mathlib.Core.List.{List, [], _∷_, _++_}
-use Prim.Native.Nat.{ℕ, zero, suc, _+_, _*_, _/_, _<_, _≤_}
+use Prim.Native.Nat.{ℕ, zero, suc, _*_, _/_, _<_, _≤_}
 use native.Mathlib.Omega.{arith}
 use lib.IntN.{ℤ, pos}
 use lib.Dec.{leb}
 use lib.ListN.{length, length-append, take, drop}
 use lib.Seq.{sets, length-sets, take-at, take-all}
 use borrow.Author.Tests.{leb-true}
-use Rattle.words.specs.Words.{wordOf}
-use Rattle.words.specs.Lists.{tabulate}
 use Rattle.words.proofs.Lists.{length-tabulate, sets-front}
 use Rattle.lang.specs.Records.{count, field}
 use Rattle.lang.specs.Checks.{programRefusal, kernsRefusal, entriesRefusal, absentRefusal, passthroughRefusal, orElse, unless, charAt}

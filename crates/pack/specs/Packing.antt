@@ -1,7 +1,7 @@
 -- Packing: entries above 255 become redirects at the front, after `pack_entrypoints` of ligkern/lang.rs. PLtoTF 139 to 142: the
 -- redirects, and 'location 0 can do double duty'; the labels and the offset are those of crate labels.
 use mathlib.Core.Path.{_≡_}
-use mathlib.Core.Bool.{Bool, true, false, cond}
+use mathlib.Core.Bool.{Bool, cond}
 use mathlib.Core.List.{List, [], _∷_, _++_}
 use Prim.Native.Nat.{ℕ, zero, suc, _+_, _*_, _%_}
 use lib.IntN.{ℤ, pos, negsuc}

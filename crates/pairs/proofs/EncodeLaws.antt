@@ -38,7 +38,7 @@ use Rattle.lang.proofs.operation.Operation.{the-type as operation-type}
 use Rattle.lang.proofs.Every.{every-none, every-step}
 use Rattle.chain.specs.Chains.{redirected, kernOf, actsAs}
 use Rattle.reading.specs.Items.{kerned, lig}
-use Rattle.pairs.specs.Rows.{at, ruleOf, ruleAt, ruleFits}
+use Rattle.pairs.specs.Rows.{at, ruleOf, ruleFits}
 use Rattle.fonts.specs.Fonts.{scaledKern, ruleOfOperation}
 use Rattle.pairs.specs.RowNumbers.{byteOfOperation, effect, kernEffect, effectOf}
 use Rattle.pairs.specs.PairRows.{operationAt, effectAt, Encodes}

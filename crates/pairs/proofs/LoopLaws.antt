@@ -37,10 +37,6 @@ use Rattle.pairs.proofs.Sorted.{ordered-keeps, places-sort}
 
 -- ---- the pairs of a list as numbers
 
-pub left-character : (t : ℕ) → (t ≡ 0 → ⊥) → t < 257 → numberOf (t - 1) ≡ leftNumber (leftOf t)
-left-character zero ne h = absurd (ne refl)
-left-character (suc c) ne h = let e : suc c - 1 ≡ c = omega arith in ap numberOf e ∙ number-pos c (omega arith)
-
 numbers-last : (ps : List Pair) (p : Pair) → loopNumbers (ps ++ (p ∷ [])) ≡ loopNumbers ps ++ (leftNumber (p .left) ∷ pos (p .right) ∷ [])
 unfolding loopNumbers
 numbers-last [] p = refl
@@ -153,10 +149,6 @@ pub marked-on : (n k id : ℕ) (w : List ℕ) → Walkable n w → k < n → at 
 marked-on n k id w a h t =
     let o = a .onward k h t in
     (walkable-kept w (set w (16 * k + 14) id) (length-set w (16 * k + 14) id) (mark-keeps n k id w) a, o .0, at-other w k 14 id (at w k 9) 5 (omega arith) (omega arith) (omega arith) ∙ o .1)
-
-pub walk-length : {id : ℕ} {w u : List ℕ} {k r : ℕ} → Walk id w k u r → length u ≡ length w
-walk-length (stops h) = refl
-walk-length {id} (goes {w = w} {k = k} h s) = walk-length s ∙ length-set w (16 * k + 14) id
 
 pub walk-keeps : {id : ℕ} {w u : List ℕ} {k r : ℕ} → Walk id w k u r → (j f : ℕ) → f < 16 → (f ≡ 14 → ⊥) → at u j f ≡ at w j f
 walk-keeps (stops h) j f l ne = refl

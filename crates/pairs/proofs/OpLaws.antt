@@ -9,7 +9,7 @@ use Prim.Native.Nat.{ℕ, zero, suc, _+_, _-_, _*_, _<_, _≤_}
 use native.Mathlib.Nat.{eq-or-lt-of-le, le-of-suc-le-suc}
 use native.Mathlib.Numerals.{add-one}
 use native.Mathlib.Omega.{arith}
-use lib.Dec.{leb, eqb}
+use lib.Dec.{eqb}
 use lib.IntN.{ℤ}
 use lib.ListN.{length, length-append}
 use borrow.Author.Tests.{eqb-true, eqb-false, ne-eqb, le-leb, lt-leb}
@@ -34,7 +34,7 @@ use Rattle.fonts.specs.Fonts.{leftOf, numberOfLeft}
 use Rattle.pairs.specs.SettledRows.{finishedRows, outcome, consults, second, FinishedRow, RowSays, Settled}
 use Rattle.fonts.specs.Numbers.{nth, entryOf, opsOf, opsBefore, outNumbers, opNumbers, opsTable, pairNumbers, pairTable}
 use Rattle.pairs.specs.OpRows.{rowOps, opTotal}
-use Rattle.pairs.specs.OpSteps.{leftPart, partBy, pairPart, lastBy, rowLastCode, anyOf, firstOf, secondOf, firstPart, secondPart, LastFits, PartIn, partOuts, raisedOuts}
+use Rattle.pairs.specs.OpSteps.{leftPart, partBy, pairPart, lastBy, rowLastCode, firstOf, secondOf, firstPart, secondPart, LastFits, partOuts, raisedOuts}
 use Rattle.pairs.proofs.RowLaws.{row-found, number-left, rule-at, fits-parts, fits-eight, value-small, covers-rows}
 
 -- ---- ops as numbers, and ops whose first character is a ligature
@@ -471,37 +471,3 @@ pub small-last : (n : ℕ) (w : List ℕ) (k : ℕ) → LastFits n w k → {op t
 small-last n w k f i j l three e =
     let same : rowLastCode n w _ _ ≡ rowLastCode n w (at w k 0) (at w k 4) = λ a. rowLastCode n w (j a) (l a) in
     omega (arith, f (sym i ∙ three), e, same)
-
--- a row that a part names is one of the rows
-in-by : (t : ℕ) (o : Option ℕ) → ((k : ℕ) → o ≡ some k → k < 65792) → PartIn (partBy t o)
-in-by zero none h = tt
-in-by (suc c) none h = tt
-in-by t (some k) h = h k refl
-
-in-either : (b : Bool) (x y : Part) → PartIn x → PartIn y → PartIn (cond b x y)
-in-either true x y h l = h
-in-either false x y h l = l
-
-module _ (n : ℕ) (w : List ℕ) (few : n ≤ 65792) where
-  pair-in : (t r : ℕ) → PartIn (pairPart n w t r)
-  pair-in t r = in-by t (rowOf w n t r) (λ k j. omega (arith, row-found w t r n k j .0))
-
-  left-in : (t : ℕ) → PartIn (leftPart t)
-  left-in zero = tt
-  left-in (suc c) = tt
-
-  pub first-in : (op t v : ℕ) → PartIn (firstOf n w op t v)
-  unfolding firstOf
-  first-in op t v =
-      in-either (leb 6 op) (leftPart t) (cond (anyOf op (2 ∷ 3 ∷ [])) (pairPart n w t v) Nothing) (left-in t)
-      (in-either (anyOf op (2 ∷ 3 ∷ [])) (pairPart n w t v) Nothing (pair-in t v) tt)
-
-  pub second-in : (op t v r : ℕ) → PartIn (secondOf n w op t v r)
-  unfolding secondOf
-  second-in op t v r =
-      let d = cond (eqb op 3) (pairPart n w (suc (rowLastCode n w t v)) r) Nothing in
-      let c = cond (anyOf op (1 ∷ 7 ∷ [])) (pairPart n w (suc v) r) d in
-      in-either (eqb op 128) (Kern v) (cond (anyOf op (5 ∷ 11 ∷ [])) (Ligature v) c) tt
-      (in-either (anyOf op (5 ∷ 11 ∷ [])) (Ligature v) c tt
-      (in-either (anyOf op (1 ∷ 7 ∷ [])) (pairPart n w (suc v) r) d (pair-in (suc v) r)
-      (in-either (eqb op 3) (pairPart n w (suc (rowLastCode n w t v)) r) Nothing (pair-in (suc (rowLastCode n w t v)) r) tt)))

@@ -3,7 +3,7 @@
 use mathlib.Core.Path.{_≡_, refl, sym, ap, ap₂, _∙_, subst, transport, fun-ext}
 use mathlib.Core.Bool.{Bool, true, false, cond, false≢true}
 use mathlib.Core.List.{List, [], _∷_, _++_, List·Memᴰ, List·Memᴰ·head, Memᴰ·cast, Memᴰ·append-left, Memᴰ·append-right}
-use mathlib.Core.Logic.{_⊎_, inl, inr, _↔_}
+use mathlib.Core.Logic.{_⊎_, inl, inr}
 use mathlib.Core.Option.{Option, none, some, Option·some-injective, Option·none-ne-some, Option·some-ne-none}
 use Prim.Native.Nat.{ℕ, zero, suc, _+_, _*_, _<_}
 use native.Mathlib.Nat.{eq-or-lt-of-le, le-of-suc-le-suc}
@@ -119,10 +119,6 @@ module _ (n : ℕ) (w : List ℕ) (a : Ascending n w) where
       go (some j) e =
           let f = row-found w t r n j e in
           e ∙ ap some (one-row j k (f .0) h (f .1 .0 ∙ sym (s .0)) (f .1 .1 ∙ sym (s .1)))
-
-  -- the row of a pair is found exactly
-  pub row-exactly : (k t r : ℕ) → (rowOf w n t r ≡ some k) ↔ ((k < n) × IsRow w k t r)
-  row-exactly k t r = (row-found w t r n k, λ s. row-is k t r (s .0) (s .1))
 
 pub number-left : (t : ℕ) → numberOfLeft (leftOf t) ≡ t
 number-left zero = refl

@@ -1,26 +1,23 @@
 -- Rows that hold a font's pairs, with their rules written, say the font's pairs and the font's rules.
 -- Assumes nothing.
 use mathlib.Core.Path.{_≡_, refl, sym, ap, ap₂, _∙_, fun-ext}
-use mathlib.Core.Bool.{Bool, true, false}
-use mathlib.Core.List.{List, [], _∷_, _++_, List·Memᴰ, List·Memᴰ·head, List·Memᴰ·tail, List·Memᴰ·cases-cons, List·Memᴰ·not-nil, List·Memᴰ·append-cases, List·Memᴰ·eq-of-singleton}
+use mathlib.Core.List.{List, [], _∷_, List·Memᴰ, List·Memᴰ·head, List·Memᴰ·tail, List·Memᴰ·cases-cons, List·Memᴰ·not-nil, List·Memᴰ·append-cases, List·Memᴰ·eq-of-singleton}
 use mathlib.Core.Logic.{_⊎_, inl, inr}
 use mathlib.Core.Option.{Option, none, some}
-use Prim.Native.Nat.{ℕ, zero, suc, _+_, _*_, _<_, _≤_}
+use Prim.Native.Nat.{ℕ, zero, suc, _<_}
 use native.Mathlib.Omega.{arith}
 use native.Mathlib.Nat.{le-of-suc-le-suc}
 use lib.IntN.{ℤ}
-use lib.ListN.{length, getD}
+use lib.ListN.{length}
 use lib.Seq.{ext-getD}
-use Rattle.words.specs.Lists.{tabulate}
 use Rattle.words.proofs.Lists.{length-tabulate, getD-tabulate}
-use Rattle.reading.specs.Items.{Left, bnd, chr, Rule, free, Rules}
-use Rattle.reading.specs.Depth.{Pair}
+use Rattle.reading.specs.Items.{Left, bnd}
 use Rattle.reading.specs.Loops.{Ruled}
-use Rattle.pairs.specs.Rows.{at, pairAt, ruledAt, ruleAt, ruleBy, rowOf, rules, pairs, Ascending}
+use Rattle.pairs.specs.Rows.{at, ruledAt, ruleAt, ruleBy, rowOf, rules, pairs, Ascending}
 use Rattle.fonts.specs.Fonts.{leftOf, numberOfLeft, Font, indexOf, ruledBy, rowPairs, leftPairs, pairsBy, pairsOf, tableOf, rulesOf, ruleOfIndex}
 use Rattle.fonts.specs.Numbers.{nth}
 use Rattle.pairs.specs.PairRows.{Collects, Writes}
-use Rattle.pairs.proofs.RowLaws.{row-found, row-is, no-row, number-left, left-number}
+use Rattle.pairs.proofs.RowLaws.{row-is, no-row, number-left, left-number}
 use Rattle.fonts.proofs.FontLaws.{has-pair}
 
 -- ---- members by their place

@@ -1,13 +1,13 @@
 -- The loop list over the rows: the order of walks, and what the pass over them finds.
 use mathlib.Core.Path.{_≡_}
-use mathlib.Core.Bool.{Bool, true, false, cond}
-use mathlib.Core.List.{List, [], _∷_}
-use Prim.Native.Nat.{ℕ, zero, suc, _+_, _-_, _<_, _≤_}
-use lib.Dec.{ltb, eqb}
+use mathlib.Core.Bool.{true, cond}
+use mathlib.Core.List.{List}
+use Prim.Native.Nat.{ℕ, suc, _+_, _-_, _<_, _≤_}
+use lib.Dec.{ltb}
 use lib.ListN.{length, getD}
 use Rattle.reading.specs.Items.{bnd}
 use Rattle.reading.specs.Depth.{Pair}
-use Rattle.reading.specs.Loops.{Ruled, walkedBefore, loopList}
+use Rattle.reading.specs.Loops.{walkedBefore, loopList}
 use Rattle.pairs.specs.Rows.{at, pairAt, ruledAt, pairs, rules}
 
 -- the row of walk number s, of n rows of which the first e are the boundary's: those come last

@@ -71,14 +71,6 @@ secondPart n w k = secondOf n w (at w k 3) (at w k 0) (at w k 4) (at w k 1)
 abbrev pub LastFits : ℕ → List ℕ → ℕ → Type 0
 LastFits n w k = at w k 3 ≡ 3 → rowLastCode n w (at w k 0) (at w k 4) < 256
 
--- a row that a part names is one of the most rows there are
-abbrev pub PartIn : Part → Type 0
-PartIn Nothing = Unit {0}
-PartIn (Character c) = Unit {0}
-PartIn (Ligature c) = Unit {0}
-PartIn (Kern v) = Unit {0}
-PartIn (OfRow k) = k < 65792
-
 -- the ops of a part
 abbrev pub partOuts : ℕ → List ℕ → Part → List Out
 partOuts n w Nothing = []

@@ -4,12 +4,12 @@ use mathlib.Core.Path.{_≡_}
 use mathlib.Core.Bool.{Bool, true, false}
 use mathlib.Core.List.{List, [], _∷_, List·Memᴰ}
 use mathlib.Core.Option.{Option, none, some}
-use Prim.Native.Nat.{ℕ, zero, suc, _<_}
+use Prim.Native.Nat.{ℕ, suc, _<_}
 use Rattle.lang.specs.declared.operation.PostLigOperation.the-variants.{RetainBothMoveNowhere, RetainBothMoveToInserted}
 use Rattle.lang.specs.declared.operation.PostLigOperation.the-variants.{RetainBothMoveToRight, RetainRightMoveToInserted}
 use Rattle.lang.specs.declared.operation.PostLigOperation.the-variants.{RetainRightMoveToRight, RetainLeftMoveNowhere}
 use Rattle.lang.specs.declared.operation.PostLigOperation.the-variants.{RetainLeftMoveToInserted, RetainNeitherMoveToInserted}
-use Rattle.reading.specs.Items.{Left, chr, Rule, free, kerned, lig, Item, item, code, flag}
+use Rattle.reading.specs.Items.{Left, chr, Rule, free, kerned, lig, code, flag}
 use Rattle.reading.specs.Depth.{Res, Finished, Pair}
 use Rattle.reading.specs.Loops.{finished, waits}
 use Rattle.pairs.specs.Rows.{at, pairAt, ruleAt, pairs, rules, SameRows}

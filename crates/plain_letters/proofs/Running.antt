@@ -19,19 +19,17 @@ use Rattle.captions.specs.declared.RunOptions.{RunOptions}
 use Rattle.captions.specs.declared.NextLeft.the-variants as next
 use Rattle.captions.specs.declared.Consumes.the-variants as consumes
 use Rattle.captions.specs.declared.State.{State}
-use Rattle.captions.specs.declared.Step.{Step}
 use Rattle.captions.specs.declared.Answer.the-variants.{Char}
 use Rattle.captions.specs.Replies.{answerReply}
 use Rattle.captions.specs.Tables.{opCount}
 use Rattle.captions.specs.Begin.{edgesRefusal, wordRefusal}
-use Rattle.captions.specs.Steps.{opsPlaced, nextFits, placed, stepRefusal, stepOf}
-use Rattle.quick.specs.Quick.{plainCode, nextLetter, isCalm, isPlain, hasLetter, isQuick, quickLeft, givenPlain, movedOn}
+use Rattle.captions.specs.Steps.{opsPlaced, nextFits, stepRefusal, stepOf}
+use Rattle.quick.specs.Quick.{plainCode, nextLetter, isPlain, hasLetter, isQuick, quickLeft}
 use Rattle.quick.proofs.Theorems.{calm-is, placed-among, quick-is}
-use Rattle.index.specs.declared.Looked.{Looked}
 use Rattle.index.specs.declared.Looked.the-variants.{Missing}
 use Rattle.index.specs.Index.{hasBit, lookedUp}
 use Rattle.indexed.specs.Indexed.{lookedStep, indexedStepOf}
-use Rattle.plain_letters.specs.Running.{Runs, none, more, isAlone, lettersAlone, lesser, lettersFrom, lettersState, Going, PlainSet, PlainDone, LettersSet}
+use Rattle.plain_letters.specs.Running.{Runs, none, more, isAlone, lettersAlone, lesser, lettersFrom, lettersState, Going, PlainSet, PlainDone}
 
 -- a quick state
 module _ (ops : List ℤ) (boundary : ℤ) (word : List ℕ) (options : RunOptions) where

@@ -8,8 +8,7 @@ use captions::Answer;
 use captions::RunOptions;
 use captions::State;
 use captions::Step;
-use words::number_of;
-use words::word_at;
+use words::word_of;
 
 // One op is to be given, a kern, and a step refuses nothing.
 pub fn is_kern(ops: &[i32], boundary: i32, word: &[u32], options: RunOptions, s: State) -> bool
@@ -22,7 +21,8 @@ pub fn is_kern(ops: &[i32], boundary: i32, word: &[u32], options: RunOptions, s:
         return false;
     }
     let op = s.op;
-    word_at(ops, 2 * op) == 2
+    let kind = ops[2 * op];
+    word_of(kind) == 2
 }
 
 // One less, or none.
@@ -64,7 +64,7 @@ pub fn give_kern(ops: &[i32], s: State) -> Step
         };
     }
     let state = after_op(s);
-    let value = number_of(word_at(ops, 2 * op + 1));
+    let value = ops[2 * op + 1];
     Step {
         answer: Answer::Kern(value),
         state: state,

@@ -1,16 +1,16 @@
 -- A reading that ends: it splits where its text does, and a pair that it reads to the end has a depth.
 -- Assumes nothing.
-use mathlib.Core.Path.{_≡_, refl, ap, _∙_}
-use mathlib.Core.Bool.{Bool, true, false}
+use mathlib.Core.Path.{_≡_, refl, ap}
+use mathlib.Core.Bool.{true, false}
 use mathlib.Core.List.{List, [], _∷_, _++_, append-assoc}
 use mathlib.Core.Option.{some}
 use Prim.Native.Nat.{ℕ, zero, suc, _+_, _≤_}
 use native.Mathlib.Nat.{add-comm}
 use native.Mathlib.Omega.{arith}
 use Rattle.lang.specs.declared.operation.PostLigOperation.the-variants.{RetainBothMoveNowhere, RetainBothMoveToInserted, RetainBothMoveToRight, RetainRightMoveToInserted, RetainRightMoveToRight, RetainLeftMoveNowhere, RetainLeftMoveToInserted, RetainNeitherMoveToInserted}
-use Rattle.reading.specs.Items.{Left, chr, Rule, free, kerned, lig, Rules, Item, item, code, inserted, Head, at, key, head, Out, glyph, kern, fin}
-use Rattle.reading.specs.Reading.{act, read, Read, done, more, push}
-use Rattle.reading.specs.Depth.{Res, comp, compBy, before, raise, raiseLeft, raised}
+use Rattle.reading.specs.Items.{Left, chr, Rule, free, kerned, lig, Rules, Item, code, inserted, Head, at, key, head, Out, fin}
+use Rattle.reading.specs.Reading.{act, read, done, push}
+use Rattle.reading.specs.Depth.{Res, comp, compBy, before, raised}
 use Rattle.reading.specs.Run.{headFlag}
 use Rattle.reading.proofs.Steps.{more-not-done as not-more, push-done as pushed, one-end}
 use Rattle.reading.proofs.Flags.{code-raised}

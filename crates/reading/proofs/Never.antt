@@ -1,16 +1,15 @@
 -- A set of pairs that is closed under waiting never ends.
 -- Assumes nothing.
 use mathlib.Core.Path.{_≡_, refl, sym, _∙_, ap}
-use mathlib.Core.Bool.{Bool, true, false}
-use mathlib.Core.List.{List, [], _∷_, _++_, map, append-assoc}
+use mathlib.Core.Bool.{true}
+use mathlib.Core.List.{List, [], _∷_, _++_, map}
 use mathlib.Core.Option.{Option, none, some}
 use Prim.Native.Nat.{ℕ, zero, suc}
-use native.Mathlib.Numerals.{add-one}
 use native.Mathlib.Omega.{arith}
 use Rattle.lang.specs.declared.operation.PostLigOperation.the-variants.{RetainBothMoveNowhere, RetainBothMoveToInserted, RetainBothMoveToRight, RetainRightMoveToInserted, RetainRightMoveToRight, RetainLeftMoveNowhere, RetainLeftMoveToInserted, RetainNeitherMoveToInserted}
-use Rattle.reading.specs.Items.{Left, bnd, chr, Rule, free, kerned, lig, Rules, Item, item, code, plain, inserted, Head, at, key, head, Out, glyph, kern}
+use Rattle.reading.specs.Items.{Left, chr, Rule, free, kerned, lig, Rules, Item, code, plain, inserted, Head, at, key, head, Out}
 use Rattle.reading.specs.Reading.{act, Read, done, more, push, read, NeverEnds}
-use Rattle.reading.specs.Depth.{Res, Finished, Pair, comp, raise, raiseLeft, raised, waitsBoth, waitsBy}
+use Rattle.reading.specs.Depth.{Res, Finished, Pair, comp, raised, waitsBoth, waitsBy}
 use Rattle.reading.specs.Run.{headFlag}
 use Rattle.reading.proofs.Steps.{push-more as more-push, key-head, begins-within, follows-within}
 use Rattle.reading.proofs.Flags.{code-raised}

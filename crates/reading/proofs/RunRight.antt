@@ -6,7 +6,7 @@ use mathlib.Core.List.{List, [], _∷_, _++_, append-assoc, append-nil, map}
 use mathlib.Core.Option.{Option, none, some}
 use Prim.Native.Nat.{ℕ, zero, suc, _+_}
 use native.Mathlib.Omega.{arith}
-use Rattle.reading.specs.Items.{Left, bnd, chr, Rule, free, kerned, lig, Rules, Item, code, flag, plain, Head, edge, at, key, head, Out, fin}
+use Rattle.reading.specs.Items.{Left, Rule, free, kerned, lig, Rules, Item, code, flag, plain, Head, edge, at, key, head, Out, fin}
 use Rattle.reading.specs.Reading.{read, Read, done, more, reading, ended, close, remains, rightItems, Ends}
 use Rattle.reading.specs.Depth.{Res, Finished, raised}
 use Rattle.reading.specs.Run.{headFlag, entryOr, lookUp, plainAnswers, begin, inOrder}

@@ -1,15 +1,14 @@
 -- What is proved of the definitions of specs/. Each statement can be read without its proof, which stands in the file that it cites.
 -- Assumes nothing.
 use mathlib.Core.Path.{_≡_}
-use mathlib.Core.Bool.{Bool, true, false}
+use mathlib.Core.Bool.{Bool, false}
 use mathlib.Core.List.{List, [], _∷_, _++_, List·Memᴰ}
 use mathlib.Core.Logic.{_↔_}
 use mathlib.Core.Option.{Option, none, some}
-use Prim.Native.Nat.{ℕ, zero, suc, _+_}
+use Prim.Native.Nat.{ℕ, _+_}
 use lib.Dec.{T}
-use lib.ListN.{length}
-use Rattle.reading.specs.Items.{Left, Rule, free, Rules, Item, item, code, flag, plain, Head, at, key, head, Out}
-use Rattle.reading.specs.Reading.{read, Read, done, more, reading, Reading, ended, NeverEnds, Ends}
+use Rattle.reading.specs.Items.{Left, Rules, Item, item, code, flag, plain, Head, at, key, head, Out}
+use Rattle.reading.specs.Reading.{read, done, more, reading, ended, NeverEnds, Ends}
 use Rattle.reading.specs.Depth.{Res, Finished, Pair, comp, raised, waitsBy}
 use Rattle.reading.specs.Loops.{Ruled, finished, loopList}
 use Rattle.reading.specs.Cycles.{OnePerCycle}

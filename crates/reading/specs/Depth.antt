@@ -5,12 +5,11 @@ use mathlib.Core.Bool.{Bool, true, false}
 use mathlib.Core.List.{List, [], _∷_, _++_}
 use mathlib.Core.Option.{Option, none, some, Option·map}
 use Prim.Native.Nat.{ℕ, zero, suc}
-use Rattle.lang.specs.declared.operation.PostLigOperation.{PostLigOperation}
 use Rattle.lang.specs.declared.operation.PostLigOperation.the-variants.{RetainBothMoveNowhere, RetainBothMoveToInserted}
 use Rattle.lang.specs.declared.operation.PostLigOperation.the-variants.{RetainBothMoveToRight, RetainRightMoveToInserted}
 use Rattle.lang.specs.declared.operation.PostLigOperation.the-variants.{RetainRightMoveToRight, RetainLeftMoveNowhere}
 use Rattle.lang.specs.declared.operation.PostLigOperation.the-variants.{RetainLeftMoveToInserted, RetainNeitherMoveToInserted}
-use Rattle.reading.specs.Items.{Left, bnd, chr, Rule, free, kerned, lig, Rules, Item, item, code, plain, inserted, Head, head, Out}
+use Rattle.reading.specs.Items.{Left, chr, Rule, free, kerned, lig, Rules, Item, item, code, plain, inserted, head, Out}
 use Rattle.reading.specs.Items.{glyph, kern, fin}
 
 -- a pair's entry: its ops, and its last item with its flag

@@ -3,7 +3,7 @@
 -- again in its own walk is listed. TFtoPL 95 and PLtoTF 124 go on with a value for the pair met again, and so can find that a pair which
 -- only waits for a loop (both_z) loops too: docs/DIFFERENCES.md.
 use mathlib.Core.Bool.{Bool, true, false, cond}
-use mathlib.Core.List.{List, [], _∷_, _++_, map}
+use mathlib.Core.List.{List, [], _∷_, _++_}
 use mathlib.Core.Option.{Option, none, some}
 use Prim.Native.Nat.{ℕ, zero, suc}
 use lib.Dec.{ltb, eqb}

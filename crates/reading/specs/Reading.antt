@@ -5,12 +5,11 @@ use mathlib.Core.Bool.{Bool, true, false}
 use mathlib.Core.List.{List, [], _∷_, _++_, map}
 use mathlib.Core.Option.{Option, none, some}
 use Prim.Native.Nat.{ℕ, zero, suc}
-use Rattle.lang.specs.declared.operation.PostLigOperation.{PostLigOperation}
 use Rattle.lang.specs.declared.operation.PostLigOperation.the-variants.{RetainBothMoveNowhere, RetainBothMoveToInserted}
 use Rattle.lang.specs.declared.operation.PostLigOperation.the-variants.{RetainBothMoveToRight, RetainRightMoveToInserted}
 use Rattle.lang.specs.declared.operation.PostLigOperation.the-variants.{RetainRightMoveToRight, RetainLeftMoveNowhere}
 use Rattle.lang.specs.declared.operation.PostLigOperation.the-variants.{RetainLeftMoveToInserted, RetainNeitherMoveToInserted}
-use Rattle.reading.specs.Items.{Left, bnd, chr, Rule, free, kerned, lig, Rules, Item, item, plain, inserted, code, Head, edge, at}
+use Rattle.reading.specs.Items.{Left, Rule, free, kerned, lig, Rules, Item, item, plain, inserted, code, Head, edge, at}
 use Rattle.reading.specs.Items.{key, head, Out, glyph, kern, fin}
 
 -- One step at the items x (left of the cursor) and y (right of it): what is given, what then stands left of the cursor, and what

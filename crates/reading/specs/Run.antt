@@ -2,10 +2,10 @@
 -- After `run_with_options` and `RunIter::next` of ligkern/mod.rs: pending ops first; then the next left is looked up with the next
 -- letter, or at the word's end with the right item.
 use mathlib.Core.Bool.{Bool, true, false}
-use mathlib.Core.List.{List, [], _∷_, _++_}
+use mathlib.Core.List.{List, [], _∷_}
 use mathlib.Core.Option.{Option, none, some}
 use Prim.Native.Nat.{ℕ, zero, suc}
-use Rattle.reading.specs.Items.{Left, bnd, chr, Item, item, flag, code, plain, inserted, Head, edge, at, key, Out, glyph, kern, fin}
+use Rattle.reading.specs.Items.{Item, item, flag, plain, inserted, Head, edge, at, key, Out, glyph, fin}
 use Rattle.reading.specs.Depth.{Finished, Res, raised}
 
 -- the next left: something to look up, a ligature that took the right item in, or nothing more

@@ -1,11 +1,10 @@
 -- The warnings of a font, four numbers each: kind, index or character, old, new; unused numbers are zero. Document 01, 'Repair, packing,
 -- reach'; TFtoPL 66 to 77 and 88 to 95. The order is the Rust's.
-use mathlib.Core.Bool.{Bool, true, false, cond, not}
+use mathlib.Core.Bool.{Bool, cond, not}
 use mathlib.Core.List.{List, [], _∷_, _++_}
 use Prim.Native.Nat.{ℕ, zero, suc, _/_}
 use lib.IntN.{ℤ, pos}
 use lib.ListN.{length}
-use Rattle.words.specs.Words.{wordOf}
 use Rattle.lang.specs.Records.{count, field}
 use Rattle.lang.specs.Checks.{charAt}
 use Rattle.reading.specs.Depth.{Pair}

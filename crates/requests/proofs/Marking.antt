@@ -5,7 +5,7 @@ use Prim.Native.Nat.{ℕ, suc, _+_, _≤_, _<_}
 use native.Mathlib.Omega.{arith}
 use lib.IntN.{ℤ}
 use lib.ListN.{length, set, length-set}
-use Rattle.words.specs.Words.{Word, wordOf}
+use Rattle.words.specs.Words.{Word}
 use Rattle.requests.specs.Requests.{numberAt, marked}
 use Rattle.requests.specs.Answers.{Put}
 use Rattle.requests.proofs.Parts.{Kept, kept-none, kept-more}

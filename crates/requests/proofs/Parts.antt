@@ -88,9 +88,6 @@ one-on : (i n : ℕ) (b : Bool) → ltb i n ≡ b → (i ≤ cond b (i + 1) i) �
 one-on i n true e = (omega arith, λ k. omega (arith, ltb-true i n e))
 one-on i n false e = (omega arith, λ k. k)
 
-pub put-on : {d d′ : List ℤ} {i w r : ℕ} → Put d i w r d′ → i ≤ r
-put-on {d} {d′} {i} p = omega (arith, one-on i (length d) (ltb i (length d)) refl .0, p .next)
-
 pub kept-more : {at : ℕ} {d₀ d d′ : List ℤ} {next w r : ℕ} → Kept at d₀ d next → Put d next w r d′ → Kept at d₀ d′ r
 kept-more {at} {d₀} {d} {d′} {next} {w} {r} k p =
     let s : length d′ ≡ length d = ap length (p .is) ∙ simp length-set in

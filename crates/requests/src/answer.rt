@@ -1,8 +1,7 @@
 // The numbers of an answer, written one after another. Where there is no room nothing is written, and the place stays.
 ghost use mathlib.Core.Path.{_≡_};
 ghost use Prim.Native.Nat.{_≤_, _%_};
-ghost use lib.ListN.{length, set};
-ghost use Rattle.words.specs.Words.{numberOf};
+ghost use lib.ListN.{length};
 ghost use Rattle.requests.specs.Answers.{Put, CountWithin, bitOf};
 use lang::Written;
 

@@ -190,9 +190,6 @@ module _ (bs : List ℕ) (word₀ : List ℕ) where
   pub letters-none : Storing worded bs word₀ word₀ 0 0
   letters-none = storing-none worded wordOf last same bs word₀ 0 refl
 
-  pub letters-length : {word : List ℕ} {j : ℕ} → Storing worded bs word₀ word 0 j → length word ≡ length word₀
-  letters-length s = storing-length worded wordOf last same bs word₀ 0 s
-
   pub letters-more : {word : List ℕ} {j : ℕ} (z : ℤ) (w : ℕ) → Storing worded bs word₀ word 0 j → readField (take 12 (drop (12 * j) bs)) ≡ some z → w ≡ wordOf (numberOf (wordOf z)) → Storing worded bs word₀ (set word j w) 0 (j + 1)
   letters-more {word} {j} z w s e i =
       let k : 0 + j ≡ j = omega arith in

@@ -1,7 +1,6 @@
 -- The scaled kern: a fix_word times the design size, as TeX computes it. TeX 568, 571 and 572; document 01, 'The scaled kern'.
 -- A fix_word is given by its four bytes a, b, c, d, that is by its 32 bits.
-use mathlib.Core.Path.{_≡_}
-use mathlib.Core.Bool.{Bool, true, false, cond}
+use mathlib.Core.Bool.{true, false, cond}
 use mathlib.Core.List.{[], _∷_}
 use Prim.Native.Nat.{ℕ, zero, suc, _+_, _*_, _/_, _%_, _<_, _≤_}
 use lib.IntN.{ℤ, pos, negsuc, _-ℤ_}

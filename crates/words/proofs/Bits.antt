@@ -1,11 +1,10 @@
 -- Laws of a number and its 32 bits, for code that reads an i32 as a word and for contracts that speak of ℤ.
 -- Assumes nothing.
-use mathlib.Core.Path.{_≡_, refl, sym, ap, _∙_}
+use mathlib.Core.Path.{_≡_, sym, ap, _∙_}
 use Prim.Native.Nat.{ℕ, suc, _-_, _^_, _<_, _≤_}
-use native.Mathlib.Omega.{arith}
 use lib.IntN.{ℤ, pos, negsuc}
 use mir.Syntax.{w32}
-use mir.Val.{ofZ, toZ, SFits, Fits}
+use mir.Val.{SFits}
 use mir.ValLaws.{toZ-ofZ, ofZ-fits, ofZ-toZ, toZ-fits}
 use borrow.Author.Tests.{lt-ltb, le-ltb}
 use Rattle.words.specs.Words.{wordOf, numberOf, Word}
@@ -22,9 +21,6 @@ number-fits w h = toZ-fits w32 w (record { fits = h })
 
 pub word-lt : (z : ℤ) → SFits w32 z → wordOf z < 2 ^ 32
 word-lt z f = ofZ-fits w32 z f .fits
-
-pub word-inj : (y z : ℤ) → SFits w32 y → SFits w32 z → wordOf y ≡ wordOf z → y ≡ z
-word-inj y z f g e = sym (number-word y f) ∙ ap numberOf e ∙ number-word z g
 
 -- below 2 ^ 31 the number is the word, from there on it is negative
 pub number-pos : (w : ℕ) → w < 2 ^ 31 → numberOf w ≡ pos w

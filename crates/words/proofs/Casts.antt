@@ -1,19 +1,18 @@
 -- The arithmetic of word_of and number_of: a sum and a difference with 2 ^ 32 in 64 bits.
 -- Assumes nothing.
-use mathlib.Core.Path.{_≡_, refl, sym, ap, _∙_}
-use mathlib.Core.Bool.{true, false}
-use Prim.Native.Nat.{ℕ, zero, suc, _-_, _^_, _<_, _≤_}
+use mathlib.Core.Path.{_≡_}
+use mathlib.Core.Bool.{true}
+use Prim.Native.Nat.{ℕ, suc, _^_, _<_, _≤_}
 use native.Mathlib.Omega.{arith}
-use lib.IntN.{ℤ, pos, negsuc, natAbs, _+ℤ_, _-ℤ_, subℕ}
-use lib.Signed.{mag, ltZ, nonNeg}
-use lib.Dec.{T, ltb}
+use lib.IntN.{ℤ, pos, negsuc, _+ℤ_, _-ℤ_}
+use lib.Signed.{ltZ}
 use mir.Syntax.{w32, w64}
-use mir.Val.{ofZ, toZ, SFits, Fits}
+use mir.Val.{ofZ, toZ, SFits}
 use mir.Facts.{sfits-widen}
 use mir.ValLaws.{toZ-ofZ}
 use borrow.Author.Tests.{lt-ltb, le-ltb, ltb-true}
 use Rattle.words.specs.Words.{wordOf, numberOf}
-use Rattle.words.proofs.Bits.{number-word, number-neg, number-fits}
+use Rattle.words.proofs.Bits.{number-neg}
 
 -- an i32 in 64 bits is itself
 abbrev pub wide : ℤ → ℤ

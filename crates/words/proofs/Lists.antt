@@ -1,14 +1,14 @@
 -- Lists that are written from the front: by a function of the index (tabulate, Filling) and by appending (Appending).
 -- Assumes nothing.
-use mathlib.Core.Path.{_≡_, refl, sym, ap, _∙_}
+use mathlib.Core.Path.{_≡_, refl, ap, _∙_}
 use mathlib.Core.List.{List, [], _∷_, _++_, append-assoc, append-nil}
 use mathlib.Core.Logic.{_⊎_, inl, inr}
 use Prim.Native.Nat.{ℕ, zero, suc, _+_, _-_, _<_, _≤_}
 use native.Mathlib.Nat.{sub-zero, zero-sub, suc-sub-suc, eq-or-lt-of-le, le-of-suc-le-suc}
 use native.Mathlib.Numerals.{add-one}
 use native.Mathlib.Omega.{arith}
-use lib.ListN.{length, getD, set, take, drop, replicate, length-append, length-drop, replicate-append-replicate, drop-of-length-le, List·getD-append}
-use lib.Seq.{set-at, drop-cons, drop-drop, drop-append-add, sets, sets-eq, getD-at, take-at, drop-at}
+use lib.ListN.{length, getD, set, drop, replicate, length-append, length-drop, replicate-append-replicate, drop-of-length-le, List·getD-append}
+use lib.Seq.{set-at, drop-cons, drop-drop, drop-append-add, sets, sets-eq, getD-at, take-at}
 use Rattle.words.specs.Lists.{tabulate, Filling, Appending}
 
 -- ---- tabulate

@@ -1,7 +1,7 @@
 // Numbers as they are lent: i32 as its 32 bits and back, one element of a slice read and stored that way, and zeroing.
 // Nothing here has a `requires`: an index past the end reads 0, and a store there does nothing.
 ghost use mathlib.Core.Path.{_≡_};
-ghost use lib.ListN.{length, getD, set, replicate};
+ghost use lib.ListN.{getD, set};
 ghost use lib.IntN.{pos};
 ghost use Rattle.words.specs.Words.{wordOf, numberOf, Word};
 

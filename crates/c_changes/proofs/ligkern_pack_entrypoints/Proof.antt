@@ -3,7 +3,7 @@ use lib.IntN.{ℤ, pos}
 use lib.ListN.{length}
 use Rattle.words.specs.Words.{wordOf, numberOf}
 use Rattle.words.proofs.Bits.{number-word}
-use Rattle.pack.specs.Packing.{Packable, packable, packingRefusal, packedSizes, packedInstructions, packedEntries}
+use Rattle.pack.specs.Packing.{packable, packingRefusal, packedSizes, packedInstructions, packedEntries}
 use Rattle.c_values.specs.Telling.{GivesTwo}
 use Rattle.c_changes.specs.Changes.{packReply}
 use Rattle.c_values.proofs.Telling.{gives-two, lent-two}

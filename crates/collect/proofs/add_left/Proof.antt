@@ -1,7 +1,6 @@
 -- `collect::add_left` meets its contract: a left with no entry has no pairs; the chain of one that has is walked once, and its rows follow
 -- those of the lefts before it, with their order.
 -- Assumes nothing.
-use native.Mathlib.Omega.{arith}
 use denote.Ref.{now}
 use Rattle.pairs.proofs.PairRowLaws.{adds-none, adds-over}
 use Rattle.collect.proofs.Placing.{adds-left}

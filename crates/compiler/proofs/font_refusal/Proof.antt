@@ -1,6 +1,6 @@
 -- `compiler::font_refusal` meets its contract: the first refusal that is not 0.
 -- Assumes nothing.
-use mathlib.Core.Path.{_≡_, sym, ap, _∙_}
+use mathlib.Core.Path.{sym, _∙_}
 use Rattle.words.proofs.Bits.{number-word}
 use Rattle.lang.specs.Checks.{orElse, absentRefusal, designRefusal}
 use Rattle.lang.proofs.Checks.{first-is, second-is}

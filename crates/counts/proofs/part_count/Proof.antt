@@ -1,8 +1,7 @@
 -- `counts::part_count` meets its contract: each arm is a clause of its definition.
 -- Assumes nothing.
-use mathlib.Core.Path.{sym, ap, subst, _∙_}
-use native.Mathlib.Omega.{arith}
-use Rattle.pairs.specs.OpSteps.{PartIn, partCount}
+use mathlib.Core.Path.{sym, ap, _∙_}
+use Rattle.pairs.specs.OpSteps.{partCount}
 use borrow.Author.Needs.{needs}
 use Rattle.counts.proofs.part_count.Statement.{statement}
 use Rattle.counts.proofs.part_count.Tie as tie

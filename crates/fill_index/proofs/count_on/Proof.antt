@@ -1,7 +1,7 @@
 -- `fill_index::count_on` meets its contract. The loop's invariant: no more pairs are passed than come before those of the left. The measure is what is left of
 -- the pairs.
 -- Assumes nothing.
-use Prim.Native.Nat.{ℕ, _-_, _≤_}
+use Prim.Native.Nat.{_-_, _≤_}
 use native.Mathlib.Omega.{arith}
 use denote.Ref.{now}
 use Rattle.captions.specs.Tables.{pairCount}

@@ -2,7 +2,7 @@
 -- before those of the next. The measure is what is left of the lefts.
 -- Assumes nothing.
 use mathlib.Core.Path.{_≡_, refl}
-use Prim.Native.Nat.{ℕ, _+_, _-_, _≤_}
+use Prim.Native.Nat.{_+_, _-_, _≤_}
 use native.Mathlib.Omega.{arith}
 use denote.Ref.{now}
 use Rattle.captions.specs.Tables.{pairCount}
@@ -10,7 +10,6 @@ use Rattle.index.specs.Index.{pairsBefore}
 use Rattle.index.proofs.Places.{before-mono}
 use Rattle.fill_index.specs.Filling.{Filled}
 use Rattle.fill_index.proofs.Laws.{filled-left}
-use borrow.Author.Needs.{needs}
 use Rattle.fill_index.proofs.count_pairs.Statement.{statement}
 use Rattle.fill_index.proofs.count_pairs.Tie as tie
 

@@ -1,7 +1,7 @@
 -- `font_answers::put_pairs` keeps the length of the list: the invariant.
 -- Assumes nothing.
 use native.Mathlib.Omega.{arith}
-use Prim.Native.Nat.{ℕ, _≤_, _<_, _-_}
+use Prim.Native.Nat.{_-_}
 use mathlib.Core.Path.{_≡_}
 use lib.ListN.{length}
 use Rattle.font_answers.proofs.put_pairs.Statement.{statement}

@@ -1,7 +1,6 @@
 -- `font_reply::answer_font` meets its contract: the lowest number of compiling and of the word, or what `answer_table` answers for what compiling wrote.
 -- Assumes nothing.
 use mathlib.Core.Path.{_≡_, sym, ap, subst, subst₃, _∙_}
-use mathlib.Core.List.{List}
 use Prim.Native.Nat.{ℕ, _*_, _<_, _≤_}
 use native.Mathlib.Omega.{arith}
 use lib.IntN.{ℤ}
@@ -10,7 +9,6 @@ use lib.Seq.{length-take-le}
 use borrow.Author.Needs.{needs}
 use Rattle.words.specs.Words.{wordOf, numberOf}
 use Rattle.words.proofs.Bits.{number-word}
-use Rattle.lang.specs.declared.Written.{Written}
 use Rattle.fonts.specs.declared.Compiled.{Compiled}
 use Rattle.fonts.specs.declared.Compiled.the-variants as compiled
 use Rattle.fonts.specs.Fonts.{Font, fontOf}

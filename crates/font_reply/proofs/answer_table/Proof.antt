@@ -1,6 +1,6 @@
 -- `font_reply::answer_table` meets its contract: without a word the table and the loops alone, else with the items, or the number of the run.
 -- Assumes nothing.
-use mathlib.Core.Path.{_≡_, sym, ap, subst, _∙_}
+use mathlib.Core.Path.{_≡_, sym, subst}
 use mathlib.Core.List.{List, []}
 use Prim.Native.Nat.{ℕ, _*_, _<_, _≤_, _/_}
 use native.Mathlib.Omega.{arith}

@@ -1,25 +1,19 @@
 -- `host::answer` meets its contract: 16, or what `answer_font` answers for what the text says.
 -- Assumes nothing.
-use mathlib.Core.Path.{_≡_, refl, sym, ap, subst, _∙_}
-use mathlib.Core.List.{List, []}
+use mathlib.Core.Path.{_≡_, sym, ap, subst, _∙_}
 use mathlib.Core.Option.{Option}
-use Prim.Native.Nat.{ℕ, _≤_}
+use Prim.Native.Nat.{_≤_}
 use native.Mathlib.Omega.{arith}
-use lib.IntN.{ℤ}
 use lib.ListN.{length, take}
 use lib.Seq.{length-take-le}
-use mir.Syntax.{w32}
-use mir.Val.{SFits}
 use borrow.Author.Needs.{needs}
-use Rattle.words.specs.Words.{wordOf, numberOf}
 use Rattle.words.proofs.Bits.{number-word}
 use Rattle.fonts.specs.Fonts.{fontOf}
 use Rattle.columns.specs.declared.TextRead.{TextRead}
 use Rattle.columns.specs.declared.TextRead.the-variants as text
 use Rattle.columns.specs.Texts.{Text, readText}
 use Rattle.columns.specs.Scanned.{ReadsText}
-use Rattle.columns.specs.Ligcols.{columnNumber, columnBytes, numberOfText, bytesOfText}
-use Rattle.font_reply.specs.Answering.{AnswersBytes}
+use Rattle.columns.specs.Ligcols.{columnNumber, columnBytes, numberOfText}
 use Rattle.host.specs.Letters.{lettersIn}
 use Rattle.font_reply.proofs.Laws.{refused, refused-as}
 use Rattle.host.proofs.TextLaws.{answers-as, not-read, Said, text-said, said-answer}

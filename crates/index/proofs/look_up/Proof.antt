@@ -1,12 +1,9 @@
 -- `index::look_up` meets its contract: each answer by the tests that lead to it.
 -- Assumes nothing.
-use mathlib.Core.Path.{_≡_, sym, ap, _∙_}
-use Prim.Native.Nat.{ℕ, _+_, _≤_}
+use mathlib.Core.Path.{sym, _∙_}
 use native.Mathlib.Omega.{arith}
 use denote.Ref.{now}
 use borrow.Author.Tests.{not-true, not-false}
-use Rattle.captions.specs.Tables.{pairCount}
-use Rattle.index.specs.Index.{hasBit, onesBelow, placeIn}
 use Rattle.index.proofs.Looking.{bit-right, no-bit, past-pairs, stands, other-pair}
 use borrow.Author.Needs.{needs}
 use Rattle.index.proofs.look_up.Statement.{statement}

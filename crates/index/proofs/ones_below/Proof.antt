@@ -1,11 +1,8 @@
 -- `index::ones_below` meets its contract: the ones of the words before its own, and the low ones of its own.
 -- Assumes nothing.
-use mathlib.Core.Path.{_≡_, sym, ap, _∙_}
-use Prim.Native.Nat.{ℕ, _+_, _*_, _/_, _%_, _^_, _<_, _≤_}
+use Prim.Native.Nat.{_%_}
 use native.Mathlib.Omega.{arith}
-use lib.Count.{ones}
 use lib.Pow.{pow-pos}
-use denote.Ref.{now}
 use Rattle.index.proofs.Looking.{low-is, low-ones}
 use borrow.Author.Needs.{needs}
 use Rattle.index.proofs.ones_below.Statement.{statement}

@@ -1,9 +1,9 @@
 -- `index::ones_from` meets its contract. The loop's invariant: the ones of the numbers passed, at most 64 each. The measure is what is left of them.
 -- Assumes nothing.
-use mathlib.Core.Path.{_≡_, refl, sym, ap, _∙_}
-use Prim.Native.Nat.{ℕ, _+_, _-_, _*_, _≤_}
+use mathlib.Core.Path.{_≡_, sym, ap, _∙_}
+use Prim.Native.Nat.{_-_, _*_, _≤_}
 use native.Mathlib.Omega.{arith}
-use lib.Count.{ones, ones-le}
+use lib.Count.{ones-le}
 use denote.Ref.{now}
 use Rattle.index.specs.Index.{onesFrom}
 use Rattle.index.proofs.Looking.{ones-none, ones-more}

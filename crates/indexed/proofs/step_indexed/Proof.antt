@@ -1,6 +1,6 @@
 -- `indexed::step_indexed` meets its contract: the step where the state is not quick, else by what the index says.
 -- Assumes nothing.
-use mathlib.Core.Path.{_≡_, sym, ap, subst, _∙_}
+use mathlib.Core.Path.{_≡_, ap, _∙_}
 use lib.IntN.{ℤ}
 use denote.Ref.{now}
 use Rattle.words.specs.Words.{wordOf, numberOf}

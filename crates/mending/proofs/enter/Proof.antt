@@ -1,18 +1,13 @@
 -- `mending::enter` meets its contract: proofs/Laws, of the entries that were unpacked.
 -- Assumes nothing.
-use mathlib.Core.Path.{_≡_, refl, sym, ap, _∙_, subst}
-use mathlib.Core.Bool.{cond}
+use mathlib.Core.Path.{refl, sym, _∙_, subst}
 use mathlib.Core.List.{List, []}
-use Prim.Native.Nat.{ℕ, _*_, _/_, _≤_}
+use Prim.Native.Nat.{_*_, _/_, _≤_}
 use native.Mathlib.Omega.{arith}
-use lib.IntN.{ℤ, pos, negsuc}
-use lib.Dec.{leb}
-use lib.ListN.{length, take}
+use lib.IntN.{ℤ, pos}
+use lib.ListN.{length}
 use lib.Seq.{length-take-le}
-use lib.Signed.{nonNeg}
-use Rattle.words.specs.Words.{wordOf}
 use Rattle.words.proofs.Bits.{number-word}
-use Rattle.lang.specs.Every.{both}
 use Rattle.lang.specs.Records.{count}
 use Rattle.repairs.specs.Damaged.{Damaged}
 use Rattle.repairs.specs.Repairs.{damagedOf}

@@ -1,7 +1,5 @@
 -- `plain_letters::after_letters` meets its contract, by whether there are letters.
 -- Assumes nothing.
-use mathlib.Core.Path.{refl, ap}
-use Rattle.plain_letters.specs.Running.{lettersState}
 use Rattle.plain_letters.proofs.Running.{letters-some}
 use borrow.Author.Needs.{needs}
 use Rattle.plain_letters.proofs.after_letters.Statement.{statement}

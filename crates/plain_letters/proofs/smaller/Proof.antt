@@ -1,6 +1,5 @@
 -- `plain_letters::smaller` meets its contract, by the test.
 -- Assumes nothing.
-use mathlib.Core.Path.{_≡_}
 use borrow.Author.Tests.{lt-ltb, le-ltb}
 use Rattle.plain_letters.proofs.smaller.Statement.{statement}
 use Rattle.plain_letters.proofs.smaller.Tie as tie

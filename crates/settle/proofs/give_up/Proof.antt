@@ -7,7 +7,7 @@ use Prim.Native.Nat.{ℕ, _+_, _-_, _*_, _<_}
 use native.Mathlib.Omega.{arith}
 use lib.ListN.{set}
 use denote.Ref.{now}
-use Rattle.pairs.proofs.Stores.{Climbs, climbs-none, climbs-more, climbs-few, climbs-below}
+use Rattle.pairs.proofs.Stores.{Climbs, climbs-none, climbs-more, climbs-below}
 use borrow.Author.Needs.{needs}
 use Rattle.settle.proofs.give_up.Statement.{statement}
 use Rattle.settle.proofs.give_up.Tie as tie

@@ -3,7 +3,7 @@
 use native.Mathlib.Omega.{arith}
 use denote.Ref.{now}
 use Rattle.pairs.proofs.Settling.{stored}
-use Rattle.pairs.proofs.SettleLaws.{path-few, top-row, done-few, stuck, turned-finish}
+use Rattle.pairs.proofs.SettleLaws.{top-row, done-few, stuck, turned-finish}
 use borrow.Author.Needs.{needs}
 use Rattle.settle.proofs.turn.Statement.{statement}
 use Rattle.settle.proofs.turn.Tie as tie

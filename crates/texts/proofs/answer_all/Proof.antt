@@ -1,7 +1,7 @@
 -- `texts::answer_all` stays within the texts. The invariant: at is within them, and the reply is as long as it came.
 -- Assumes nothing.
 use mathlib.Core.Path.{_≡_, refl, _∙_}
-use Prim.Native.Nat.{ℕ, _≤_, _<_, _-_, _+_}
+use Prim.Native.Nat.{_≤_, _-_}
 use native.Mathlib.Omega.{arith}
 use lib.ListN.{length}
 use Rattle.texts.proofs.answer_all.Statement.{statement}

@@ -1,10 +1,10 @@
 -- `validate::validate_and_fix` meets its contract: proofs/Repairing, by what the refusals and the passes answer.
 -- Assumes nothing.
-use mathlib.Core.Path.{_≡_, refl, sym, ap, _∙_, subst}
+use mathlib.Core.Path.{_≡_, sym, ap, _∙_, subst}
 use mathlib.Core.List.{List, _++_}
 use Prim.Native.Nat.{ℕ, _*_, _≤_}
 use native.Mathlib.Omega.{arith}
-use lib.IntN.{ℤ, pos}
+use lib.IntN.{pos}
 use lib.ListN.{length, length-append, take, drop, replicate}
 use lib.Seq.{length-take-le, take-at}
 use Rattle.words.specs.Words.{wordOf, numberOf}

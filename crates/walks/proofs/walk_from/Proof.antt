@@ -1,7 +1,6 @@
 -- `walks::walk_from` meets its contract. The loop's invariant: what the rest of the walk leaves, all of it leaves, and the rows can be
 -- walked over still. The measure is how many rows have no mark. Assumes nothing.
 use mathlib.Core.Path.{sym, _∙_}
-use native.Mathlib.Omega.{arith}
 use borrow.Author.Needs.{needs}
 use Rattle.pairs.specs.LoopSteps.{stops}
 use Rattle.pairs.proofs.LoopLaws.{unmarked, Underway, underway-none, underway-more, underway-less}

@@ -1,9 +1,9 @@
 -- `words::number_of` meets its contract: a word from 2 ^ 31 on, less 2 ^ 32 in 64 bits, is the number that it stands for.
 -- Assumes nothing.
-use mathlib.Core.Path.{_≡_, _∙_}
+use mathlib.Core.Path.{_≡_}
 use Prim.Native.Nat.{ℕ, _<_, _≤_, _^_}
-use lib.IntN.{ℤ, pos, _-ℤ_}
-use mir.Syntax.{w32, w64}
+use lib.IntN.{pos, _-ℤ_}
+use mir.Syntax.{w64}
 use mir.Val.{ofZ, toZ, SFits}
 use mir.Facts.{sfits-widen}
 use mir.ValLaws.{toZ-ofZ}

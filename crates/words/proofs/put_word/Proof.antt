@@ -1,6 +1,6 @@
 -- `words::put_word` meets its contract: a store below the length, and nothing past it, are both `set`.
 -- Assumes nothing.
-use mathlib.Core.Path.{_≡_, sym, ap, _∙_}
+use mathlib.Core.Path.{_≡_, sym, ap}
 use Prim.Native.Nat.{ℕ, _<_, _^_}
 use lib.IntN.{ℤ}
 use lib.ListN.{set}

@@ -1,8 +1,8 @@
 -- `words::word_of` meets its contract: a negative number plus 2 ^ 32, in 64 bits, is its word; any other number is its own.
 -- Assumes nothing.
-use mathlib.Core.Path.{_≡_, refl, sym, ap, _∙_}
+use mathlib.Core.Path.{_≡_, refl}
 use mathlib.Core.Bool.{true, false}
-use Prim.Native.Nat.{ℕ, _<_, _^_}
+use Prim.Native.Nat.{ℕ}
 use native.Mathlib.Omega.{arith}
 use lib.IntN.{ℤ, pos, negsuc, natAbs, _+ℤ_}
 use lib.Signed.{ltZ, nonNeg}
@@ -10,7 +10,7 @@ use lib.Dec.{T}
 use mir.Syntax.{w32, w64}
 use mir.Val.{ofZ, toZ, SFits, Fits}
 use mir.Facts.{sfits-widen}
-use mir.ValLaws.{toZ-ofZ, ofZ-fits}
+use mir.ValLaws.{toZ-ofZ}
 use Rattle.words.specs.Words.{wordOf}
 use Rattle.words.proofs.Bits.{word-lt}
 use Rattle.words.proofs.Casts.{wide, wide-is, sum-is, word-wide}

@@ -1,7 +1,7 @@
 -- `change_answers::instructions::put_instructions` keeps the length of the list: the invariant.
 -- Assumes nothing.
 use native.Mathlib.Omega.{arith}
-use Prim.Native.Nat.{ℕ, _≤_, _<_, _-_}
+use Prim.Native.Nat.{_-_}
 use mathlib.Core.Path.{_≡_}
 use lib.ListN.{length}
 use Rattle.change_answers.proofs.instructions.put_instructions.Statement.{statement}

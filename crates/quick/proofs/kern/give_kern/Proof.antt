@@ -2,7 +2,7 @@
 -- Assumes nothing.
 use denote.Ref.{now}
 use borrow.Author.Tests.{lt-ltb, le-ltb}
-use Rattle.words.proofs.Bits.{number-is, number-word}
+use Rattle.words.proofs.Bits.{number-word}
 use Rattle.captions.specs.Tables.{opCount, opValue}
 use borrow.Author.Needs.{needs}
 use Rattle.quick.proofs.kern.give_kern.Statement.{statement}
@@ -14,23 +14,23 @@ returns c = let a = c .before .args in rw (le-ltb (a .s .op) (opCount (now (a .o
 after-op-requires : tie.Need-after-op-requires
 after-op-requires c κs = search needs
 
-mul-word-at : tie.Need-mul-word-at
-mul-word-at c = search needs
+mul-value : tie.Need-mul-value
+mul-value c = search needs
 
-add-word-at : tie.Need-add-word-at
-add-word-at c = search needs
+add-value : tie.Need-add-value
+add-value c = search needs
 
-word-at-requires : tie.Need-word-at-requires
-word-at-requires c κs = search needs
+mul-value-2 : tie.Need-mul-value-2
+mul-value-2 c = search needs
 
-number-of-requires : tie.Need-number-of-requires
-number-of-requires c κs = search needs
+shared-slice-copy-out-value : tie.Need-shared-slice-copy-out-value
+shared-slice-copy-out-value c = search needs
 
 returns-2 : tie.Need-returns-2
 returns-2 c =
-    let a = c .before .before .before .before .args in
-    let v = c .before .word-at .ensures in
-    rw (lt-ltb (a .s .op) (opCount (now (a .ops))) (c .before .before .before .if1 .left), c .number-of .ensures, number-is v, number-word (opValue (now (a .ops)) (a .s .op)) (v .fits), c .before .before .after-op .ensures)
+    let o = c .before in
+    let a = o .before .before .args in
+    rw (lt-ltb (a .s .op) (opCount (now (a .ops))) (o .before .if1 .left), number-word (opValue (now (a .ops)) (a .s .op)) (record { sfits = c .value .given }), o .after-op .ensures)
 
 pub give-kern-spec : {M : Type 1} → statement M
 give-kern-spec =
@@ -38,8 +38,8 @@ give-kern-spec =
     (tie.spec
     returns
     after-op-requires
-    mul-word-at
-    add-word-at
-    word-at-requires
-    number-of-requires
+    mul-value
+    add-value
+    mul-value-2
+    shared-slice-copy-out-value
     returns-2)

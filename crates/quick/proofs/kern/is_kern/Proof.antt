@@ -8,7 +8,8 @@ use lib.IntN.{ℤ}
 use denote.Ref.{now}
 use borrow.Author.Tests.{not-true, not-false, eq-eqb, ne-eqb}
 use Rattle.words.proofs.Bits.{number-word}
-use Rattle.captions.specs.Tables.{opCount}
+use Rattle.lang.proofs.Records.{word-passed}
+use Rattle.captions.specs.Tables.{opCount, opKind}
 use Rattle.quick.specs.Quick.{isPlain}
 use Rattle.quick.proofs.Theorems.{calm-is, placed-among}
 use borrow.Author.Needs.{needs}
@@ -38,15 +39,25 @@ is-plain-requires c κs = search needs
 returns-2 : tie.Need-returns-2
 returns-2 c = rw (eq-eqb (c .before .before .before .before .before .args .s .ops) 1 (c .before .before .if1 .left), sym (tested (c .before)) ∙ not-true _ (c .if2 .taken))
 
-mul-word-at : tie.Need-mul-word-at
-mul-word-at c = omega (arith, there c)
+mul-kind : tie.Need-mul-kind
+mul-kind c = omega (arith, there c)
 
-word-at-requires : tie.Need-word-at-requires
-word-at-requires c κs = omega (arith, there c)
+mul-kind-2 : tie.Need-mul-kind-2
+mul-kind-2 c = omega (arith, there c)
+
+shared-slice-copy-out-kind : tie.Need-shared-slice-copy-out-kind
+shared-slice-copy-out-kind c = omega (arith, there c)
+
+word-of-requires : tie.Need-word-of-requires
+word-of-requires c κs = search needs
 
 returns-3 : tie.Need-returns-3
-returns-3 c = rw (eq-eqb (c .before .before .before .before .before .before .args .s .ops) 1 (c .before .before .before .if1 .left), plain (c .before), c .word-at .ensures .is)
+returns-3 c =
+    let k = c .before in
+    let a = k .before .before .before .before .before .before .args in
+    let w = word-passed {x = opKind (now (a .ops)) (a .s .op)} (record { sfits = k .kind .given }) (c .word-of .ensures) in
+    rw (eq-eqb (a .s .ops) 1 (k .before .before .before .if1 .left), plain (k .before), w .is)
 
 pub is-kern-spec : {M : Type 1} → statement M
 is-kern-spec =
-    tie.close (tie.spec returns is-plain-requires returns-2 mul-word-at word-at-requires returns-3)
+    tie.close (tie.spec returns is-plain-requires returns-2 mul-kind mul-kind-2 shared-slice-copy-out-kind word-of-requires returns-3)

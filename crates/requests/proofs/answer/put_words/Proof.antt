@@ -1,8 +1,7 @@
 -- `requests::answer::put_words` stays within the list: the invariant.
 -- Assumes nothing.
 use native.Mathlib.Omega.{arith}
-use Prim.Native.Nat.{ℕ, _≤_, _<_, _-_, _+_, _/_}
-use lib.ListN.{length}
+use Prim.Native.Nat.{_-_}
 use Rattle.requests.proofs.Parts.{Kept, kept-none, kept-more}
 use Rattle.requests.proofs.answer.put_words.Statement.{statement}
 use Rattle.requests.proofs.answer.put_words.Tie as tie

@@ -1,7 +1,7 @@
 -- `requests::read::digits` goes on. The invariant: i is not before at.
 -- Assumes nothing.
 use native.Mathlib.Omega.{arith}
-use Prim.Native.Nat.{ℕ, _≤_, _<_, _-_, _+_, _/_}
+use Prim.Native.Nat.{_≤_, _-_}
 use lib.ListN.{length}
 use Rattle.requests.proofs.read.digits.Statement.{statement}
 use Rattle.requests.proofs.read.digits.Tie as tie

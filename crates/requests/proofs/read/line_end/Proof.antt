@@ -1,7 +1,7 @@
 -- `requests::read::line_end` stays within the text. The invariant: i is between at and the end, where at is within the text.
 -- Assumes nothing.
 use native.Mathlib.Omega.{arith}
-use Prim.Native.Nat.{ℕ, _≤_, _<_, _-_, _+_, _/_}
+use Prim.Native.Nat.{_≤_, _-_}
 use lib.ListN.{length}
 use Rattle.requests.proofs.read.line_end.Statement.{statement}
 use Rattle.requests.proofs.read.line_end.Tie as tie

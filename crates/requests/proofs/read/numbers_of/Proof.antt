@@ -1,7 +1,7 @@
 -- `requests::read::numbers_of` counts no more numbers than bytes: the invariant. The length of the list stays.
 -- Assumes nothing.
 use native.Mathlib.Omega.{arith}
-use Prim.Native.Nat.{ℕ, _≤_, _<_, _-_, _+_, _/_}
+use Prim.Native.Nat.{_≤_, _<_, _-_}
 use mathlib.Core.Path.{_≡_}
 use lib.ListN.{length}
 use Rattle.requests.proofs.read.numbers_of.Statement.{statement}

@@ -1,7 +1,7 @@
 -- `requests::sets::mark` marks each listed index. The invariant: the marks of the numbers before i.
 -- Assumes nothing.
 use native.Mathlib.Omega.{arith}
-use Prim.Native.Nat.{ℕ, _≤_, _<_, _-_}
+use Prim.Native.Nat.{_-_}
 use lib.ListN.{length}
 use Rattle.requests.proofs.Marking.{Marked, marked-none, marked-more, marked-all}
 use Rattle.requests.proofs.sets.mark.Statement.{statement}

@@ -1,7 +1,7 @@
 -- `requests::sets::put_marked` goes on, and stays within the list: the invariant.
 -- Assumes nothing.
 use native.Mathlib.Omega.{arith}
-use Prim.Native.Nat.{ℕ, _≤_, _<_, _-_}
+use Prim.Native.Nat.{_-_}
 use lib.ListN.{length}
 use Rattle.requests.proofs.Parts.{Kept, kept-none}
 use Rattle.requests.proofs.Marking.{kept-on}

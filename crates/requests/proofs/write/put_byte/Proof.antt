@@ -1,8 +1,7 @@
 -- `requests::write::put_byte`: the place after a byte is within the line.
 -- Assumes nothing.
 use native.Mathlib.Omega.{arith}
-use Prim.Native.Nat.{ℕ, _≤_, _<_, _-_, _+_, _/_}
-use lib.ListN.{length, length-set}
+use lib.ListN.{length-set}
 use borrow.Author.Needs.{needs}
 use Rattle.requests.proofs.write.put_byte.Statement.{statement}
 use Rattle.requests.proofs.write.put_byte.Tie as tie

@@ -1,7 +1,7 @@
 -- `requests::write::put_numbers` stays within the line. The invariant: the place is within the line, whose length stays.
 -- Assumes nothing.
 use native.Mathlib.Omega.{arith}
-use Prim.Native.Nat.{ℕ, _≤_, _<_, _-_, _+_, _/_}
+use Prim.Native.Nat.{_≤_, _-_}
 use mathlib.Core.Path.{_≡_}
 use lib.ListN.{length}
 use Rattle.requests.proofs.write.put_numbers.Statement.{statement}

@@ -1,8 +1,7 @@
 -- `requests::write::top_place`: the place only falls.
 -- Assumes nothing.
-use Prim.Native.Nat.{ℕ, _≤_, _<_, _-_}
+use Prim.Native.Nat.{_≤_}
 use native.Mathlib.Omega.{arith}
-use lib.ListN.{length, length-set}
 use Rattle.requests.proofs.write.top_place.Statement.{statement}
 use Rattle.requests.proofs.write.top_place.Tie as tie
 

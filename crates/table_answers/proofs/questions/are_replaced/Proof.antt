@@ -1,7 +1,7 @@
 -- `table_answers::questions::are_replaced` counts up to the end of the list.
 -- Assumes nothing.
 use native.Mathlib.Omega.{arith}
-use Prim.Native.Nat.{ℕ, _≤_, _<_, _-_}
+use Prim.Native.Nat.{_-_}
 use lib.ListN.{length}
 use Rattle.table_answers.proofs.questions.are_replaced.Statement.{statement}
 use Rattle.table_answers.proofs.questions.are_replaced.Tie as tie

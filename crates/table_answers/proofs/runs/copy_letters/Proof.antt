@@ -1,7 +1,7 @@
 -- `table_answers::runs::copy_letters` keeps the length of the word: the invariant.
 -- Assumes nothing.
 use native.Mathlib.Omega.{arith}
-use Prim.Native.Nat.{ℕ, _≤_, _<_, _-_}
+use Prim.Native.Nat.{_-_}
 use mathlib.Core.Path.{_≡_}
 use lib.ListN.{length}
 use Rattle.table_answers.proofs.runs.copy_letters.Statement.{statement}

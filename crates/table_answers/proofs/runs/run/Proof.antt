@@ -1,7 +1,7 @@
 -- `table_answers::runs::run` makes at most 1,024 calls. The invariant: the length of the list stays.
 -- Assumes nothing.
 use native.Mathlib.Omega.{arith}
-use Prim.Native.Nat.{ℕ, _≤_, _<_, _-_}
+use Prim.Native.Nat.{_-_}
 use mathlib.Core.Path.{_≡_}
 use lib.ListN.{length}
 use Rattle.table_answers.proofs.runs.run.Statement.{statement}
