@@ -57,7 +57,8 @@ uint32_t ligkern_begin(const int32_t *pairs, size_t pairs_length, const int32_t 
 
 /* One step of a run, on the state that the last call left there. Writes 1 and the six numbers of an item, or seven zeros at the end, with zeros after them; the next
    state stands in place of the last, and a refused step leaves it as it was. 4, 6, 7, 15. The word may be parted before the next item where state[3], the count of ops
-   still to be given, is 0 and state[0], the kind of the next left (0 boundary, 1 character, 2 ligature, 3 last ligature, 4 none), is neither 2 nor 3. */
+   still to be given, is 0 and state[0], the kind of the next left (0 boundary, 1 character, 2 ligature, 3 last ligature, 4 none), is neither 2 nor 3. A list of
+   exactly seven numbers for the item is the quickest. */
 uint32_t ligkern_step(const int32_t *pairs, size_t pairs_length, const int32_t *ops, size_t ops_length, int32_t boundary, const uint32_t *word, size_t word_length,
                       bool disable_left_boundary, int32_t right_boundary_override, uint64_t *state, size_t state_length, int32_t *item, size_t item_length);
 
