@@ -26,9 +26,8 @@ use Rattle.scan.specs.declared.progress.NextLine.{NextLine}
 use Rattle.scan.specs.declared.progress.NextLine.the-variants as next
 use Rattle.scan.specs.Following.{restOf, lineOf, lineEnds, numbersOn, numbersIn, numberOn}
 use Rattle.scan.specs.Standing.{zeros, HeadSaid, TellsText, Scanning, Before, nextBy, TakesLine, headBy, headLine, Goes}
-use Rattle.scan.proofs.Feeds.{fields-count}
 use Rattle.scan.proofs.Following.{numbered, rest-on, rest-short, rest-refused}
-use Rattle.scan.proofs.Storing.{field-fits}
+use Rattle.line_numbers.proofs.Storing.{fields-count, field-fits}
 
 pub zeros-long : {A : Type 0} (o : A) (n : ℕ) → length (zeros o n) ≡ n
 unfolding zeros

@@ -24,7 +24,7 @@ use Rattle.columns.proofs.Options.{none-some, cond-some}
 use Rattle.scan.specs.declared.progress.TextProgress.{TextProgress}
 use Rattle.scan.specs.Following.{restOf, lineOf, numbersOn, wordOn}
 use Rattle.scan.specs.Standing.{zeros, headsOf, TellsText, Scanning, Before, wordReply, EndsWord, ReadsLists}
-use Rattle.scan.proofs.Feeds.{fields-count}
+use Rattle.line_numbers.proofs.Storing.{fields-count}
 use Rattle.scan.proofs.Following.{Opened, numbered, rest-stuck, rest-added, rest-after-word, rest-none-left}
 use Rattle.scan.proofs.Adding.{zeros-long, from-here, further}
 use Rattle.scan.proofs.Letters.{adds}

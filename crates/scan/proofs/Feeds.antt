@@ -1,6 +1,6 @@
 -- A field that is read holds no line feed; so the first line of a text that starts with n fields and a line feed is these.
 -- Assumes nothing.
-use mathlib.Core.Path.{_≡_, refl, sym, ap, _∙_}
+use mathlib.Core.Path.{_≡_, refl, ap, _∙_}
 use mathlib.Core.Bool.{Bool, true, false, cond, not}
 use mathlib.Core.List.{List, [], _∷_, _++_}
 use mathlib.Core.Option.{Option, none, some, Option·some-injective}
@@ -166,10 +166,3 @@ fields-prefix zero ds more l = refl
 fields-prefix (suc n) ds more l =
     rw (take-append-le 12 ds more (omega arith), drop-append-le 12 ds more (omega arith))
     (ap (andNumber (readField (take 12 ds))) (fields-prefix n (drop 12 ds) more (length-drop 12 ds ∙ omega arith)))
-
-pub fields-count : (n : ℕ) (bs : List ℕ) (zs : List ℤ) → readFields n bs ≡ some zs → length zs ≡ n
-unfolding readFields
-fields-count zero bs zs e = ap length (sym (Option·some-injective [] zs e))
-fields-count (suc n) bs zs e =
-    let g = and-some (readField (take 12 bs)) (readFields n (drop 12 bs)) zs e in
-    ap length (sym (g .all)) ∙ ap suc (fields-count n (drop 12 bs) (g .others) (g .are-others))

@@ -16,7 +16,8 @@ use Rattle.columns.specs.Lines.{Line, linesOf, readFields, lettered, readLine}
 use Rattle.columns.specs.Texts.{Text, addLine, addLines}
 use Rattle.columns.proofs.Options.{none-some, cond-some, lettered-some}
 use Rattle.scan.specs.Following.{addAll, restOf, firstBy, lineOf, lineEnds, numbersOn}
-use Rattle.scan.proofs.Feeds.{feedless-more, fields-feedless, firstOf, lines-first, FirstLine, lines-split, lines-some, fields-prefix, fields-count}
+use Rattle.scan.proofs.Feeds.{feedless-more, fields-feedless, firstOf, lines-first, FirstLine, lines-split, lines-some, fields-prefix}
+use Rattle.line_numbers.proofs.Storing.{fields-count}
 
 -- ---- nothing, and something
 

@@ -1,7 +1,6 @@
 -- What is proved for reading a text. In the order in which each rests on those before it:
 --   Feeds      a field holds no line feed; the first line of a text
 --   Following  a line read, added to what was read before it; and where no line is read
---   Storing    fields read one after the other and stored; and the line feed after them
 --   Telling    what is answered for a line
 --   Adding     a line of so many numbers, or of one that comes once, added to what was read
 --   Letters    the same by the letter: I, K, E, R, L, and any other
@@ -11,7 +10,6 @@
 --   Clearing   lists of zeros
 pub mod Feeds
 pub mod Following
-pub mod Storing
 pub mod Telling
 pub mod Adding
 pub mod Letters

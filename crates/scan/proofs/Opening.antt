@@ -21,7 +21,7 @@ use Rattle.scan.specs.declared.progress.NextLine.the-variants as next
 use Rattle.scan.specs.Following.{restOf, firstBy, lineOf, numbersOn, numberOn}
 use Rattle.scan.specs.Standing.{TellsText, Opens}
 use Rattle.scan.proofs.Following.{numbered, first-on, first-stuck, rest-added}
-use Rattle.scan.proofs.Storing.{number-some, number-none}
+use Rattle.line_numbers.proofs.Storing.{number-some, number-none}
 use Rattle.scan.proofs.Telling.{word-read}
 use Rattle.scan.proofs.Adding.{one-by-one, one-some, one-none, fits-one}
 
@@ -34,10 +34,6 @@ by-opening (some (l ∷ ls)) = refl
 
 text-first : (b : ℕ) (bs : List ℕ) → length (b ∷ bs) ≤ 65536 → readText (b ∷ bs) ≡ firstBy openedBy (linesOf (b ∷ bs))
 text-first b bs h = rw (le-leb (length (b ∷ bs)) 65536 h) (by-opening (linesOf (b ∷ bs)))
-
-pub some-byte : (text : List ℕ) → getD text 0 0 ≡ 68 → 1 ≤ length text
-some-byte [] e = absurd (omega (arith, e))
-some-byte (b ∷ bs) e = omega arith
 
 -- another letter
 other-first : (text : List ℕ) → length text ≤ 65536 → (getD text 0 0 ≡ 68 → ⊥) → readText text ≡ none

@@ -4,7 +4,7 @@ use mathlib.Core.Path.{_≡_, refl, sym, ap, _∙_}
 use mathlib.Core.Bool.{Bool, true, false}
 use mathlib.Core.List.{List, [], _∷_}
 use mathlib.Core.Option.{Option, none, some}
-use Prim.Native.Nat.{ℕ, _+_, _-_}
+use Prim.Native.Nat.{ℕ, _+_, _-_, _≤_}
 use native.Mathlib.Omega.{arith}
 use lib.IntN.{ℤ}
 use lib.ListN.{length, take, drop}
@@ -17,9 +17,9 @@ use Rattle.columns.specs.Scanned.{numberReply}
 use Rattle.columns.proofs.Options.{none-some, cond-some}
 use Rattle.scan.specs.declared.progress.TextProgress.{TextProgress}
 use Rattle.scan.specs.declared.progress.NextLine.the-variants as next
-use Rattle.scan.specs.Following.{lineEnds, numberOn, numbersIn, isSome, Stores}
+use Rattle.line_numbers.specs.LineNumbers.{lineEnds, numberOn, numbersIn, numbersAt, isSome, Stores}
 use Rattle.scan.specs.Standing.{TakesLine, headLine}
-use Rattle.scan.proofs.Storing.{number-some, number-none, field-fits}
+use Rattle.line_numbers.proofs.Storing.{number-some, number-none, field-fits, at-room}
 
 -- ---- what is answered for a line
 
@@ -32,11 +32,16 @@ module _ (bs : List ℕ) (n limit place : ℕ) (q : TextProgress) (list list′ 
   by-some none e h = absurd (let z : _≡_ {A = ℕ} 0 1 = cc in omega arith)
   by-some (some zs) e h = record { answer = refl; stored = h }
 
-  pub takes-none : (r : Bool) → Stores (numbersIn (length list - place) n bs) list place r list′ → r ≡ false → TakesLine (numbersIn (limit - place) n bs) q list place next.Unreadable list′
-  takes-none r s e = rw (← long) (by-none (numbersIn (length list - place) n bs) (sym e ∙ s .answer))
+  -- the numbers of a line have their place where the list has room after those that it has
+  module _ (few : place ≤ limit) where
+    placed-as : numbersAt (length list) place n bs ≡ numbersIn (limit - place) n bs
+    placed-as = ap (λ (k : ℕ). numbersAt k place n bs) long ∙ at-room limit place n bs few
 
-  pub takes-some : (r : Bool) → Stores (numbersIn (length list - place) n bs) list place r list′ → r ≡ true → TakesLine (numbersIn (limit - place) n bs) q list place (next.At q) list′
-  takes-some r s e = rw (← long) (by-some (numbersIn (length list - place) n bs) (sym e ∙ s .answer) (s .stored))
+    pub takes-none : (r : Bool) → Stores (numbersAt (length list) place n bs) list place r list′ → r ≡ false → TakesLine (numbersIn (limit - place) n bs) q list place next.Unreadable list′
+    takes-none r s e = rw (← placed-as) (by-none (numbersAt (length list) place n bs) (sym e ∙ s .answer))
+
+    pub takes-some : (r : Bool) → Stores (numbersAt (length list) place n bs) list place r list′ → r ≡ true → TakesLine (numbersIn (limit - place) n bs) q list place (next.At q) list′
+    takes-some r s e = rw (← placed-as) (by-some (numbersAt (length list) place n bs) (sym e ∙ s .answer) (s .stored))
 
 -- ---- what is answered for a line that comes once
 

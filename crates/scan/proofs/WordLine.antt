@@ -4,24 +4,24 @@ use mathlib.Core.Path.{_≡_, refl, sym, ap, _∙_}
 use mathlib.Core.Bool.{Bool, true, false}
 use mathlib.Core.List.{List, map}
 use mathlib.Core.Option.{Option, none, some}
-use Prim.Native.Nat.{ℕ, _+_, _-_, _/_, _%_, _<_, _≤_}
+use Prim.Native.Nat.{ℕ, _+_, _-_, _/_, _%_}
 use native.Mathlib.Omega.{arith}
 use lib.IntN.{ℤ, pos}
 use lib.ListN.{length, drop, length-drop}
 use lib.Seq.{sets}
-use borrow.Author.Tests.{le-leb, lt-leb, ne-eqb}
+use borrow.Author.Tests.{ne-eqb}
 use Rattle.words.specs.Words.{wordOf, numberOf}
 use Rattle.words.proofs.Bits.{number-pos}
 use Rattle.lang.specs.Answers.{replyOf}
 use Rattle.columns.specs.declared.TextHeads.{TextHeads}
 use Rattle.columns.specs.declared.TextRead.the-variants as whole
-use Rattle.columns.specs.Lines.{readFields}
 use Rattle.columns.specs.Scanned.{headNumbers}
 use Rattle.columns.proofs.Options.{none-some}
 use Rattle.scan.specs.declared.progress.TextProgress.{TextProgress}
-use Rattle.scan.specs.Following.{lineEnds, wordOn, wordsOf, isSome, Stores}
+use Rattle.line_numbers.specs.LineNumbers.{numbersIn, wordsOf, isSome, Stores}
+use Rattle.scan.specs.Following.{wordOn}
 use Rattle.scan.specs.Standing.{headsOf, EndsWord}
-use Rattle.scan.proofs.Feeds.{fields-count}
+use Rattle.line_numbers.proofs.Storing.{fields-count, in-some}
 
 module _ (text : List ℕ) (p : TextProgress) (word word′ : List ℕ) where
   abbrev bs : List ℕ
@@ -39,35 +39,29 @@ module _ (text : List ℕ) (p : TextProgress) (word word′ : List ℕ) where
   many : length bs / 12 ≡ rest / 12
   many = ap (λ (k : ℕ). k / 12) (length-drop (p .at + 1) text)
 
-  -- not so many bytes as whole fields and a line feed have; or too many
+  -- not so many bytes as whole fields and a line feed have
   pub word-unended : (rest % 12 ≡ 1 → ⊥) → EndsWord (wordOn bs) p word whole.Unreadable word′
   word-unended h = none-ends (rw (length-drop (p .at + 1) text, ne-eqb (rest % 12) 1 h))
 
-  pub word-long : rest % 12 ≡ 1 → 64 < rest / 12 → EndsWord (wordOn bs) p word whole.Unreadable word′
-  word-long e h = none-ends (rw (ends-as e, many, lt-leb (rest / 12) 64 h))
-
-  -- no line feed
-  pub word-unfed : rest % 12 ≡ 1 → rest / 12 ≤ 64 → lineEnds (rest / 12) bs ≡ false → EndsWord (wordOn bs) p word whole.Unreadable word′
-  word-unfed e h f = none-ends (rw (ends-as e, many, le-leb (rest / 12) 64 h, f))
-
-  module _ (e : rest % 12 ≡ 1) (h : rest / 12 ≤ 64) (f : lineEnds (rest / 12) bs ≡ true) where
-    fields : wordOn bs ≡ readFields (rest / 12) bs
-    fields = rw (ends-as e, many, le-leb (rest / 12) 64 h, f)
+  module _ (e : rest % 12 ≡ 1) (long : length word ≡ 64) where
+    fields : wordOn bs ≡ numbersIn (length word) (rest / 12) bs
+    fields = rw (ends-as e, many, long)
 
     none-read : (o : Option (List ℤ)) → false ≡ isSome (wordsOf o) → o ≡ none
     none-read none e = refl
     none-read (some zs) e = absurd (let z : _≡_ {A = ℕ} 0 1 = cc in omega arith)
 
-    -- a field is unreadable
-    pub word-unread : (r : Bool) → Stores (wordsOf (readFields (rest / 12) bs)) word 0 r word′ → r ≡ false → EndsWord (wordOn bs) p word whole.Unreadable word′
-    word-unread r s i = none-ends (fields ∙ none-read (readFields (rest / 12) bs) (sym i ∙ s .answer))
+    -- too many letters, no line feed, or a field that is unreadable
+    pub word-unread : (r : Bool) → Stores (wordsOf (numbersIn (length word) (rest / 12) bs)) word 0 r word′ → r ≡ false → EndsWord (wordOn bs) p word whole.Unreadable word′
+    word-unread r s i = none-ends (fields ∙ none-read (numbersIn (length word) (rest / 12) bs) (sym i ∙ s .answer))
 
-    by-fields : (o : Option (List ℤ)) → readFields (rest / 12) bs ≡ o → true ≡ isSome (wordsOf o) → ((vs : List ℕ) → wordsOf o ≡ some vs → word′ ≡ sets word 0 vs) → (x : TextHeads) → headNumbers x ≡ headsOf p (numberOf (rest / 12)) → EndsWord o p word (whole.Text x) word′
+    by-fields : (o : Option (List ℤ)) → numbersIn (length word) (rest / 12) bs ≡ o → true ≡ isSome (wordsOf o) → ((vs : List ℕ) → wordsOf o ≡ some vs → word′ ≡ sets word 0 vs) → (x : TextHeads) → headNumbers x ≡ headsOf p (numberOf (rest / 12)) → EndsWord o p word (whole.Text x) word′
     by-fields none i a k x y = absurd (let z : _≡_ {A = ℕ} 0 1 = cc in omega arith)
     by-fields (some zs) i a k x y =
-        let m = fields-count (rest / 12) bs zs i in
-        let n : numberOf (rest / 12) ≡ pos (length zs) = number-pos (rest / 12) (omega arith) ∙ ap pos (sym m) in
+        let c = in-some (length word) (rest / 12) bs zs i in
+        let m = fields-count (rest / 12) bs zs (c .1) in
+        let n : numberOf (rest / 12) ≡ pos (length zs) = number-pos (rest / 12) (omega (arith, c .0, long)) ∙ ap pos (sym m) in
         record { answer = ap (replyOf 0) (y ∙ ap (headsOf p) n); stored = λ ys j. k (map wordOf ys) (ap wordsOf j) }
 
-    pub word-all : (r : Bool) → Stores (wordsOf (readFields (rest / 12) bs)) word 0 r word′ → r ≡ true → (x : TextHeads) → headNumbers x ≡ headsOf p (numberOf (rest / 12)) → EndsWord (wordOn bs) p word (whole.Text x) word′
-    word-all r s i x y = rw fields (by-fields (readFields (rest / 12) bs) refl (sym i ∙ s .answer) (s .stored) x y)
+    pub word-all : (r : Bool) → Stores (wordsOf (numbersIn (length word) (rest / 12) bs)) word 0 r word′ → r ≡ true → (x : TextHeads) → headNumbers x ≡ headsOf p (numberOf (rest / 12)) → EndsWord (wordOn bs) p word (whole.Text x) word′
+    word-all r s i x y = rw fields (by-fields (numbersIn (length word) (rest / 12) bs) refl (sym i ∙ s .answer) (s .stored) x y)

@@ -10,7 +10,6 @@ use words::zero::zero_i32;
 use words::zero::zero_u32;
 
 mod lines;
-mod numbers;
 mod progress;
 mod whole;
 

@@ -4,11 +4,11 @@ ghost use Prim.Native.Nat.{_+_, _-_, _≤_};
 ghost use lib.ListN.{getD, drop};
 ghost use Rattle.scan.specs.Following.{numbersIn};
 ghost use Rattle.scan.specs.Standing.{Scanning, Before, TakesLine, Goes, pastInstruction, pastKern, pastEntry, pastBoundary, pastLeft, headLine};
-use crate::numbers::read_number;
-use crate::numbers::read_numbers;
 use crate::progress::NextLine;
 use crate::progress::TextProgress;
 use columns::FieldRead;
+use line_numbers::read_number;
+use line_numbers::read_numbers;
 use words::word_of;
 
 // I: four numbers.

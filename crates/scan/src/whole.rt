@@ -5,14 +5,13 @@ ghost use lib.ListN.{length, drop};
 ghost use Rattle.scan.specs.Following.{wordOn};
 ghost use Rattle.scan.specs.Standing.{zeros, Scanning, Before, Opens, EndsWord, ReadsLists};
 use crate::lines::next_line;
-use crate::numbers::line_ends;
-use crate::numbers::read_letters;
-use crate::numbers::read_number;
 use crate::progress::NextLine;
 use crate::progress::TextProgress;
 use crate::progress::heads_of;
 use columns::FieldRead;
 use columns::TextRead;
+use line_numbers::read_letters;
+use line_numbers::read_number;
 use words::u8_at;
 use words::word_of;
 
@@ -51,12 +50,6 @@ fn word_line(text: &[u8], p: TextProgress, word: &mut [u32; 64]) -> TextRead
         return TextRead::Unreadable;
     }
     let n = rest / 12;
-    if 64 < n {
-        return TextRead::Unreadable;
-    }
-    if !line_ends(text, at, n) {
-        return TextRead::Unreadable;
-    }
     if !read_letters(text, at, n, word) {
         return TextRead::Unreadable;
     }

@@ -1,7 +1,7 @@
 -- `scan::whole::first_line` meets its contract. Assumes nothing.
 use mathlib.Core.Path.{sym, ap, _∙_}
 use Rattle.columns.specs.Scanned.{fieldReply}
-use Rattle.scan.proofs.Opening.{some-byte, opens-other, opens-none, opens-some}
+use Rattle.scan.proofs.Opening.{opens-other, opens-none, opens-some}
 use borrow.Author.Needs.{needs}
 use Rattle.scan.proofs.whole.first_line.Statement.{statement}
 use Rattle.scan.proofs.whole.first_line.Tie as tie
@@ -16,10 +16,7 @@ returns c =
     opens-other (s .args .text .now) (s .pre) (λ e. c .if1 .taken (x .u8-at .ensures ∙ e))
 
 read-number-requires : tie.Need-read-number-requires
-read-number-requires c κs =
-    let x = c .before in
-    let s = x .before .before in
-    some-byte (s .args .text .now) (sym (x .u8-at .ensures) ∙ c .if1 .left)
+read-number-requires c κs = search needs
 
 enum-known-z : tie.Need-enum-known-z
 enum-known-z c = search needs

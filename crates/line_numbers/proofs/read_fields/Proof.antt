@@ -1,14 +1,14 @@
--- `scan::numbers::read_fields` meets its contract. The loop's invariant: the first j fields are read, and their numbers stored.
+-- `line_numbers::read_fields` meets its contract. The loop's invariant: the first j fields are read, and their numbers stored.
 -- Assumes nothing.
 use mathlib.Core.Path.{_≡_, sym, ap, _∙_}
 use Prim.Native.Nat.{_+_, _-_, _<_, _≤_}
 use lib.ListN.{length, drop}
 use Rattle.columns.specs.Scanned.{fieldReply}
-use Rattle.scan.proofs.Storing.{Storing, plain, field-some, field-none, numbers-none, numbers-length, numbers-more, numbers-stop, numbers-all}
+use Rattle.line_numbers.proofs.Storing.{Storing, plain, field-some, field-none, numbers-none, numbers-length, numbers-more, numbers-stop, numbers-all}
 use native.Mathlib.Omega.{arith}
 use borrow.Author.Needs.{needs}
-use Rattle.scan.proofs.numbers.read_fields.Statement.{statement}
-use Rattle.scan.proofs.numbers.read_fields.Tie as tie
+use Rattle.line_numbers.proofs.read_fields.Statement.{statement}
+use Rattle.line_numbers.proofs.read_fields.Tie as tie
 
 abbrev Inv-loop : tie.InvT-loop
 Inv-loop text at n list₀ place j₀ list j = (j ≤ n) × Storing plain (drop at text) list₀ list place j

@@ -4,7 +4,7 @@ use mathlib.Core.Path.{_≡_, refl, sym, ap, _∙_}
 use mathlib.Core.Bool.{Bool, true, false, cond}
 use mathlib.Core.List.{List, [], _∷_, _++_, map, map-append}
 use mathlib.Core.Option.{Option, none, some, Option·some-injective}
-use Prim.Native.Nat.{ℕ, zero, suc, _+_, _-_, _*_, _<_, _≤_}
+use Prim.Native.Nat.{ℕ, zero, suc, _+_, _-_, _*_, _/_, _<_, _≤_}
 use native.Mathlib.Numerals.{add-one}
 use native.Mathlib.Omega.{arith}
 use lib.IntN.{ℤ, pos, negsuc}
@@ -13,7 +13,7 @@ use lib.ListN.{length, getD, take, drop, set, length-drop, length-map}
 use lib.Seq.{sets, length-sets, drop-drop, getD-drop}
 use mir.Syntax.{w32}
 use mir.Val.{SFits}
-use borrow.Author.Tests.{lt-ltb, le-ltb, le-leb, lt-leb, leb-true, ltb-true}
+use borrow.Author.Tests.{lt-ltb, le-ltb, le-leb, lt-leb, leb-true, leb-false, ltb-true}
 use Rattle.words.specs.Words.{wordOf, numberOf}
 use Rattle.words.proofs.Bits.{number-word}
 use Rattle.words.proofs.Lists.{sets-append}
@@ -23,20 +23,32 @@ use Rattle.columns.specs.Numbers.{unsigned, withSign, withoutSign, readField}
 use Rattle.columns.specs.Lines.{readFields}
 use Rattle.columns.specs.Scanned.{numberReply, fieldAt}
 use Rattle.columns.proofs.Options.{none-some, cond-some, and-some}
-use Rattle.scan.specs.Following.{lineEnds, numbersIn, wordsOf, Stores}
-use Rattle.scan.proofs.Feeds.{fields-count}
+use Rattle.line_numbers.specs.LineNumbers.{lineEnds, numbersOn, numbersIn, numbersAt, wordsOf, Stores}
+
+-- ---- as many numbers as fields
+
+pub fields-count : (n : ℕ) (bs : List ℕ) (zs : List ℤ) → readFields n bs ≡ some zs → length zs ≡ n
+unfolding readFields
+fields-count zero bs zs e = ap length (sym (Option·some-injective [] zs e))
+fields-count (suc n) bs zs e =
+    let g = and-some (readField (take 12 bs)) (readFields n (drop 12 bs)) zs e in
+    ap length (sym (g .all)) ∙ ap suc (fields-count n (drop 12 bs) (g .others) (g .are-others))
 
 -- ---- where a line ends
 
-pub ends-before : (text : List ℕ) (at n : ℕ) → length text - at ≤ 12 * n → lineEnds n (drop at text) ≡ false
-ends-before text at n h = rw (le-ltb (12 * n) (length (drop at text)) (simp length-drop h))
+-- past the text, or before its end
+pub ends-past : (text : List ℕ) (at n : ℕ) → length text ≤ at → lineEnds n (drop at text) ≡ false
+ends-past text at n h = rw (le-ltb (12 * n) (length (drop at text)) (simp length-drop (omega arith)))
 
-pub ends-by : (text : List ℕ) (at n : ℕ) → 12 * n < length text - at → lineEnds n (drop at text) ≡ eqb (getD text (at + 12 * n) 0) 10
-ends-by text at n h = rw (lt-ltb (12 * n) (length (drop at text)) (simp length-drop h), getD-drop at text (12 * n) 0)
+pub ends-before : (text : List ℕ) (at n : ℕ) → at < length text → (length text - at - 1) / 12 < n → lineEnds n (drop at text) ≡ false
+ends-before text at n i h = rw (le-ltb (12 * n) (length (drop at text)) (simp length-drop (omega arith)))
+
+pub ends-by : (text : List ℕ) (at n : ℕ) → at < length text → n ≤ (length text - at - 1) / 12 → lineEnds n (drop at text) ≡ eqb (getD text (at + 12 * n) 0) 10
+ends-by text at n i h = rw (lt-ltb (12 * n) (length (drop at text)) (simp length-drop (omega arith)), getD-drop at text (12 * n) 0)
 
 -- there it is inside
-pub ends-inside : (text : List ℕ) (at n : ℕ) → at ≤ length text → lineEnds n (drop at text) ≡ true → at + 12 * n < length text
-ends-inside text at n h e =
+pub ends-inside : (text : List ℕ) (at n : ℕ) → lineEnds n (drop at text) ≡ true → at + 12 * n < length text
+ends-inside text at n e =
     let l = ltb-true (12 * n) (length (drop at text)) (both-left (ltb (12 * n) (length (drop at text))) (eqb (getD (drop at text) (12 * n) 0) 10) e) in
     omega (arith, l, length-drop at text)
 
@@ -85,6 +97,16 @@ field-fits (b ∷ bs) z e = by (eqb b 32) (eqb b 45) e (field-fits bs z)
 
 -- ---- a line's numbers, where there is room for them
 
+pub at-past : (long place n : ℕ) (bs : List ℕ) → long < place + n → numbersAt long place n bs ≡ none
+at-past long place n bs h = rw (lt-leb (place + n) long h)
+
+pub at-room : (long place n : ℕ) (bs : List ℕ) → place ≤ long → numbersAt long place n bs ≡ numbersIn (long - place) n bs
+at-room long place n bs h = ap (λ (b : Bool). cond b (numbersOn n bs) none) (by (leb n (long - place)) refl)
+  where
+    by : (b : Bool) → leb n (long - place) ≡ b → leb (place + n) long ≡ b
+    by true e = le-leb (place + n) long (omega (arith, h, leb-true n (long - place) e))
+    by false e = lt-leb (place + n) long (omega (arith, h, leb-false n (long - place) e))
+
 pub in-short : (room n : ℕ) (bs : List ℕ) → room < n → numbersIn room n bs ≡ none
 in-short room n bs h = rw (lt-leb n room h)
 
@@ -97,6 +119,11 @@ in-unended room n bs e = rw e (by (leb n room))
 
 pub in-is : (room n : ℕ) (bs : List ℕ) → n ≤ room → lineEnds n bs ≡ true → numbersIn room n bs ≡ readFields n bs
 in-is room n bs h e = rw (le-leb n room h, e)
+
+pub in-some : (room n : ℕ) (bs : List ℕ) (zs : List ℤ) → numbersIn room n bs ≡ some zs → (n ≤ room) × (readFields n bs ≡ some zs)
+in-some room n bs zs e =
+    let c = cond-some (leb n room) (numbersOn n bs) zs e in
+    (leb-true n room (c .0), cond-some (lineEnds n bs) (readFields n bs) zs (c .1) .1)
 
 -- ---- fields one after the other
 
@@ -189,6 +216,9 @@ module _ (bs : List ℕ) (word₀ : List ℕ) where
 
   pub letters-none : Storing worded bs word₀ word₀ 0 0
   letters-none = storing-none worded wordOf last same bs word₀ 0 refl
+
+  pub letters-length : {word : List ℕ} {j : ℕ} → Storing worded bs word₀ word 0 j → length word ≡ length word₀
+  letters-length s = storing-length worded wordOf last same bs word₀ 0 s
 
   pub letters-more : {word : List ℕ} {j : ℕ} (z : ℤ) (w : ℕ) → Storing worded bs word₀ word 0 j → readField (take 12 (drop (12 * j) bs)) ≡ some z → w ≡ wordOf (numberOf (wordOf z)) → Storing worded bs word₀ (set word j w) 0 (j + 1)
   letters-more {word} {j} z w s e i =

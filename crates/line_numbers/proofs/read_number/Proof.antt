@@ -1,9 +1,9 @@
--- `scan::numbers::read_number` meets its contract. Assumes nothing.
+-- `line_numbers::read_number` meets its contract. Assumes nothing.
 use mathlib.Core.Path.{sym, _∙_}
 use borrow.Author.Tests.{not-true, not-false}
 use borrow.Author.Needs.{needs}
-use Rattle.scan.proofs.numbers.read_number.Statement.{statement}
-use Rattle.scan.proofs.numbers.read_number.Tie as tie
+use Rattle.line_numbers.proofs.read_number.Statement.{statement}
+use Rattle.line_numbers.proofs.read_number.Tie as tie
 
 line-ends-requires : tie.Need-line-ends-requires
 line-ends-requires c κs = search needs

@@ -1,20 +1,23 @@
-// The numbers of a line: fields from the place after its letter on, and a line feed after them.
+// The numbers of a line of a column text: fields from the place after its letter on, and a line feed after them. Document 01, 'The column text'. Each public function is
+// total, and takes a line only where all of its numbers have a place.
 ghost use mathlib.Core.Path.{_≡_};
-ghost use Prim.Native.Nat.{_+_, _-_, _*_, _≤_};
+ghost use Prim.Native.Nat.{_+_, _*_, _≤_};
 ghost use lib.ListN.{length, drop};
 ghost use Rattle.columns.specs.Lines.{readFields};
 ghost use Rattle.columns.specs.Scanned.{fieldReply, numberReply};
-ghost use Rattle.scan.specs.Following.{lineEnds, numberOn, numbersIn, wordsOf, Stores};
+ghost use Rattle.line_numbers.specs.LineNumbers.{lineEnds, numberOn, numbersIn, numbersAt, wordsOf, Stores};
 use columns::FieldRead;
 use fields::read_field;
 use words::word_of;
 
 // Whether the line feed stands where n fields end.
-pub(crate) fn line_ends(text: &[u8], at: usize, n: usize) -> bool
-    requires { ⌜ (at ≤ length (now text)) × (n ≤ 64) ⌝ }
+fn line_ends(text: &[u8], at: usize, n: usize) -> bool
     ensures { λ r. ⌜ r ≡ lineEnds n (drop at (now (text .entry))) ⌝ }
 {
-    if text.len() - at <= 12 * n {
+    if text.len() <= at {
+        return false;
+    }
+    if (text.len() - at - 1) / 12 < n {
         return false;
     }
     text[at + 12 * n] == 10
@@ -37,8 +40,8 @@ fn read_fields(text: &[u8], at: usize, n: usize, list: &mut [i32], place: usize)
 }
 
 // The same, as the words of a word's letters.
-pub(crate) fn read_letters(text: &[u8], at: usize, n: usize, word: &mut [u32; 64]) -> bool
-    requires { ⌜ (at + 12 * n ≤ length (now text)) × (n ≤ 64) ⌝ }
+fn read_words(text: &[u8], at: usize, n: usize, word: &mut [u32]) -> bool
+    requires { ⌜ (at + 12 * n ≤ length (now text)) × (n ≤ length (now word)) ⌝ }
     ensures { λ r. ⌜ Stores (wordsOf (readFields n (drop at (now (text .entry))))) (now (word .entry)) 0 r (now (word .exit)) ⌝ }
 {
     let mut j = 0;
@@ -52,11 +55,13 @@ pub(crate) fn read_letters(text: &[u8], at: usize, n: usize, word: &mut [u32; 64
     true
 }
 
-// The n numbers of a line, where the list has room for them.
-pub(crate) fn read_numbers(text: &[u8], at: usize, n: usize, list: &mut [i32], place: usize) -> bool
-    requires { ⌜ (at ≤ length (now text)) × (n ≤ 64) × (place ≤ length (now list)) ⌝ }
-    ensures { λ r. ⌜ Stores (numbersIn (length (now (list .entry)) - place) n (drop at (now (text .entry)))) (now (list .entry)) place r (now (list .exit)) ⌝ }
+// The n numbers of a line, stored from a place on, where the list has room for them.
+pub fn read_numbers(text: &[u8], at: usize, n: usize, list: &mut [i32], place: usize) -> bool
+    ensures { λ r. ⌜ Stores (numbersAt (length (now (list .entry))) place n (drop at (now (text .entry)))) (now (list .entry)) place r (now (list .exit)) ⌝ }
 {
+    if list.len() < place {
+        return false;
+    }
     if list.len() - place < n {
         return false;
     }
@@ -66,9 +71,21 @@ pub(crate) fn read_numbers(text: &[u8], at: usize, n: usize, list: &mut [i32], p
     read_fields(text, at, n, list, place)
 }
 
+// The n numbers of a line as the letters of a word, where it has room for them.
+pub fn read_letters(text: &[u8], at: usize, n: usize, word: &mut [u32]) -> bool
+    ensures { λ r. ⌜ Stores (wordsOf (numbersIn (length (now (word .entry))) n (drop at (now (text .entry))))) (now (word .entry)) 0 r (now (word .exit)) ⌝ }
+{
+    if word.len() < n {
+        return false;
+    }
+    if !line_ends(text, at, n) {
+        return false;
+    }
+    read_words(text, at, n, word)
+}
+
 // The one number of a line.
-pub(crate) fn read_number(text: &[u8], at: usize) -> FieldRead
-    requires { ⌜ at ≤ length (now text) ⌝ }
+pub fn read_number(text: &[u8], at: usize) -> FieldRead
     ensures { λ r. ⌜ fieldReply r ≡ numberReply (numberOn (drop at (now (text .entry)))) ⌝ }
 {
     if !line_ends(text, at, 1) {
