@@ -34,7 +34,7 @@ extern "C" {
    nothing but the C library's memset, so any number of threads may call it at once, each with a reply of its own; they
    may share a text.
 
-   Stack: 120 KiB, measured on the texts of crates/texts; give a thread that calls it 256 KiB. The function always
+   Stack: 120 KiB, measured on the texts of crates/test_texts; give a thread that calls it 256 KiB. The function always
    returns and never ends the process, but for a stack that is too small, of which no proof speaks. */
 int32_t ligcols(const uint8_t *text, size_t text_length, uint8_t *reply, size_t reply_length);
 

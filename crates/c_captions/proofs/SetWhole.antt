@@ -10,9 +10,9 @@ use Rattle.lang.specs.declared.Written.the-variants.{Count, Refused}
 use Rattle.lang.specs.Answers.{Reply, roomRefusal}
 use Rattle.lang.proofs.Refusals.{first-is}
 use Rattle.lang.proofs.Filled.{refused-list}
-use Rattle.setting.specs.Writing.{Tells}
+use Rattle.word_set.specs.Writing.{Tells}
 use Rattle.c_captions.specs.Whole.{captionNumber, SetsCaption}
-use Rattle.c_counts.proofs.Replies.{replied-refused, replied-taken}
+use Rattle.c_compile.proofs.Replies.{replied-refused, replied-taken}
 use Rattle.c_states.proofs.Writing.{zeroed-length, written-front, with-room, without-room}
 
 module _ (reply : Reply) (items items′ : List ℤ) (count zeros : List ℕ) (blank : zeros ≡ replicate (length count) 0) where

@@ -24,7 +24,7 @@ use Rattle.captions.specs.Begin.{beginRefusal, freshState}
 use Rattle.captions.specs.Steps.{ranFrom, rightItem, stepRefusal, handBack, steppedBy, stepOf}
 use Rattle.captions.specs.Runs.{answers, shown}
 use Rattle.captions.proofs.Theorems.{demand-3}
-use Rattle.c_counts.specs.Counts.{countsOf, CompilesCounts}
+use Rattle.c_compile.specs.Counts.{countsOf, CompilesCounts}
 use Rattle.c_states.specs.States.{flagBit, stateRead, movedTo}
 use Rattle.c_steps.specs.Step.{stepRunFrom, stepIn, stepNumber, itemNumbers, StepsRun}
 use Rattle.c_captions.specs.Purpose.{SameNumbers, ReadsBack, Call, seen, HostCalls, done, call, HostCallsAnswer, EveryHostFont, EveryRun}

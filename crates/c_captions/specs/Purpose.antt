@@ -14,7 +14,7 @@ use Rattle.captions.specs.declared.Answer.{Answer}
 use Rattle.captions.specs.Replies.{nextCode, stateNumbers, answerReply}
 use Rattle.captions.specs.Runs.{answers, shown, thenEnds}
 use Rattle.captions.specs.Demand3.{Answered, Demand3}
-use Rattle.c_counts.specs.Counts.{CompilesCounts}
+use Rattle.c_compile.specs.Counts.{CompilesCounts}
 use Rattle.c_states.specs.States.{numbersOf, stateRead}
 use Rattle.c_captions.specs.Begin.{BeginsRun}
 use Rattle.c_steps.specs.Step.{itemNumbers, StepsRun}

@@ -1,14 +1,14 @@
 // An index and a word set whole by it, for a host in C: slices and integers in, the number of document 01 out (0 where it is taken). The contracts are those of
-// index/specs/Index and c_captions/specs/Whole; what an index is for is indexed_setting/specs/Purpose.
+// index/specs/Index and c_captions/specs/Whole; what an index is for is index_set_word/specs/Purpose.
 ghost use lib.ListN.{length};
 ghost use Rattle.index.specs.Index.{FillsIndex};
-ghost use Rattle.indexed_setting.specs.Whole.{indexedReply};
+ghost use Rattle.index_set_word.specs.Whole.{indexedReply};
 ghost use Rattle.c_states.specs.States.{optionsOf};
 ghost use Rattle.c_captions.specs.Whole.{SetsCaption};
 use c_values::zero_u64;
 use captions::RunOptions;
-use fill_index::fill_index;
-use indexed_setting::set_word_indexed;
+use index_fill::fill_index;
+use index_set_word::set_word_indexed;
 use lang::Written;
 use words::zero::zero_i32;
 

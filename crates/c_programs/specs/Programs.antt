@@ -6,7 +6,7 @@ use lib.ListN.{length}
 use Rattle.words.specs.Words.{wordOf}
 use Rattle.lang.specs.Records.{count}
 use Rattle.lang.specs.Answers.{Reply, replyOf}
-use Rattle.chain.specs.Chains.{chainOf, walkRefusal}
+use Rattle.program_chain.specs.Chains.{chainOf, walkRefusal}
 use Rattle.reach.specs.Reach.{reachRefusal}
 
 -- instructions_for_entrypoint: how many instructions the chain has

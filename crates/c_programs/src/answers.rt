@@ -1,10 +1,10 @@
 // Answers of other kinds as a count or the number of a refusal: the same number and values of document 01. A yes is 1 and a no 0.
 ghost use mathlib.Core.Path.{_≡_};
 ghost use Rattle.lang.specs.Answers.{writtenReply};
-ghost use Rattle.unpack.specs.Unpacking.{unpackedReply, sevenBitReply};
+ghost use Rattle.entry_unpack.specs.Unpacking.{unpackedReply, sevenBitReply};
+use entry_unpack::SevenBit;
+use entry_unpack::Unpacked;
 use lang::Written;
-use unpack::SevenBit;
-use unpack::Unpacked;
 
 pub(crate) fn entry_of(answer: Unpacked) -> Written
     ensures { λ r. ⌜ writtenReply r ≡ unpackedReply answer ⌝ }

@@ -2,8 +2,8 @@
 ghost use lib.ListN.{length};
 ghost use lib.IntN.{pos};
 ghost use Rattle.words.specs.Words.{wordOf};
-ghost use Rattle.chain.specs.Chains.{chainOf};
-ghost use Rattle.unpack.specs.Unpacking.{unpackEntry, passthroughAfter, sevenBit};
+ghost use Rattle.program_chain.specs.Chains.{chainOf};
+ghost use Rattle.entry_unpack.specs.Unpacking.{unpackEntry, passthroughAfter, sevenBit};
 ghost use Rattle.reach.specs.Reach.{reachList};
 ghost use Rattle.c_values.specs.Telling.{TellsHost, Gives};
 ghost use Rattle.c_programs.specs.Programs.{walkReply, reachReply};
@@ -24,7 +24,7 @@ pub extern "C" fn ligkern_instructions_for_entrypoint(
 ) -> u32
     ensures { λ r. ⌜ Gives 0 (walkReply (now (instructions .entry)) entry (length (now (out .entry)))) (chainOf (now (instructions .entry)) (wordOf entry)) (now (out .entry)) (now (values .entry)) r (now (out .exit)) (now (values .exit)) ⌝ }
 {
-    let written = chain::instructions_for_entrypoint(instructions, entry, out);
+    let written = program_chain::instructions_for_entrypoint(instructions, entry, out);
     let number = tell(written, values);
     keep_u32(number, out);
     number
@@ -41,7 +41,7 @@ pub extern "C" fn ligkern_unpack_entrypoint(
 ) -> u32
     ensures { λ r. ⌜ Gives 0 (unpackEntry (now (instructions .entry)) entry (now (passthrough .entry)) (length (now (out .entry)))) (passthroughAfter (now (instructions .entry)) (wordOf entry) (now (passthrough .entry))) (now (out .entry)) (now (values .entry)) r (now (out .exit)) (now (values .exit)) ⌝ }
 {
-    let unpacked = unpack::unpack_entrypoint(instructions, entry, passthrough, out);
+    let unpacked = entry_unpack::unpack_entrypoint(instructions, entry, passthrough, out);
     let number = tell(entry_of(unpacked), values);
     keep_u8(number, out);
     number
@@ -56,7 +56,7 @@ pub extern "C" fn ligkern_program_is_seven_bit_safe(
 ) -> u32
     ensures { λ r. ⌜ TellsHost (sevenBit (now (instructions .entry)) (now (entries .entry))) (now (values .entry)) r (now (values .exit)) ⌝ }
 {
-    let tested = unpack::is_seven_bit_safe(instructions, entries);
+    let tested = entry_unpack::is_seven_bit_safe(instructions, entries);
     tell(safety_of(tested), values)
 }
 

@@ -56,7 +56,7 @@ pub extern "C" fn ligkern_validate_and_fix(
     ensures { λ r. ⌜ GivesRepaired (damagedOf (now (instructions .entry)) (now (kerns .entry)) (now (entries .entry)) boundary «left_entry» replacement («from_0» ∷ «from_64» ∷ «from_128» ∷ «from_192» ∷ []) (now (passthrough .entry))) (now (fixed .entry)) (now (through .entry)) (now (warnings .entry)) (now (work .entry)) (now (left .entry)) (now (values .entry)) r (now (fixed .exit)) (now (through .exit)) (now (warnings .exit)) (now (work .exit)) (now (left .exit)) (now (values .exit)) ⌝ }
 {
     let existing = [from_0, from_64, from_128, from_192];
-    let validated = validate::validate_and_fix(
+    let validated = repair::validate_and_fix(
         instructions,
         kerns,
         entries,

@@ -23,9 +23,9 @@ use Rattle.captions.specs.declared.Step.{Step}
 use Rattle.captions.specs.Replies.{answerReply}
 use Rattle.captions.specs.Begin.{edgesRefusal, wordRefusal}
 use Rattle.captions.specs.Steps.{refused, ranFrom, rightItem, stepRefusal, handBack, steppedBy, stepOf}
-use Rattle.item_lists.specs.ItemLists.{isItem, Small}
-use Rattle.item_lists.proofs.Laws.{no}
-use Rattle.setting.proofs.Bounds.{step-small}
+use Rattle.word_items.specs.ItemLists.{isItem, Small}
+use Rattle.word_items.proofs.Laws.{no}
+use Rattle.word_set.proofs.Bounds.{step-small}
 use Rattle.c_states.specs.States.{numbersOf, isState, stateAt, stateRead, outside, orOutside, movedTo, PutsState}
 use Rattle.c_steps.specs.Step.{stepRunFrom, stepIn, stepNumber, itemNumbers, StepsRun}
 use Rattle.c_states.proofs.Writing.{zeroed-length, written-front, with-room, without-room}

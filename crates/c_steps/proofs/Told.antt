@@ -19,10 +19,10 @@ use Rattle.captions.specs.declared.Step.{Step}
 use Rattle.captions.specs.Replies.{answerReply}
 use Rattle.captions.specs.Tables.{pairCount}
 use Rattle.captions.specs.Steps.{refused, stepOf}
-use Rattle.quick.specs.Quick.{plainCode, nextLetter, hasLetter, isQuick, quickLeft, foundPlace, isReady, givenPlain, givenFirst, quickStep}
-use Rattle.quick.proofs.Theorems.{left-quick, quick-is, quick-steps}
-use Rattle.item_lists.specs.ItemLists.{Small}
-use Rattle.item_lists.proofs.Laws.{no}
+use Rattle.step_quick.specs.Quick.{plainCode, nextLetter, hasLetter, isQuick, quickLeft, foundPlace, isReady, givenPlain, givenFirst, quickStep}
+use Rattle.step_quick.proofs.Theorems.{left-quick, quick-is, quick-steps}
+use Rattle.word_items.specs.ItemLists.{Small}
+use Rattle.word_items.proofs.Laws.{no}
 use Rattle.c_states.specs.States.{stateRead, orOutside, PutsState}
 use Rattle.c_steps.specs.Step.{stepIn, itemNumbers, isCharItem, StepsRun}
 use Rattle.c_steps.proofs.Stepping.{from-is, given-small, steps-taken}

@@ -5,12 +5,12 @@ ghost use Prim.Native.Nat.{_≤_};
 ghost use lib.ListN.{length};
 ghost use lib.Seq.{sets};
 ghost use Rattle.captions.specs.Replies.{answerReply};
-ghost use Rattle.item_lists.specs.ItemLists.{Small};
+ghost use Rattle.word_items.specs.ItemLists.{Small};
 ghost use Rattle.c_steps.specs.Step.{itemNumbers, isCharItem};
 use captions::Answer;
-use item_lists::is_item;
-use item_lists::put_item;
-use stretch::put_six;
+use word_items::is_item;
+use word_items::put_item;
+use word_plain_letters::put_six;
 use words::put_word;
 
 // The number of a refusal, else 0.

@@ -16,7 +16,7 @@ use Rattle.reading.specs.Items.{bnd, Item, item, code, flag, Out, glyph, kern}
 use Rattle.reading.specs.Depth.{Res, Finished, Pair}
 use Rattle.reading.specs.Loops.{Ruled}
 use Rattle.fonts.specs.Numbers.{nth, entryOf, opsOf, opsBefore, outNumbers, opNumbers, opsTable, leftNumber, flagNumber, pairNumbers, pairTable}
-use Rattle.pairs.proofs.OpLaws.{numbers-append}
+use Rattle.compiling.proofs.OpLaws.{numbers-append}
 use Rattle.captions.specs.Tables.{number, opKind, opValue, opOf, opAt, opsFrom, entryOfPair}
 
 -- ---- finished pairs, in order

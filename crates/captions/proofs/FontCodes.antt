@@ -15,7 +15,7 @@ use Rattle.tfm.specs.Scaled.{toScaled}
 use Rattle.lang.specs.declared.operation.Operation.the-variants.{Kern, KernAtIndex, EntrypointRedirect}
 use Rattle.lang.specs.Operations.{isStandard, fromBytes, ligature}
 use Rattle.lang.specs.Records.{field, operationOf}
-use Rattle.chain.specs.Chains.{redirected, kernOf, actsAs}
+use Rattle.program_chain.specs.Chains.{redirected, kernOf, actsAs}
 use Rattle.reading.specs.Items.{Left}
 use Rattle.reading.specs.Depth.{Res, comp}
 use Rattle.fonts.specs.Fonts.{numberOfLeft, Font, indexOf, tableOf, scaledKern, ruleOfOperation, ruleOfIndex, rulesOf}

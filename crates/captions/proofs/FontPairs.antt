@@ -11,8 +11,8 @@ use Rattle.reading.specs.Items.{Left}
 use Rattle.reading.specs.Depth.{Res, Finished, Pair}
 use Rattle.reading.specs.Loops.{Ruled}
 use Rattle.fonts.specs.Fonts.{leftOf, numberOfLeft, Font, indexOf, ruledBy, rowPairs, leftPairs, pairsOf, tableOf}
-use Rattle.pairs.proofs.RowLaws.{number-left}
-use Rattle.pairs.proofs.Sorted.{Pairwise, alone, first}
+use Rattle.compiling.proofs.RowLaws.{number-left}
+use Rattle.compiling.proofs.Sorted.{Pairwise, alone, first}
 use Rattle.captions.proofs.Decoding.{Entry, one, kept}
 use Rattle.captions.proofs.Forming.{placeOf, Sooner, InRange}
 

@@ -18,9 +18,9 @@ use Rattle.reading.proofs.Holds.{Holds}
 use Rattle.reading.proofs.Theorems as Reading
 use Rattle.fonts.specs.Fonts.{leftOf, numberOfLeft, Font, pairsOf, rulesOf}
 use Rattle.fonts.specs.Compiled.{finishedOf, fontTable, fontOps}
-use Rattle.pairs.proofs.RowLaws.{left-number}
+use Rattle.compiling.proofs.RowLaws.{left-number}
 use Rattle.fonts.proofs.FontLaws.{covers-font, ruled-in-range}
-use Rattle.pairs.proofs.Sorted.{Pairwise}
+use Rattle.compiling.proofs.Sorted.{Pairwise}
 use Rattle.fonts.proofs.Theorems.{entry-formed}
 use Rattle.captions.specs.Tables.{opCount, keyOf, keyAt, find, entryOfPair, entries}
 use Rattle.captions.specs.Form.{tableForm}

@@ -20,9 +20,9 @@ use Rattle.reading.specs.Depth.{Res, Pair}
 use Rattle.reading.specs.Form.{opsForm, formed}
 use Rattle.fonts.specs.Fonts.{leftOf, numberOfLeft}
 use Rattle.fonts.specs.Numbers.{outNumbers, opNumbers, leftNumber, flagNumber}
-use Rattle.pairs.proofs.RowLaws.{left-number}
-use Rattle.pairs.proofs.OpLaws.{length-numbers}
-use Rattle.pairs.proofs.Sorted.{Pairwise, alone, first}
+use Rattle.compiling.proofs.RowLaws.{left-number}
+use Rattle.compiling.proofs.OpLaws.{length-numbers}
+use Rattle.compiling.proofs.Sorted.{Pairwise, alone, first}
 use Rattle.captions.specs.Tables.{pairCount, opCount, number, keyBy, keyOf, leftPlace, keyAt, firstOp, entryOfPair, opHolds, opFits, recordFits}
 use Rattle.captions.specs.Form.{opsEnd, comesAfter, keyForm, pairForm, tableForm}
 use Rattle.captions.proofs.Codes.{Small, nothing, character, skip, small-both, Coded}

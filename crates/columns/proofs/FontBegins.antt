@@ -17,7 +17,7 @@ use Rattle.fonts.specs.declared.Compiled.the-variants.{Tables}
 use Rattle.fonts.specs.Fonts.{Font, pairsOf}
 use Rattle.fonts.specs.Numbers.{entryOf, opsOf, opNumbers, opsBefore, opsTable, loopNumbers}
 use Rattle.fonts.specs.Compiled.{Room, roomOf, roomIn, finishedOf, loopsOfFont, totalOps, fontTable, tablePairs, fontOps, fontLoops, compileRefusal, fontCounts, Compiles}
-use Rattle.pairs.proofs.OpLaws.{length-numbers}
+use Rattle.compiling.proofs.OpLaws.{length-numbers}
 use Rattle.captions.specs.declared.State.{State}
 use Rattle.captions.specs.declared.Begun.the-variants.{Run}
 use Rattle.captions.specs.Begin.{lettersRefusal, beginRefusal, freshState, begunBy}

@@ -21,7 +21,7 @@ use Rattle.fonts.specs.Fonts.{Font, numberOfLeft, pairsOf}
 use Rattle.fonts.specs.Numbers.{leftNumber, flagNumber, opNumbers, loopNumbers}
 use Rattle.fonts.specs.Compiled.{Room, finishedOf, loopsOfFont, fontTable, fontOps, fontLoops, compileRefusal}
 use Rattle.fonts.proofs.Theorems.{reported-never, never-in-range}
-use Rattle.pairs.proofs.OpLaws.{numbers-append, length-numbers}
+use Rattle.compiling.proofs.OpLaws.{numbers-append, length-numbers}
 use Rattle.captions.specs.Tables.{pairCount, opCount, number, firstOp, countOf, lastCode, lastFlag, opFits, recordFits}
 use Rattle.captions.specs.Form.{opsEnd, keyForm, pairForm, sizesForm, tableForm, tableRefusal}
 use Rattle.captions.specs.Begin.{edgesRefusal, lettersRefusal, wordRefusal}

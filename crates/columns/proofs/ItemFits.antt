@@ -26,9 +26,9 @@ use Rattle.captions.specs.Tables.{opKind, opValue, keyBy, find}
 use Rattle.captions.specs.Replies.{bitNumber, answerReply}
 use Rattle.captions.specs.Begin.{beginRefusal, freshState}
 use Rattle.captions.specs.Steps.{refused, taken, giveCharacter, giveLigature, afterOp, endsWord, opsFit, readOp, gathered, leftPlaceOf, afterRight, readOn, withNext, giveLeft, entryReads, turnBy, turnAtEnd, turn, goesOn, withNothingNext, byNext, stepBy, runOn, placed, rightItem, ranFrom, stepRefusal, handBack, steppedBy, stepOf}
-use Rattle.setting.specs.Setting.{andThen, itemsBy, itemsFrom, afterBegin, setReply}
-use Rattle.item_lists.specs.ItemLists.{Small}
-use Rattle.setting.proofs.Bounds.{step-small}
+use Rattle.word_set.specs.Setting.{andThen, itemsBy, itemsFrom, afterBegin, setReply}
+use Rattle.word_items.specs.ItemLists.{Small}
+use Rattle.word_set.proofs.Bounds.{step-small}
 use Rattle.columns.specs.Purpose.{isI32, allI32}
 use Rattle.columns.proofs.Fitting.{Fits, all-both}
 

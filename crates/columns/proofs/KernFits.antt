@@ -23,9 +23,9 @@ use Rattle.reading.specs.Items.{Left, bnd, chr, Rule, free, kerned, lig, Rules,
 use Rattle.reading.specs.Depth.{Res, Finished, raise, before, raiseLeft, raised, compBy, comp}
 use Rattle.reading.proofs.Right.{both-finished}
 use Rattle.fonts.specs.Fonts.{Font, indexOf, tableOf, ruleOfIndex, rulesOf}
-use Rattle.pairs.specs.Rows.{at, ruleOf}
-use Rattle.pairs.specs.PairRows.{operationAt, effectAt}
-use Rattle.pairs.proofs.EncodeLaws.{encoding-none, encoding-step, encoding-end}
+use Rattle.compiling.specs.Rows.{at, ruleOf}
+use Rattle.compiling.specs.PairRows.{operationAt, effectAt}
+use Rattle.compiling.proofs.EncodeLaws.{encoding-none, encoding-step, encoding-end}
 use Rattle.columns.specs.Purpose.{isI32}
 
 -- ---- the kern of a rule

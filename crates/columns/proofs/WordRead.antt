@@ -29,10 +29,10 @@ use Rattle.captions.specs.Begin.{lettersRefusal}
 use Rattle.captions.specs.Steps.{stepOf}
 use Rattle.captions.specs.Runs.{answers, Shown, shows, ends, shown, thenEnds}
 use Rattle.captions.specs.Demand3.{Answered, Reads}
-use Rattle.setting.specs.Setting.{andThen, itemsBy, itemsFrom, setReply}
-use Rattle.setting.specs.Purpose.{SetAs}
-use Rattle.setting.proofs.Laws.{set-run}
-use Rattle.setting.proofs.Theorems.{every-word}
+use Rattle.word_set.specs.Setting.{andThen, itemsBy, itemsFrom, setReply}
+use Rattle.word_set.specs.Purpose.{SetAs}
+use Rattle.word_set.proofs.Laws.{set-run}
+use Rattle.word_set.proofs.Theorems.{every-word}
 use Rattle.columns.specs.Texts.{Text, fontOfText}
 use Rattle.columns.specs.Scanned.{lettersOf, lengthOfWord}
 use Rattle.columns.specs.Replying.{replyRefusal}

@@ -16,7 +16,7 @@ use Rattle.fonts.specs.Fonts.{Font}
 use Rattle.fonts.specs.Compiled.{Room, roomOf, compileRefusal, fontTable, fontOps, fontLoops}
 use Rattle.captions.specs.declared.RunOptions.{RunOptions}
 use Rattle.captions.specs.Begin.{lettersRefusal}
-use Rattle.setting.specs.Setting.{setReply}
+use Rattle.word_set.specs.Setting.{setReply}
 use Rattle.columns.specs.Texts.{Text, readText, fontOfText}
 use Rattle.columns.specs.Scanned.{lettersOf, lengthOfWord}
 use Rattle.columns.specs.Replying.{replyBytes, replyRefusal}

@@ -14,7 +14,7 @@ use Rattle.reading.specs.Reading.{Ends}
 use Rattle.fonts.specs.Fonts.{rulesOf}
 use Rattle.fonts.specs.Compiled.{fontTable, fontOps, fontLoops}
 use Rattle.captions.specs.Demand3.{Reads}
-use Rattle.setting.specs.Purpose.{SetAs}
+use Rattle.word_set.specs.Purpose.{SetAs}
 use Rattle.columns.specs.Lines.{Line, linesOf, readLine}
 use Rattle.columns.specs.Texts.{Text, readText, fontOfText}
 use Rattle.columns.specs.Scanned.{lengthOfWord}

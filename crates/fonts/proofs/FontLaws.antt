@@ -13,7 +13,7 @@ use lib.IntN.{ℤ, pos, negsuc}
 use borrow.Author.Tests.{eqb-true, le-ltb}
 use native.Mathlib.Decide.{decLt}
 use Rattle.lang.specs.Records.{instructionAt}
-use Rattle.chain.specs.Chains.{Program, firstFor, chainOf}
+use Rattle.program_chain.specs.Chains.{Program, firstFor, chainOf}
 use Rattle.reading.specs.Items.{Left, bnd, chr, free}
 use Rattle.reading.specs.Loops.{Ruled}
 use Rattle.reading.proofs.Covers.{Covers}

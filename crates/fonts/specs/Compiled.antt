@@ -16,7 +16,7 @@ use Rattle.lang.specs.Every.{both, every}
 use Rattle.lang.specs.Records.{count, instructionAt}
 use Rattle.lang.specs.Checks.{programRefusal, kernsRefusal, entriesRefusal, absentRefusal, designRefusal, orElse}
 use Rattle.lang.specs.Answers.{Reply, replyOf, listOf, roomRefusal}
-use Rattle.chain.specs.Chains.{actsAs}
+use Rattle.program_chain.specs.Chains.{actsAs}
 use Rattle.reading.specs.Depth.{Finished, Pair}
 use Rattle.reading.specs.Loops.{finished, loopList}
 use Rattle.fonts.specs.declared.Compiled.{Compiled}

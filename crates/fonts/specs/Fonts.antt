@@ -13,7 +13,7 @@ use Rattle.lang.specs.declared.operation.Operation.{Operation}
 use Rattle.lang.specs.declared.operation.Operation.the-variants.{Kern, KernAtIndex, Ligature, EntrypointRedirect}
 use Rattle.lang.specs.Records.{instructionAt}
 use Rattle.lang.specs.Entries.{entriesTable}
-use Rattle.chain.specs.Chains.{ruleIndexOf, actsAs}
+use Rattle.program_chain.specs.Chains.{ruleIndexOf, actsAs}
 use Rattle.reading.specs.Items.{Left, bnd, chr, Rule, free, kerned, lig, Rules}
 use Rattle.reading.specs.Loops.{Ruled}
 

@@ -1,12 +1,12 @@
 // A pair looked up by an index over the table: a bit is tested, and the ones below it are counted. The index may hold anything: what it says of a place
-// is checked by the pair that stands there. Crate fill_index writes the index of a table.
+// is checked by the pair that stands there. Crate index_fill writes the index of a table.
 ghost use mathlib.Core.Path.{_≡_};
 ghost use Prim.Native.Nat.{_+_, _*_, _/_, _%_, _<_, _≤_};
 ghost use lib.Dec.{eqb};
 ghost use lib.ListN.{getD};
 ghost use Rattle.captions.specs.Tables.{pairCount, keyBy, keyAt};
 ghost use Rattle.index.specs.Index.{hasBit, onesFrom, onesBelow, lookedUp};
-use lookup::left_place;
+use table_find::left_place;
 
 // What an index says of a left and a right: they have no pair; the pair's place; or a place at which it does not stand.
 pub enum Looked {

@@ -2,8 +2,8 @@
 // `host`'s, which is proved; that a text of more than 65,536 bytes is 16 is seen by reading one byte more.
 ghost use mathlib.Core.Path.{_≡_};
 ghost use lib.ListN.{length};
-use host::ligcols;
-use lines::put_lines;
+use text_answer::ligcols;
+use text_lines::put_lines;
 use words::number_of;
 use words::word_of;
 

@@ -15,7 +15,7 @@ use Rattle.lang.specs.Operations.{fromBytes, ligature}
 use Rattle.lang.specs.Entries.{entered, entriesTable}
 use Rattle.lang.specs.Every.{every}
 use Rattle.lang.proofs.Every.{every-at}
-use Rattle.chain.specs.Chains.{chainFrom, firstFor}
+use Rattle.program_chain.specs.Chains.{chainFrom, firstFor}
 use Rattle.reading.specs.Items.{Left, chr}
 use Rattle.reading.specs.Reading.{read, reading}
 use Rattle.reading.specs.Depth.{comp}

@@ -4,12 +4,12 @@ use mathlib.Core.Path.{_≡_, refl}
 use mathlib.Core.List.{map}
 use Rattle.tfm.specs.Scaled.{toScaled, halve}
 use Rattle.lang.specs.Operations.{fromBytes, ligature}
-use Rattle.labels.specs.Labels.{insertLabel, labels, redirectsFrom}
+use Rattle.pack_labels.specs.Labels.{insertLabel, labels, redirectsFrom}
 use Rattle.pack.specs.Packing.{placeAmong, redirectsTo}
 use Rattle.reading.specs.Depth.{comp, raiseLeft}
 use Rattle.reading.specs.Loops.{loopList, insert, ordered, unfinished, walk, walks, member}
 use Rattle.fonts.specs.Numbers.{loopNumbers}
-use Rattle.marks.specs.Marks.{entriesMarked, marksAfter}
+use Rattle.reach_marks.specs.Marks.{entriesMarked, marksAfter}
 use Rattle.repairs.specs.Damaged.{unpackedUpto}
 use Rattle.repairs.specs.Repaired.{repairedUpto}
 use Rattle.repairs.specs.Warnings.{entryWarnings, skipWarnings, stepsWarnings}

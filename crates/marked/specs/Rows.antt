@@ -16,12 +16,12 @@ use Rattle.lang.specs.declared.operation.Operation.{Operation}
 use Rattle.lang.specs.declared.operation.Operation.the-variants.{Kern, KernAtIndex, Ligature, EntrypointRedirect}
 use Rattle.lang.specs.Operations.{fromBytes}
 use Rattle.lang.specs.Answers.{Reply, replyOf}
-use Rattle.labels.specs.Labels.{labelsOf}
+use Rattle.pack_labels.specs.Labels.{labelsOf}
 use Rattle.pack.specs.Packing.{Packable, packable, packedEntryNumber, fontOffset, fontRedirects, front}
 use Rattle.reading.specs.Items.{bnd, chr, Rule, free, lig, Rules}
 use Rattle.reading.specs.Reading.{Reading, ended, going, reading}
 use Rattle.reading.specs.Loops.{Ruled, loopList}
-use Rattle.pairs.specs.RowNumbers.{byteOfOperation}
+use Rattle.compiling.specs.RowNumbers.{byteOfOperation}
 use Rattle.fonts.specs.Fonts.{Font, fontOf, rulesOf}
 use Rattle.fonts.specs.Numbers.{opNumbers, loopNumbers}
 use Rattle.fonts.specs.Compiled.{roomOf, compileRefusal, fontCounts, fontTable, fontOps, fontLoops}

@@ -24,8 +24,8 @@ use Rattle.pack.specs.declared.Packed.the-variants.{Sizes, Refused}
 use Rattle.lang.specs.Answers.{Reply, replyOf, roomRefusal}
 use Rattle.lang.proofs.Refusals.{first-refusal, second-is, orElse-none, unless-none, room-fits, refused-reply}
 use Rattle.lang.proofs.Filled.{refused-list}
-use Rattle.labels.specs.Labels.{labelsOf, redirectsOf, offsetBy, largest}
-use Rattle.labels.proofs.Redirects.{Under, labels-under, largest-le, redirects-le}
+use Rattle.pack_labels.specs.Labels.{labelsOf, redirectsOf, offsetBy, largest}
+use Rattle.pack_labels.proofs.Redirects.{Under, labels-under, largest-le, redirects-le}
 use Rattle.pack.specs.Packing.{Packable, packable, redirectsTo, redirect, presentOr, leftOr, front, back, fontRedirects, fontOffset, packableRefusal, redirectRefusal, fitsShifted, shiftRefusal, packingRefusal, packedInstructions, packedEntry, entryNumber, packedEntries, packedSizes, packedReply, placeAmong, Packs}
 use Rattle.lang.proofs.Entered.{entry-le}
 use Rattle.pack.proofs.Places.{present-test, present-is}

@@ -19,11 +19,11 @@ use Rattle.lang.specs.Checks.{programRefusal, entriesRefusal, absentRefusal, ra
 use Rattle.lang.specs.Answers.{replyOf}
 use Rattle.lang.proofs.Every.{every-all}
 use Rattle.lang.proofs.Refusals.{orElse-none, unless-none, program-fours, program-record, room-is, taken-reply}
-use Rattle.targets.specs.Targets.{targetAt, standsFor, entryRefusal}
-use Rattle.targets.proofs.Targets.{stands-target, stands-itself, entry-plain, entry-followed}
-use Rattle.unpack.specs.Unpacking.{unpackRefusal, unpackEntry}
-use Rattle.labels.specs.Labels.{labelsOf}
-use Rattle.labels.proofs.Redirects.{offset-some, labels-has, unredirected}
+use Rattle.entry_targets.specs.Targets.{targetAt, standsFor, entryRefusal}
+use Rattle.entry_targets.proofs.Targets.{stands-target, stands-itself, entry-plain, entry-followed}
+use Rattle.entry_unpack.specs.Unpacking.{unpackRefusal, unpackEntry}
+use Rattle.pack_labels.specs.Labels.{labelsOf}
+use Rattle.pack_labels.proofs.Redirects.{offset-some, labels-has, unredirected}
 use Rattle.pack.specs.Packing.{Packable, redirect, presentOr, leftOr, back, fontRedirects, fontOffset, packableRefusal, packingRefusal, packedInstructions, packedEntry, packedEntryNumber, packedEntries, placeAmong}
 use Rattle.pack.specs.Purpose.{oldEntry, UnpacksAt, PackedUnpacks}
 use Rattle.pack.proofs.Places.{place-is, place-lt}

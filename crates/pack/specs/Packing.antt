@@ -1,5 +1,5 @@
 -- Packing: entries above 255 become redirects at the front, after `pack_entrypoints` of ligkern/lang.rs. PLtoTF 139 to 142: the
--- redirects, and 'location 0 can do double duty'; the labels and the offset are those of crate labels.
+-- redirects, and 'location 0 can do double duty'; the labels and the offset are those of crate pack_labels.
 use mathlib.Core.Path.{_≡_}
 use mathlib.Core.Bool.{Bool, cond}
 use mathlib.Core.List.{List, [], _∷_, _++_}
@@ -15,7 +15,7 @@ use Rattle.pack.specs.declared.Packed.the-variants.{Sizes, Refused}
 use Rattle.lang.specs.Records.{count}
 use Rattle.lang.specs.Checks.{programRefusal, entriesRefusal, absentRefusal, orElse}
 use Rattle.lang.specs.Answers.{Reply, replyOf, roomRefusal, listOf}
-use Rattle.labels.specs.Labels.{labelsOf, redirectsOf, offsetBy, largest}
+use Rattle.pack_labels.specs.Labels.{labelsOf, redirectsOf, offsetBy, largest}
 
 -- ---- PLtoTF 141 and 142: the packed entries and the instructions
 

@@ -9,7 +9,7 @@ use Rattle.words.specs.Words.{wordOf}
 use Rattle.lang.specs.Records.{count, within, isKind, instructionAt}
 use Rattle.lang.specs.Checks.{charAt, entryAt}
 use Rattle.lang.specs.Answers.{replyOf}
-use Rattle.unpack.specs.Unpacking.{unpackEntry}
+use Rattle.entry_unpack.specs.Unpacking.{unpackEntry}
 use Rattle.pack.specs.Packing.{Packable, fontOffset, packedInstructions, packedEntries, packingRefusal}
 
 -- the entry at place i

@@ -12,7 +12,7 @@ ghost use Rattle.words.specs.Words.{wordOf, numberOf};
 ghost use Rattle.words.specs.Lists.{tabulate, Appending};
 ghost use Rattle.lang.specs.Checks.{entriesRefusal, orElse};
 ghost use Rattle.lang.specs.Answers.{roomRefusal};
-ghost use Rattle.labels.specs.Labels.{largest, offsetBy};
+ghost use Rattle.pack_labels.specs.Labels.{largest, offsetBy};
 ghost use Rattle.pack.specs.Packing.{Packs, packable, front, back, leftOr, entryNumber, redirectRefusal, shiftRefusal, packableRefusal};
 
 mod numbers;
@@ -21,10 +21,10 @@ use crate::numbers::is_present;
 use crate::numbers::place_among;
 use crate::numbers::present_or_zero;
 use crate::numbers::redirect_number;
-use checks::absent_refusal;
-use checks::program_refusal;
-use labels::label;
-use limits::entries_refusal;
+use pack_labels::label;
+use program_checks::absent_refusal;
+use program_checks::program_refusal;
+use program_limits::entries_refusal;
 
 // What packing answers.
 pub enum Packed {

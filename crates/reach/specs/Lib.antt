@@ -1,2 +1,2 @@
--- Crate reach is held to Reach: read the contract `Reaches`, and then upwards (TFtoPL 75). Its marks are those of crate marks.
+-- Crate reach is held to Reach: read the contract `Reaches`, and then upwards (TFtoPL 75). Its marks are those of crate reach_marks.
 pub mod Reach

@@ -1,5 +1,5 @@
 -- Reach: which instructions a font's entries lead to, after `reachable_iter` of ligkern/lang.rs. TFtoPL 66 to 70 compute the activity of
--- each step (crate marks), and TFtoPL 75 counts skips over reachable steps alone. A skip that lands exactly at the end is not
+-- each step (crate reach_marks), and TFtoPL 75 counts skips over reachable steps alone. A skip that lands exactly at the end is not
 -- made to stop, as TFtoPL 70 does; it has an adjusted skip: docs/DIFFERENCES.md.
 use mathlib.Core.Path.{_≡_}
 use mathlib.Core.Bool.{cond}
@@ -15,7 +15,7 @@ use Rattle.lang.specs.declared.instruction.NextInstruction.the-variants.{Stop, 
 use Rattle.lang.specs.Records.{count, instructionAt}
 use Rattle.lang.specs.Checks.{programRefusal, entriesRefusal, absentRefusal, passthroughRefusal, orElse}
 use Rattle.lang.specs.Answers.{roomRefusal, writtenReply, replyOf, listOf}
-use Rattle.marks.specs.Marks.{reachable}
+use Rattle.reach_marks.specs.Marks.{reachable}
 
 -- how many of the k places from i on are marked
 unfoldable pub marksFrom : List ℕ → ℕ → ℕ → ℕ

@@ -8,15 +8,15 @@ ghost use Rattle.words.specs.Words.{numberOf};
 ghost use Rattle.words.specs.Lists.{tabulate};
 ghost use Rattle.lang.specs.Records.{count};
 ghost use Rattle.reach.specs.Reach.{marksFrom, adjustedSkip, stateOf, skipOf, reachNumber, reachRefusal, Reaches};
-use checks::absent_refusal;
-use checks::program_refusal;
 use lang::Written;
 use lang::instruction::NextInstruction;
 use lang::instruction::instruction_at;
-use limits::entries_refusal;
-use limits::passthrough_refusal;
-use limits::room_refusal;
-use marks::reachable_array;
+use program_checks::absent_refusal;
+use program_checks::program_refusal;
+use program_limits::entries_refusal;
+use program_limits::passthrough_refusal;
+use program_limits::room_refusal;
+use reach_marks::reachable_array;
 
 // The bits of -1: no skip.
 const NONE: u32 = 4294967295;

@@ -20,10 +20,10 @@ use Rattle.lang.specs.Records.{count, field, nextOf, isKind, absentOr}
 use Rattle.lang.specs.Checks.{charAt, programRefusal, unless}
 use Rattle.lang.proofs.Every.{both-left, both-right}
 use Rattle.lang.proofs.Refusals.{program-record}
-use Rattle.chain.specs.Chains.{onwardFrom}
-use Rattle.targets.specs.Targets.{targetAt, standsFor, entryRefusal}
-use Rattle.marks.specs.Marks.{entriesMarked, leftMarked, marksAfter, reachable}
-use Rattle.marks.proofs.Marks.{length-marks}
+use Rattle.program_chain.specs.Chains.{onwardFrom}
+use Rattle.entry_targets.specs.Targets.{targetAt, standsFor, entryRefusal}
+use Rattle.reach_marks.specs.Marks.{entriesMarked, leftMarked, marksAfter, reachable}
+use Rattle.reach_marks.proofs.Marks.{length-marks}
 use Rattle.repairs.specs.Damaged.{Damaged, packedEntryOf, unpacks, unpackedUpto, unpackedEntries, leftGoes, repairedLeft, programOf}
 use Rattle.repairs.specs.Repaired.{isReachable, skipGoes, kernGoes, repairedInstructions}
 use Rattle.repairs.specs.Purpose.{again}

@@ -11,8 +11,8 @@ use Rattle.words.specs.Lists.{tabulate}
 use Rattle.lang.specs.Every.{both}
 use Rattle.lang.specs.Records.{count, isKind}
 use Rattle.lang.specs.Checks.{charAt, entryAt}
-use Rattle.targets.specs.Targets.{standsFor, entryRefusal}
-use Rattle.marks.specs.Marks.{reachable}
+use Rattle.entry_targets.specs.Targets.{standsFor, entryRefusal}
+use Rattle.reach_marks.specs.Marks.{reachable}
 
 -- The replacement is what a character that does not exist becomes (the Rust's smallest_char); it need not exist. The existing
 -- characters are a set of 256 bits, in four words of 64. Passthrough is one byte an instruction.

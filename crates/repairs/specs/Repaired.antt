@@ -10,7 +10,7 @@ use Rattle.words.specs.Words.{wordOf}
 use Rattle.lang.specs.Every.{both}
 use Rattle.lang.specs.Operations.{isStandard}
 use Rattle.lang.specs.Records.{count, field, isKind}
-use Rattle.targets.specs.Targets.{targetAt}
+use Rattle.entry_targets.specs.Targets.{targetAt}
 use Rattle.fonts.specs.Fonts.{Font, fontOf}
 use Rattle.repairs.specs.declared.Faults.{Faults}
 use Rattle.repairs.specs.Damaged.{Damaged, DamagedProgram, programOf, unpackedEntries, repairedLeft}

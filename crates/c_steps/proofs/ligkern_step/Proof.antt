@@ -9,7 +9,7 @@ use denote.Ref.{now}
 use Rattle.words.specs.Words.{wordOf, numberOf}
 use Rattle.words.proofs.Bits.{number-word}
 use borrow.Author.Tests.{not-false}
-use Rattle.quick.specs.Quick.{isReady}
+use Rattle.step_quick.specs.Quick.{isReady}
 use Rattle.c_states.specs.States.{optionsOf}
 use Rattle.c_steps.specs.Step.{StepsRun}
 use Rattle.c_steps.proofs.Told.{told-asks, steps-told}

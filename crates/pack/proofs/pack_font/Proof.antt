@@ -8,7 +8,7 @@ use Prim.Native.Nat.{ℕ, _/_, _≤_, _<_}
 use lib.ListN.{length, take}
 use lib.Seq.{length-take-le}
 use Rattle.words.specs.Words.{numberOf}
-use Rattle.labels.proofs.Insertion.{label-le, label-front, label-redirects}
+use Rattle.pack_labels.proofs.Insertion.{label-le, label-front, label-redirects}
 use Rattle.pack.specs.Packing.{Packable, packable, packingRefusal}
 use Rattle.lang.proofs.Entered.{entries-few}
 use Rattle.pack.proofs.Packing.{Plan, Taken, taken, font-entered, plan-front, plan-few, plan-redirects, plan-offset, plan-offset-le, plan-offset-lt, plan-packed, plan-entries, plan-answer, plan-shifts, plan-refusal, packs-refused, packs-taken}

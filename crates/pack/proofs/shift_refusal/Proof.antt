@@ -3,8 +3,8 @@
 use native.Mathlib.Omega.{arith}
 use mathlib.Core.Path.{_≡_, _∙_}
 use Rattle.words.specs.Words.{numberOf}
-use Rattle.labels.specs.Labels.{largest}
-use Rattle.labels.proofs.Redirects.{first-largest}
+use Rattle.pack_labels.specs.Labels.{largest}
+use Rattle.pack_labels.proofs.Redirects.{first-largest}
 use Rattle.pack.specs.Packing.{leftOr}
 use Rattle.pack.proofs.Packing.{shift-first, shift-left, shift-none}
 use borrow.Author.Needs.{needs}

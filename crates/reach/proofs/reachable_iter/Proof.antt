@@ -14,8 +14,8 @@ use Rattle.words.proofs.Bits.{number-word}
 use Rattle.lang.specs.Records.{count}
 use Rattle.lang.specs.Checks.{programRefusal, entriesRefusal, absentRefusal, passthroughRefusal}
 use Rattle.lang.specs.Answers.{listOf}
-use Rattle.marks.specs.Marks.{reachable}
-use Rattle.marks.proofs.Marks.{marks-whole}
+use Rattle.reach_marks.specs.Marks.{reachable}
+use Rattle.reach_marks.proofs.Marks.{marks-whole}
 use Rattle.reach.specs.Reach.{reachNumber, reachList, reachRefusal}
 use Rattle.lang.proofs.Refusals.{orElse-none, program-size, room-fits, refused-answer, taken-answer}
 use Rattle.lang.proofs.Filled.{refused-list, written-list}

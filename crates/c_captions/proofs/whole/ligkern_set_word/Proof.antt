@@ -6,8 +6,8 @@ use Rattle.words.specs.Words.{wordOf, numberOf}
 use Rattle.words.proofs.Bits.{number-word}
 use Rattle.lang.specs.declared.Written.{Written}
 use lib.ListN.{length}
-use Rattle.setting.specs.Setting.{setReply, Sets}
-use Rattle.setting.specs.Writing.{Tells}
+use Rattle.word_set.specs.Setting.{setReply, Sets}
+use Rattle.word_set.specs.Writing.{Tells}
 use Rattle.c_states.specs.States.{optionsOf}
 use Rattle.c_captions.proofs.SetWhole.{caption-refused, caption-short, caption-taken}
 use borrow.Author.Needs.{needs}

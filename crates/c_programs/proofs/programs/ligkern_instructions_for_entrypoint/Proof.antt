@@ -5,7 +5,7 @@ use lib.IntN.{ℤ, pos}
 use lib.ListN.{length}
 use Rattle.words.specs.Words.{wordOf, numberOf}
 use Rattle.words.proofs.Bits.{number-word}
-use Rattle.chain.specs.Chains.{chainOf, walkRefusal}
+use Rattle.program_chain.specs.Chains.{chainOf, walkRefusal}
 use Rattle.c_values.specs.Telling.{Gives}
 use Rattle.c_programs.specs.Programs.{walkReply}
 use Rattle.c_values.proofs.Telling.{gives}

@@ -5,8 +5,8 @@ use lib.IntN.{ℤ, pos}
 use lib.ListN.{length}
 use Rattle.words.specs.Words.{wordOf, numberOf}
 use Rattle.words.proofs.Bits.{number-word}
-use Rattle.targets.specs.Targets.{standsFor}
-use Rattle.unpack.specs.Unpacking.{unpackEntry, unpackRefusal, passthroughAfter}
+use Rattle.entry_targets.specs.Targets.{standsFor}
+use Rattle.entry_unpack.specs.Unpacking.{unpackEntry, unpackRefusal, passthroughAfter}
 use Rattle.c_values.specs.Telling.{Gives}
 use Rattle.c_values.proofs.Telling.{gives, tells-as}
 use borrow.Author.Needs.{needs}

@@ -1,7 +1,7 @@
 -- `c_steps::items::tell` meets its contract, by whether the answer is an item.
 -- Assumes nothing.
 use mathlib.Core.Path.{sym, _∙_}
-use Rattle.item_lists.proofs.Laws.{item-there}
+use Rattle.word_items.proofs.Laws.{item-there}
 use Rattle.c_steps.proofs.Stepping.{stored-told, none-told}
 use borrow.Author.Needs.{needs}
 use Rattle.c_steps.proofs.items.tell.Statement.{statement}

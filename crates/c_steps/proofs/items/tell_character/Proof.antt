@@ -3,8 +3,8 @@
 use mathlib.Core.Path.{sym, ap, subst, _∙_}
 use native.Mathlib.Omega.{arith}
 use Rattle.captions.specs.Replies.{answerReply}
-use Rattle.item_lists.specs.ItemLists.{isItem, Small}
-use Rattle.item_lists.proofs.Laws.{no, character-numbers, six-as, six-there}
+use Rattle.word_items.specs.ItemLists.{isItem, Small}
+use Rattle.word_items.proofs.Laws.{no, character-numbers, six-as, six-there}
 use Rattle.c_steps.specs.Step.{isCharItem}
 use Rattle.c_steps.proofs.Stepping.{stored-told}
 use borrow.Author.Needs.{needs}

@@ -1,2 +1,0 @@
--- Crate c_changes is held to one file, Changes: the replies of the calls. How a reply is told is `Telling` of crate c_values.
-pub mod Changes

@@ -1,2 +1,0 @@
--- Crate c_questions is held to one file, Questions: the replies of the calls. How a reply is told is `Telling` of crate c_values.
-pub mod Questions

@@ -1,0 +1,86 @@
+-- A reader that keeps the word it is given: document 01, 'Caption items'; after `RunIter` of ligkern/mod.rs. What a call of `next`
+-- answers and leaves is `MovesOn`, its contract; `Calls` are any number of calls, known by that contract alone, and `nexts` what they
+-- answer. What is proved of them is at the end: `CallsAnswer`, `SameAsSteps` and `ReaderReads`, in proofs/Theorems.
+use mathlib.Core.Path.{_≡_}
+use mathlib.Core.List.{List, [], _∷_, map}
+use Prim.Native.Nat.{ℕ, zero, suc, _*_}
+use lib.IntN.{ℤ}
+use lib.ListN.{take}
+use denote.Ref.{now}
+use Rattle.reading.specs.Items.{Out}
+use Rattle.fonts.specs.Fonts.{Font}
+use Rattle.fonts.specs.declared.Compiled.the-variants.{Tables}
+use Rattle.fonts.specs.Compiled.{Compiles}
+use Rattle.captions.specs.declared.RunOptions.{RunOptions}
+use Rattle.captions.specs.declared.State.{State}
+use Rattle.captions.specs.declared.Answer.{Answer}
+use Rattle.captions.specs.declared.Begun.the-variants.{Run}
+use Rattle.captions.specs.Begin.{beginOf}
+use Rattle.captions.specs.Steps.{stepOf}
+use Rattle.captions.specs.Runs.{answers, shown, thenEnds}
+use Rattle.captions.specs.Demand3.{Caption, Reads}
+use Rattle.caption_run_iter.specs.declared.RunIter.{RunIter}
+
+-- ---- a call
+
+-- what a call answers, of a reader with this word at this state, and the state that it leaves
+abbrev pub nextAnswer : List ℤ → List ℤ → ℤ → List ℕ → RunOptions → State → Answer
+nextAnswer pairs ops boundary word options s = stepOf pairs ops boundary word options s .answer
+
+abbrev pub nextState : List ℤ → List ℤ → ℤ → List ℕ → RunOptions → State → State
+nextState pairs ops boundary word options s = stepOf pairs ops boundary word options s .state
+
+-- THE contract of next: its answer, and the reader as it was and as it is left, at the next state of the same slice
+pub record MovesOn (pairs ops : List ℤ) (boundary : ℤ) (options : RunOptions) (r : RunIter) (a : Answer) (r′ : RunIter) : Type 0 where
+  pub answer : a ≡ nextAnswer pairs ops boundary (now (r .word)) options (r .state)
+  pub state : r′ .state ≡ nextState pairs ops boundary (now (r .word)) options (r .state)
+  pub word : r′ .word ≡ r .word
+
+-- ---- any number of calls
+
+-- n calls of next, each on the reader that the last one left, and their answers
+pub data Calls (pairs ops : List ℤ) (boundary : ℤ) (options : RunOptions) : ℕ → RunIter → List Answer → Type 0 where
+  none : {r : RunIter} → Calls pairs ops boundary options zero r []
+  call : {n : ℕ} {r r′ : RunIter} {a : Answer} {others : List Answer} →
+      MovesOn pairs ops boundary options r a r′ → Calls pairs ops boundary options n r′ others →
+      Calls pairs ops boundary options (suc n) r (a ∷ others)
+
+-- the answers of n calls, from a word and a state
+unfoldable pub nexts : List ℤ → List ℤ → ℤ → List ℕ → RunOptions → ℕ → State → List Answer
+nexts pairs ops boundary word options zero s = []
+nexts pairs ops boundary word options (suc n) s =
+    nextAnswer pairs ops boundary word options s
+    ∷ nexts pairs ops boundary word options n (nextState pairs ops boundary word options s)
+
+-- ---- what is proved
+
+-- whatever meets the contract of next, n calls answer `nexts` of the reader's word and state
+abbrev pub CallsAnswer : Type 0
+CallsAnswer =
+    (pairs ops : List ℤ) (boundary : ℤ) (options : RunOptions) (n : ℕ) (r : RunIter) (given : List Answer) →
+    Calls pairs ops boundary options n r given → given ≡ nexts pairs ops boundary (now (r .word)) options n (r .state)
+
+-- n calls of next answer what n steps answer, for every table, boundary, word, options, state and n
+abbrev pub SameAsSteps : Type 0
+SameAsSteps =
+    (pairs ops : List ℤ) (boundary : ℤ) (word : List ℕ) (options : RunOptions) (n : ℕ) (s : State) →
+    nexts pairs ops boundary word options n s ≡ answers pairs ops boundary word options n s
+
+-- Begin, lent these pairs and ops and the font's boundary character, is not refused; and for every n the answers of n calls of next, on the
+-- word and from the state that begin returned, are the first n of the items, by kind and by code or scaled kern, followed by the end at
+-- each call. The same of any n calls from any reader that holds that word and that state, as `run_iter` makes it.
+pub record ReaderAnswered (f : Font) (pairs ops : List ℤ) (word : List ℕ) (options : RunOptions) (items : List Out) : Type 0 where
+  pub start : State
+  pub begins : beginOf pairs ops (f .boundary) word options ≡ Run start
+  pub answered : (n : ℕ) → map shown (nexts pairs ops (f .boundary) word options n start) ≡ thenEnds n items
+  pub called : (n : ℕ) (r : RunIter) (given : List Answer) → now (r .word) ≡ word → r .state ≡ start →
+      Calls pairs ops (f .boundary) options n r given → map shown given ≡ thenEnds n items
+
+-- DEMAND 3 of the reader: whatever font compile is lent, with whatever lists, if its answer is no refusal and it has no loops, then the
+-- reading of every word ends, and the calls of next give its items in order, then the end for ever
+abbrev pub ReaderReads : Type 0
+ReaderReads =
+    (f : Font) (pairs ops loops : List ℤ) (work : List ℕ) (p o l : ℕ) (pairs′ ops′ loops′ : List ℤ) (work′ : List ℕ) →
+    Compiles f pairs ops loops work (Tables p o l) pairs′ ops′ loops′ work′ → l ≡ 0 →
+    (word : List ℕ) (options : RunOptions) → Caption word options →
+    (items : List Out) × Reads f word options items × ReaderAnswered f (take (6 * p) pairs′) (take (2 * o) ops′) word options items

@@ -1,0 +1,102 @@
+// Compiling, after ligkern/compiler.rs (reference `CompiledProgram::compile`). The stages are crates of their own, one on top of the other, each of which takes
+// the font as it is lent:
+//   collect, prepare  a row of the work buffer for each pair that has a rule     settle  which pairs finish, and their lasts
+//   walks             the loop list                                              counts  how many ops each pair has
+//   ops, lists        the tables
+ghost use mathlib.Core.Path.{_≡_};
+ghost use Rattle.lang.specs.Checks.{orElse, absentRefusal, designRefusal};
+ghost use Rattle.fonts.specs.Fonts.{fontOf};
+ghost use Rattle.fonts.specs.Compiled.{Compiles, fontRefusal};
+use compile_lists::write_lists;
+use fonts::Compiled;
+use program_checks::absent_refusal;
+use program_checks::program_refusal;
+use program_limits::design_refusal;
+use program_limits::entries_refusal;
+use program_limits::kerns_refusal;
+use words::zero::zero_i32;
+use words::zero::zero_u32;
+
+// 4 of the boundary or the left entry, else 5.
+fn edge_refusal(boundary: i32, left_entry: i32, design_size: i32) -> u32
+    ensures { λ r. ⌜ r ≡ orElse (absentRefusal 255 boundary) (orElse (absentRefusal 65535 «left_entry») (designRefusal «design_size»)) ⌝ }
+{
+    let at_boundary = absent_refusal(255, boundary);
+    if at_boundary != 0 {
+        return at_boundary;
+    }
+    let at_left = absent_refusal(65535, left_entry);
+    if at_left != 0 {
+        return at_left;
+    }
+    design_refusal(design_size)
+}
+
+// 1 to 5, the lowest.
+fn font_refusal(
+    instructions: &[i32],
+    kerns: &[i32],
+    entries: &[i32],
+    boundary: i32,
+    left_entry: i32,
+    design_size: i32,
+) -> u32
+    ensures { λ r. ⌜ r ≡ fontRefusal (fontOf (now (instructions .entry)) (now (kerns .entry)) (now (entries .entry)) boundary «left_entry» «design_size») ⌝ }
+{
+    let program = program_refusal(instructions);
+    if program != 0 {
+        return program;
+    }
+    let of_kerns = kerns_refusal(kerns);
+    if of_kerns != 0 {
+        return of_kerns;
+    }
+    let of_entries = entries_refusal(65535, entries);
+    if of_entries != 0 {
+        return of_entries;
+    }
+    edge_refusal(boundary, left_entry, design_size)
+}
+
+// Compiles a font into the pair table, the ops and the loop list. Work is left zero, and so is every list on a refusal.
+pub fn compile(
+    instructions: &[i32],
+    kerns: &[i32],
+    entries: &[i32],
+    boundary: i32,
+    left_entry: i32,
+    design_size: i32,
+    pairs: &mut [i32],
+    ops: &mut [i32],
+    loops: &mut [i32],
+    work: &mut [u32],
+) -> Compiled
+    ensures { λ r. ⌜ Compiles (fontOf (now (instructions .entry)) (now (kerns .entry)) (now (entries .entry)) boundary «left_entry» «design_size») (now (pairs .entry)) (now (ops .entry)) (now (loops .entry)) (now (work .entry)) r (now (pairs .exit)) (now (ops .exit)) (now (loops .exit)) (now (work .exit)) ⌝ }
+{
+    let number = font_refusal(
+        instructions,
+        kerns,
+        entries,
+        boundary,
+        left_entry,
+        design_size,
+    );
+    if number != 0 {
+        zero_i32(pairs);
+        zero_i32(ops);
+        zero_i32(loops);
+        zero_u32(work);
+        return Compiled::Refused(number);
+    }
+    write_lists(
+        instructions,
+        kerns,
+        entries,
+        left_entry,
+        design_size,
+        pairs,
+        ops,
+        loops,
+        work,
+    )
+}

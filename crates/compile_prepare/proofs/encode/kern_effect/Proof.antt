@@ -1,0 +1,46 @@
+-- `prepare::encode::kern_effect` meets its contract: a kern with a scaled value is 128 and the bits of that value.
+-- Assumes nothing.
+use mathlib.Core.Path.{_≡_, ap, _∙_}
+use mir.Syntax.{w32}
+use mir.Val.{SFits}
+use Rattle.words.specs.Words.{wordOf, numberOf}
+use Rattle.words.proofs.Bits.{number-word}
+use Rattle.tfm.specs.Scaled.{toScaled}
+use Rattle.tfm.proofs.Replies.{scaled-injective}
+use Rattle.compiling.specs.RowNumbers.{kernEffect}
+use Rattle.compiling.proofs.EncodeLaws.{kern-scaled, kern-unscaled}
+use borrow.Author.Needs.{needs}
+use Rattle.compile_prepare.proofs.encode.kern_effect.Statement.{statement}
+use Rattle.compile_prepare.proofs.encode.kern_effect.Tie as tie
+
+-- what scaling answers, from its reply
+scaled : (c : tie.After-to-scaled) → c .to-scaled .result ≡ toScaled (c .before .args .kern .0) (c .before .args .design-size)
+scaled c =
+    let a = c .before in
+    scaled-injective (c .to-scaled .result) (toScaled (a .args .kern .0) (numberOf (wordOf (a .args .design-size)))) (c .to-scaled .ensures)
+    ∙ ap (toScaled (a .args .kern .0)) (number-word (a .args .design-size) (a .fits .design-size))
+
+to-scaled-requires : tie.Need-to-scaled-requires
+to-scaled-requires c κs = search needs
+
+enum-known-v : tie.Need-enum-known-v
+enum-known-v c = search needs
+
+word-of-requires : tie.Need-word-of-requires
+word-of-requires c κs = search needs
+
+returns : tie.Need-returns
+returns c =
+    let a = c .before .before .before .before .before in
+    let f : SFits w32 (c .before .before .v .given .0 .0) = record { sfits = c .before .known-told .given .0 .1 } in
+    kern-scaled (c .before .before .before .before .to-scaled .result) (c .before .before .v .given .0 .0) (c .word-of .result) (c .before .before .v .given .1) (c .word-of .ensures ∙ ap wordOf (number-word (c .before .before .v .given .0 .0) f))
+    ∙ ap kernEffect (scaled (c .before .before .before .before))
+
+returns-2 : tie.Need-returns-2
+returns-2 c =
+    let a = c .before .before in
+    kern-unscaled (c .before .to-scaled .result) (c .match .keys2) ∙ ap kernEffect (scaled (c .before))
+
+pub kern-effect-spec : {M : Type 1} → statement M
+kern-effect-spec =
+    tie.close (tie.spec to-scaled-requires enum-known-v word-of-requires returns returns-2)

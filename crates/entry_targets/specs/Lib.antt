@@ -1,0 +1,2 @@
+-- Crate entry_targets is held to one file, Targets.
+pub mod Targets

@@ -1,3 +1,0 @@
--- Crate entrypoints is held to Entering: read the contract `Enters`, and then what stands above it. What its passes leave is
--- repairs/specs/Damaged and Warnings.
-pub mod Entering

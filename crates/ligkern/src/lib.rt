@@ -1,8 +1,0 @@
-// Running a compiled lig/kern program, after ligkern/mod.rs: a fresh run, and one step of it. The types and the definitions are crate captions'; what else a host
-// asks is crates queries and seven_bit.
-//   begin  `begin`
-//   steps  `step`, over crate turns
-//   edges  what goes with a word besides its letters
-pub mod begin;
-mod edges;
-pub mod steps;

@@ -1,3 +1,0 @@
--- Crate marks is held to Marks: read `reachable`, and then upwards (TFtoPL 66 to 70). Reached states what the marks mean, a theorem.
-pub mod Marks
-pub mod Reached

@@ -1,3 +1,0 @@
--- Laws of crate requests: Parts (the definitions by the tests that the code makes), Marking (sets of indices).
-pub mod Parts
-mod Marking

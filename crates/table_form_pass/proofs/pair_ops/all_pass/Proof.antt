@@ -1,0 +1,128 @@
+-- `one_pass::pair_ops::all_pass` meets its contract. The loop's invariant: the ops passed are kerns, so that those from here on pass exactly
+-- when all do. The measure is what is left of the ops.
+-- Assumes nothing.
+use mathlib.Core.Path.{_≡_, refl, sym, _∙_}
+use Prim.Native.Nat.{_-_}
+use native.Mathlib.Omega.{arith}
+use lib.Dec.{eqb}
+use denote.Ref.{now}
+use borrow.Author.Tests.{eq-eqb, not-true, not-false}
+use Rattle.reading.specs.Items.{Item, item}
+use Rattle.table_form_pass.specs.Parts.{leftBy, opsPass}
+use Rattle.table_form_pass.proofs.PairOps.{takes-none, takes-char, none-pass, pass-kern, pass-character}
+use borrow.Author.Needs.{needs}
+use Rattle.table_form_pass.proofs.pair_ops.all_pass.Statement.{statement}
+use Rattle.table_form_pass.proofs.pair_ops.all_pass.Tie as tie
+
+abbrev Inv-loop : tie.InvT-loop
+Inv-loop ops left flag start end i₀ i = (x : Item) → opsPass ops (leftBy left) x start (end - start) ≡ opsPass ops (leftBy left) x i (end - i)
+
+abbrev μ-loop : tie.MeasureT-loop
+μ-loop ops left flag start end i₀ i = end - i
+
+loop-holds : tie.Need-loop-holds Inv-loop μ-loop
+loop-holds c = λ x. refl
+
+mul-word-in : tie.Need-mul-word-in Inv-loop μ-loop
+mul-word-in c = omega arith
+
+word-in-requires : tie.Need-word-in-requires Inv-loop μ-loop
+word-in-requires c κs = omega arith
+
+mul-word-in-2 : tie.Need-mul-word-in-2 Inv-loop μ-loop
+mul-word-in-2 c = omega arith
+
+add-word-in : tie.Need-add-word-in Inv-loop μ-loop
+add-word-in c = omega arith
+
+word-in-requires-2 : tie.Need-word-in-requires-2 Inv-loop μ-loop
+word-in-requires-2 c κs = omega arith
+
+op-passes-requires : tie.Need-op-passes-requires Inv-loop μ-loop
+op-passes-requires c κs = search needs
+
+returns : tie.Need-returns Inv-loop μ-loop
+returns c =
+    let v = c .before .before in
+    let k = v .before .before in
+    let t = k .before in
+    let a = t .before .before in
+    λ code.
+    let x = item (eqb (a .args .flag) 1) code in
+    sym (t .before .loop .inv x
+    ∙ pass-character (now (a .args .ops)) (t .before .loop .i) (a .args .end) (t .loop-test .taken) (k .word-in .ensures) x (v .word-in2 .ensures) (a .args .left) (a .fits .left .fits) (v .before .if1 .taken)
+    ∙ rw (sym (c .before .op-passes .ensures) ∙ not-true _ (c .if2 .taken)))
+
+add-later-pass : tie.Need-add-later-pass Inv-loop μ-loop
+add-later-pass c = omega arith
+
+later-pass-requires : tie.Need-later-pass-requires Inv-loop μ-loop
+later-pass-requires c κs = omega arith
+
+returns-2 : tie.Need-returns-2 Inv-loop μ-loop
+returns-2 c =
+    let o = c .before in
+    let v = o .before .before in
+    let k = v .before .before in
+    let t = k .before in
+    let a = t .before .before in
+    λ code.
+    let x = item (eqb (a .args .flag) 1) code in
+    sym (t .before .loop .inv x
+    ∙ pass-character (now (a .args .ops)) (t .before .loop .i) (a .args .end) (t .loop-test .taken) (k .word-in .ensures) x (v .word-in2 .ensures) (a .args .left) (a .fits .left .fits) (v .before .if1 .taken)
+    ∙ rw (sym (o .before .op-passes .ensures) ∙ not-false _ (o .if2 .left)) (sym (c .later-pass .ensures x)))
+
+add-i : tie.Need-add-i Inv-loop μ-loop
+add-i c = omega arith
+
+loop-less : tie.Need-loop-less Inv-loop μ-loop
+loop-less c = omega arith
+
+loop-again : tie.Need-loop-again Inv-loop μ-loop
+loop-again c =
+    let k = c .before in
+    let t = k .before in
+    let a = t .before .before .args in
+    λ x. t .before .loop .inv x ∙ pass-kern (now (a .ops)) (t .before .loop .i) (a .end) (t .loop-test .taken) (k .word-in .ensures) x (leftBy (a .left)) (c .if1 .left)
+
+returns-3 : tie.Need-returns-3 Inv-loop μ-loop
+returns-3 c =
+    let t = c .before in
+    let a = t .before .before .args in
+    λ code.
+    let x = item (eqb (a .flag) 1) code in
+    eq-eqb (a .left) 4294967295 (c .if3 .taken)
+    ∙ sym (t .before .loop .inv x ∙ none-pass (now (a .ops)) (t .before .loop .i) (a .end) (leftBy (a .left)) x (t .loop-test .left) ∙ takes-none (a .left) x (c .if3 .taken))
+
+returns-4 : tie.Need-returns-4 Inv-loop μ-loop
+returns-4 c =
+    let t = c .before in
+    let a = t .before .before in
+    λ code.
+    let f = eqb (a .args .flag) 1 in
+    sym (t .before .loop .inv (item f code)
+    ∙ none-pass (now (a .args .ops)) (t .before .loop .i) (a .args .end) (leftBy (a .args .left)) (item f code) (t .loop-test .left)
+    ∙ takes-char (a .args .left) f code (a .fits .left .fits) (c .if3 .left))
+
+pub all-pass-spec : {M : Type 1} → statement M
+all-pass-spec =
+    tie.close
+    (tie.spec
+    Inv-loop
+    μ-loop
+    loop-holds
+    mul-word-in
+    word-in-requires
+    mul-word-in-2
+    add-word-in
+    word-in-requires-2
+    op-passes-requires
+    returns
+    add-later-pass
+    later-pass-requires
+    returns-2
+    add-i
+    loop-less
+    loop-again
+    returns-3
+    returns-4)

@@ -1,0 +1,21 @@
+-- `one_pass::pair_ops::word_in` meets its contract: the element's bits.
+-- Assumes nothing.
+use Rattle.lang.proofs.Records.{word-passed}
+use borrow.Author.Needs.{needs}
+use Rattle.table_form_pass.proofs.pair_ops.word_in.Statement.{statement}
+use Rattle.table_form_pass.proofs.pair_ops.word_in.Tie as tie
+
+mul-x : tie.Need-mul-x
+mul-x c = search needs
+
+shared-slice-copy-out-x : tie.Need-shared-slice-copy-out-x
+shared-slice-copy-out-x c = search needs
+
+word-of-requires : tie.Need-word-of-requires
+word-of-requires c κs = search needs
+
+returns : tie.Need-returns
+returns c = word-passed (record { sfits = c .before .x .given }) (c .word-of .ensures)
+
+pub word-in-spec : {M : Type 1} → statement M
+word-in-spec = tie.close (tie.spec mul-x shared-slice-copy-out-x word-of-requires returns)

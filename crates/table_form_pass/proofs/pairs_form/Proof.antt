@@ -1,0 +1,108 @@
+-- `one_pass::pairs_form` meets its contract. The loop's invariant: the pairs passed are of the form, and their ops fit and end here. The
+-- measure is what is left of the pairs.
+-- Assumes nothing.
+use mathlib.Core.Path.{_≡_, refl, sym, _∙_}
+use Prim.Native.Nat.{_+_, _-_, _/_, _%_, _≤_}
+use native.Mathlib.Omega.{arith}
+use lib.ListN.{length}
+use denote.Ref.{now}
+use borrow.Author.Tests.{not-true, not-false}
+use Rattle.words.proofs.Bits.{read-lt}
+use Rattle.table_form_pass.proofs.PairReads.{number-read}
+use Rattle.table_form_pass.proofs.PassedPairs.{Passed, passes, key-small, passed-none, passed-more, passed-key, passed-pair, passed-all}
+use Rattle.table_form_pass.proofs.pairs_form.Statement.{statement}
+use Rattle.table_form_pass.proofs.pairs_form.Tie as tie
+
+abbrev Inv-loop : tie.InvT-loop
+Inv-loop pairs ops least₀ at₀ p₀ least at p = (p ≤ length pairs) × (p % 6 ≡ 0) × Passed pairs ops (p / 6) least at
+
+abbrev μ-loop : tie.MeasureT-loop
+μ-loop pairs ops least₀ at₀ p₀ least at p = length pairs - p
+
+loop-holds : tie.Need-loop-holds Inv-loop μ-loop
+loop-holds c = (omega arith, refl, passed-none (now (c .args .pairs)) (now (c .args .ops)))
+
+key-in-requires : tie.Need-key-in-requires Inv-loop μ-loop
+key-in-requires c κs = omega arith
+
+returns : tie.Need-returns Inv-loop μ-loop
+returns c =
+    let k = c .before in
+    let l = k .before .before in
+    let a = l .before .args in
+    sym (passed-key (now (a .pairs)) (now (a .ops)) (l .loop .inv .2) (omega arith) (omega (arith, k .key-in .ensures)))
+
+pair-passes-requires : tie.Need-pair-passes-requires Inv-loop μ-loop
+pair-passes-requires c κs = omega arith
+
+returns-2 : tie.Need-returns-2 Inv-loop μ-loop
+returns-2 c =
+    let l = c .before .before .before .before .before in
+    let a = l .before .args in
+    sym (passed-pair (now (a .pairs)) (now (a .ops)) (l .loop .inv .2) (omega arith) (sym (c .before .pair-passes .ensures) ∙ not-true _ (c .if2 .taken)))
+
+add-least : tie.Need-add-least Inv-loop μ-loop
+add-least c =
+    let k = c .before .before .before in
+    let l = k .before .before in
+    let a = l .before .args in
+    omega (arith, k .key-in .ensures, key-small (now (a .pairs)) (now (a .ops)) (l .loop .p / 6) (l .loop .at) (passes (now (a .pairs)) (now (a .ops)) (l .loop .p / 6) (l .loop .at) (sym (c .before .pair-passes .ensures) ∙ not-false _ (c .if2 .left))))
+
+add-word-in : tie.Need-add-word-in Inv-loop μ-loop
+add-word-in c = omega arith
+
+word-in-requires : tie.Need-word-in-requires Inv-loop μ-loop
+word-in-requires c κs = omega arith
+
+cast-at : tie.Need-cast-at Inv-loop μ-loop
+cast-at c = omega (arith, read-lt (c .word-in .ensures))
+
+add-at : tie.Need-add-at Inv-loop μ-loop
+add-at c = omega (arith, read-lt (c .word-in .ensures))
+
+add-p : tie.Need-add-p Inv-loop μ-loop
+add-p c = omega arith
+
+loop-less : tie.Need-loop-less Inv-loop μ-loop
+loop-less c = omega arith
+
+loop-again : tie.Need-loop-again Inv-loop μ-loop
+loop-again c =
+    let d = c .before in
+    let k = d .before .before .before in
+    let l = k .before .before in
+    let a = l .before .args in
+    let s = now (a .pairs) in
+    let p = l .loop .p in
+    let e : (p + 6) / 6 ≡ p / 6 + 1 = omega arith in (
+      omega arith,
+      omega arith,
+      rw e (passed-more s (now (a .ops)) (l .loop .inv .2) (k .key-in .ensures) (d .before .before .if1 .left) (sym (d .before .pair-passes .ensures) ∙ not-false _ (d .if2 .left)) (number-read s p (p + 5) 5 (l .loop .inv .1) refl (c .word-in .ensures))),
+    )
+
+returns-3 : tie.Need-returns-3 Inv-loop μ-loop
+returns-3 c =
+    let l = c .before in
+    let a = l .before .args in
+    passed-all (now (a .pairs)) (now (a .ops)) (l .loop .inv .2) (omega arith)
+
+pub pairs-form-spec : {M : Type 1} → statement M
+pairs-form-spec =
+    tie.close
+    (tie.spec
+    Inv-loop
+    μ-loop
+    loop-holds
+    key-in-requires
+    returns
+    pair-passes-requires
+    returns-2
+    add-least
+    add-word-in
+    word-in-requires
+    cast-at
+    add-at
+    add-p
+    loop-less
+    loop-again
+    returns-3)

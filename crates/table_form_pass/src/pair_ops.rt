@@ -1,0 +1,82 @@
+// The ops of one pair: what every op must hold, and the form that they have with the pair's left and last. Lefts, kinds and values are
+// given by their 32 bits.
+ghost use mathlib.Core.Path.{_≡_};
+ghost use Prim.Native.Nat.{_<_, _≤_};
+ghost use lib.ListN.{length, getD};
+ghost use lib.IntN.{pos};
+ghost use lib.Dec.{eqb};
+ghost use Rattle.words.specs.Words.{Word};
+ghost use Rattle.captions.specs.Tables.{opCount};
+ghost use Rattle.table_form_pass.specs.Parts.{leftBy, opPasses, OpsPass, LaterPass};
+use words::word_of;
+
+// The bits of a number that is there.
+pub(crate) fn word_in(s: &[i32], i: usize) -> u32
+    requires { ⌜ i < length (now s) ⌝ }
+    ensures { λ r. ⌜ Word (getD (now (s .entry)) i (pos 0)) r ⌝ }
+{
+    let x = s[i];
+    word_of(x)
+}
+
+// An op is a kern, a ligature, or the left as it stands, which is a character.
+fn op_passes(left: u32, kind: u32, value: u32) -> bool
+    ensures { λ r. ⌜ r ≡ opPasses left kind value ⌝ }
+{
+    if kind == 2 {
+        return true;
+    }
+    if kind == 0 {
+        return left <= 255 && value == left;
+    }
+    kind == 1 && value <= 255
+}
+
+// Ops after a pair's first character are kerns and ligatures: they are those of the left boundary, which no character equals.
+fn later_pass(ops: &[i32], start: usize, end: usize) -> bool
+    requires { ⌜ end ≤ opCount (now ops) ⌝ }
+    ensures { λ r. ⌜ LaterPass (now (ops .entry)) start end r ⌝ }
+{
+    let mut i = start;
+    while i < end {
+        if !op_passes(4294967295, word_in(ops, 2 * i), word_in(ops, 2 * i + 1)) {
+            return false;
+        }
+        i += 1;
+    }
+    true
+}
+
+// The ops of a pair: kerns, its first character, and those after it. Where there is no character, a left character needs a flagged last.
+fn all_pass(ops: &[i32], left: u32, flag: u32, start: usize, end: usize) -> bool
+    requires { ⌜ end ≤ opCount (now ops) ⌝ }
+    ensures { λ r. ⌜ OpsPass (now (ops .entry)) (leftBy left) (eqb flag 1) start end r ⌝ }
+{
+    let mut i = start;
+    while i < end {
+        let kind = word_in(ops, 2 * i);
+        if kind != 2 {
+            if !op_passes(left, kind, word_in(ops, 2 * i + 1)) {
+                return false;
+            }
+            return later_pass(ops, i + 1, end);
+        }
+        i += 1;
+    }
+    left == 4294967295 || flag == 1
+}
+
+// The same. Most are the left as it stands and a kern, so these come first, without a loop.
+pub(crate) fn ops_pass(ops: &[i32], left: u32, flag: u32, start: usize, end: usize) -> bool
+    requires { ⌜ (start ≤ end) × (end ≤ opCount (now ops)) ⌝ }
+    ensures { λ r. ⌜ OpsPass (now (ops .entry)) (leftBy left) (eqb flag 1) start end r ⌝ }
+{
+    if end - start == 2 {
+        if word_in(ops, 2 * start) == 0 {
+            if word_in(ops, 2 * (start + 1)) == 2 {
+                return op_passes(left, 0, word_in(ops, 2 * start + 1));
+            }
+        }
+    }
+    all_pass(ops, left, flag, start, end)
+}

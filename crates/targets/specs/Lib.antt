@@ -1,2 +1,0 @@
--- Crate targets is held to one file, Targets.
-pub mod Targets

@@ -1,0 +1,153 @@
+// A font repaired, and the answer of the port to the request X of tools/oracle. A request has at most 16,384 numbers, so a program at most 4,096 instructions; there is
+// room for 4,096 warnings, and for 1,024 pairs with a rule.
+ghost use mathlib.Core.Path.{_≡_};
+ghost use lib.ListN.{length};
+ghost use Rattle.test_requests.specs.Answers.{CountWithin};
+use lang::Written;
+use repairs::Validated;
+use test_requests::answer::fitting;
+use test_requests::answer::put_count;
+use test_requests::answer::put_list;
+use test_requests::answer::put_one;
+use test_requests::request::after;
+use test_requests::request::entries_of;
+use test_requests::request::from_end;
+use test_requests::request::front;
+use test_requests::request::instructions_of;
+use test_requests::request::items;
+use test_requests::request::kerns_of;
+use test_requests::request::number_at;
+use test_requests::request::part;
+use test_requests::request::rest;
+use test_requests::sets::mark;
+use test_requests::sets::put_set;
+
+// Four numbers an instruction or a warning.
+fn records() -> [i32; 16384]
+    ensures { λ r. ⌜ 16384 ≡ length r ⌝ }
+{
+    [0; 16384]
+}
+
+// A byte an instruction.
+fn places() -> [u8; 4096]
+    ensures { λ r. ⌜ 4096 ≡ length r ⌝ }
+{
+    [0; 4096]
+}
+
+// Sixteen numbers a pair with a rule.
+fn rows() -> [u32; 16384]
+    ensures { λ r. ⌜ 16384 ≡ length r ⌝ }
+{
+    [0; 16384]
+}
+
+// Sixty-four characters, the lower half first.
+fn word_pair(low: u32, high: u32) -> u64 {
+    (high as u64) * 4294967296 + (low as u64)
+}
+
+// The existing characters, from the eight numbers after the first.
+fn existing_of(numbers: &[i32]) -> [u64; 4] {
+    [
+        word_pair(words::word_at(numbers, 1), words::word_at(numbers, 2)),
+        word_pair(words::word_at(numbers, 3), words::word_at(numbers, 4)),
+        word_pair(words::word_at(numbers, 5), words::word_at(numbers, 6)),
+        word_pair(words::word_at(numbers, 7), words::word_at(numbers, 8)),
+    ]
+}
+
+// Repairs a font.
+fn repair_font(
+    font: &[i32],
+    replacement: i32,
+    existing: &[u64; 4],
+    marks: &[u8],
+    fixed: &mut [i32],
+    through: &mut [u8],
+    warnings: &mut [i32],
+) -> Validated {
+    let instructions = instructions_of(font);
+    let mut work = rows();
+    repair::validate_and_fix(
+        instructions,
+        kerns_of(font),
+        entries_of(font),
+        number_at(font, from_end(font, 2)),
+        number_at(font, from_end(font, 1)),
+        replacement,
+        existing,
+        front(marks, instructions.len() / 4),
+        fixed,
+        through,
+        warnings,
+        &mut work,
+    )
+}
+
+// The warnings, the instructions, the left entry and the passthrough list.
+fn put_repaired(
+    out: &mut [i32],
+    warnings: &[i32],
+    instructions: &[i32],
+    left: u32,
+    through: &[u8],
+) -> usize {
+    let a = put_count(out, 0, warnings.len() / 4);
+    let b = put_list(out, a, warnings);
+    let c = put_count(out, b, instructions.len() / 4);
+    let d = put_list(out, c, instructions);
+    let e = put_one(out, d, left);
+    put_set(out, e, through)
+}
+
+// What repair answered, and what it wrote for a program of so many numbers.
+fn put_validated(
+    out: &mut [i32],
+    answer: Validated,
+    n: usize,
+    fixed: &[i32],
+    through: &[u8],
+    warnings: &[i32],
+) -> Written {
+    match answer {
+        Validated::Fixed(left, count) => {
+            let listed = part(warnings, 0, count % 4294967296 * 4);
+            let left_word = words::word_of(left);
+            let program = part(fixed, 0, n);
+            Written::Count(put_repaired(out, listed, program, left_word, through))
+        }
+        Validated::Refused(number) => Written::Refused(number),
+    }
+}
+
+// X smallest e0 .. e7 PASSTHROUGH FONT
+fn repaired(numbers: &[i32], out: &mut [i32]) -> Written {
+    let font = rest(numbers, after(numbers, 9, 1));
+    let existing = existing_of(numbers);
+    let mut marks = places();
+    mark(items(numbers, 9, 1), &mut marks);
+    let mut fixed = records();
+    let mut through = places();
+    let mut warnings = records();
+    let answer = repair_font(
+        font,
+        number_at(numbers, 0),
+        &existing,
+        &marks,
+        &mut fixed,
+        &mut through,
+        &mut warnings,
+    );
+    let n = instructions_of(font).len();
+    put_validated(out, answer, n, &fixed, &through, &warnings)
+}
+
+// The numbers of the answer to a request, or the number of its refusal: 15 where a list is too short.
+pub fn answer(numbers: &[i32], out: &mut [i32]) -> Written
+    ensures { λ r. ⌜ CountWithin r (length (now (out .exit))) ⌝ }
+{
+    let answer = repaired(numbers, out);
+    fitting(answer, out.len())
+}

@@ -1,0 +1,87 @@
+// Answers column texts with this port. Standard input is a list of texts: a line with the letter T, a text's length in bytes and, where it is not 65,536, the
+// length of the reply that is lent for it; then its bytes. For each text a line with what `ligcols` returned is written, and then the bytes of the reply. `stdout` beside
+// this crate's source holds the same, made by tools/oracle/texts from document 01 and the Rust's answers, and the gate compares the two.
+ghost use mathlib.Core.Path.{_≡_};
+ghost use lib.ListN.{length};
+use test_requests::read::line_end;
+use test_requests::read::numbers_of;
+use test_requests::request::front;
+use text_answer::ligcols;
+use words::word_at;
+use words::word_of;
+
+// How long a text is, and how long a reply is lent for it.
+struct Head {
+    size: usize,
+    room: usize,
+}
+
+// Room for the texts.
+fn room() -> [u8; 1048576]
+    ensures { λ r. ⌜ 1048576 ≡ length r ⌝ }
+{
+    [0; 1048576]
+}
+
+// Room for a reply, also for one that is lent more than the 65,536 bytes that it may have.
+fn reply_room() -> [u8; 70000]
+    ensures { λ r. ⌜ 70000 ≡ length r ⌝ }
+{
+    [0; 70000]
+}
+
+// The line before a text.
+fn head_of(line: &[u8]) -> Head {
+    let mut numbers = [0i32, 65536];
+    numbers_of(line, &mut numbers);
+    Head {
+        size: word_at(&numbers, 0) as usize,
+        room: word_at(&numbers, 1) as usize,
+    }
+}
+
+// Writes what a text is answered with: the length of the reply, and the reply; or minus the number.
+fn answer(text: &[u8], reply: &mut [u8]) {
+    let w = word_of(ligcols(text, reply));
+    if w < 2147483648 {
+        io::print_decimal(libc::STDOUT_FILENO, w as u64);
+        io::write_all(libc::STDOUT_FILENO, b"\n");
+        io::write_all(libc::STDOUT_FILENO, front(reply, w as usize));
+    } else {
+        io::write_all(libc::STDOUT_FILENO, b"-");
+        io::print_decimal(libc::STDOUT_FILENO, 4294967296 - (w as u64));
+        io::write_all(libc::STDOUT_FILENO, b"\n");
+    }
+}
+
+// Lends a reply of n bytes, or of all that there are.
+fn answer_in(text: &[u8], reply: &mut [u8], n: usize) {
+    if reply.len() < n {
+        answer(text, reply);
+    } else {
+        answer(text, &mut reply[..n]);
+    }
+}
+
+// Answers each text, up to one that is cut short.
+fn answer_all(texts: &[u8], reply: &mut [u8]) {
+    let mut at = 0;
+    while at < texts.len() {
+        let end = line_end(texts, at);
+        let h = head_of(&texts[at..end]);
+        if texts.len() - end <= h.size {
+            return;
+        }
+        let from = end + 1;
+        let next = from + h.size;
+        answer_in(&texts[from..next], reply, h.room);
+        at = next;
+    }
+}
+
+fn main() {
+    let mut input = room();
+    let mut reply = reply_room();
+    let got = io::read_full(libc::STDIN_FILENO, &mut input);
+    answer_all(front(&input, got), &mut reply);
+}

@@ -1,0 +1,215 @@
+-- From a text that is read to its answer, and what is known of every answer's number and length. Over plain values.
+-- Assumes nothing.
+use mathlib.Core.Path.{_≡_, refl, sym, ap, subst, _∙_}
+use mathlib.Core.Bool.{Bool, true, false, cond}
+use mathlib.Core.List.{List, [], _∷_, map}
+use mathlib.Core.Option.{Option, none, some}
+use Prim.Native.Nat.{ℕ, zero, suc, _-_, _*_, _/_, _%_, _<_, _≤_}
+use native.Mathlib.Omega.{arith}
+use lib.IntN.{ℤ, pos, negsuc}
+use lib.Dec.{leb, eqb}
+use lib.ListN.{length, take, getD}
+use lib.Signed.{nonNeg}
+use borrow.Author.Tests.{leb-true}
+use Rattle.words.specs.Words.{Word, wordOf, numberOf}
+use Rattle.words.proofs.Bits.{number-neg, read-pos, read-neg}
+use Rattle.lang.specs.declared.Written.{Written}
+use Rattle.lang.specs.declared.Written.the-variants as written
+use Rattle.lang.specs.Every.{both, every}
+use Rattle.lang.specs.Records.{count, isInstruction, absentOr}
+use Rattle.lang.specs.Checks.{orElse, sizeRefusal, recordRefusal, programRefusal, kernsRefusal, entriesRefusal, absentRefusal, designRefusal, entryFits}
+use Rattle.lang.specs.Answers.{Reply, replyOf, listOf}
+use Rattle.lang.proofs.Every.{both-left}
+use Rattle.lang.proofs.Refusals.{orElse-none, unless-none}
+use Rattle.fonts.specs.Fonts.{Font, fontOf, pairsOf}
+use Rattle.fonts.specs.Compiled.{fontRefusal, pairsRefusal, kernRefusal, opsRefusal, loopsRefusal, tablesRefusal, compileRefusal, fontTable, fontOps, totalOps, loopsOfFont, allScale}
+use Rattle.captions.specs.Form.{tableForm, tableRefusal}
+use Rattle.captions.specs.Begin.{freshState, edgesRefusal, lettersRefusal, wordRefusal, beginRefusal}
+use Rattle.word_set.specs.Setting.{itemsFrom, afterBegin}
+use Rattle.word_set.proofs.Bounds.{orElse-few}
+use Rattle.word_set.proofs.Few.{items-few}
+use Rattle.columns.specs.declared.TextHeads.{TextHeads}
+use Rattle.columns.specs.declared.TextRead.the-variants as text
+use Rattle.columns.specs.Texts.{Text, readText, orAbsent, fontOfText}
+use Rattle.columns.specs.Scanned.{lettersOf, lengthOfWord, headNumbers, textRefusal, saidBy, textHeads, ReadsText}
+use Rattle.columns.specs.Replying.{replyRefusal}
+use Rattle.columns.specs.Ligcols.{columnRoom, columnOptions, columnItems, columnBytes, lower, columnNumber, wordOfText, numberOfText, bytesOfText, lengthOr, AnswersText}
+use Rattle.text_font_reply.specs.Answering.{AnswersBytes}
+use Rattle.text_answer.specs.Letters.{lettersIn}
+use Rattle.text_font_reply.proofs.Laws.{lower-few, front, room-known, count-known, refused-known}
+
+pub answers-as : {m m′ : ℕ} {bytes bytes′ reply reply′ : List ℕ} {r : Written} → m ≡ m′ → bytes ≡ bytes′ → AnswersBytes m bytes reply r reply′ → AnswersBytes m′ bytes′ reply r reply′
+answers-as {m} {m′} {bytes} {bytes′} {reply} {reply′} {r} p q a =
+    subst (λ (k : ℕ). AnswersBytes k bytes′ reply r reply′) p (subst (λ (bs : List ℕ). AnswersBytes m bs reply r reply′) q a)
+
+-- ---- letters
+
+pub letters-word : {z : ℤ} {w : ℕ} → Word z w → w < 2147483648 → w ≡ lettersIn z
+letters-word {z} {w} h l = sym (ap lettersIn (read-pos h l))
+
+pub letters-none : {z : ℤ} {w : ℕ} → Word z w → 2147483648 ≤ w → 0 ≡ lettersIn z
+letters-none {z} {w} h l = sym (ap lettersIn (read-neg h l))
+
+-- ---- a text that is not read
+
+not-read-by : (o : Option Text) → replyOf 16 [] ≡ replyOf (textRefusal o) (textHeads (saidBy o)) → o ≡ none
+not-read-by none e = refl
+not-read-by (some t) e = absurd (let z : _≡_ {A = ℕ} 16 0 = ap (λ (r : Reply). r .number) e in omega arith)
+
+pub not-read : {bytes : List ℕ} {is ks es : List ℤ} {ws : List ℕ} → ReadsText bytes text.Unreadable is ks es ws → readText bytes ≡ none
+not-read {bytes} h = not-read-by (readText bytes) (h .answer)
+
+-- ---- a text that is read
+
+pub record Said (bytes : List ℕ) (h : TextHeads) (is ks es : List ℤ) (ws : List ℕ) : Type 0 where
+  pub said : Text
+  pub read : readText bytes ≡ some said
+  pub design : h .design ≡ said .design
+  pub boundary : h .boundary ≡ orAbsent (said .boundary)
+  pub left : h .left ≡ orAbsent (said .left)
+  pub letters : h .letters ≡ lengthOfWord (said .word)
+  pub instructions : take (h .instructions) is ≡ said .instructions
+  pub kerns : take (h .kerns) ks ≡ said .kerns
+  pub entries : take (h .entries) es ≡ said .entries
+  pub word : take (lettersIn (h .letters)) ws ≡ map wordOf (lettersOf (said .word))
+  pub few-instructions : h .instructions ≤ 2048
+  pub few-kerns : h .kerns ≤ 512
+  pub few-entries : h .entries ≤ 5040
+  pub few-letters : lettersIn (h .letters) ≤ 64
+
+letters-long : (w : Option (List ℤ)) → length (map wordOf (lettersOf w)) ≡ lettersIn (lengthOfWord w)
+letters-long none = refl
+letters-long (some zs) = mapped zs
+  where
+    mapped : (xs : List ℤ) → length (map wordOf xs) ≡ length xs
+    mapped [] = refl
+    mapped (x ∷ xs) = ap suc (mapped xs)
+
+module _ {bytes : List ℕ} {h : TextHeads} {is ks es : List ℤ} {ws : List ℕ} (a : ReadsText bytes (text.Text h) is ks es ws) where
+  said-by : (o : Option Text) → readText bytes ≡ o → Said bytes h is ks es ws
+  said-by none e =
+      absurd
+      (let z : _≡_ {A = ℕ} 0 16 = ap (λ (r : Reply). r .number) (a .answer ∙ ap (λ (o : Option Text). replyOf (textRefusal o) (textHeads (saidBy o))) e) in omega arith)
+  said-by (some t) e =
+      let v : headNumbers h ≡ textHeads t = ap (λ (r : Reply). r .values) (a .answer ∙ ap (λ (o : Option Text). replyOf (textRefusal o) (textHeads (saidBy o))) e) in
+      let i : h .instructions ≡ length (t .instructions) = cc in
+      let k : h .kerns ≡ length (t .kerns) = cc in
+      let n : h .entries ≡ length (t .entries) = cc in
+      let w : h .letters ≡ lengthOfWord (t .word) = cc in
+      let pi : is ≡ listOf 0 (pos 0) 2048 (t .instructions) = a .instructions ∙ ap (λ (o : Option Text). listOf (textRefusal o) (pos 0) 2048 (saidBy o .instructions)) e in
+      let pk : ks ≡ listOf 0 (pos 0) 512 (t .kerns) = a .kerns ∙ ap (λ (o : Option Text). listOf (textRefusal o) (pos 0) 512 (saidBy o .kerns)) e in
+      let pe : es ≡ listOf 0 (pos 0) 5040 (t .entries) = a .entries ∙ ap (λ (o : Option Text). listOf (textRefusal o) (pos 0) 5040 (saidBy o .entries)) e in
+      let pw : ws ≡ listOf 0 0 64 (map wordOf (lettersOf (t .word))) = a .word ∙ ap (λ (o : Option Text). listOf (textRefusal o) 0 64 (map wordOf (lettersOf (saidBy o .word)))) e in
+      let nw : length (map wordOf (lettersOf (t .word))) ≡ lettersIn (h .letters) = letters-long (t .word) ∙ ap lettersIn (sym w) in
+      record {
+        said = t;
+        read = e;
+        design = cc;
+        boundary = cc;
+        left = cc;
+        letters = w;
+        instructions = front (pos 0) 0 2048 (h .instructions) (t .instructions) is pi refl (sym i);
+        kerns = front (pos 0) 0 512 (h .kerns) (t .kerns) ks pk refl (sym k);
+        entries = front (pos 0) 0 5040 (h .entries) (t .entries) es pe refl (sym n);
+        word = front 0 0 64 (lettersIn (h .letters)) (map wordOf (lettersOf (t .word))) ws pw refl nw;
+        few-instructions = omega (arith, i, room-known (pos 0) 0 2048 (t .instructions) is pi refl (a .long .0));
+        few-kerns = omega (arith, k, room-known (pos 0) 0 512 (t .kerns) ks pk refl (a .long .1));
+        few-entries = omega (arith, n, room-known (pos 0) 0 5040 (t .entries) es pe refl (a .long .2));
+        few-letters = omega (arith, nw, room-known 0 0 64 (map wordOf (lettersOf (t .word))) ws pw refl (a .long .3));
+      }
+
+  pub text-said : Said bytes h is ks es ws
+  text-said = said-by (readText bytes) refl
+
+-- the answer for what was said is that for the text
+pub said-answer : {bytes : List ℕ} {h : TextHeads} {is ks es : List ℤ} {ws : List ℕ} (s : Said bytes h is ks es ws) {reply reply′ : List ℕ} {r : Written} →
+    AnswersBytes (columnNumber (fontOf (take (h .instructions) is) (take (h .kerns) ks) (take (h .entries) es) (h .boundary) (h .left) (h .design)) (h .letters) (take (lettersIn (h .letters)) ws) (length reply))
+    (columnBytes (fontOf (take (h .instructions) is) (take (h .kerns) ks) (take (h .entries) es) (h .boundary) (h .left) (h .design)) (h .letters) (take (lettersIn (h .letters)) ws)) reply r reply′ →
+    AnswersBytes (numberOfText (readText bytes) (length reply)) (bytesOfText (readText bytes)) reply r reply′
+said-answer s {reply} a =
+    answers-as
+    ((λ i. columnNumber (fontOf (s .instructions i) (s .kerns i) (s .entries i) (s .boundary i) (s .left i) (s .design i)) (s .letters i) (s .word i) (length reply)) ∙ ap (λ (o : Option Text). numberOfText o (length reply)) (sym (s .read)))
+    ((λ i. columnBytes (fontOf (s .instructions i) (s .kerns i) (s .entries i) (s .boundary i) (s .left i) (s .design i)) (s .letters i) (s .word i)) ∙ ap bytesOfText (sym (s .read)))
+    a
+
+-- ---- every number is at most 16
+
+few-if : (m n : ℕ) (t : Bool) → n ≤ m → cond t 0 n ≤ m
+few-if m n true l = omega arith
+few-if m n false l = l
+
+compile-few : (f : Font) → compileRefusal f columnRoom ≤ 15
+compile-few f =
+    let p = orElse-few 15 (sizeRefusal (f .instructions)) (recordRefusal (f .instructions)) (few-if 15 1 (both (eqb (length (f .instructions) % 4) 0) (leb (count (f .instructions)) 32767)) (omega arith)) (few-if 15 2 (every (count (f .instructions)) (isInstruction (f .instructions))) (omega arith)) in
+    let e = orElse-few 15 (absentRefusal 65535 (f .left)) (designRefusal (f .design)) (few-if 15 4 (absentOr 65535 (f .left)) (omega arith)) (few-if 15 5 (nonNeg (f .design)) (omega arith)) in
+    let b = orElse-few 15 (absentRefusal 255 (f .boundary)) (orElse (absentRefusal 65535 (f .left)) (designRefusal (f .design))) (few-if 15 4 (absentOr 255 (f .boundary)) (omega arith)) e in
+    let n = orElse-few 15 (entriesRefusal 65535 (f .entries)) (orElse (absentRefusal 255 (f .boundary)) (orElse (absentRefusal 65535 (f .left)) (designRefusal (f .design)))) (few-if 15 4 (both (eqb (length (f .entries) % 2) 0) (every (length (f .entries) / 2) (entryFits 65535 (f .entries)))) (omega arith)) b in
+    let k = orElse-few 15 (kernsRefusal (f .kerns)) (orElse (entriesRefusal 65535 (f .entries)) (orElse (absentRefusal 255 (f .boundary)) (orElse (absentRefusal 65535 (f .left)) (designRefusal (f .design))))) (few-if 15 3 (leb (length (f .kerns)) 32767) (omega arith)) n in
+    let font = orElse-few 15 (programRefusal (f .instructions)) (orElse (kernsRefusal (f .kerns)) (orElse (entriesRefusal 65535 (f .entries)) (orElse (absentRefusal 255 (f .boundary)) (orElse (absentRefusal 65535 (f .left)) (designRefusal (f .design)))))) p k in
+    let o = orElse-few 15 (opsRefusal f columnRoom) (loopsRefusal f columnRoom) (few-if 15 14 (both (leb (totalOps f) 2147483647) (leb (2 * totalOps f) (columnRoom .ops))) (omega arith)) (few-if 15 15 (leb (2 * length (loopsOfFont f)) (columnRoom .loops)) (omega arith)) in
+    let s = orElse-few 15 (kernRefusal f) (orElse (opsRefusal f columnRoom) (loopsRefusal f columnRoom)) (few-if 15 13 (allScale f) (omega arith)) o in
+    let t = orElse-few 15 (pairsRefusal f columnRoom) (orElse (kernRefusal f) (orElse (opsRefusal f columnRoom) (loopsRefusal f columnRoom))) (few-if 15 12 (both (leb (length (pairsOf f)) (columnRoom .work / 16)) (leb (length (pairsOf f)) (columnRoom .pairs / 6))) (omega arith)) s in
+    orElse-few 15 (fontRefusal f) (tablesRefusal f columnRoom) font t
+
+begin-few : (pairs ops : List ℤ) (boundary : ℤ) (word : List ℕ) → beginRefusal pairs ops boundary word columnOptions ≤ 15
+begin-few pairs ops boundary word =
+    let t = orElse-few 15 (wordRefusal word) (tableRefusal pairs ops) (few-if 15 6 (leb (length word) 65535) (omega arith)) (few-if 15 7 (tableForm pairs ops) (omega arith)) in
+    let l = orElse-few 15 (lettersRefusal word) (orElse (wordRefusal word) (tableRefusal pairs ops)) (few-if 15 4 (every (length word) (λ i. leb (getD word i 0) 255)) (omega arith)) t in
+    let e = orElse-few 15 (absentRefusal 255 boundary) (absentRefusal 255 (negsuc 0)) (few-if 15 4 (absentOr 255 boundary) (omega arith)) (omega arith) in
+    orElse-few 15 (edgesRefusal boundary columnOptions) (orElse (lettersRefusal word) (orElse (wordRefusal word) (tableRefusal pairs ops))) e l
+
+after-few : (n : ℕ) (r : Reply) → n ≤ 15 → r .number ≤ 15 → afterBegin n r .number ≤ 15
+after-few zero r l k = k
+after-few (suc n) r l k = l
+
+items-of-few : (f : Font) (letters : ℤ) (word : List ℕ) → columnItems f letters word .number ≤ 15
+items-of-few f (pos n) word =
+    after-few (beginRefusal (fontTable f) (fontOps f) (f .boundary) word columnOptions) (itemsFrom (fontTable f) (fontOps f) (f .boundary) word columnOptions 885 (freshState word columnOptions))
+    (begin-few (fontTable f) (fontOps f) (f .boundary) word) (items-few (fontTable f) (fontOps f) (f .boundary) word columnOptions 885 (freshState word columnOptions))
+items-of-few f (negsuc n) word = omega arith
+
+column-few : (f : Font) (letters : ℤ) (word : List ℕ) (room : ℕ) → columnNumber f letters word room ≤ 15
+column-few f letters word room =
+    orElse-few 15 (lower (compileRefusal f columnRoom) (lettersRefusal word)) (orElse (columnItems f letters word .number) (replyRefusal (columnBytes f letters word) room))
+    (lower-few 15 (compileRefusal f columnRoom) (lettersRefusal word) (compile-few f) (few-if 15 4 (every (length word) (λ i. leb (getD word i 0) 255)) (omega arith)))
+    (orElse-few 15 (columnItems f letters word .number) (replyRefusal (columnBytes f letters word) room) (items-of-few f letters word) (few-if 15 15 (both (leb (length (columnBytes f letters word)) 65536) (leb (length (columnBytes f letters word)) room)) (omega arith)))
+
+pub text-few : (o : Option Text) (room : ℕ) → numberOfText o room ≤ 16
+text-few none room = omega arith
+text-few (some t) room = omega (arith, column-few (fontOfText t) (lengthOfWord (t .word)) (wordOfText t) room)
+
+-- ---- and every reply at most 65,536 bytes long
+
+pub text-short : (o : Option Text) (room : ℕ) → numberOfText o room ≡ 0 → length (bytesOfText o) ≤ 65536
+text-short none room e = absurd (omega (arith, e))
+text-short (some t) room e =
+    let f = fontOfText t in
+    let n = lengthOfWord (t .word) in
+    let w = wordOfText t in
+    let k = length (columnBytes f n w) in
+    let a = orElse-none (lower (compileRefusal f columnRoom) (lettersRefusal w)) (orElse (columnItems f n w .number) (replyRefusal (columnBytes f n w) room)) e .1 in
+    let b = orElse-none (columnItems f n w .number) (replyRefusal (columnBytes f n w) room) a .1 in
+    leb-true k 65536 (both-left (leb k 65536) (leb k room) (unless-none 14 (both (leb k 65536) (leb k room)) b))
+
+-- ---- the length, or minus the number
+
+pub length-answer : {text reply reply′ : List ℕ} (n : ℕ) → AnswersBytes (numberOfText (readText text) (length reply)) (bytesOfText (readText text)) reply (written.Count n) reply′ →
+    (n ≤ 65536) × AnswersText text reply (pos n) reply′
+length-answer {text} {reply} n a =
+    let k = count-known (numberOfText (readText text) (length reply)) n (length (bytesOfText (readText text))) (a .answer) in (
+      omega (arith, k .1, text-short (readText text) (length reply) (k .0)),
+      record { answer = ap pos (k .1) ∙ sym (ap (λ (m : ℕ). lengthOr m (length (bytesOfText (readText text)))) (k .0)); list = a .list },
+    )
+
+minus : (n m : ℕ) → 0 < n → negsuc (n - 1) ≡ lengthOr n m
+minus zero m h = absurd (omega (arith, h))
+minus (suc n) m h = ap negsuc (omega arith)
+
+pub number-answer : {text reply reply′ : List ℕ} (n : ℕ) → AnswersBytes (numberOfText (readText text) (length reply)) (bytesOfText (readText text)) reply (written.Refused n) reply′ →
+    (0 < n) × (n ≤ 16) × AnswersText text reply (numberOf (4294967295 - (n - 1))) reply′
+number-answer {text} {reply} n a =
+    let k = refused-known (numberOfText (readText text) (length reply)) n (length (bytesOfText (readText text))) (a .answer) in
+    let few : n ≤ 16 = omega (arith, k .0, text-few (readText text) (length reply)) in
+    let w : 4294967296 - suc (4294967295 - (n - 1)) ≡ n - 1 = omega (arith, k .1, few) in
+    let z : numberOf (4294967295 - (n - 1)) ≡ negsuc (n - 1) = number-neg (4294967295 - (n - 1)) (omega (arith, few)) ∙ ap negsuc w in
+    (k .1, few, record { answer = z ∙ minus n (length (bytesOfText (readText text))) (k .1) ∙ ap (λ (m : ℕ). lengthOr m (length (bytesOfText (readText text)))) (k .0); list = a .list })

@@ -1,0 +1,22 @@
+-- `host::length_of` meets its contract.
+-- Assumes nothing.
+use borrow.Author.Needs.{needs}
+use Rattle.lang.proofs.Records.{word-passed}
+use Rattle.text_answer.proofs.TextLaws.{letters-word, letters-none}
+use Rattle.text_answer.proofs.length_of.Statement.{statement}
+use Rattle.text_answer.proofs.length_of.Tie as tie
+
+word-of-requires : tie.Need-word-of-requires
+word-of-requires c κs = search needs
+
+cast-result : tie.Need-cast-result
+cast-result c = search needs
+
+returns : tie.Need-returns
+returns c = letters-word (word-passed (c .before .before .fits .letters) (c .before .word-of .ensures)) (c .if1 .taken)
+
+returns-2 : tie.Need-returns-2
+returns-2 c = letters-none (word-passed (c .before .before .fits .letters) (c .before .word-of .ensures)) (c .if1 .left)
+
+pub length-of-spec : {M : Type 1} → statement M
+length-of-spec = tie.close (tie.spec word-of-requires cast-result returns returns-2)

@@ -1,0 +1,50 @@
+-- A line of n numbers, from the byte after its letter on, and what is stored of it. Document 01, 'The column text'. The contracts of crate text_line_numbers.
+use mathlib.Core.Path.{_≡_}
+use mathlib.Core.Bool.{Bool, true, false, cond}
+use mathlib.Core.List.{List, map}
+use mathlib.Core.Option.{Option, none, some}
+use Prim.Native.Nat.{ℕ, _+_, _*_}
+use lib.IntN.{ℤ}
+use lib.Dec.{leb, ltb, eqb}
+use lib.ListN.{length, getD, take}
+use lib.Seq.{sets}
+use Rattle.words.specs.Words.{wordOf}
+use Rattle.lang.specs.Every.{both}
+use Rattle.columns.specs.Numbers.{readField}
+use Rattle.columns.specs.Lines.{readFields}
+
+-- ---- a line of n numbers
+
+-- n fields, and a line feed
+abbrev pub lineEnds : ℕ → List ℕ → Bool
+lineEnds n bs = both (ltb (12 * n) (length bs)) (eqb (getD bs (12 * n) 0) 10)
+
+abbrev pub numbersOn : ℕ → List ℕ → Option (List ℤ)
+numbersOn n bs = cond (lineEnds n bs) (readFields n bs) none
+
+-- .. where there is room for them
+abbrev pub numbersIn : ℕ → ℕ → List ℕ → Option (List ℤ)
+numbersIn room n bs = cond (leb n room) (numbersOn n bs) none
+
+-- .. from a place of a list on
+abbrev pub numbersAt : ℕ → ℕ → ℕ → List ℕ → Option (List ℤ)
+numbersAt long place n bs = cond (leb (place + n) long) (numbersOn n bs) none
+
+-- one
+abbrev pub numberOn : List ℕ → Option ℤ
+numberOn bs = cond (lineEnds 1 bs) (readField (take 12 bs)) none
+
+-- ---- stored
+
+abbrev pub wordsOf : Option (List ℤ) → Option (List ℕ)
+wordsOf none = none
+wordsOf (some zs) = some (map wordOf zs)
+
+abbrev pub isSome {ℓ} : {A : Type ℓ} → Option A → Bool
+isSome none = false
+isSome (some x) = true
+
+-- whether something was read, and what was, stored from a place on
+pub record Stores {A : Type 0} (o : Option (List A)) (list : List A) (place : ℕ) (r : Bool) (list′ : List A) : Type 0 where
+  pub answer : r ≡ isSome o
+  pub stored : (vs : List A) → o ≡ some vs → list′ ≡ sets list place vs
