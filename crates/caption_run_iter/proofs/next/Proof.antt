@@ -58,14 +58,14 @@ use Rattle.captions.proofs.Step as P
 use Rattle.captions.proofs.Step.Laws as P′
 use Rattle.caption_run.proofs.steps.step as step
 use Rattle.caption_run.proofs.steps.step.Symbol as step-def
-use Rattle.caption_run.proofs.steps.step.Symbol.{name as #ligkern·steps·step}
+use Rattle.caption_run.proofs.steps.step.Symbol.{name as #caption-run·steps·step}
 use Rattle.caption_run.proofs.steps.step.Met as step-thm
 use Rattle.caption_run_iter.specs.Reader.{MovesOn}
 use Rattle.caption_run_iter.specs.declared.RunIter.{RunIter}
 use Rattle.caption_run_iter.proofs.RunIter as T
 use Rattle.caption_run_iter.proofs.RunIter.Laws as T′
 use Rattle.caption_run_iter.proofs.Values.{sliceOf, optionsVal, stateVal, answerVal, readerVal, options-typed, state-typed, answer-typed, step-typed, has-options, has-state, has-answer, two-twice}
-use Rattle.caption_run_iter.proofs.next.Key.{name as #run-iter·next}
+use Rattle.caption_run_iter.proofs.next.Key.{name as #caption-run-iter·next}
 use Rattle.caption_run_iter.proofs.next as next
 use Rattle.caption_run_iter.proofs.next.Statement as stated
 use Rattle.caption_run_iter.proofs.next.Code as code
@@ -189,7 +189,7 @@ module _ {M : Type 1} (𝓤 : URA M) (H : Heap 𝓤) (A : Atoms 𝓤) (W : Given
         feqI ! (List Val) (vptr b o ∷ []) (vptr b o ∷ []) refl $ fjoin3 ! $ fjoin ! $
         has-answer ! (r .answer) is-n $ move ! (1 ∷ 0 ∷ []) $ done !
 
-    module _ (C : Calls 𝓤 H) (Λ : Loops 𝓤 H) (fm : FmC 𝓤 H (W .laws) C) (known : Triple 𝓤 (C #ligkern·steps·step) (StepC 𝓤 H A at-mem run)) where
+    module _ (C : Calls 𝓤 H) (Λ : Loops 𝓤 H) (fm : FmC 𝓤 H (W .laws) C) (known : Triple 𝓤 (C #caption-run·steps·step) (StepC 𝓤 H A at-mem run)) where
       walk : Is (ShrSlice (named 2) κb i32) pairs (sliceOf pairs ∷ []) → Is (ShrSlice (named 3) κc i32) ops (sliceOf ops ∷ [])
           → ent 𝓤 (onEntry 𝓤 H A next.signature κs qs a at) (WpFn 𝓤 H C Λ code.function (vptr b o ∷ sliceOf pairs ∷ sliceOf ops ∷ vint w32 (ofZ w32 z) ∷ optionsVal options ∷ []) Post)
       walk is-pairs is-ops =
@@ -228,7 +228,7 @@ module _ {M : Type 1} (𝓤 : URA M) (H : Heap 𝓤) (A : Atoms 𝓤) (W : Given
           by ! (exits r (LL.owed P.the-type P′.the-laws r _ is .0) e))))))))))))))))
 
 module _ {M : Type 1} (𝓤 : URA M) (H : Heap 𝓤) (A : Atoms 𝓤) (W : Given 𝓤 H A) (mem : Memory → SProp 𝓤) (run : Routine → Fun 𝓤) where
-  next-walks : (C : Calls 𝓤 H) (Λ : Loops 𝓤 H) → FmC 𝓤 H (W .laws) C → Triple 𝓤 (C #ligkern·steps·step) (StepC 𝓤 H A mem run) → Walks 𝓤 H A next.ended stayed (WpFn 𝓤 H C Λ code.function) (next.clauses 𝓤 H A mem run)
+  next-walks : (C : Calls 𝓤 H) (Λ : Loops 𝓤 H) → FmC 𝓤 H (W .laws) C → Triple 𝓤 (C #caption-run·steps·step) (StepC 𝓤 H A mem run) → Walks 𝓤 H A next.ended stayed (WpFn 𝓤 H C Λ code.function) (next.clauses 𝓤 H A mem run)
   next-walks C Λ fm known = walked 𝓤 H A next.ended stayed (next.clauses 𝓤 H A mem run) (WpFn 𝓤 H C Λ code.function)
       (λ κs. (ptr-vals, (slice-vals, (slice-vals, (sint-vals w32, (LL.vals O.the-type O′.the-laws, tt))))))
       (λ κs. (mut-tells (named 0) (κs .0) (T.the-row (namedLft 4 1 tt κs)), (shr-slice-tells (named 2) (κs .1 .1 .0) i32, (shr-slice-tells (named 3) (κs .1 .1 .1 .0) i32, (sint-tells w32, (LL.tells O.the-type O′.the-laws, tt))))))
@@ -237,7 +237,7 @@ module _ {M : Type 1} (𝓤 : URA M) (H : Heap 𝓤) (A : Atoms 𝓤) (W : Given
       (are .1 .1 .1 .0) (are .1 .1 .1 .1 .0) C Λ fm known (are .1 .0) (are .1 .1 .0)))
 
 next-meets : {M : Type 1} (𝓤 : URA M) (H : Heap 𝓤) (A : Atoms 𝓤) (W : Given 𝓤 H A) (mem : Memory → SProp 𝓤) (run : Routine → Fun 𝓤) (𝓣 : Tables 𝓤 H)
-    → Triple 𝓤 (𝓣 .C #ligkern·steps·step) (StepC 𝓤 H A mem run)
+    → Triple 𝓤 (𝓣 .C #caption-run·steps·step) (StepC 𝓤 H A mem run)
     → Meets 𝓤 H A next.signature (WpFn 𝓤 H (𝓣 .C) (𝓣 .Λ) code.function) (next.spec 𝓤 H A mem run)
 next-meets 𝓤 H A W mem run 𝓣 known =
     walk-meets 𝓤 H A next.ended stayed W
@@ -248,6 +248,6 @@ pub next-spec : {M : Type 1} → stated.statement M
 unfolding code.routine tablesOf
 next-spec 𝓤 H 𝓜 𝓖 𝓡 =
     entered 𝓤 H (tripleOf 𝓤 H (𝓖 .A) next.signature (next.spec 𝓤 H (𝓖 .A) (𝓜 .mem) (𝓡 .run)))
-    (tables 𝓤 H 𝓜 𝓡 code.env .C) (tables 𝓤 H 𝓜 𝓡 code.env .Λ) #run-iter·next code.function (code.unfolded 𝓤 H 𝓜 𝓡)
+    (tables 𝓤 H 𝓜 𝓡 code.env .C) (tables 𝓤 H 𝓜 𝓡 code.env .Λ) #caption-run-iter·next code.function (code.unfolded 𝓤 H 𝓜 𝓡)
     (next-meets 𝓤 H (𝓖 .A) (givenOf 𝓤 H 𝓜 𝓖) (𝓜 .mem) (𝓡 .run) (tablesOf 𝓤 H 𝓜 (tables 𝓤 H 𝓜 𝓡 code.env))
-    (cited 𝓤 H (StepC 𝓤 H (𝓖 .A) (𝓜 .mem) (𝓡 .run)) 𝓜 𝓡 code.env #ligkern·steps·step step-def.routine code.calls-ligkern·steps·step (step-thm.met 𝓤 H 𝓜 𝓖 𝓡)))
+    (cited 𝓤 H (StepC 𝓤 H (𝓖 .A) (𝓜 .mem) (𝓡 .run)) 𝓜 𝓡 code.env #caption-run·steps·step step-def.routine code.calls-caption-run·steps·step (step-thm.met 𝓤 H 𝓜 𝓖 𝓡)))

@@ -65,13 +65,13 @@ use Rattle.caption_run_iter.proofs.Values.{sliceOf, optionsVal, stateVa
 use Rattle.caption_run_iter.proofs.Lending.{Loan, Lends, lends-local, takes-back}
 use Rattle.caption_run_iter.proofs.run_iter as run-iter
 use Rattle.caption_run_iter.proofs.run_iter.Symbol as run-iter-def
-use Rattle.caption_run_iter.proofs.run_iter.Symbol.{name as #run-iter·run-iter}
+use Rattle.caption_run_iter.proofs.run_iter.Symbol.{name as #caption-run-iter·run-iter}
 use Rattle.caption_run_iter.proofs.run_iter.Met as run-iter-thm
 use Rattle.caption_run_iter.proofs.next as next
 use Rattle.caption_run_iter.proofs.next.Symbol as next-def
-use Rattle.caption_run_iter.proofs.next.Symbol.{name as #run-iter·next}
+use Rattle.caption_run_iter.proofs.next.Symbol.{name as #caption-run-iter·next}
 use Rattle.caption_run_iter.proofs.next.Met as next-thm
-use Rattle.caption_run_iter.proofs.next_of.Key.{name as #run-iter·next-of}
+use Rattle.caption_run_iter.proofs.next_of.Key.{name as #caption-run-iter·next-of}
 use Rattle.caption_run_iter.proofs.next_of as next-of
 use Rattle.caption_run_iter.proofs.next_of.Statement as stated
 use Rattle.caption_run_iter.proofs.next_of.Code as code
@@ -240,7 +240,7 @@ module _ {M : Type 1} (𝓤 : URA M) (H : Heap 𝓤) (A : Atoms 𝓤) (W : Given
         suffices ! _ (ends-at 𝓤 H A next-of.ended stayed (next-of.clauses 𝓤 H A at-mem run) W ((κs, qs, tt, a, at), tt) (stepVal (made n h)) (made n h) (tt, (tt, (tt, (tt, (tt, (tt, tt)))))) (tt, (tt, (tt, (tt, (tt, (tt, tt))))))) $ says ! (steps n h e) $
         split ! $ frame ! $ has-step ! (made n h) is $ move ! (1 ∷ 0 ∷ []) $ done !
 
-    module _ (C : Calls 𝓤 H) (Λ : Loops 𝓤 H) (fm : FmC 𝓤 H (W .laws) C) (known-new : Triple 𝓤 (C #run-iter·run-iter) (New 𝓤 H A at-mem run)) (known-next : Triple 𝓤 (C #run-iter·next) (Next 𝓤 H A at-mem run)) where
+    module _ (C : Calls 𝓤 H) (Λ : Loops 𝓤 H) (fm : FmC 𝓤 H (W .laws) C) (known-new : Triple 𝓤 (C #caption-run-iter·run-iter) (New 𝓤 H A at-mem run)) (known-next : Triple 𝓤 (C #caption-run-iter·next) (Next 𝓤 H A at-mem run)) where
       walk : Is (ShrSlice (named 0) κb i32) pairs (sliceOf pairs ∷ []) → Is (ShrSlice (named 1) κc i32) ops (sliceOf ops ∷ []) → Is (ShrSlice (named 2) κa u32) word (sliceOf word ∷ [])
           → ent 𝓤 (onEntry 𝓤 H A next-of.signature κs qs a at) (WpFn 𝓤 H C Λ code.function (sliceOf pairs ∷ sliceOf ops ∷ vint w32 (ofZ w32 z) ∷ sliceOf word ∷ optionsVal options ∷ stateVal state ∷ []) Post)
       walk is-pairs is-ops is-w =
@@ -288,7 +288,7 @@ module _ {M : Type 1} (𝓤 : URA M) (H : Heap 𝓤) (A : Atoms 𝓤) (W : Given
           by ! (exits n (hs .0) (is-made n (hs .0) is-n is-h) e)))))))))))))))))))))))))))
 
 module _ {M : Type 1} (𝓤 : URA M) (H : Heap 𝓤) (A : Atoms 𝓤) (W : Given 𝓤 H A) (mem : Memory → SProp 𝓤) (run : Routine → Fun 𝓤) where
-  next-of-walks : (C : Calls 𝓤 H) (Λ : Loops 𝓤 H) → FmC 𝓤 H (W .laws) C → Triple 𝓤 (C #run-iter·run-iter) (New 𝓤 H A mem run) → Triple 𝓤 (C #run-iter·next) (Next 𝓤 H A mem run)
+  next-of-walks : (C : Calls 𝓤 H) (Λ : Loops 𝓤 H) → FmC 𝓤 H (W .laws) C → Triple 𝓤 (C #caption-run-iter·run-iter) (New 𝓤 H A mem run) → Triple 𝓤 (C #caption-run-iter·next) (Next 𝓤 H A mem run)
       → Walks 𝓤 H A next-of.ended stayed (WpFn 𝓤 H C Λ code.function) (next-of.clauses 𝓤 H A mem run)
   next-of-walks C Λ fm known-new known-next = walked 𝓤 H A next-of.ended stayed (next-of.clauses 𝓤 H A mem run) (WpFn 𝓤 H C Λ code.function)
       (λ κs. (slice-vals, (slice-vals, (sint-vals w32, (slice-vals, (LL.vals O.the-type O′.the-laws, (LL.vals S.the-type S′.the-laws, tt)))))))
@@ -298,7 +298,7 @@ module _ {M : Type 1} (𝓤 : URA M) (H : Heap 𝓤) (A : Atoms 𝓤) (W : Given
       (are .1 .1 .0) (are .1 .1 .1 .1 .0) (are .1 .1 .1 .1 .1 .0) C Λ fm known-new known-next (are .0) (are .1 .0) (are .1 .1 .1 .0)))
 
 next-of-meets : {M : Type 1} (𝓤 : URA M) (H : Heap 𝓤) (A : Atoms 𝓤) (W : Given 𝓤 H A) (mem : Memory → SProp 𝓤) (run : Routine → Fun 𝓤) (𝓣 : Tables 𝓤 H)
-    → Triple 𝓤 (𝓣 .C #run-iter·run-iter) (New 𝓤 H A mem run) → Triple 𝓤 (𝓣 .C #run-iter·next) (Next 𝓤 H A mem run)
+    → Triple 𝓤 (𝓣 .C #caption-run-iter·run-iter) (New 𝓤 H A mem run) → Triple 𝓤 (𝓣 .C #caption-run-iter·next) (Next 𝓤 H A mem run)
     → Meets 𝓤 H A next-of.signature (WpFn 𝓤 H (𝓣 .C) (𝓣 .Λ) code.function) (next-of.spec 𝓤 H A mem run)
 next-of-meets 𝓤 H A W mem run 𝓣 known-new known-next =
     walk-meets 𝓤 H A next-of.ended stayed W
@@ -309,7 +309,7 @@ pub next-of-spec : {M : Type 1} → stated.statement M
 unfolding code.routine tablesOf
 next-of-spec 𝓤 H 𝓜 𝓖 𝓡 =
     entered 𝓤 H (tripleOf 𝓤 H (𝓖 .A) next-of.signature (next-of.spec 𝓤 H (𝓖 .A) (𝓜 .mem) (𝓡 .run)))
-    (tables 𝓤 H 𝓜 𝓡 code.env .C) (tables 𝓤 H 𝓜 𝓡 code.env .Λ) #run-iter·next-of code.function (code.unfolded 𝓤 H 𝓜 𝓡)
+    (tables 𝓤 H 𝓜 𝓡 code.env .C) (tables 𝓤 H 𝓜 𝓡 code.env .Λ) #caption-run-iter·next-of code.function (code.unfolded 𝓤 H 𝓜 𝓡)
     (next-of-meets 𝓤 H (𝓖 .A) (givenOf 𝓤 H 𝓜 𝓖) (𝓜 .mem) (𝓡 .run) (tablesOf 𝓤 H 𝓜 (tables 𝓤 H 𝓜 𝓡 code.env))
-    (cited 𝓤 H (New 𝓤 H (𝓖 .A) (𝓜 .mem) (𝓡 .run)) 𝓜 𝓡 code.env #run-iter·run-iter run-iter-def.routine code.calls-run-iter·run-iter (run-iter-thm.met 𝓤 H 𝓜 𝓖 𝓡))
-    (cited 𝓤 H (Next 𝓤 H (𝓖 .A) (𝓜 .mem) (𝓡 .run)) 𝓜 𝓡 code.env #run-iter·next next-def.routine code.calls-run-iter·next (next-thm.met 𝓤 H 𝓜 𝓖 𝓡)))
+    (cited 𝓤 H (New 𝓤 H (𝓖 .A) (𝓜 .mem) (𝓡 .run)) 𝓜 𝓡 code.env #caption-run-iter·run-iter run-iter-def.routine code.calls-caption-run-iter·run-iter (run-iter-thm.met 𝓤 H 𝓜 𝓖 𝓡))
+    (cited 𝓤 H (Next 𝓤 H (𝓖 .A) (𝓜 .mem) (𝓡 .run)) 𝓜 𝓡 code.env #caption-run-iter·next next-def.routine code.calls-caption-run-iter·next (next-thm.met 𝓤 H 𝓜 𝓖 𝓡)))

@@ -40,7 +40,7 @@ use Rattle.caption_run_iter.specs.declared.RunIter.{RunIter}
 use Rattle.caption_run_iter.proofs.RunIter as T
 use Rattle.caption_run_iter.proofs.RunIter.Laws as T′
 use Rattle.caption_run_iter.proofs.Values.{sliceOf, stateVal, readerVal, state-typed, reader-typed, has-state}
-use Rattle.caption_run_iter.proofs.run_iter.Key.{name as #run-iter·run-iter}
+use Rattle.caption_run_iter.proofs.run_iter.Key.{name as #caption-run-iter·run-iter}
 use Rattle.caption_run_iter.proofs.run_iter as run-iter
 use Rattle.caption_run_iter.proofs.run_iter.Statement as stated
 use Rattle.caption_run_iter.proofs.run_iter.Code as code
@@ -108,5 +108,5 @@ pub run-iter-spec : {M : Type 1} → stated.statement M
 unfolding code.routine tablesOf
 run-iter-spec 𝓤 H 𝓜 𝓖 𝓡 =
     entered 𝓤 H (tripleOf 𝓤 H (𝓖 .A) run-iter.signature (run-iter.spec 𝓤 H (𝓖 .A) (𝓜 .mem) (𝓡 .run)))
-    (tables 𝓤 H 𝓜 𝓡 code.env .C) (tables 𝓤 H 𝓜 𝓡 code.env .Λ) #run-iter·run-iter code.function (code.unfolded 𝓤 H 𝓜 𝓡)
+    (tables 𝓤 H 𝓜 𝓡 code.env .C) (tables 𝓤 H 𝓜 𝓡 code.env .Λ) #caption-run-iter·run-iter code.function (code.unfolded 𝓤 H 𝓜 𝓡)
     (run-iter-meets 𝓤 H (𝓖 .A) (givenOf 𝓤 H 𝓜 𝓖) (𝓜 .mem) (𝓡 .run) (tablesOf 𝓤 H 𝓜 (tables 𝓤 H 𝓜 𝓡 code.env)))

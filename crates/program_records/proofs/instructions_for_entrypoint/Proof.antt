@@ -69,21 +69,21 @@ use Rattle.program_records.proofs.Again.{LentAgain, lends-again, comes-
 use Rattle.program_records.proofs.RecordTurns.{Walked, walked-none, walked-small, walked-nearer, walked-more, walked-ends}
 use Rattle.program_records.proofs.next_instruction as next-instruction
 use Rattle.program_records.proofs.next_instruction.Symbol as next-instruction-def
-use Rattle.program_records.proofs.next_instruction.Symbol.{name as #records·next-instruction}
+use Rattle.program_records.proofs.next_instruction.Symbol.{name as #program-records·next-instruction}
 use Rattle.program_records.proofs.next_instruction.Met as next-instruction-thm
 use Rattle.program_records.proofs.steps.begin as begin
 use Rattle.program_records.proofs.steps.begin.Symbol as begin-def
-use Rattle.program_records.proofs.steps.begin.Symbol.{name as #records·begin}
+use Rattle.program_records.proofs.steps.begin.Symbol.{name as #program-records·begin}
 use Rattle.program_records.proofs.steps.begin.Met as begin-thm
 use Rattle.program_records.proofs.steps.put as put
 use Rattle.program_records.proofs.steps.put.Symbol as put-def
-use Rattle.program_records.proofs.steps.put.Symbol.{name as #records·put}
+use Rattle.program_records.proofs.steps.put.Symbol.{name as #program-records·put}
 use Rattle.program_records.proofs.steps.put.Met as put-thm
 use Rattle.program_records.proofs.steps.finish as finish
 use Rattle.program_records.proofs.steps.finish.Symbol as finish-def
-use Rattle.program_records.proofs.steps.finish.Symbol.{name as #records·finish}
+use Rattle.program_records.proofs.steps.finish.Symbol.{name as #program-records·finish}
 use Rattle.program_records.proofs.steps.finish.Met as finish-thm
-use Rattle.program_records.proofs.instructions_for_entrypoint.Key.{name as #records·instructions-for-entrypoint}
+use Rattle.program_records.proofs.instructions_for_entrypoint.Key.{name as #program-records·instructions-for-entrypoint}
 use Rattle.program_records.proofs.instructions_for_entrypoint as whole-walk
 use Rattle.program_records.proofs.instructions_for_entrypoint.Statement as stated
 use Rattle.program_records.proofs.instructions_for_entrypoint.Code as code
@@ -118,10 +118,10 @@ module _ {M : Type 1} (𝓤 : URA M) (H : Heap 𝓤) (A : Atoms 𝓤) (mem : Mem
 
   -- that a table of calls has them
   pub record Known (C : Calls 𝓤 H) : Type 1 where
-    pub begin : Triple 𝓤 (C #records·begin) Begin
-    pub next-instruction : Triple 𝓤 (C #records·next-instruction) NextInstruction
-    pub put : Triple 𝓤 (C #records·put) Put
-    pub finish : Triple 𝓤 (C #records·finish) Finish
+    pub begin : Triple 𝓤 (C #program-records·begin) Begin
+    pub next-instruction : Triple 𝓤 (C #program-records·next-instruction) NextInstruction
+    pub put : Triple 𝓤 (C #program-records·put) Put
+    pub finish : Triple 𝓤 (C #program-records·finish) Finish
 
 -- the list, which lies at (b, o), under the name δ, and its machine value
 module _ (b o : ℕ) where
@@ -350,11 +350,11 @@ pub instructions-for-entrypoint-spec : {M : Type 1} → stated.statement M
 unfolding code.routine tablesOf
 instructions-for-entrypoint-spec 𝓤 H 𝓜 𝓖 𝓡 =
     entered 𝓤 H (tripleOf 𝓤 H (𝓖 .A) whole-walk.signature (whole-walk.spec 𝓤 H (𝓖 .A) (𝓜 .mem) (𝓡 .run)))
-    (tables 𝓤 H 𝓜 𝓡 code.env .C) (tables 𝓤 H 𝓜 𝓡 code.env .Λ) #records·instructions-for-entrypoint code.function (code.unfolded 𝓤 H 𝓜 𝓡)
+    (tables 𝓤 H 𝓜 𝓡 code.env .C) (tables 𝓤 H 𝓜 𝓡 code.env .Λ) #program-records·instructions-for-entrypoint code.function (code.unfolded 𝓤 H 𝓜 𝓡)
     (whole-meets 𝓤 H (𝓖 .A) (givenOf 𝓤 H 𝓜 𝓖) (𝓜 .mem) (𝓡 .run) (tablesOf 𝓤 H 𝓜 (tables 𝓤 H 𝓜 𝓡 code.env))
     (record {
-      begin = cited 𝓤 H (Begin 𝓤 H (𝓖 .A) (𝓜 .mem) (𝓡 .run)) 𝓜 𝓡 code.env #records·begin begin-def.routine code.calls-records·steps·begin (begin-thm.met 𝓤 H 𝓜 𝓖 𝓡);
-      next-instruction = cited 𝓤 H (NextInstruction 𝓤 H (𝓖 .A) (𝓜 .mem) (𝓡 .run)) 𝓜 𝓡 code.env #records·next-instruction next-instruction-def.routine code.calls-records·next-instruction (next-instruction-thm.met 𝓤 H 𝓜 𝓖 𝓡);
-      put = cited 𝓤 H (Put 𝓤 H (𝓖 .A) (𝓜 .mem) (𝓡 .run)) 𝓜 𝓡 code.env #records·put put-def.routine code.calls-records·steps·put (put-thm.met 𝓤 H 𝓜 𝓖 𝓡);
-      finish = cited 𝓤 H (Finish 𝓤 H (𝓖 .A) (𝓜 .mem) (𝓡 .run)) 𝓜 𝓡 code.env #records·finish finish-def.routine code.calls-records·steps·finish (finish-thm.met 𝓤 H 𝓜 𝓖 𝓡);
+      begin = cited 𝓤 H (Begin 𝓤 H (𝓖 .A) (𝓜 .mem) (𝓡 .run)) 𝓜 𝓡 code.env #program-records·begin begin-def.routine code.calls-program-records·steps·begin (begin-thm.met 𝓤 H 𝓜 𝓖 𝓡);
+      next-instruction = cited 𝓤 H (NextInstruction 𝓤 H (𝓖 .A) (𝓜 .mem) (𝓡 .run)) 𝓜 𝓡 code.env #program-records·next-instruction next-instruction-def.routine code.calls-program-records·next-instruction (next-instruction-thm.met 𝓤 H 𝓜 𝓖 𝓡);
+      put = cited 𝓤 H (Put 𝓤 H (𝓖 .A) (𝓜 .mem) (𝓡 .run)) 𝓜 𝓡 code.env #program-records·put put-def.routine code.calls-program-records·steps·put (put-thm.met 𝓤 H 𝓜 𝓖 𝓡);
+      finish = cited 𝓤 H (Finish 𝓤 H (𝓖 .A) (𝓜 .mem) (𝓡 .run)) 𝓜 𝓡 code.env #program-records·finish finish-def.routine code.calls-program-records·steps·finish (finish-thm.met 𝓤 H 𝓜 𝓖 𝓡);
     }))

@@ -47,13 +47,13 @@ use Rattle.program_records.proofs.Calls.{asks-that, answers}
 use Rattle.program_records.proofs.LentRecords.{slice, sliceV, Own, typed, lends, returned, room-count}
 use Rattle.program_records.proofs.record_at as record-at
 use Rattle.program_records.proofs.record_at.Symbol as record-at-def
-use Rattle.program_records.proofs.record_at.Symbol.{name as #records·record-at}
+use Rattle.program_records.proofs.record_at.Symbol.{name as #program-records·record-at}
 use Rattle.program_records.proofs.record_at.Met as record-at-thm
 use Rattle.program_records.proofs.steps.step as step
 use Rattle.program_records.proofs.steps.step.Symbol as step-def
-use Rattle.program_records.proofs.steps.step.Symbol.{name as #records·step}
+use Rattle.program_records.proofs.steps.step.Symbol.{name as #program-records·step}
 use Rattle.program_records.proofs.steps.step.Met as step-thm
-use Rattle.program_records.proofs.next_instruction.Key.{name as #records·next-instruction}
+use Rattle.program_records.proofs.next_instruction.Key.{name as #program-records·next-instruction}
 use Rattle.program_records.proofs.next_instruction as next-instruction
 use Rattle.program_records.proofs.next_instruction.Statement as stated
 use Rattle.program_records.proofs.next_instruction.Code as code
@@ -92,7 +92,7 @@ module _ {M : Type 1} (𝓤 : URA M) (H : Heap 𝓤) (A : Atoms 𝓤) (W : Given
   abbrev to-step : Val → Step 𝓤 H A mem run .Ghost
   to-step u = ((tt, tt, tt, (length xs, (recordAt xs at, (at, tt))), (vint w64 (length xs) ∷ [], (u ∷ [], (vint w64 at ∷ [], tt)))), tt)
 
-  module _ (C : Calls 𝓤 H) (Λ : Loops 𝓤 H) (fm : FmC 𝓤 H (W .laws) C) (known-record : Triple 𝓤 (C #records·record-at) (RecordAt 𝓤 H A mem run)) (known-step : Triple 𝓤 (C #records·step) (Step 𝓤 H A mem run)) where
+  module _ (C : Calls 𝓤 H) (Λ : Loops 𝓤 H) (fm : FmC 𝓤 H (W .laws) C) (known-record : Triple 𝓤 (C #program-records·record-at) (RecordAt 𝓤 H A mem run)) (known-step : Triple 𝓤 (C #program-records·step) (Step 𝓤 H A mem run)) where
     walk : Is (ShrSlice (named 0) κ T.the-row) (slice b o γ xs) (sliceV b o γ xs ∷ []) → at < 2 ^ 64
         → ent 𝓤 (onEntry 𝓤 H A next-instruction.signature (κ, tt) (q, tt) (slice b o γ xs, (at, tt)) vals) (WpFn 𝓤 H C Λ code.function (sliceV b o γ xs ∷ vint w64 at ∷ []) Post)
     walk p fits =
@@ -116,13 +116,13 @@ module _ {M : Type 1} (𝓤 : URA M) (H : Heap 𝓤) (A : Atoms 𝓤) (W : Given
         by ! (exits fits w is′))))))))))
 
 module _ {M : Type 1} (𝓤 : URA M) (H : Heap 𝓤) (A : Atoms 𝓤) (W : Given 𝓤 H A) (mem : Memory → SProp 𝓤) (run : Routine → Fun 𝓤) where
-  next-instruction-walks : (C : Calls 𝓤 H) (Λ : Loops 𝓤 H) → FmC 𝓤 H (W .laws) C → Triple 𝓤 (C #records·record-at) (RecordAt 𝓤 H A mem run) → Triple 𝓤 (C #records·step) (Step 𝓤 H A mem run)
+  next-instruction-walks : (C : Calls 𝓤 H) (Λ : Loops 𝓤 H) → FmC 𝓤 H (W .laws) C → Triple 𝓤 (C #program-records·record-at) (RecordAt 𝓤 H A mem run) → Triple 𝓤 (C #program-records·step) (Step 𝓤 H A mem run)
       → Walks 𝓤 H A next-instruction.ended stayed (WpFn 𝓤 H C Λ code.function) (next-instruction.clauses 𝓤 H A mem run)
   next-instruction-walks C Λ fm known-record known-step = walked 𝓤 H A next-instruction.ended stayed (next-instruction.clauses 𝓤 H A mem run) (WpFn 𝓤 H C Λ code.function) (λ κs. (slice-vals, (uint-vals w64, tt))) (λ κs. (shr-slice-tells (named 0) (κs .0) T.the-row, (uint-tells w64, tt)))
       (λ κs qs bounds a g are. via 𝓤 _ (fst∗ 𝓤 _ (emp 𝓤)) (walk 𝓤 H A W mem run (κs .0) (qs .0) (a .0 .ptr .0) (a .0 .ptr .1) (a .0 .name) (a .0 .now) (a .1 .0) C Λ fm known-record known-step (are .0) (are .1 .0 .1)))
 
 next-instruction-meets : {M : Type 1} (𝓤 : URA M) (H : Heap 𝓤) (A : Atoms 𝓤) (W : Given 𝓤 H A) (mem : Memory → SProp 𝓤) (run : Routine → Fun 𝓤) (𝓣 : Tables 𝓤 H)
-    → Triple 𝓤 (𝓣 .C #records·record-at) (RecordAt 𝓤 H A mem run) → Triple 𝓤 (𝓣 .C #records·step) (Step 𝓤 H A mem run)
+    → Triple 𝓤 (𝓣 .C #program-records·record-at) (RecordAt 𝓤 H A mem run) → Triple 𝓤 (𝓣 .C #program-records·step) (Step 𝓤 H A mem run)
     → Meets 𝓤 H A next-instruction.signature (WpFn 𝓤 H (𝓣 .C) (𝓣 .Λ) code.function) (next-instruction.spec 𝓤 H A mem run)
 next-instruction-meets 𝓤 H A W mem run 𝓣 known-record known-step =
     walk-meets 𝓤 H A next-instruction.ended stayed W (goes-none-slice 𝓤 H A W 1 (0 ∷ []) tt (plain (λ _. T.the-row)) yes, (goes-none 𝓤 H A W 1 (λ _. usize) yes (λ κs x f. refl), tt)) (next-instruction.clauses 𝓤 H A mem run)
@@ -132,7 +132,7 @@ pub next-instruction-spec : {M : Type 1} → stated.statement M
 unfolding code.routine tablesOf
 next-instruction-spec 𝓤 H 𝓜 𝓖 𝓡 =
     entered 𝓤 H (tripleOf 𝓤 H (𝓖 .A) next-instruction.signature (next-instruction.spec 𝓤 H (𝓖 .A) (𝓜 .mem) (𝓡 .run)))
-    (tables 𝓤 H 𝓜 𝓡 code.env .C) (tables 𝓤 H 𝓜 𝓡 code.env .Λ) #records·next-instruction code.function (code.unfolded 𝓤 H 𝓜 𝓡)
+    (tables 𝓤 H 𝓜 𝓡 code.env .C) (tables 𝓤 H 𝓜 𝓡 code.env .Λ) #program-records·next-instruction code.function (code.unfolded 𝓤 H 𝓜 𝓡)
     (next-instruction-meets 𝓤 H (𝓖 .A) (givenOf 𝓤 H 𝓜 𝓖) (𝓜 .mem) (𝓡 .run) (tablesOf 𝓤 H 𝓜 (tables 𝓤 H 𝓜 𝓡 code.env))
-    (cited 𝓤 H (RecordAt 𝓤 H (𝓖 .A) (𝓜 .mem) (𝓡 .run)) 𝓜 𝓡 code.env #records·record-at record-at-def.routine code.calls-records·record-at (record-at-thm.met 𝓤 H 𝓜 𝓖 𝓡))
-    (cited 𝓤 H (Step 𝓤 H (𝓖 .A) (𝓜 .mem) (𝓡 .run)) 𝓜 𝓡 code.env #records·step step-def.routine code.calls-records·steps·step (step-thm.met 𝓤 H 𝓜 𝓖 𝓡)))
+    (cited 𝓤 H (RecordAt 𝓤 H (𝓖 .A) (𝓜 .mem) (𝓡 .run)) 𝓜 𝓡 code.env #program-records·record-at record-at-def.routine code.calls-program-records·record-at (record-at-thm.met 𝓤 H 𝓜 𝓖 𝓡))
+    (cited 𝓤 H (Step 𝓤 H (𝓖 .A) (𝓜 .mem) (𝓡 .run)) 𝓜 𝓡 code.env #program-records·step step-def.routine code.calls-program-records·steps·step (step-thm.met 𝓤 H 𝓜 𝓖 𝓡)))

@@ -47,9 +47,9 @@ use Rattle.program_records.proofs.Calls.{asks, answers}
 use Rattle.program_records.proofs.LentRecords.{machine, slice, sliceV, sliceOf, Own, typed, returned}
 use Rattle.program_records.proofs.steps.zeros as zeros
 use Rattle.program_records.proofs.steps.zeros.Symbol as zeros-def
-use Rattle.program_records.proofs.steps.zeros.Symbol.{name as #records·zeros}
+use Rattle.program_records.proofs.steps.zeros.Symbol.{name as #program-records·zeros}
 use Rattle.program_records.proofs.steps.zeros.Met as zeros-thm
-use Rattle.program_records.proofs.record_at.Key.{name as #records·record-at}
+use Rattle.program_records.proofs.record_at.Key.{name as #program-records·record-at}
 use Rattle.program_records.proofs.record_at as record-at
 use Rattle.program_records.proofs.record_at.Statement as stated
 use Rattle.program_records.proofs.record_at.Code as code
@@ -78,7 +78,7 @@ module _ {M : Type 1} (𝓤 : URA M) (H : Heap 𝓤) (A : Atoms 𝓤) (W : Given
   abbrev to-zeros : Zeros 𝓤 H A mem run .Ghost
   to-zeros = ((tt, tt, tt, tt, tt), tt)
 
-  module _ (C : Calls 𝓤 H) (Λ : Loops 𝓤 H) (fm : FmC 𝓤 H (W .laws) C) (known : Triple 𝓤 (C #records·zeros) (Zeros 𝓤 H A mem run)) (fits : at < 2 ^ 64) (room : Room T.the-row (length xs)) (l₀ l₁ l₂ l₃ l₄ l₅ l₆ l₇ : ℕ) where
+  module _ (C : Calls 𝓤 H) (Λ : Loops 𝓤 H) (fm : FmC 𝓤 H (W .laws) C) (known : Triple 𝓤 (C #program-records·zeros) (Zeros 𝓤 H A mem run)) (fits : at < 2 ^ 64) (room : Room T.the-row (length xs)) (l₀ l₁ l₂ l₃ l₄ l₅ l₆ l₇ : ℕ) where
     abbrev E : Env 𝓤 H
     E = (T′.mir, l₀) ∷ (sliceOf, l₁) ∷ (tyInt w64, l₂) ∷ (tyInt w64, l₃) ∷ (tyBool, l₄) ∷ (tyInt w64, l₅) ∷ (tyPtr, l₆) ∷ (T′.mir, l₇) ∷ []
 
@@ -121,7 +121,7 @@ module _ {M : Type 1} (𝓤 : URA M) (H : Heap 𝓤) (A : Atoms 𝓤) (W : Given
         keep ! (0 ∷ 2 ∷ []) $ by ! (exits fits (recordAt xs at) _ g refl))))
         (λ outside. skips ! $ exec ! C Λ E pieces.t-4 (atRet E Post) $ past (nltb→le at (length xs) outside) _)
 
-  module _ (C : Calls 𝓤 H) (Λ : Loops 𝓤 H) (fm : FmC 𝓤 H (W .laws) C) (known : Triple 𝓤 (C #records·zeros) (Zeros 𝓤 H A mem run)) where
+  module _ (C : Calls 𝓤 H) (Λ : Loops 𝓤 H) (fm : FmC 𝓤 H (W .laws) C) (known : Triple 𝓤 (C #program-records·zeros) (Zeros 𝓤 H A mem run)) where
     walk : Is (ShrSlice (named 0) κ T.the-row) (slice b o γ xs) (sliceV b o γ xs ∷ []) → at < 2 ^ 64 → ent 𝓤 (onEntry 𝓤 H A record-at.signature (κ, tt) (q, tt) (slice b o γ xs, (at, tt)) vals) (WpFn 𝓤 H C Λ code.function (sliceV b o γ xs ∷ vint w64 at ∷ []) Post)
     walk p fits =
         qed W ((‵ (flft κ q) ⊛ ‵ ftrue) ∷ ‵ (owns (ShrSlice (named 0) κ T.the-row ∷ usize ∷ []) (slice b o γ xs, (at, tt)) vals) ∷ []) ∵ move ! (1 ∷ []) $ fsplit ! $ move ! (2 ∷ []) $ split ! $ keep ! (0 ∷ 2 ∷ []) $
@@ -133,11 +133,11 @@ module _ {M : Type 1} (𝓤 : URA M) (H : Heap 𝓤) (A : Atoms 𝓤) (W : Given
         tested C Λ fm known fits (p .0 .1) l₀ l₁ l₂ l₃ l₄ l₅ l₆ l₇))))))))
 
 module _ {M : Type 1} (𝓤 : URA M) (H : Heap 𝓤) (A : Atoms 𝓤) (W : Given 𝓤 H A) (mem : Memory → SProp 𝓤) (run : Routine → Fun 𝓤) where
-  record-at-walks : (C : Calls 𝓤 H) (Λ : Loops 𝓤 H) → FmC 𝓤 H (W .laws) C → Triple 𝓤 (C #records·zeros) (Zeros 𝓤 H A mem run) → Walks 𝓤 H A record-at.ended stayed (WpFn 𝓤 H C Λ code.function) (record-at.clauses 𝓤 H A mem run)
+  record-at-walks : (C : Calls 𝓤 H) (Λ : Loops 𝓤 H) → FmC 𝓤 H (W .laws) C → Triple 𝓤 (C #program-records·zeros) (Zeros 𝓤 H A mem run) → Walks 𝓤 H A record-at.ended stayed (WpFn 𝓤 H C Λ code.function) (record-at.clauses 𝓤 H A mem run)
   record-at-walks C Λ fm known = walked 𝓤 H A record-at.ended stayed (record-at.clauses 𝓤 H A mem run) (WpFn 𝓤 H C Λ code.function) (λ κs. (slice-vals, (uint-vals w64, tt))) (λ κs. (shr-slice-tells (named 0) (κs .0) T.the-row, (uint-tells w64, tt)))
       (λ κs qs bounds a g are. via 𝓤 _ (fst∗ 𝓤 _ (emp 𝓤)) (walk 𝓤 H A W mem run (κs .0) (qs .0) (a .0 .ptr .0) (a .0 .ptr .1) (a .0 .name) (a .0 .now) (a .1 .0) C Λ fm known (are .0) (are .1 .0 .1)))
 
-record-at-meets : {M : Type 1} (𝓤 : URA M) (H : Heap 𝓤) (A : Atoms 𝓤) (W : Given 𝓤 H A) (mem : Memory → SProp 𝓤) (run : Routine → Fun 𝓤) (𝓣 : Tables 𝓤 H) → Triple 𝓤 (𝓣 .C #records·zeros) (Zeros 𝓤 H A mem run)
+record-at-meets : {M : Type 1} (𝓤 : URA M) (H : Heap 𝓤) (A : Atoms 𝓤) (W : Given 𝓤 H A) (mem : Memory → SProp 𝓤) (run : Routine → Fun 𝓤) (𝓣 : Tables 𝓤 H) → Triple 𝓤 (𝓣 .C #program-records·zeros) (Zeros 𝓤 H A mem run)
     → Meets 𝓤 H A record-at.signature (WpFn 𝓤 H (𝓣 .C) (𝓣 .Λ) code.function) (record-at.spec 𝓤 H A mem run)
 record-at-meets 𝓤 H A W mem run 𝓣 known =
     walk-meets 𝓤 H A record-at.ended stayed W (goes-none-slice 𝓤 H A W 1 (0 ∷ []) tt (plain (λ _. T.the-row)) yes, (goes-none 𝓤 H A W 1 (λ _. usize) yes (λ κs x f. refl), tt)) (record-at.clauses 𝓤 H A mem run)
@@ -147,6 +147,6 @@ pub record-at-spec : {M : Type 1} → stated.statement M
 unfolding code.routine tablesOf
 record-at-spec 𝓤 H 𝓜 𝓖 𝓡 =
     entered 𝓤 H (tripleOf 𝓤 H (𝓖 .A) record-at.signature (record-at.spec 𝓤 H (𝓖 .A) (𝓜 .mem) (𝓡 .run)))
-    (tables 𝓤 H 𝓜 𝓡 code.env .C) (tables 𝓤 H 𝓜 𝓡 code.env .Λ) #records·record-at code.function (code.unfolded 𝓤 H 𝓜 𝓡)
+    (tables 𝓤 H 𝓜 𝓡 code.env .C) (tables 𝓤 H 𝓜 𝓡 code.env .Λ) #program-records·record-at code.function (code.unfolded 𝓤 H 𝓜 𝓡)
     (record-at-meets 𝓤 H (𝓖 .A) (givenOf 𝓤 H 𝓜 𝓖) (𝓜 .mem) (𝓡 .run) (tablesOf 𝓤 H 𝓜 (tables 𝓤 H 𝓜 𝓡 code.env))
-    (cited 𝓤 H (Zeros 𝓤 H (𝓖 .A) (𝓜 .mem) (𝓡 .run)) 𝓜 𝓡 code.env #records·zeros zeros-def.routine code.calls-records·steps·zeros (zeros-thm.met 𝓤 H 𝓜 𝓖 𝓡)))
+    (cited 𝓤 H (Zeros 𝓤 H (𝓖 .A) (𝓜 .mem) (𝓡 .run)) 𝓜 𝓡 code.env #program-records·zeros zeros-def.routine code.calls-program-records·steps·zeros (zeros-thm.met 𝓤 H 𝓜 𝓖 𝓡)))

@@ -58,25 +58,25 @@ use Rattle.program_records.proofs.LentRecords.{slice, sliceV, sliceOf, 
 use Rattle.program_records.proofs.RecordTurns.{goes-to, search-on, search-later, search-stops}
 use Rattle.program_records.proofs.record_at as record-at
 use Rattle.program_records.proofs.record_at.Symbol as record-at-def
-use Rattle.program_records.proofs.record_at.Symbol.{name as #records·record-at}
+use Rattle.program_records.proofs.record_at.Symbol.{name as #program-records·record-at}
 use Rattle.program_records.proofs.record_at.Met as record-at-thm
 use Rattle.program_records.proofs.next_instruction as next-instruction
 use Rattle.program_records.proofs.next_instruction.Symbol as next-instruction-def
-use Rattle.program_records.proofs.next_instruction.Symbol.{name as #records·next-instruction}
+use Rattle.program_records.proofs.next_instruction.Symbol.{name as #program-records·next-instruction}
 use Rattle.program_records.proofs.next_instruction.Met as next-instruction-thm
 use Rattle.program_records.proofs.steps.searches_on as searches-on
 use Rattle.program_records.proofs.steps.searches_on.Symbol as searches-on-def
-use Rattle.program_records.proofs.steps.searches_on.Symbol.{name as #records·searches-on}
+use Rattle.program_records.proofs.steps.searches_on.Symbol.{name as #program-records·searches-on}
 use Rattle.program_records.proofs.steps.searches_on.Met as searches-on-thm
 use Rattle.program_records.proofs.steps.onward as onward
 use Rattle.program_records.proofs.steps.onward.Symbol as onward-def
-use Rattle.program_records.proofs.steps.onward.Symbol.{name as #records·onward}
+use Rattle.program_records.proofs.steps.onward.Symbol.{name as #program-records·onward}
 use Rattle.program_records.proofs.steps.onward.Met as onward-thm
 use Rattle.program_records.proofs.steps.rule_at as rule-at
 use Rattle.program_records.proofs.steps.rule_at.Symbol as rule-at-def
-use Rattle.program_records.proofs.steps.rule_at.Symbol.{name as #records·rule-at}
+use Rattle.program_records.proofs.steps.rule_at.Symbol.{name as #program-records·rule-at}
 use Rattle.program_records.proofs.steps.rule_at.Met as rule-at-thm
-use Rattle.program_records.proofs.rule_index.Key.{name as #records·rule-index}
+use Rattle.program_records.proofs.rule_index.Key.{name as #program-records·rule-index}
 use Rattle.program_records.proofs.rule_index as rule-index
 use Rattle.program_records.proofs.rule_index.Statement as stated
 use Rattle.program_records.proofs.rule_index.Code as code
@@ -104,11 +104,11 @@ module _ {M : Type 1} (𝓤 : URA M) (H : Heap 𝓤) (A : Atoms 𝓤) (mem : Mem
 
   -- that a table of calls has them
   pub record Known (C : Calls 𝓤 H) : Type 1 where
-    pub record-at : Triple 𝓤 (C #records·record-at) RecordAt
-    pub searches-on : Triple 𝓤 (C #records·searches-on) SearchesOn
-    pub next-instruction : Triple 𝓤 (C #records·next-instruction) NextInstruction
-    pub onward : Triple 𝓤 (C #records·onward) Onward
-    pub rule-at : Triple 𝓤 (C #records·rule-at) RuleAt
+    pub record-at : Triple 𝓤 (C #program-records·record-at) RecordAt
+    pub searches-on : Triple 𝓤 (C #program-records·searches-on) SearchesOn
+    pub next-instruction : Triple 𝓤 (C #program-records·next-instruction) NextInstruction
+    pub onward : Triple 𝓤 (C #program-records·onward) Onward
+    pub rule-at : Triple 𝓤 (C #program-records·rule-at) RuleAt
 
 module _ {M : Type 1} (𝓤 : URA M) (H : Heap 𝓤) (A : Atoms 𝓤) (W : Given 𝓤 H A) (mem : Memory → SProp 𝓤) (run : Routine → Fun 𝓤) (κ : Lft) (q : Share) (b o : ℕ) (γ : GName) (xs : List Instruction) (entry right : ℕ) where
   abbrev vals : List Val × (List Val × (List Val × Unit {0}))
@@ -249,12 +249,12 @@ pub rule-index-spec : {M : Type 1} → stated.statement M
 unfolding code.routine tablesOf
 rule-index-spec 𝓤 H 𝓜 𝓖 𝓡 =
     entered 𝓤 H (tripleOf 𝓤 H (𝓖 .A) rule-index.signature (rule-index.spec 𝓤 H (𝓖 .A) (𝓜 .mem) (𝓡 .run)))
-    (tables 𝓤 H 𝓜 𝓡 code.env .C) (tables 𝓤 H 𝓜 𝓡 code.env .Λ) #records·rule-index code.function (code.unfolded 𝓤 H 𝓜 𝓡)
+    (tables 𝓤 H 𝓜 𝓡 code.env .C) (tables 𝓤 H 𝓜 𝓡 code.env .Λ) #program-records·rule-index code.function (code.unfolded 𝓤 H 𝓜 𝓡)
     (rule-index-meets 𝓤 H (𝓖 .A) (givenOf 𝓤 H 𝓜 𝓖) (𝓜 .mem) (𝓡 .run) (tablesOf 𝓤 H 𝓜 (tables 𝓤 H 𝓜 𝓡 code.env))
     (record {
-      record-at = cited 𝓤 H (RecordAt 𝓤 H (𝓖 .A) (𝓜 .mem) (𝓡 .run)) 𝓜 𝓡 code.env #records·record-at record-at-def.routine code.calls-records·record-at (record-at-thm.met 𝓤 H 𝓜 𝓖 𝓡);
-      searches-on = cited 𝓤 H (SearchesOn 𝓤 H (𝓖 .A) (𝓜 .mem) (𝓡 .run)) 𝓜 𝓡 code.env #records·searches-on searches-on-def.routine code.calls-records·steps·searches-on (searches-on-thm.met 𝓤 H 𝓜 𝓖 𝓡);
-      next-instruction = cited 𝓤 H (NextInstruction 𝓤 H (𝓖 .A) (𝓜 .mem) (𝓡 .run)) 𝓜 𝓡 code.env #records·next-instruction next-instruction-def.routine code.calls-records·next-instruction (next-instruction-thm.met 𝓤 H 𝓜 𝓖 𝓡);
-      onward = cited 𝓤 H (Onward 𝓤 H (𝓖 .A) (𝓜 .mem) (𝓡 .run)) 𝓜 𝓡 code.env #records·onward onward-def.routine code.calls-records·steps·onward (onward-thm.met 𝓤 H 𝓜 𝓖 𝓡);
-      rule-at = cited 𝓤 H (RuleAt 𝓤 H (𝓖 .A) (𝓜 .mem) (𝓡 .run)) 𝓜 𝓡 code.env #records·rule-at rule-at-def.routine code.calls-records·steps·rule-at (rule-at-thm.met 𝓤 H 𝓜 𝓖 𝓡);
+      record-at = cited 𝓤 H (RecordAt 𝓤 H (𝓖 .A) (𝓜 .mem) (𝓡 .run)) 𝓜 𝓡 code.env #program-records·record-at record-at-def.routine code.calls-program-records·record-at (record-at-thm.met 𝓤 H 𝓜 𝓖 𝓡);
+      searches-on = cited 𝓤 H (SearchesOn 𝓤 H (𝓖 .A) (𝓜 .mem) (𝓡 .run)) 𝓜 𝓡 code.env #program-records·searches-on searches-on-def.routine code.calls-program-records·steps·searches-on (searches-on-thm.met 𝓤 H 𝓜 𝓖 𝓡);
+      next-instruction = cited 𝓤 H (NextInstruction 𝓤 H (𝓖 .A) (𝓜 .mem) (𝓡 .run)) 𝓜 𝓡 code.env #program-records·next-instruction next-instruction-def.routine code.calls-program-records·next-instruction (next-instruction-thm.met 𝓤 H 𝓜 𝓖 𝓡);
+      onward = cited 𝓤 H (Onward 𝓤 H (𝓖 .A) (𝓜 .mem) (𝓡 .run)) 𝓜 𝓡 code.env #program-records·onward onward-def.routine code.calls-program-records·steps·onward (onward-thm.met 𝓤 H 𝓜 𝓖 𝓡);
+      rule-at = cited 𝓤 H (RuleAt 𝓤 H (𝓖 .A) (𝓜 .mem) (𝓡 .run)) 𝓜 𝓡 code.env #program-records·rule-at rule-at-def.routine code.calls-program-records·steps·rule-at (rule-at-thm.met 𝓤 H 𝓜 𝓖 𝓡);
     }))

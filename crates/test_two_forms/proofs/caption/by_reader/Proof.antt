@@ -61,17 +61,17 @@ use Rattle.caption_run_iter.proofs.RunIter as T
 use Rattle.caption_run_iter.proofs.RunIter.Laws as T′
 use Rattle.caption_run_iter.proofs.Values.{sliceOf, optionsVal, stateVal, options-typed, state-typed, answer-typed, reader-typed}
 use Rattle.caption_run_iter.proofs.run_iter.Symbol as run-iter-def
-use Rattle.caption_run_iter.proofs.run_iter.Symbol.{name as #run-iter·run-iter}
+use Rattle.caption_run_iter.proofs.run_iter.Symbol.{name as #caption-run-iter·run-iter}
 use Rattle.caption_run_iter.proofs.run_iter.Met as run-iter-thm
 use Rattle.caption_run_iter.proofs.next.Symbol as next-def
-use Rattle.caption_run_iter.proofs.next.Symbol.{name as #run-iter·next}
+use Rattle.caption_run_iter.proofs.next.Symbol.{name as #caption-run-iter·next}
 use Rattle.caption_run_iter.proofs.next.Met as next-thm
 use Rattle.test_two_forms.proofs.ReaderCalls.{New, Next, R, mach, Cell, Reads, reader-is, Keep, Lent, to-new, asks-new, gives-new, to-next, lends-reader, reader-back}
 use Rattle.test_two_forms.proofs.print.item as item
 use Rattle.test_two_forms.proofs.print.item.Symbol as item-def
-use Rattle.test_two_forms.proofs.print.item.Symbol.{name as #two-forms·item}
+use Rattle.test_two_forms.proofs.print.item.Symbol.{name as #test-two-forms·item}
 use Rattle.test_two_forms.proofs.print.item.Met as item-thm
-use Rattle.test_two_forms.proofs.caption.by_reader.Key.{name as #two-forms·by-reader}
+use Rattle.test_two_forms.proofs.caption.by_reader.Key.{name as #test-two-forms·by-reader}
 use Rattle.test_two_forms.proofs.caption.by_reader as by-reader
 use Rattle.test_two_forms.proofs.caption.by_reader.Statement as stated
 use Rattle.test_two_forms.proofs.caption.by_reader.Code as code
@@ -94,9 +94,9 @@ module _ {M : Type 1} (𝓤 : URA M) (H : Heap 𝓤) (A : Atoms 𝓤) (mem : Mem
 
   -- that a table of calls has them
   pub record Known (C : Calls 𝓤 H) : Type 1 where
-    pub new : Triple 𝓤 (C #run-iter·run-iter) (New 𝓤 H A mem run)
-    pub next : Triple 𝓤 (C #run-iter·next) (Next 𝓤 H A mem run)
-    pub item : Triple 𝓤 (C #two-forms·item) PrintItem
+    pub new : Triple 𝓤 (C #caption-run-iter·run-iter) (New 𝓤 H A mem run)
+    pub next : Triple 𝓤 (C #caption-run-iter·next) (Next 𝓤 H A mem run)
+    pub item : Triple 𝓤 (C #test-two-forms·item) PrintItem
 
 -- ---- `item`, of the answer n, whose machine value is v
 module _ {M : Type 1} (𝓤 : URA M) (H : Heap 𝓤) (A : Atoms 𝓤) (W : Given 𝓤 H A) (mem : Memory → SProp 𝓤) (run : Routine → Fun 𝓤) (n : Answer) (v : Val) (left : ℕ) where
@@ -256,10 +256,10 @@ pub by-reader-spec : {M : Type 1} → stated.statement M
 unfolding code.routine tablesOf
 by-reader-spec 𝓤 H 𝓜 𝓖 𝓡 =
     entered 𝓤 H (tripleOf 𝓤 H (𝓖 .A) by-reader.signature (by-reader.spec 𝓤 H (𝓖 .A) (𝓜 .mem) (𝓡 .run)))
-    (tables 𝓤 H 𝓜 𝓡 code.env .C) (tables 𝓤 H 𝓜 𝓡 code.env .Λ) #two-forms·by-reader code.function (code.unfolded 𝓤 H 𝓜 𝓡)
+    (tables 𝓤 H 𝓜 𝓡 code.env .C) (tables 𝓤 H 𝓜 𝓡 code.env .Λ) #test-two-forms·by-reader code.function (code.unfolded 𝓤 H 𝓜 𝓡)
     (by-reader-meets 𝓤 H (𝓖 .A) (givenOf 𝓤 H 𝓜 𝓖) (𝓜 .mem) (𝓡 .run) (tablesOf 𝓤 H 𝓜 (tables 𝓤 H 𝓜 𝓡 code.env))
     (record {
-      new = cited 𝓤 H (New 𝓤 H (𝓖 .A) (𝓜 .mem) (𝓡 .run)) 𝓜 𝓡 code.env #run-iter·run-iter run-iter-def.routine code.calls-run-iter·run-iter (run-iter-thm.met 𝓤 H 𝓜 𝓖 𝓡);
-      next = cited 𝓤 H (Next 𝓤 H (𝓖 .A) (𝓜 .mem) (𝓡 .run)) 𝓜 𝓡 code.env #run-iter·next next-def.routine code.calls-run-iter·next (next-thm.met 𝓤 H 𝓜 𝓖 𝓡);
-      item = cited 𝓤 H (PrintItem 𝓤 H (𝓖 .A) (𝓜 .mem) (𝓡 .run)) 𝓜 𝓡 code.env #two-forms·item item-def.routine code.calls-two-forms·print·item (item-thm.met 𝓤 H 𝓜 𝓖 𝓡);
+      new = cited 𝓤 H (New 𝓤 H (𝓖 .A) (𝓜 .mem) (𝓡 .run)) 𝓜 𝓡 code.env #caption-run-iter·run-iter run-iter-def.routine code.calls-caption-run-iter·run-iter (run-iter-thm.met 𝓤 H 𝓜 𝓖 𝓡);
+      next = cited 𝓤 H (Next 𝓤 H (𝓖 .A) (𝓜 .mem) (𝓡 .run)) 𝓜 𝓡 code.env #caption-run-iter·next next-def.routine code.calls-caption-run-iter·next (next-thm.met 𝓤 H 𝓜 𝓖 𝓡);
+      item = cited 𝓤 H (PrintItem 𝓤 H (𝓖 .A) (𝓜 .mem) (𝓡 .run)) 𝓜 𝓡 code.env #test-two-forms·item item-def.routine code.calls-test-two-forms·print·item (item-thm.met 𝓤 H 𝓜 𝓖 𝓡);
     }))

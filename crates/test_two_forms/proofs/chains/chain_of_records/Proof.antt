@@ -52,10 +52,10 @@ use Rattle.program_records.specs.RecordChains.{WalksRecords}
 use Rattle.program_records.proofs.LentRecords.{machine, slice, sliceV, Own}
 use Rattle.program_records.proofs.instructions_for_entrypoint as whole-walk
 use Rattle.program_records.proofs.instructions_for_entrypoint.Symbol as whole-walk-def
-use Rattle.program_records.proofs.instructions_for_entrypoint.Symbol.{name as #records·instructions-for-entrypoint}
+use Rattle.program_records.proofs.instructions_for_entrypoint.Symbol.{name as #program-records·instructions-for-entrypoint}
 use Rattle.program_records.proofs.instructions_for_entrypoint.Met as whole-walk-thm
 use Rattle.test_two_forms.proofs.RecordArray.{six, sliceOf, arrayV, Cell, Loan, array-fits, lends-six, takes-six}
-use Rattle.test_two_forms.proofs.chains.chain_of_records.Key.{name as #two-forms·chain-of-records}
+use Rattle.test_two_forms.proofs.chains.chain_of_records.Key.{name as #test-two-forms·chain-of-records}
 use Rattle.test_two_forms.proofs.chains.chain_of_records as chain-of-records
 use Rattle.test_two_forms.proofs.chains.chain_of_records.Statement as stated
 use Rattle.test_two_forms.proofs.chains.chain_of_records.Code as code
@@ -116,7 +116,7 @@ module _ {M : Type 1} (𝓤 : URA M) (H : Heap 𝓤) (A : Atoms 𝓤) (W : Given
         show ! (λ (r′ : Written). ex 𝓤 (λ (zs : List ℕ). guard 𝓤 (Is R.the-row r′ (u ∷ []) × (WalksRecords xs entry out r′ zs × (length zs ≡ length out))) (sep 𝓤 (A .lft (ν ∷ []) fullShare) (sep 𝓤 (A .lft κ q) (sem 𝓤 H A (finally u32 γ₂ zs)))))) r $
         show ! (λ (zs : List ℕ). guard 𝓤 (Is R.the-row r (u ∷ []) × (WalksRecords xs entry out r zs × (length zs ≡ length out))) (sep 𝓤 (A .lft (ν ∷ []) fullShare) (sep 𝓤 (A .lft κ q) (sem 𝓤 H A (finally u32 γ₂ zs))))) (ws .1 .1 .0) $ check ! (is, (e, l)) $ done !)))))
 
-  module _ (C : Calls 𝓤 H) (Λ : Loops 𝓤 H) (fm : FmC 𝓤 H (W .laws) C) (known : Triple 𝓤 (C #records·instructions-for-entrypoint) (WholeWalk 𝓤 H A mem run)) where
+  module _ (C : Calls 𝓤 H) (Λ : Loops 𝓤 H) (fm : FmC 𝓤 H (W .laws) C) (known : Triple 𝓤 (C #program-records·instructions-for-entrypoint) (WholeWalk 𝓤 H A mem run)) where
     walk : Is six xs (arrayV xs ∷ []) → Is i32 entry (sint-vals w32 entry) → Is (MutSlice (named 0) κ u32) list (listV ∷ [])
         → ent 𝓤 (onEntry 𝓤 H A chain-of-records.signature (κ, tt) (q, tt) (xs, (entry, (list, tt))) vals) (WpFn 𝓤 H C Λ code.function (arrayV xs ∷ vint w32 (ofZ w32 entry) ∷ listV ∷ []) Post)
     walk is entry-fits p =
@@ -146,13 +146,13 @@ module _ {M : Type 1} (𝓤 : URA M) (H : Heap 𝓤) (A : Atoms 𝓤) (W : Given
         by ! (exits r u zs (g .0) (g .1 .0) (g .1 .1)))))))))))))))))
 
 module _ {M : Type 1} (𝓤 : URA M) (H : Heap 𝓤) (A : Atoms 𝓤) (W : Given 𝓤 H A) (mem : Memory → SProp 𝓤) (run : Routine → Fun 𝓤) where
-  chain-of-records-walks : (C : Calls 𝓤 H) (Λ : Loops 𝓤 H) → FmC 𝓤 H (W .laws) C → Triple 𝓤 (C #records·instructions-for-entrypoint) (WholeWalk 𝓤 H A mem run)
+  chain-of-records-walks : (C : Calls 𝓤 H) (Λ : Loops 𝓤 H) → FmC 𝓤 H (W .laws) C → Triple 𝓤 (C #program-records·instructions-for-entrypoint) (WholeWalk 𝓤 H A mem run)
       → Walks 𝓤 H A chain-of-records.ended stayed (WpFn 𝓤 H C Λ code.function) (chain-of-records.clauses 𝓤 H A mem run)
   chain-of-records-walks C Λ fm known = walked 𝓤 H A chain-of-records.ended stayed (chain-of-records.clauses 𝓤 H A mem run) (WpFn 𝓤 H C Λ code.function)
       (λ κs. (array-vals machine, (sint-vals w32, (slice-vals, tt)))) (λ κs. (array-tells T.the-row machine (T′.lowers .val-is) 6, (sint-tells w32, (mut-slice-tells (named 0) (κs .0) u32, tt))))
       (λ κs qs bounds a g are. via 𝓤 _ (fst∗ 𝓤 _ (emp 𝓤)) (walk 𝓤 H A W mem run (κs .0) (qs .0) (a .0) (a .1 .0) (a .1 .1 .0 .ptr .0) (a .1 .1 .0 .ptr .1) (a .1 .1 .0 .name) (a .1 .1 .0 .now) C Λ fm known (are .0) (are .1 .0) (are .1 .1 .0)))
 
-chain-of-records-meets : {M : Type 1} (𝓤 : URA M) (H : Heap 𝓤) (A : Atoms 𝓤) (W : Given 𝓤 H A) (mem : Memory → SProp 𝓤) (run : Routine → Fun 𝓤) (𝓣 : Tables 𝓤 H) → Triple 𝓤 (𝓣 .C #records·instructions-for-entrypoint) (WholeWalk 𝓤 H A mem run)
+chain-of-records-meets : {M : Type 1} (𝓤 : URA M) (H : Heap 𝓤) (A : Atoms 𝓤) (W : Given 𝓤 H A) (mem : Memory → SProp 𝓤) (run : Routine → Fun 𝓤) (𝓣 : Tables 𝓤 H) → Triple 𝓤 (𝓣 .C #program-records·instructions-for-entrypoint) (WholeWalk 𝓤 H A mem run)
     → Meets 𝓤 H A chain-of-records.signature (WpFn 𝓤 H (𝓣 .C) (𝓣 .Λ) code.function) (chain-of-records.spec 𝓤 H A mem run)
 chain-of-records-meets 𝓤 H A W mem run 𝓣 known =
     walk-meets 𝓤 H A chain-of-records.ended stayed W
@@ -163,6 +163,6 @@ pub chain-of-records-spec : {M : Type 1} → stated.statement M
 unfolding code.routine tablesOf
 chain-of-records-spec 𝓤 H 𝓜 𝓖 𝓡 =
     entered 𝓤 H (tripleOf 𝓤 H (𝓖 .A) chain-of-records.signature (chain-of-records.spec 𝓤 H (𝓖 .A) (𝓜 .mem) (𝓡 .run)))
-    (tables 𝓤 H 𝓜 𝓡 code.env .C) (tables 𝓤 H 𝓜 𝓡 code.env .Λ) #two-forms·chain-of-records code.function (code.unfolded 𝓤 H 𝓜 𝓡)
+    (tables 𝓤 H 𝓜 𝓡 code.env .C) (tables 𝓤 H 𝓜 𝓡 code.env .Λ) #test-two-forms·chain-of-records code.function (code.unfolded 𝓤 H 𝓜 𝓡)
     (chain-of-records-meets 𝓤 H (𝓖 .A) (givenOf 𝓤 H 𝓜 𝓖) (𝓜 .mem) (𝓡 .run) (tablesOf 𝓤 H 𝓜 (tables 𝓤 H 𝓜 𝓡 code.env))
-    (cited 𝓤 H (WholeWalk 𝓤 H (𝓖 .A) (𝓜 .mem) (𝓡 .run)) 𝓜 𝓡 code.env #records·instructions-for-entrypoint whole-walk-def.routine code.calls-records·instructions-for-entrypoint (whole-walk-thm.met 𝓤 H 𝓜 𝓖 𝓡)))
+    (cited 𝓤 H (WholeWalk 𝓤 H (𝓖 .A) (𝓜 .mem) (𝓡 .run)) 𝓜 𝓡 code.env #program-records·instructions-for-entrypoint whole-walk-def.routine code.calls-program-records·instructions-for-entrypoint (whole-walk-thm.met 𝓤 H 𝓜 𝓖 𝓡)))

@@ -51,10 +51,10 @@ use Rattle.program_records.proofs.Calls.{answers}
 use Rattle.program_records.proofs.LentRecords.{machine, slice, sliceV, Own}
 use Rattle.program_records.proofs.rule_index as rule-index
 use Rattle.program_records.proofs.rule_index.Symbol as rule-index-def
-use Rattle.program_records.proofs.rule_index.Symbol.{name as #records·rule-index}
+use Rattle.program_records.proofs.rule_index.Symbol.{name as #program-records·rule-index}
 use Rattle.program_records.proofs.rule_index.Met as rule-index-thm
 use Rattle.test_two_forms.proofs.RecordArray.{six, sliceOf, arrayV, Cell, Loan, array-fits, lends-six, takes-six}
-use Rattle.test_two_forms.proofs.chains.rule_of_records.Key.{name as #two-forms·rule-of-records}
+use Rattle.test_two_forms.proofs.chains.rule_of_records.Key.{name as #test-two-forms·rule-of-records}
 use Rattle.test_two_forms.proofs.chains.rule_of_records as rule-of-records
 use Rattle.test_two_forms.proofs.chains.rule_of_records.Statement as stated
 use Rattle.test_two_forms.proofs.chains.rule_of_records.Code as code
@@ -92,7 +92,7 @@ module _ {M : Type 1} (𝓤 : URA M) (H : Heap 𝓤) (A : Atoms 𝓤) (W : Given
         nothing ! $ owned ! u8 (Is u8) (uint-makes 𝓤 H A W w8) right _ (refl, right-fits) $ fjoin ! $ owned ! usize (Is usize) (uint-makes 𝓤 H A W w64) entry _ (refl, entry-fits) $ fjoin ! $ move ! (1 ∷ 0 ∷ []) $ fjoin ! $
         move ! (1 ∷ 0 ∷ []) $ join ! $ frame ! $ done !
 
-  module _ (C : Calls 𝓤 H) (Λ : Loops 𝓤 H) (fm : FmC 𝓤 H (W .laws) C) (known : Triple 𝓤 (C #records·rule-index) (RuleIndex 𝓤 H A mem run)) where
+  module _ (C : Calls 𝓤 H) (Λ : Loops 𝓤 H) (fm : FmC 𝓤 H (W .laws) C) (known : Triple 𝓤 (C #program-records·rule-index) (RuleIndex 𝓤 H A mem run)) where
     walk : Is six xs (arrayV xs ∷ []) → entry < 2 ^ 64 → right < 2 ^ 8
         → ent 𝓤 (onEntry 𝓤 H A rule-of-records.signature tt tt (xs, (entry, (right, tt))) vals) (WpFn 𝓤 H C Λ code.function (arrayV xs ∷ vint w64 entry ∷ vint w8 right ∷ []) Post)
     walk is entry-fits right-fits =
@@ -118,13 +118,13 @@ module _ {M : Type 1} (𝓤 : URA M) (H : Heap 𝓤) (A : Atoms 𝓤) (W : Given
         by ! (exits u is-u))))))))))))
 
 module _ {M : Type 1} (𝓤 : URA M) (H : Heap 𝓤) (A : Atoms 𝓤) (W : Given 𝓤 H A) (mem : Memory → SProp 𝓤) (run : Routine → Fun 𝓤) where
-  rule-of-records-walks : (C : Calls 𝓤 H) (Λ : Loops 𝓤 H) → FmC 𝓤 H (W .laws) C → Triple 𝓤 (C #records·rule-index) (RuleIndex 𝓤 H A mem run)
+  rule-of-records-walks : (C : Calls 𝓤 H) (Λ : Loops 𝓤 H) → FmC 𝓤 H (W .laws) C → Triple 𝓤 (C #program-records·rule-index) (RuleIndex 𝓤 H A mem run)
       → Walks 𝓤 H A rule-of-records.ended stayed (WpFn 𝓤 H C Λ code.function) (rule-of-records.clauses 𝓤 H A mem run)
   rule-of-records-walks C Λ fm known = walked 𝓤 H A rule-of-records.ended stayed (rule-of-records.clauses 𝓤 H A mem run) (WpFn 𝓤 H C Λ code.function)
       (λ κs. (array-vals machine, (uint-vals w64, (uint-vals w8, tt)))) (λ κs. (array-tells T.the-row machine (T′.lowers .val-is) 6, (uint-tells w64, (uint-tells w8, tt))))
       (λ κs qs bounds a g are. via 𝓤 _ (fst∗ 𝓤 _ (emp 𝓤)) (walk 𝓤 H A W mem run (a .0) (a .1 .0) (a .1 .1 .0) C Λ fm known (are .0) (are .1 .0 .1) (are .1 .1 .0 .1)))
 
-rule-of-records-meets : {M : Type 1} (𝓤 : URA M) (H : Heap 𝓤) (A : Atoms 𝓤) (W : Given 𝓤 H A) (mem : Memory → SProp 𝓤) (run : Routine → Fun 𝓤) (𝓣 : Tables 𝓤 H) → Triple 𝓤 (𝓣 .C #records·rule-index) (RuleIndex 𝓤 H A mem run)
+rule-of-records-meets : {M : Type 1} (𝓤 : URA M) (H : Heap 𝓤) (A : Atoms 𝓤) (W : Given 𝓤 H A) (mem : Memory → SProp 𝓤) (run : Routine → Fun 𝓤) (𝓣 : Tables 𝓤 H) → Triple 𝓤 (𝓣 .C #program-records·rule-index) (RuleIndex 𝓤 H A mem run)
     → Meets 𝓤 H A rule-of-records.signature (WpFn 𝓤 H (𝓣 .C) (𝓣 .Λ) code.function) (rule-of-records.spec 𝓤 H A mem run)
 rule-of-records-meets 𝓤 H A W mem run 𝓣 known =
     walk-meets 𝓤 H A rule-of-records.ended stayed W
@@ -135,6 +135,6 @@ pub rule-of-records-spec : {M : Type 1} → stated.statement M
 unfolding code.routine tablesOf
 rule-of-records-spec 𝓤 H 𝓜 𝓖 𝓡 =
     entered 𝓤 H (tripleOf 𝓤 H (𝓖 .A) rule-of-records.signature (rule-of-records.spec 𝓤 H (𝓖 .A) (𝓜 .mem) (𝓡 .run)))
-    (tables 𝓤 H 𝓜 𝓡 code.env .C) (tables 𝓤 H 𝓜 𝓡 code.env .Λ) #two-forms·rule-of-records code.function (code.unfolded 𝓤 H 𝓜 𝓡)
+    (tables 𝓤 H 𝓜 𝓡 code.env .C) (tables 𝓤 H 𝓜 𝓡 code.env .Λ) #test-two-forms·rule-of-records code.function (code.unfolded 𝓤 H 𝓜 𝓡)
     (rule-of-records-meets 𝓤 H (𝓖 .A) (givenOf 𝓤 H 𝓜 𝓖) (𝓜 .mem) (𝓡 .run) (tablesOf 𝓤 H 𝓜 (tables 𝓤 H 𝓜 𝓡 code.env))
-    (cited 𝓤 H (RuleIndex 𝓤 H (𝓖 .A) (𝓜 .mem) (𝓡 .run)) 𝓜 𝓡 code.env #records·rule-index rule-index-def.routine code.calls-records·rule-index (rule-index-thm.met 𝓤 H 𝓜 𝓖 𝓡)))
+    (cited 𝓤 H (RuleIndex 𝓤 H (𝓖 .A) (𝓜 .mem) (𝓡 .run)) 𝓜 𝓡 code.env #program-records·rule-index rule-index-def.routine code.calls-program-records·rule-index (rule-index-thm.met 𝓤 H 𝓜 𝓖 𝓡)))
