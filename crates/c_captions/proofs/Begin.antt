@@ -48,10 +48,12 @@ module _ (pairs ops : List ℤ) (boundary : ℤ) (word : List ℕ) (options : Ru
   moved zero s d e = e ∙ ap (λ (t : List ℕ). numbersOf s ++ t) (ap (drop 9) blank ∙ drop-replicate 9 (length state) 0)
   moved (suc m) s d e = e ∙ blank
 
-  pub begins-run : (s : State) → Run s ≡ beginOf pairs ops boundary word options → (r : ℕ) (d : List ℕ) → PutsState s zeros r d → BeginsRun pairs ops boundary word options state r d
+  pub begins-run : (s : State) → Run s ≡ beginOf pairs ops boundary word options → (r : ℕ) (d : List ℕ) → PutsState s zeros r d →
+      BeginsRun pairs ops boundary word options state r d
   begins-run s e r d p =
       let q = run-known refusal fresh s e in
-      let k : roomRefusal 9 (length zeros) ≡ number = ap (roomRefusal 9) (zeroed-length 0 (length state) blank) ∙ sym (second-is refusal (roomRefusal 9 (length state)) (q .0)) in
+      let k : roomRefusal 9 (length zeros)
+      ≡ number = ap (roomRefusal 9) (zeroed-length 0 (length state) blank) ∙ sym (second-is refusal (roomRefusal 9 (length state)) (q .0)) in
       let w : d ≡ movedTo number zeros s = p .stored ∙ ap (λ (m : ℕ). movedTo m zeros s) k in
       let n : r ≡ number = p .number ∙ k in
       record {

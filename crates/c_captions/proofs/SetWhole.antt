@@ -37,7 +37,8 @@ module _ (reply : Reply) (items items′ : List ℤ) (count zeros : List ℕ) (b
         let e : k ≡ many = cc in
         (q .0, e)
 
-    pub caption-short : length zeros < 1 → (d : List ℤ) → d ≡ replicate (length items′) (pos 0) → length items′ ≡ length items → SetsCaption reply items count 15 d zeros
+    pub caption-short : length zeros < 1 → (d : List ℤ) → d ≡ replicate (length items′) (pos 0) → length items′ ≡ length items →
+        SetsCaption reply items count 15 d zeros
     caption-short s d z same =
         let l : length zeros ≡ length count = zeroed-length 0 (length count) blank in
         let n : 15 ≡ number = sym (without-room 1 (length count) (taken .0) (omega (arith, l, s))) in

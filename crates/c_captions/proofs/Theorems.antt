@@ -71,7 +71,8 @@ module _ (pairs ops : List ℤ) (boundary : ℤ) (word : List ℕ) (options : Ru
 
   -- ---- one call
 
-  module _ (state : List ℕ) (item : List ℤ) (r : ℕ) (state′ : List ℕ) (item′ : List ℤ) (l : length item ≡ room) (h : StepsRun pairs ops boundary word options state item r state′ item′) (s : State) (e : stateRead state ≡ some s) where
+  module _ (state : List ℕ) (item : List ℤ) (r : ℕ) (state′ : List ℕ) (item′ : List ℤ) (l : length item ≡ room)
+      (h : StepsRun pairs ops boundary word options state item r state′ item′) (s : State) (e : stateRead state ≡ some s) where
     stepped : stepIn pairs ops boundary word options state ≡ after s
     stepped = ap (stepRunFrom pairs ops boundary word options) e
 
@@ -89,11 +90,13 @@ module _ (pairs ops : List ℤ) (boundary : ℤ) (word : List ℕ) (options : Ru
         let m : answerReply (after s .answer) .number ≡ suc k = sym (h .number ∙ number-is) ∙ z in
         let t = ranFrom pairs ops (rightItem boundary (options .«right_boundary_override»)) word s in
         let kept : after s .state ≡ s = kept-by (stepRefusal boundary word options) s t k m in
-        ap stateRead (h .moved ∙ stays state _ (stepNumber pairs ops boundary word options state (length item)) k (sym (h .number) ∙ z)) ∙ e ∙ ap some (sym kept)
+        ap stateRead (h .moved ∙ stays state _ (stepNumber pairs ops boundary word options state (length item)) k (sym (h .number) ∙ z)) ∙ e
+        ∙ ap some (sym kept)
 
   -- ---- any number of calls
 
-  calls-by : (n : ℕ) (state : List ℕ) (s : State) (calls : List Call) → stateRead state ≡ some s → HostCalls pairs ops boundary word options room n state calls → calls ≡ map (seen room) (answers pairs ops boundary word options n s)
+  calls-by : (n : ℕ) (state : List ℕ) (s : State) (calls : List Call) → stateRead state ≡ some s →
+      HostCalls pairs ops boundary word options room n state calls → calls ≡ map (seen room) (answers pairs ops boundary word options n s)
   unfolding answers
   calls-by zero state s [] e done = refl
   calls-by (suc n) state s (c ∷ calls) e (call {r = r} {state′ = state′} {item = item} {item′ = item′} l h others) =
@@ -105,7 +108,8 @@ calls-answer pairs ops boundary word options room fits n state s calls e h = cal
 
 -- ---- demand 3
 
-module _ (f : Font) (pairs ops loops : List ℤ) (work counts : List ℕ) (pairs′ ops′ loops′ : List ℤ) (work′ counts′ : List ℕ) (h : CompilesCounts f pairs ops loops work counts 0 pairs′ ops′ loops′ work′ counts′) where
+module _ (f : Font) (pairs ops loops : List ℤ) (work counts : List ℕ) (pairs′ ops′ loops′ : List ℤ) (work′ counts′ : List ℕ)
+    (h : CompilesCounts f pairs ops loops work counts 0 pairs′ ops′ loops′ work′ counts′) where
   none-refused : (compileRefusal f (roomIn pairs ops loops work) ≡ 0) × (roomRefusal 3 (length counts) ≡ 0)
   none-refused = orElse-none (compileRefusal f (roomIn pairs ops loops work)) (roomRefusal 3 (length counts)) (sym (h .number))
 
@@ -123,7 +127,8 @@ module _ (f : Font) (pairs ops loops : List ℤ) (work counts : List ℕ) (pairs
 pub demand-3-for-a-host : EveryHostFont
 demand-3-for-a-host f pairs ops loops work counts pairs′ ops′ loops′ work′ counts′ h =
     rw (counted f pairs ops loops work counts pairs′ ops′ loops′ work′ counts′ h)
-    (demand-3 f pairs ops loops work (tablePairs f) (totalOps f) (length (loopsOfFont f)) pairs′ ops′ loops′ work′ (compiles f pairs ops loops work counts pairs′ ops′ loops′ work′ counts′ h))
+    (demand-3 f pairs ops loops work (tablePairs f) (totalOps f) (length (loopsOfFont f)) pairs′ ops′ loops′ work′
+    (compiles f pairs ops loops work counts pairs′ ops′ loops′ work′ counts′ h))
 
 pub every-run : EveryRun
 every-run f pairs ops word options items a state r state′ l h =

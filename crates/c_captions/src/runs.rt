@@ -7,7 +7,8 @@ use caption_run::begin::begin;
 use captions::Begun;
 use captions::RunOptions;
 
-// The state of a fresh run, nine numbers with zeros after them. Begin's numbers, then 15 where the list has no room for it.
+// The state of a fresh run, nine numbers with zeros after them. Begin's numbers, then 15 where the list has no room for
+// it.
 #[no_mangle]
 pub extern "C" fn ligkern_begin(
     pairs: &[i32],
@@ -18,7 +19,9 @@ pub extern "C" fn ligkern_begin(
     right_boundary_override: i32,
     state: &mut [u64],
 ) -> u32
-    ensures { λ r. ⌜ BeginsRun (now (pairs .entry)) (now (ops .entry)) boundary (now (word .entry)) (optionsOf «disable_left_boundary» «right_boundary_override») (now (state .entry)) r (now (state .exit)) ⌝ }
+    ensures { λ r. ⌜ BeginsRun (now (pairs .entry)) (now (ops .entry)) boundary (now (word .entry))
+        (optionsOf «disable_left_boundary» «right_boundary_override») (now (state .entry)) r
+        (now (state .exit)) ⌝ }
 {
     zero_u64(state);
     let options = RunOptions {

@@ -9,7 +9,8 @@ use lang::Written;
 use word_set::set_word;
 use words::zero::zero_i32;
 
-// The items of a word up to its end, six numbers each, with zeros after them, and their count. set_word's numbers, then 15 where the count has no room.
+// The items of a word up to its end, six numbers each, with zeros after them, and their count. set_word's numbers, then
+// 15 where the count has no room.
 #[no_mangle]
 pub extern "C" fn ligkern_set_word(
     pairs: &[i32],
@@ -21,7 +22,10 @@ pub extern "C" fn ligkern_set_word(
     items: &mut [i32],
     count: &mut [u64],
 ) -> u32
-    ensures { λ r. ⌜ SetsCaption (setReply (now (pairs .entry)) (now (ops .entry)) boundary (now (word .entry)) (optionsOf «disable_left_boundary» «right_boundary_override») (length (now (items .entry)))) (now (items .entry)) (now (count .entry)) r (now (items .exit)) (now (count .exit)) ⌝ }
+    ensures { λ r. ⌜ SetsCaption
+        (setReply (now (pairs .entry)) (now (ops .entry)) boundary (now (word .entry))
+        (optionsOf «disable_left_boundary» «right_boundary_override») (length (now (items .entry))))
+        (now (items .entry)) (now (count .entry)) r (now (items .exit)) (now (count .exit)) ⌝ }
 {
     zero_u64(count);
     let options = RunOptions {

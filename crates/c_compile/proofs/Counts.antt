@@ -17,7 +17,8 @@ use Rattle.c_compile.specs.Counts.{countsOf, countsRefusal, CompilesCoun
 use Rattle.c_compile.proofs.Replies.{replied-refused, replied-taken}
 use Rattle.c_states.proofs.Writing.{zeroed-length, written-front, with-room, without-room}
 
-module _ (f : Font) (pairs ops loops : List ℤ) (work counts : List ℕ) (pairs′ ops′ loops′ : List ℤ) (work′ zeros : List ℕ) (blank : zeros ≡ replicate (length counts) 0) where
+module _ (f : Font) (pairs ops loops : List ℤ) (work counts : List ℕ) (pairs′ ops′ loops′ : List ℤ) (work′ zeros : List ℕ)
+    (blank : zeros ≡ replicate (length counts) 0) where
   abbrev room : Room
   room = roomIn pairs ops loops work
 
@@ -27,7 +28,8 @@ module _ (f : Font) (pairs ops loops : List ℤ) (work counts : List ℕ) (pairs
   pub counts-refused : (n : ℕ) → Compiles f pairs ops loops work (Refused n) pairs′ ops′ loops′ work′ → Compiled·as n pairs′ ops′ loops′ zeros
   counts-refused n h =
       let q = replied-refused (compileRefusal f room) n (pos (tablePairs f)) (pos (totalOps f) ∷ pos (length (loopsOfFont f)) ∷ []) (h .answer) in
-      let e : countsRefusal f room (length counts) ≡ compileRefusal f room = first-is (compileRefusal f room) (roomRefusal 3 (length counts)) (λ z. q .1 (q .0 ∙ z)) in
+      let e : countsRefusal f room (length counts)
+      ≡ compileRefusal f room = first-is (compileRefusal f room) (roomRefusal 3 (length counts)) (λ z. q .1 (q .0 ∙ z)) in
       record {
         number = q .0 ∙ sym e;
         lists = rw e (h .lists);
@@ -45,7 +47,8 @@ module _ (f : Font) (pairs ops loops : List ℤ) (work counts : List ℕ) (pairs
         let c : l ≡ length (loopsOfFont f) = cc in
         (q .0, a, b, c)
 
-    pub counts-short : length zeros < 3 → (p′ o′ l′ : List ℤ) → p′ ≡ replicate (length pairs′) (pos 0) → o′ ≡ replicate (length ops′) (pos 0) → l′ ≡ replicate (length loops′) (pos 0) →
+    pub counts-short : length zeros < 3 → (p′ o′ l′ : List ℤ) → p′ ≡ replicate (length pairs′) (pos 0) → o′ ≡ replicate (length ops′) (pos 0) →
+        l′ ≡ replicate (length loops′) (pos 0) →
         length pairs′ ≡ length pairs → length ops′ ≡ length ops → length loops′ ≡ length loops → Compiled·as 15 p′ o′ l′ zeros
     counts-short s p′ o′ l′ zp zo zl kp ko kl =
         let k : length zeros ≡ length counts = zeroed-length 0 (length counts) blank in

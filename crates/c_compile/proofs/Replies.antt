@@ -12,6 +12,7 @@ pub replied-refused : (m n : ℕ) (v : ℤ) (vs : List ℤ) → _≡_ {A = Reply
 replied-refused zero n v vs e = taken-unlike (sym e)
 replied-refused (suc m) n v vs e = let q : n ≡ suc m = number-known e in (q, λ z. omega (arith, q, z))
 
-pub replied-taken : (m : ℕ) {u : ℤ} {us : List ℤ} (v : ℤ) (vs : List ℤ) → _≡_ {A = Reply} (record { number = 0; values = u ∷ us }) (replyOf m (v ∷ vs)) → (m ≡ 0) × (_≡_ {A = List ℤ} (u ∷ us) (v ∷ vs))
+pub replied-taken : (m : ℕ) {u : ℤ} {us : List ℤ} (v : ℤ) (vs : List ℤ) → _≡_ {A = Reply} (record { number = 0; values = u ∷ us }) (replyOf m (v ∷ vs)) →
+    (m ≡ 0) × (_≡_ {A = List ℤ} (u ∷ us) (v ∷ vs))
 replied-taken zero v vs e = (refl, values-known e)
 replied-taken (suc m) v vs e = taken-unlike e

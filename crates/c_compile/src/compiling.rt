@@ -22,7 +22,11 @@ pub extern "C" fn ligkern_compile(
     work: &mut [u32],
     counts: &mut [u64],
 ) -> u32
-    ensures { λ r. ⌜ CompilesCounts (fontOf (now (instructions .entry)) (now (kerns .entry)) (now (entries .entry)) boundary «left_entry» «design_size») (now (pairs .entry)) (now (ops .entry)) (now (loops .entry)) (now (work .entry)) (now (counts .entry)) r (now (pairs .exit)) (now (ops .exit)) (now (loops .exit)) (now (work .exit)) (now (counts .exit)) ⌝ }
+    ensures { λ r. ⌜ CompilesCounts
+        (fontOf (now (instructions .entry)) (now (kerns .entry)) (now (entries .entry)) boundary «left_entry»
+        «design_size») (now (pairs .entry)) (now (ops .entry)) (now (loops .entry)) (now (work .entry))
+        (now (counts .entry)) r (now (pairs .exit)) (now (ops .exit)) (now (loops .exit)) (now (work .exit))
+        (now (counts .exit)) ⌝ }
 {
     zero_u64(counts);
     match compile(

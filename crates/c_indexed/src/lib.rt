@@ -1,5 +1,6 @@
-// An index and a word set whole by it, for a host in C: slices and integers in, the number of document 01 out (0 where it is taken). The contracts are those of
-// index/specs/Index and c_captions/specs/Whole; what an index is for is index_set_word/specs/Purpose.
+// An index and a word set whole by it, for a host in C: slices and integers in, the number of document 01 out (0 where
+// it is taken). The contracts are those of index/specs/Index and c_captions/specs/Whole; what an index is for is
+// index_set_word/specs/Purpose.
 ghost use lib.ListN.{length};
 ghost use Rattle.index.specs.Index.{FillsIndex};
 ghost use Rattle.index_set_word.specs.Whole.{indexedReply};
@@ -20,7 +21,8 @@ pub extern "C" fn ligkern_fill_index(pairs: &[i32], index: &mut [u64]) -> u32
     fill_index(pairs, index)
 }
 
-// The items of a word up to its end, six numbers each, with zeros after them, and their count. set_word_indexed's numbers, then 15 where the count has no room.
+// The items of a word up to its end, six numbers each, with zeros after them, and their count. set_word_indexed's
+// numbers, then 15 where the count has no room.
 #[no_mangle]
 pub extern "C" fn ligkern_set_word_indexed(
     index: &[u64],
@@ -33,7 +35,10 @@ pub extern "C" fn ligkern_set_word_indexed(
     items: &mut [i32],
     count: &mut [u64],
 ) -> u32
-    ensures { λ r. ⌜ SetsCaption (indexedReply (now (index .entry)) (now (pairs .entry)) (now (ops .entry)) boundary (now (word .entry)) (optionsOf «disable_left_boundary» «right_boundary_override») (length (now (items .entry)))) (now (items .entry)) (now (count .entry)) r (now (items .exit)) (now (count .exit)) ⌝ }
+    ensures { λ r. ⌜ SetsCaption
+        (indexedReply (now (index .entry)) (now (pairs .entry)) (now (ops .entry)) boundary (now (word .entry))
+        (optionsOf «disable_left_boundary» «right_boundary_override») (length (now (items .entry))))
+        (now (items .entry)) (now (count .entry)) r (now (items .exit)) (now (count .exit)) ⌝ }
 {
     zero_u64(count);
     let options = RunOptions {

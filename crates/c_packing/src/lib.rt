@@ -1,6 +1,7 @@
-// The calls that write a program anew, for a host in C, which can lend slices of numbers and pass integers and nothing else: packing of entries, kerns packed and
-// kerns unpacked. Each answers a number, 0 or a refusal of document 01, and writes the values of its answer to the list `values`. A refusal, 15 for a short
-// `values` among them, leaves zeros in every list that is written.
+// The calls that write a program anew, for a host in C, which can lend slices of numbers and pass integers and nothing
+// else: packing of entries, kerns packed and kerns unpacked. Each answers a number, 0 or a refusal of document 01, and
+// writes the values of its answer to the list `values`. A refusal, 15 for a short `values` among them, leaves zeros in
+// every list that is written.
 ghost use lib.ListN.{length};
 ghost use lib.IntN.{pos};
 ghost use Rattle.program_kerns.specs.Kerns.{packed, unpacked, kernsOf};
@@ -31,8 +32,8 @@ fn tell_sizes(packed: Packed, values: &mut [u64]) -> u32
     }
 }
 
-// The instructions with redirects in front and the left boundary's entry at the end; the entries, packed, in the lent order. Tells the count of instructions
-// now, the offset of the old ones, and the number of redirects.
+// The instructions with redirects in front and the left boundary's entry at the end; the entries, packed, in the lent
+// order. Tells the count of instructions now, the offset of the old ones, and the number of redirects.
 #[no_mangle]
 pub extern "C" fn ligkern_pack_entrypoints(
     instructions: &[i32],
@@ -43,7 +44,13 @@ pub extern "C" fn ligkern_pack_entrypoints(
     entries_out: &mut [i32],
     values: &mut [u64],
 ) -> u32
-    ensures { λ r. ⌜ GivesTwo (pos 0) (packReply (packable (now (instructions .entry)) (now (entries .entry)) boundary «left_entry») (length (now (out .entry))) (length (now («entries_out» .entry)))) (packedInstructions (packable (now (instructions .entry)) (now (entries .entry)) boundary «left_entry»)) (packedEntries (packable (now (instructions .entry)) (now (entries .entry)) boundary «left_entry»)) (now (out .entry)) (now («entries_out» .entry)) (now (values .entry)) r (now (out .exit)) (now («entries_out» .exit)) (now (values .exit)) ⌝ }
+    ensures { λ r. ⌜ GivesTwo (pos 0)
+        (packReply (packable (now (instructions .entry)) (now (entries .entry)) boundary «left_entry»)
+        (length (now (out .entry))) (length (now («entries_out» .entry))))
+        (packedInstructions (packable (now (instructions .entry)) (now (entries .entry)) boundary «left_entry»))
+        (packedEntries (packable (now (instructions .entry)) (now (entries .entry)) boundary «left_entry»))
+        (now (out .entry)) (now («entries_out» .entry)) (now (values .entry)) r (now (out .exit))
+        (now («entries_out» .exit)) (now (values .exit)) ⌝ }
 {
     let packed = pack::pack_entrypoints(
         instructions,
@@ -67,7 +74,10 @@ pub extern "C" fn ligkern_pack_kerns(
     out: &mut [i32],
     values: &mut [u64],
 ) -> u32
-    ensures { λ r. ⌜ Gives (pos 0) (packKernsReply (now (instructions .entry)) (now (kerns .entry)) (length (now (out .entry)))) (packed (now (instructions .entry)) (now (kerns .entry))) (now (out .entry)) (now (values .entry)) r (now (out .exit)) (now (values .exit)) ⌝ }
+    ensures { λ r. ⌜ Gives (pos 0)
+        (packKernsReply (now (instructions .entry)) (now (kerns .entry)) (length (now (out .entry))))
+        (packed (now (instructions .entry)) (now (kerns .entry))) (now (out .entry)) (now (values .entry)) r
+        (now (out .exit)) (now (values .exit)) ⌝ }
 {
     let written = program_kerns::pack_kerns(instructions, kerns, out);
     let number = tell(written, values);
@@ -83,7 +93,10 @@ pub extern "C" fn ligkern_unpack_kerns(
     kerns: &mut [i32],
     values: &mut [u64],
 ) -> u32
-    ensures { λ r. ⌜ GivesTwo (pos 0) (unpackKernsReply (now (instructions .entry)) (length (now (out .entry))) (length (now (kerns .entry)))) (unpacked (now (instructions .entry))) (kernsOf (now (instructions .entry))) (now (out .entry)) (now (kerns .entry)) (now (values .entry)) r (now (out .exit)) (now (kerns .exit)) (now (values .exit)) ⌝ }
+    ensures { λ r. ⌜ GivesTwo (pos 0)
+        (unpackKernsReply (now (instructions .entry)) (length (now (out .entry))) (length (now (kerns .entry))))
+        (unpacked (now (instructions .entry))) (kernsOf (now (instructions .entry))) (now (out .entry))
+        (now (kerns .entry)) (now (values .entry)) r (now (out .exit)) (now (kerns .exit)) (now (values .exit)) ⌝ }
 {
     let written = program_kerns::unpack_kerns(instructions, out, kerns);
     let number = tell(written, values);

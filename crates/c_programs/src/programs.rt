@@ -22,7 +22,9 @@ pub extern "C" fn ligkern_instructions_for_entrypoint(
     out: &mut [u32],
     values: &mut [u64],
 ) -> u32
-    ensures { λ r. ⌜ Gives 0 (walkReply (now (instructions .entry)) entry (length (now (out .entry)))) (chainOf (now (instructions .entry)) (wordOf entry)) (now (out .entry)) (now (values .entry)) r (now (out .exit)) (now (values .exit)) ⌝ }
+    ensures { λ r. ⌜ Gives 0 (walkReply (now (instructions .entry)) entry (length (now (out .entry))))
+        (chainOf (now (instructions .entry)) (wordOf entry)) (now (out .entry)) (now (values .entry)) r
+        (now (out .exit)) (now (values .exit)) ⌝ }
 {
     let written = program_chain::instructions_for_entrypoint(instructions, entry, out);
     let number = tell(written, values);
@@ -39,7 +41,10 @@ pub extern "C" fn ligkern_unpack_entrypoint(
     out: &mut [u8],
     values: &mut [u64],
 ) -> u32
-    ensures { λ r. ⌜ Gives 0 (unpackEntry (now (instructions .entry)) entry (now (passthrough .entry)) (length (now (out .entry)))) (passthroughAfter (now (instructions .entry)) (wordOf entry) (now (passthrough .entry))) (now (out .entry)) (now (values .entry)) r (now (out .exit)) (now (values .exit)) ⌝ }
+    ensures { λ r. ⌜ Gives 0
+        (unpackEntry (now (instructions .entry)) entry (now (passthrough .entry)) (length (now (out .entry))))
+        (passthroughAfter (now (instructions .entry)) (wordOf entry) (now (passthrough .entry)))
+        (now (out .entry)) (now (values .entry)) r (now (out .exit)) (now (values .exit)) ⌝ }
 {
     let unpacked = entry_unpack::unpack_entrypoint(instructions, entry, passthrough, out);
     let number = tell(entry_of(unpacked), values);
@@ -54,13 +59,15 @@ pub extern "C" fn ligkern_program_is_seven_bit_safe(
     entries: &[i32],
     values: &mut [u64],
 ) -> u32
-    ensures { λ r. ⌜ TellsHost (sevenBit (now (instructions .entry)) (now (entries .entry))) (now (values .entry)) r (now (values .exit)) ⌝ }
+    ensures { λ r. ⌜ TellsHost (sevenBit (now (instructions .entry)) (now (entries .entry)))
+        (now (values .entry)) r (now (values .exit)) ⌝ }
 {
     let tested = entry_unpack::is_seven_bit_safe(instructions, entries);
     tell(safety_of(tested), values)
 }
 
-// Two numbers an instruction: its state (0 unreachable, 1 reachable, 2 passthrough) and its adjusted skip or -1. Tells the count of instructions.
+// Two numbers an instruction: its state (0 unreachable, 1 reachable, 2 passthrough) and its adjusted skip or -1. Tells
+// the count of instructions.
 #[no_mangle]
 pub extern "C" fn ligkern_reachable_iter(
     instructions: &[i32],
@@ -70,7 +77,11 @@ pub extern "C" fn ligkern_reachable_iter(
     out: &mut [i32],
     values: &mut [u64],
 ) -> u32
-    ensures { λ r. ⌜ Gives (pos 0) (reachReply (now (instructions .entry)) (now (entries .entry)) «left_entry» (now (passthrough .entry)) (length (now (out .entry)))) (reachList (now (instructions .entry)) (now (entries .entry)) «left_entry» (now (passthrough .entry))) (now (out .entry)) (now (values .entry)) r (now (out .exit)) (now (values .exit)) ⌝ }
+    ensures { λ r. ⌜ Gives (pos 0)
+        (reachReply (now (instructions .entry)) (now (entries .entry)) «left_entry» (now (passthrough .entry))
+        (length (now (out .entry))))
+        (reachList (now (instructions .entry)) (now (entries .entry)) «left_entry» (now (passthrough .entry)))
+        (now (out .entry)) (now (values .entry)) r (now (out .exit)) (now (values .exit)) ⌝ }
 {
     let written = reach::reachable_iter(instructions, entries, left_entry, passthrough, out);
     let number = tell(written, values);

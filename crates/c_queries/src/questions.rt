@@ -17,7 +17,8 @@ pub extern "C" fn ligkern_has_replacement(
     right: i32,
     values: &mut [u64],
 ) -> u32
-    ensures { λ r. ⌜ TellsHost (hasReply (now (pairs .entry)) boundary left right) (now (values .entry)) r (now (values .exit)) ⌝ }
+    ensures { λ r. ⌜ TellsHost (hasReply (now (pairs .entry)) boundary left right) (now (values .entry)) r
+        (now (values .exit)) ⌝ }
 {
     let found = table_queries::has_replacement(pairs, boundary, left, right);
     tell(reply_of(found), values)
@@ -30,7 +31,9 @@ pub extern "C" fn ligkern_all_pairs_with_replacements(
     out: &mut [i32],
     values: &mut [u64],
 ) -> u32
-    ensures { λ r. ⌜ Gives (pos 0) (pairsReply (now (pairs .entry)) (length (now (out .entry)))) (keysOf (now (pairs .entry))) (now (out .entry)) (now (values .entry)) r (now (out .exit)) (now (values .exit)) ⌝ }
+    ensures { λ r. ⌜ Gives (pos 0) (pairsReply (now (pairs .entry)) (length (now (out .entry))))
+        (keysOf (now (pairs .entry))) (now (out .entry)) (now (values .entry)) r (now (out .exit))
+        (now (values .exit)) ⌝ }
 {
     let written = table_queries::all_pairs_with_replacements(pairs, out);
     let number = tell(written, values);
@@ -38,14 +41,16 @@ pub extern "C" fn ligkern_all_pairs_with_replacements(
     number
 }
 
-// The table's seven-bit test. Tells 1 where any pair of seven-bit characters, the left boundary among them, becomes seven-bit characters.
+// The table's seven-bit test. Tells 1 where any pair of seven-bit characters, the left boundary among them, becomes
+// seven-bit characters.
 #[no_mangle]
 pub extern "C" fn ligkern_table_is_seven_bit_safe(
     pairs: &[i32],
     ops: &[i32],
     values: &mut [u64],
 ) -> u32
-    ensures { λ r. ⌜ TellsHost (safeReply (now (pairs .entry)) (now (ops .entry))) (now (values .entry)) r (now (values .exit)) ⌝ }
+    ensures { λ r. ⌜ TellsHost (safeReply (now (pairs .entry)) (now (ops .entry))) (now (values .entry)) r
+        (now (values .exit)) ⌝ }
 {
     let tested = table_seven_bit::is_seven_bit_safe(pairs, ops);
     tell(reply_of(tested), values)

@@ -20,7 +20,8 @@ use Rattle.c_repair.specs.Repairing.{fixedNumber, TellsFixed, repairRepl
 
 -- ---- the number and the values, told
 
-pub fixed-refused : (n : ℕ) (left : List ℤ) (values : List ℕ) {l : List ℤ} {v : List ℕ} → l ≡ replicate (length left) (pos 0) → v ≡ replicate (length values) 0 → TellsFixed (record { number = n; values = [] }) left values n l v
+pub fixed-refused : (n : ℕ) (left : List ℤ) (values : List ℕ) {l : List ℤ} {v : List ℕ} → l ≡ replicate (length left) (pos 0) →
+    v ≡ replicate (length values) 0 → TellsFixed (record { number = n; values = [] }) left values n l v
 fixed-refused zero left values e f =
     let n = orElse (roomRefusal 0 (length left)) (roomRefusal 0 (length values)) in
     record {
@@ -34,7 +35,8 @@ module _ (entry : ℤ) (n : ℕ) (left : List ℤ) (values : List ℕ) where
   abbrev rooms : ℕ
   rooms = orElse (roomRefusal 1 (length left)) (roomRefusal 1 (length values))
 
-  short : {l : List ℤ} {v : List ℕ} → 15 ≡ rooms → l ≡ replicate (length left) (pos 0) → v ≡ replicate (length values) 0 → TellsFixed (replyOf 0 (entry ∷ pos n ∷ [])) left values 15 l v
+  short : {l : List ℤ} {v : List ℕ} → 15 ≡ rooms → l ≡ replicate (length left) (pos 0) → v ≡ replicate (length values) 0 →
+      TellsFixed (replyOf 0 (entry ∷ pos n ∷ [])) left values 15 l v
   short e f g =
       record {
         number = e;
@@ -42,13 +44,16 @@ module _ (entry : ℤ) (n : ℕ) (left : List ℤ) (values : List ℕ) where
         others = refused-list 0 (length values) (n ∷ []) e (λ z. omega arith) g;
       }
 
-  pub no-left : {l : List ℤ} {v : List ℕ} → length left < 1 → l ≡ replicate (length left) (pos 0) → v ≡ replicate (length values) 0 → TellsFixed (replyOf 0 (entry ∷ pos n ∷ [])) left values 15 l v
+  pub no-left : {l : List ℤ} {v : List ℕ} → length left < 1 → l ≡ replicate (length left) (pos 0) → v ≡ replicate (length values) 0 →
+      TellsFixed (replyOf 0 (entry ∷ pos n ∷ [])) left values 15 l v
   no-left h = short (rw (room-short 1 (length left) h) refl)
 
-  pub no-values : {l : List ℤ} {v : List ℕ} → 1 ≤ length left → length values < 1 → l ≡ replicate (length left) (pos 0) → v ≡ replicate (length values) 0 → TellsFixed (replyOf 0 (entry ∷ pos n ∷ [])) left values 15 l v
+  pub no-values : {l : List ℤ} {v : List ℕ} → 1 ≤ length left → length values < 1 → l ≡ replicate (length left) (pos 0) → v ≡ replicate (length values) 0 →
+      TellsFixed (replyOf 0 (entry ∷ pos n ∷ [])) left values 15 l v
   no-values k h = short (rw (room-is 1 (length left) k, room-short 1 (length values) h) refl)
 
-  pub fixed-taken : {y l : List ℤ} {z v : List ℕ} → 1 ≤ length left → 1 ≤ length values → y ≡ replicate (length left) (pos 0) → z ≡ replicate (length values) 0 → l ≡ set y 0 entry → v ≡ set z 0 n → TellsFixed (replyOf 0 (entry ∷ pos n ∷ [])) left values 0 l v
+  pub fixed-taken : {y l : List ℤ} {z v : List ℕ} → 1 ≤ length left → 1 ≤ length values → y ≡ replicate (length left) (pos 0) →
+      z ≡ replicate (length values) 0 → l ≡ set y 0 entry → v ≡ set z 0 n → TellsFixed (replyOf 0 (entry ∷ pos n ∷ [])) left values 0 l v
   fixed-taken k h f g e w =
       let fits : rooms ≡ 0 = rw (room-is 1 (length left) k, room-is 1 (length values) h) refl in
       record {
@@ -69,14 +74,24 @@ module _ (d : Damaged) (fixed : List ℤ) (through : List ℕ) (warnings : List 
       let vs = repairedLeft d ∷ pos (length (warningsOf d) / 4) ∷ [] in
       sym (reply-number (repairRefusal d room) vs) ∙ orElse-none (repairReply d room .number) _ z .0
 
-  pub gives-repaired : {answer : Validated} {r : ℕ} {fixed₁ fixed₂ warnings₁ warnings₂ left₂ : List ℤ} {through₁ through₂ work₁ values₂ : List ℕ} → Repairs d fixed through warnings work answer fixed₁ through₁ warnings₁ work₁ → length fixed₁ ≡ length fixed → length through₁ ≡ length through → length warnings₁ ≡ length warnings → TellsFixed (validatedReply answer) left values r left₂ values₂ → fixed₂ ≡ kept r (pos 0) fixed₁ → through₂ ≡ kept r 0 through₁ → warnings₂ ≡ kept r (pos 0) warnings₁ → GivesRepaired d fixed through warnings work left values r fixed₂ through₂ warnings₂ work₁ left₂ values₂
+  pub gives-repaired : {answer : Validated} {r : ℕ} {fixed₁ fixed₂ warnings₁ warnings₂ left₂ : List ℤ} {through₁ through₂ work₁ values₂ : List ℕ} →
+      Repairs d fixed through warnings work answer fixed₁ through₁ warnings₁ work₁ → length fixed₁ ≡ length fixed → length through₁ ≡ length through →
+      length warnings₁ ≡ length warnings → TellsFixed (validatedReply answer) left values r left₂ values₂ → fixed₂ ≡ kept r (pos 0) fixed₁ →
+      through₂ ≡ kept r 0 through₁ → warnings₂ ≡ kept r (pos 0) warnings₁ →
+      GivesRepaired d fixed through warnings work left values r fixed₂ through₂ warnings₂ work₁ left₂ values₂
   gives-repaired {r = r} {fixed₁} {warnings₁ = warnings₁} {left₂ = left₂} {through₁ = through₁} {values₂ = values₂} q f t w told a b c =
       let t′ : TellsFixed (repairReply d room) left values r left₂ values₂ = rw (q .answer) at told in
       let m = fixedNumber (repairReply d room) (length left) (length values) in
       record {
         tells = t′;
-        instructions = kept-list (pos 0) (length fixed) m (repairRefusal d room) (repairedInstructions d) none (q .instructions) f (a ∙ ap (λ (j : ℕ). kept j (pos 0) fixed₁) (t′ .number));
-        passthrough = kept-list 0 (length through) m (repairRefusal d room) (repairedPassthrough d) none (q .passthrough) t (b ∙ ap (λ (j : ℕ). kept j 0 through₁) (t′ .number));
-        warned = kept-list (pos 0) (length warnings) m (repairRefusal d room) (warningsOf d) none (q .warned) w (c ∙ ap (λ (j : ℕ). kept j (pos 0) warnings₁) (t′ .number));
+        instructions =
+            kept-list (pos 0) (length fixed) m (repairRefusal d room) (repairedInstructions d) none (q .instructions) f
+            (a ∙ ap (λ (j : ℕ). kept j (pos 0) fixed₁) (t′ .number));
+        passthrough =
+            kept-list 0 (length through) m (repairRefusal d room) (repairedPassthrough d) none (q .passthrough) t
+            (b ∙ ap (λ (j : ℕ). kept j 0 through₁) (t′ .number));
+        warned =
+            kept-list (pos 0) (length warnings) m (repairRefusal d room) (warningsOf d) none (q .warned) w
+            (c ∙ ap (λ (j : ℕ). kept j (pos 0) warnings₁) (t′ .number));
         cleared = q .cleared;
       }

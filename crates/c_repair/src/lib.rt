@@ -1,5 +1,6 @@
-// Repair for a host in C, which can lend slices of numbers and pass integers and nothing else: it answers a number, 0 or a refusal of document 01. A refusal, 15
-// for a list that is too short among them, leaves zeros in every list that is written.
+// Repair for a host in C, which can lend slices of numbers and pass integers and nothing else: it answers a number, 0
+// or a refusal of document 01. A refusal, 15 for a list that is too short among them, leaves zeros in every list that
+// is written.
 ghost use mathlib.Core.List.{[], _∷_};
 ghost use Rattle.repairs.specs.Repairs.{damagedOf, validatedReply};
 ghost use Rattle.c_repair.specs.Repairing.{TellsFixed, GivesRepaired};
@@ -11,7 +12,8 @@ use words::zero::zero_i32;
 
 // The repaired left entry and the count of warnings, or the number of a refusal.
 fn tell_fixed(validated: Validated, left: &mut [i32], values: &mut [u64]) -> u32
-    ensures { λ r. ⌜ TellsFixed (validatedReply validated) (now (left .entry)) (now (values .entry)) r (now (left .exit)) (now (values .exit)) ⌝ }
+    ensures { λ r. ⌜ TellsFixed (validatedReply validated) (now (left .entry)) (now (values .entry)) r
+        (now (left .exit)) (now (values .exit)) ⌝ }
 {
     zero_i32(left);
     zero_u64(values);
@@ -31,8 +33,8 @@ fn tell_fixed(validated: Validated, left: &mut [i32], values: &mut [u64]) -> u32
     }
 }
 
-// Repairs a font. The existing characters are 256 bits: those from 0, 64, 128 and 192 on. Tells the repaired left entry in `left`, and in `values` how many
-// warnings there are, four numbers each. Work is left zero.
+// Repairs a font. The existing characters are 256 bits: those from 0, 64, 128 and 192 on. Tells the repaired left entry
+// in `left`, and in `values` how many warnings there are, four numbers each. Work is left zero.
 #[no_mangle]
 pub extern "C" fn ligkern_validate_and_fix(
     instructions: &[i32],
@@ -53,7 +55,12 @@ pub extern "C" fn ligkern_validate_and_fix(
     left: &mut [i32],
     values: &mut [u64],
 ) -> u32
-    ensures { λ r. ⌜ GivesRepaired (damagedOf (now (instructions .entry)) (now (kerns .entry)) (now (entries .entry)) boundary «left_entry» replacement («from_0» ∷ «from_64» ∷ «from_128» ∷ «from_192» ∷ []) (now (passthrough .entry))) (now (fixed .entry)) (now (through .entry)) (now (warnings .entry)) (now (work .entry)) (now (left .entry)) (now (values .entry)) r (now (fixed .exit)) (now (through .exit)) (now (warnings .exit)) (now (work .exit)) (now (left .exit)) (now (values .exit)) ⌝ }
+    ensures { λ r. ⌜ GivesRepaired
+        (damagedOf (now (instructions .entry)) (now (kerns .entry)) (now (entries .entry)) boundary
+        «left_entry» replacement («from_0» ∷ «from_64» ∷ «from_128» ∷ «from_192» ∷ [])
+        (now (passthrough .entry))) (now (fixed .entry)) (now (through .entry)) (now (warnings .entry))
+        (now (work .entry)) (now (left .entry)) (now (values .entry)) r (now (fixed .exit)) (now (through .exit))
+        (now (warnings .exit)) (now (work .exit)) (now (left .exit)) (now (values .exit)) ⌝ }
 {
     let existing = [from_0, from_64, from_128, from_192];
     let validated = repair::validate_and_fix(

@@ -58,7 +58,16 @@ all e f = rw (e, f)
 module _ (s : State) (rest : List ℕ) where
   back : stateAt (numbersOf s ++ rest) ≡ s
   back i =
-      record { «next_left» = next-back (s .«next_left») i; op = s .op; ops = s .ops; read = s .read; given = s .given; pending = s .pending; «pending_boundary» = flag-back (s .«pending_boundary») i; «consumes_left» = consumes-back (s .«consumes_left») i }
+      record {
+        «next_left» = next-back (s .«next_left») i;
+        op = s .op;
+        ops = s .ops;
+        read = s .read;
+        given = s .given;
+        pending = s .pending;
+        «pending_boundary» = flag-back (s .«pending_boundary») i;
+        «consumes_left» = consumes-back (s .«consumes_left») i;
+      }
 
   is-state : nextCode (s .«next_left») ≤ 4294967295 → isState (numbersOf s ++ rest) ≡ true
   is-state h =
@@ -94,4 +103,5 @@ module _ (ns : List ℕ) (h : isState ns ≡ true) where
   state-long = leb-true 9 (length ns) (both-left (leb 9 (length ns)) _ h)
 
   pub state-code : getD ns 1 0 ≤ 4294967295
-  state-code = leb-true (getD ns 1 0) 4294967295 (both-left (leb (getD ns 1 0) 4294967295) _ (both-right (leb (getD ns 0 0) 4) _ (both-right (leb 9 (length ns)) _ h)))
+  state-code =
+      leb-true (getD ns 1 0) 4294967295 (both-left (leb (getD ns 1 0) 4294967295) _ (both-right (leb (getD ns 0 0) 4) _ (both-right (leb 9 (length ns)) _ h)))

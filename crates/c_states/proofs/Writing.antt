@@ -15,7 +15,8 @@ pub zeroed-length : {A : Type 0} (o : A) (n : ℕ) {d : List A} → d ≡ replic
 zeroed-length o n e = ap length e ∙ length-replicate n o
 
 -- values over zeros
-pub written-front : {A : Type 0} (o : A) (n : ℕ) (vs : List A) {m : ℕ} {d₀ d : List A} → m ≡ 0 → d₀ ≡ replicate n o → length vs ≤ n → d ≡ sets d₀ 0 vs → d ≡ listOf m o n vs
+pub written-front : {A : Type 0} (o : A) (n : ℕ) (vs : List A) {m : ℕ} {d₀ d : List A} → m ≡ 0 → d₀ ≡ replicate n o → length vs ≤ n → d ≡ sets d₀ 0 vs →
+    d ≡ listOf m o n vs
 written-front {A} o n vs z a l e =
     rw (z, e, a)
     (sets-front vs (replicate n o) (omega (arith, l, length-replicate n o)) ∙ ap (λ (t : List A). vs ++ t) (drop-replicate (length vs) n o))

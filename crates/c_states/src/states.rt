@@ -1,9 +1,11 @@
-// The state of a run as nine numbers of a list: written there, and read again. Each function is the definition of its name in specs/States.antt.
+// The state of a run as nine numbers of a list: written there, and read again. Each function is the definition of its
+// name in specs/States.antt.
 ghost use mathlib.Core.Path.{_≡_};
 ghost use Prim.Native.Nat.{_≤_};
 ghost use lib.ListN.{length, getD};
 ghost use Rattle.captions.specs.Replies.{nextKind, nextCode, consumesNumber};
-ghost use Rattle.c_states.specs.States.{flagBit, PutsState, nextLeftOf, consumesOf, flagOf, isState, stateAt, stateRead, orOutside};
+ghost use Rattle.c_states.specs.States.{flagBit, PutsState, nextLeftOf, consumesOf, flagOf, isState, stateAt};
+ghost use Rattle.c_states.specs.States.{stateRead, orOutside};
 use crate::numbers::put_nine;
 use captions::Consumes;
 use captions::NextLeft;

@@ -41,7 +41,8 @@ item-told End h = no h
 item-told (Refused n) h = no h
 
 -- stored after a 1, where there is room for both
-pub stored-told : (d d₁ d₂ : List ℤ) (a : Answer) → isItem a ≡ true → 7 ≤ length d → d₁ ≡ set d 0 (pos 1) → (1 + 6 ≤ length d₁ → d₂ ≡ sets d₁ 1 (answerReply a .values)) → d₂ ≡ sets d 0 (itemNumbers a)
+pub stored-told : (d d₁ d₂ : List ℤ) (a : Answer) → isItem a ≡ true → 7 ≤ length d → d₁ ≡ set d 0 (pos 1) →
+    (1 + 6 ≤ length d₁ → d₂ ≡ sets d₁ 1 (answerReply a .values)) → d₂ ≡ sets d 0 (itemNumbers a)
 stored-told d d₁ d₂ a h r e f =
     let l : length d₁ ≡ length d = ap length e ∙ length-set d 0 (pos 1) in
     f (omega (arith, l, r)) ∙ ap (λ (t : List ℤ). sets t 1 (answerReply a .values)) e ∙ ap (sets d 0) (sym (item-told a h))
@@ -85,13 +86,15 @@ module _ (pairs ops : List ℤ) (boundary : ℤ) (word : List ℕ) (options : Ru
   later-some zero n e = omega arith
   later-some (suc m) n e = omega arith
 
-  taken-by : (state : List ℕ) (b : Bool) → isState state ≡ b → answerReply (stepRunFrom pairs ops boundary word options (cond b (some (stateAt state)) none) .answer) .number ≡ 0 → 9 ≤ length state
+  taken-by : (state : List ℕ) (b : Bool) → isState state ≡ b →
+      answerReply (stepRunFrom pairs ops boundary word options (cond b (some (stateAt state)) none) .answer) .number ≡ 0 → 9 ≤ length state
   taken-by state true e h = state-long state e
   taken-by state false e h = absurd (later-some (stepRefusal boundary word options) 6 h)
 
   -- ---- the step that was taken
 
-  module _ (state : List ℕ) (item zeros : List ℤ) (blank : zeros ≡ replicate (length item) (pos 0)) (t : Step) (e : t ≡ stepIn pairs ops boundary word options state) where
+  module _ (state : List ℕ) (item zeros : List ℤ) (blank : zeros ≡ replicate (length item) (pos 0)) (t : Step)
+      (e : t ≡ stepIn pairs ops boundary word options state) where
     abbrev given : Step
     given = stepIn pairs ops boundary word options state
 
@@ -136,13 +139,15 @@ module _ (pairs ops : List ℤ) (boundary : ℤ) (word : List ℕ) (options : Ru
           let l : length zeros ≡ length item = zeroed-length (pos 0) (length item) blank in
           left 15 (sym (without-room 7 (length item) (sym (known n q) ∙ z) (omega (arith, l, h)))) (λ o. omega (arith, o))
 
-      pub steps-taken : 7 ≤ length zeros → (item′ : List ℤ) → item′ ≡ sets zeros 0 (itemNumbers (t .answer)) → (r : ℕ) (state′ : List ℕ) → PutsState (t .state) state r state′ → StepsRun pairs ops boundary word options state item r state′ item′
+      pub steps-taken : 7 ≤ length zeros → (item′ : List ℤ) → item′ ≡ sets zeros 0 (itemNumbers (t .answer)) → (r : ℕ) (state′ : List ℕ) →
+          PutsState (t .state) state r state′ → StepsRun pairs ops boundary word options state item r state′ item′
       steps-taken h item′ i r state′ p =
           let l : length zeros ≡ length item = zeroed-length (pos 0) (length item) blank in
           let k : number ≡ 0 = with-room 7 (length item) (sym (known n q) ∙ z) (omega (arith, l, h)) in
           let y : roomRefusal 9 (length state) ≡ 0 = room-is 9 (length state) given-long in
           let w : state′ ≡ numbersOf (t .state) ++ drop 9 state = p .stored ∙ ap (λ (m : ℕ). movedTo m state (t .state)) y in
-          let f : item′ ≡ listOf number (pos 0) (length item) (itemNumbers (t .answer)) = written-front (pos 0) (length item) (itemNumbers (t .answer)) k blank (omega (arith, l, h, item-few (t .answer))) i in
+          let f : item′ ≡ listOf number (pos 0) (length item) (itemNumbers (t .answer)) = written-front (pos 0) (length item) (itemNumbers (t .answer)) k blank
+          (omega (arith, l, h, item-few (t .answer))) i in
           record {
             number = p .number ∙ y ∙ sym k;
             moved = rw k (w ∙ ap (λ (u : Step). numbersOf (u .state) ++ drop 9 state) e);

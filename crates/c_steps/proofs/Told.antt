@@ -46,11 +46,14 @@ char-seven (Refused n) h = no h
 -- what was there does not matter where all of it is written
 all-set : (xs l m : List ℤ) → length l ≡ length xs → length m ≡ length xs → sets l 0 xs ≡ sets m 0 xs
 all-set xs l m p q =
-    sets-front xs l (omega (arith, p)) ∙ ap (λ (t : List ℤ). xs ++ t) (drop-of-length-le l {i = length xs} (omega (arith, p)) ∙ sym (drop-of-length-le m {i = length xs} (omega (arith, q))))
+    sets-front xs l (omega (arith, p))
+    ∙ ap (λ (t : List ℤ). xs ++ t) (drop-of-length-le l {i = length xs} (omega (arith, p)) ∙ sym (drop-of-length-le m {i = length xs} (omega (arith, q))))
     ∙ sym (sets-front xs m (omega (arith, q)))
 
-module _ (pairs ops : List ℤ) (boundary : ℤ) (word : List ℕ) (options : RunOptions) (state : List ℕ) {from : State} (read : from ≡ orOutside (stateRead state)) {l y k : ℕ}
-    (left : l ≡ quickLeft ops boundary word options from) (some : l ≡ 0 → ⊥) (letter : y ≡ nextLetter word from) (place : k ≡ foundPlace pairs l y) (ready : isReady pairs ops k ≡ true) {t : Step} (given : t ≡ quickStep pairs ops word k from) where
+module _ (pairs ops : List ℤ) (boundary : ℤ) (word : List ℕ) (options : RunOptions) (state : List ℕ) {from : State} (read : from ≡ orOutside (stateRead state))
+    {l y k : ℕ}
+    (left : l ≡ quickLeft ops boundary word options from) (some : l ≡ 0 → ⊥) (letter : y ≡ nextLetter word from) (place : k ≡ foundPlace pairs l y)
+    (ready : isReady pairs ops k ≡ true) {t : Step} (given : t ≡ quickStep pairs ops word k from) where
   quick : (isQuick ops boundary word options from ≡ true) × (l ≡ suc (plainCode (from .«next_left»)))
   quick = left-quick ops boundary word options from l left some
 
@@ -70,7 +73,8 @@ module _ (pairs ops : List ℤ) (boundary : ℤ) (word : List ℕ) (options : Ru
 
   given-char : isCharItem (t .answer) ≡ true
   given-char =
-      ap (λ (u : Step). isCharItem (u .answer)) (given ∙ ap (λ (b : Bool). cond b (cond (ltb k (pairCount pairs)) (givenFirst pairs ops k from) (givenPlain word from)) (refused 7 from)) has-letter)
+      ap (λ (u : Step). isCharItem (u .answer))
+      (given ∙ ap (λ (b : Bool). cond b (cond (ltb k (pairCount pairs)) (givenFirst pairs ops k from) (givenPlain word from)) (refused 7 from)) has-letter)
       ∙ by-place (ltb k (pairCount pairs))
 
   module _ (item : List ℤ) where
@@ -82,9 +86,11 @@ module _ (pairs ops : List ℤ) (boundary : ℤ) (word : List ℕ) (options : Ru
     told-asks h = (given-small pairs ops boundary word options state item zeros refl t given-step, omega (arith, h), given-char)
 
     -- told into seven places, and the state moved on
-    pub steps-told : length item ≡ 7 → (item′ : List ℤ) → item′ ≡ sets item 0 (itemNumbers (t .answer)) → (r : ℕ) (state′ : List ℕ) → PutsState (t .state) state r state′ → StepsRun pairs ops boundary word options state item r state′ item′
+    pub steps-told : length item ≡ 7 → (item′ : List ℤ) → item′ ≡ sets item 0 (itemNumbers (t .answer)) → (r : ℕ) (state′ : List ℕ) →
+        PutsState (t .state) state r state′ → StepsRun pairs ops boundary word options state item r state′ item′
     steps-told h item′ told r state′ put =
         let s = char-seven (t .answer) given-char in
         let z : length zeros ≡ length item = length-replicate (length item) (pos 0) in
-        steps-taken pairs ops boundary word options state item zeros refl t given-step (answerReply (t .answer) .number) refl (char-number (t .answer) given-char) (omega (arith, z, h)) item′
+        steps-taken pairs ops boundary word options state item zeros refl t given-step (answerReply (t .answer) .number) refl
+        (char-number (t .answer) given-char) (omega (arith, z, h)) item′
         (told ∙ all-set (itemNumbers (t .answer)) item zeros (omega (arith, h, s)) (omega (arith, z, h, s))) r state′ put

@@ -1,6 +1,7 @@
-// One step of a run whose state stands in a list, for a host in C: slices and integers in, the number of document 01 out (0 where it is taken). A quick step (crate
-// quick) whose item has exactly its seven places is told at once; every other one goes by `any_step`. `any_step` reads the state from its list anew, so that on the
-// quick path no state is built in memory for it.
+// One step of a run whose state stands in a list, for a host in C: slices and integers in, the number of document 01
+// out (0 where it is taken). A quick step (crate quick) whose item has exactly its seven places is told at once; every
+// other one goes by `any_step`. `any_step` reads the state from its list anew, so that on the quick path no state is
+// built in memory for it.
 //   items  an item, in a list of seven numbers
 ghost use Rattle.c_states.specs.States.{optionsOf};
 ghost use Rattle.c_steps.specs.Step.{StepsRun};
@@ -30,7 +31,8 @@ fn any_step(
     state: &mut [u64],
     item: &mut [i32],
 ) -> u32
-    ensures { λ r. ⌜ StepsRun (now (pairs .entry)) (now (ops .entry)) boundary (now (word .entry)) options (now (state .entry)) (now (item .entry)) r (now (state .exit)) (now (item .exit)) ⌝ }
+    ensures { λ r. ⌜ StepsRun (now (pairs .entry)) (now (ops .entry)) boundary (now (word .entry)) options
+        (now (state .entry)) (now (item .entry)) r (now (state .exit)) (now (item .exit)) ⌝ }
 {
     zero_i32(item);
     let from = state_in(state);
@@ -48,8 +50,9 @@ fn any_step(
     put_state(state, next)
 }
 
-// One step: 1 and the six numbers of its item, or zeros at the end; the next state in place of the last. A refused step leaves the state as it was. A step's
-// numbers, with 7 for numbers that are no state, then 15 where the item has no room.
+// One step: 1 and the six numbers of its item, or zeros at the end; the next state in place of the last. A refused step
+// leaves the state as it was. A step's numbers, with 7 for numbers that are no state, then 15 where the item has no
+// room.
 #[no_mangle]
 pub extern "C" fn ligkern_step(
     pairs: &[i32],
@@ -61,7 +64,9 @@ pub extern "C" fn ligkern_step(
     state: &mut [u64],
     item: &mut [i32],
 ) -> u32
-    ensures { λ r. ⌜ StepsRun (now (pairs .entry)) (now (ops .entry)) boundary (now (word .entry)) (optionsOf «disable_left_boundary» «right_boundary_override») (now (state .entry)) (now (item .entry)) r (now (state .exit)) (now (item .exit)) ⌝ }
+    ensures { λ r. ⌜ StepsRun (now (pairs .entry)) (now (ops .entry)) boundary (now (word .entry))
+        (optionsOf «disable_left_boundary» «right_boundary_override») (now (state .entry)) (now (item .entry))
+        r (now (state .exit)) (now (item .exit)) ⌝ }
 {
     let options = RunOptions {
         disable_left_boundary: disable_left_boundary,

@@ -48,11 +48,13 @@ module _ (word : List ℕ) where
 pub fresh-boundary : (word : List ℕ) (options : RunOptions) → options .«disable_left_boundary» ≡ false → fresh next.Boundary 0 ≡ freshState word options
 fresh-boundary word options e = rw e
 
-pub fresh-empty : (word : List ℕ) (options : RunOptions) → options .«disable_left_boundary» ≡ true → length word ≡ 0 → fresh next.None 0 ≡ freshState word options
+pub fresh-empty : (word : List ℕ) (options : RunOptions) → options .«disable_left_boundary» ≡ true → length word ≡ 0 →
+    fresh next.None 0 ≡ freshState word options
 fresh-empty [] options e h = rw e
 fresh-empty (c ∷ cs) options e h = absurd (omega arith)
 
-pub fresh-letter : (word : List ℕ) (options : RunOptions) → options .«disable_left_boundary» ≡ true → (length word ≡ 0 → ⊥) → fresh (next.Char (getD word 0 0)) 1 ≡ freshState word options
+pub fresh-letter : (word : List ℕ) (options : RunOptions) → options .«disable_left_boundary» ≡ true → (length word ≡ 0 → ⊥) →
+    fresh (next.Char (getD word 0 0)) 1 ≡ freshState word options
 fresh-letter [] options e h = absurd (h refl)
 fresh-letter (c ∷ cs) options e h = rw e
 

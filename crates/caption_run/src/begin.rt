@@ -33,7 +33,8 @@ fn begin_refusal(
     word: &[u32],
     options: RunOptions,
 ) -> u32
-    ensures { λ r. ⌜ r ≡ beginRefusal (now (pairs .entry)) (now (ops .entry)) boundary (now (word .entry)) options ⌝ }
+    ensures { λ r. ⌜ r ≡ beginRefusal (now (pairs .entry)) (now (ops .entry)) boundary (now (word .entry))
+        options ⌝ }
 {
     let edges = edges_refusal(boundary, options);
     if edges != 0 {
@@ -81,7 +82,8 @@ pub fn fresh_state(word: &[u32], options: RunOptions) -> State
 
 // A run that has given nothing.
 pub fn begin(pairs: &[i32], ops: &[i32], boundary: i32, word: &[u32], options: RunOptions) -> Begun
-    ensures { λ r. ⌜ begunReply r ≡ beginReply (now (pairs .entry)) (now (ops .entry)) boundary (now (word .entry)) options ⌝ }
+    ensures { λ r. ⌜ begunReply r ≡ beginReply (now (pairs .entry)) (now (ops .entry)) boundary
+        (now (word .entry)) options ⌝ }
 {
     let refusal = begin_refusal(pairs, ops, boundary, word, options);
     if refusal != 0 {

@@ -1,5 +1,6 @@
-// One step of a run, after `RunIter::next` of ligkern/mod.rs: the quick path of crate step_quick, and else what is checked of the call, the right item, and the
-// turns. Each function is the definition of the same name in captions/specs/Steps.antt.
+// One step of a run, after `RunIter::next` of ligkern/mod.rs: the quick path of crate step_quick, and else what is
+// checked of the call, the right item, and the turns. Each function is the definition of the same name in
+// captions/specs/Steps.antt.
 ghost use mathlib.Core.Path.{_≡_};
 ghost use Rattle.words.specs.Words.{numberOf};
 ghost use Rattle.captions.specs.Steps.{orBoundary, rightItem, handBack, stepOf, Stepped};
@@ -51,7 +52,8 @@ fn turned_step(
     options: RunOptions,
     state: State,
 ) -> Step
-    ensures { λ r. ⌜ r ≡ stepOf (now (pairs .entry)) (now (ops .entry)) boundary (now (word .entry)) options state ⌝ }
+    ensures { λ r. ⌜ r ≡ stepOf (now (pairs .entry)) (now (ops .entry)) boundary (now (word .entry)) options
+        state ⌝ }
 {
     let edges = edges_refusal(boundary, options);
     if edges != 0 {
@@ -82,7 +84,8 @@ pub fn kern_step(
     options: RunOptions,
     state: State,
 ) -> Step
-    ensures { λ r. ⌜ r ≡ stepOf (now (pairs .entry)) (now (ops .entry)) boundary (now (word .entry)) options state ⌝ }
+    ensures { λ r. ⌜ r ≡ stepOf (now (pairs .entry)) (now (ops .entry)) boundary (now (word .entry)) options
+        state ⌝ }
 {
     if is_kern(ops, boundary, word, options, state) {
         return give_kern(ops, state);
@@ -99,7 +102,8 @@ pub fn step(
     options: RunOptions,
     state: State,
 ) -> Step
-    ensures { λ r. ⌜ Stepped (now (pairs .entry)) (now (ops .entry)) boundary (now (word .entry)) options state r ⌝ }
+    ensures { λ r. ⌜ Stepped (now (pairs .entry)) (now (ops .entry)) boundary (now (word .entry)) options state
+        r ⌝ }
 {
     let left = quick_left(ops, boundary, word, options, state);
     if left == 0 {

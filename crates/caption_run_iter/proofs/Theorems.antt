@@ -26,12 +26,16 @@ pub same-as-steps : SameAsSteps
 unfolding nexts answers
 same-as-steps pairs ops boundary word options zero s = refl
 same-as-steps pairs ops boundary word options (suc n) s =
-    ap (λ (others : List Answer). nextAnswer pairs ops boundary word options s ∷ others) (same-as-steps pairs ops boundary word options n (nextState pairs ops boundary word options s))
+    ap (λ (others : List Answer). nextAnswer pairs ops boundary word options s ∷ others)
+    (same-as-steps pairs ops boundary word options n (nextState pairs ops boundary word options s))
 
 -- what the steps of a run answer, the calls answer
-pub by-calls : (f : Font) (pairs ops : List ℤ) (word : List ℕ) (options : RunOptions) (items : List Out) → steps.Answered f pairs ops word options items → ReaderAnswered f pairs ops word options items
+pub by-calls : (f : Font) (pairs ops : List ℤ) (word : List ℕ) (options : RunOptions) (items : List Out) → steps.Answered f pairs ops word options items →
+    ReaderAnswered f pairs ops word options items
 by-calls f pairs ops word options items d =
-    let answered : (n : ℕ) → map shown (nexts pairs ops (f .boundary) word options n (d .start)) ≡ thenEnds n items = λ n. ap (map shown) (same-as-steps pairs ops (f .boundary) word options n (d .start)) ∙ d .answered n in
+    let answered : (n : ℕ) →
+    map shown (nexts pairs ops (f .boundary) word options n (d .start))
+    ≡ thenEnds n items = λ n. ap (map shown) (same-as-steps pairs ops (f .boundary) word options n (d .start)) ∙ d .answered n in
     record {
       start = d .start;
       begins = d .begins;

@@ -75,8 +75,10 @@ module _ {M : Type 1} (𝓤 : URA M) (H : Heap 𝓤) (A : Atoms 𝓤) (W : Given
   step-typed r u is = LL.lawful P.the-type P′.the-laws 𝓤 H A W .typed r (u ∷ []) is .0
 
   -- what a reader owns does not say the lifetime's name
-  pub reader-typed : (ℓ ℓ′ : Lifetime) (κ : Lft) (x : RunIter) (u : Val) → Is (T.the-row (record { mir = ℓ; lft = κ })) x (u ∷ []) → Holds (hasTy (T′.mir ℓ′) u) × WT u
-  reader-typed ℓ ℓ′ κ x u is = LL.lawful (T.the-type (record { mir = ℓ′; lft = κ })) (T′.the-laws (record { mir = ℓ′; lft = κ })) 𝓤 H A W .typed x (u ∷ []) is .0
+  pub reader-typed : (ℓ ℓ′ : Lifetime) (κ : Lft) (x : RunIter) (u : Val) → Is (T.the-row (record { mir = ℓ; lft = κ })) x (u ∷ []) →
+      Holds (hasTy (T′.mir ℓ′) u) × WT u
+  reader-typed ℓ ℓ′ κ x u is =
+      LL.lawful (T.the-type (record { mir = ℓ′; lft = κ })) (T′.the-laws (record { mir = ℓ′; lft = κ })) 𝓤 H A W .typed x (u ∷ []) is .0
 
 -- ---- what is owned for nothing
 
@@ -106,7 +108,8 @@ module _ (κ κ′ : Lft) (x y : RefT (List ℤ)) where
   pub two-twice : {M : Type 1} (𝓤 : URA M) (H : Heap 𝓤) (A : Atoms 𝓤) (W : Given 𝓤 H A) (others : Fml)
       → ent 𝓤 (sem 𝓤 H A (fsep First (fsep Second others))) (sep 𝓤 (sem 𝓤 H A (fsep First (fsep Second others))) (sep 𝓤 (sem 𝓤 H A First) (sem 𝓤 H A Second)))
   two-twice 𝓤 H A W others =
-      qed W (‵ (fsep First (fsep Second others)) ∷ []) ∵ fsplit ! $ use1 W (‵ First ⊛ ‵ First) (shr-slice-copy 𝓤 H A W erased κ i32 .twice x (sliceOf x ∷ [])) $ split ! $
+      qed W (‵ (fsep First (fsep Second others)) ∷ []) ∵ fsplit ! $ use1 W (‵ First ⊛ ‵ First) (shr-slice-copy 𝓤 H A W erased κ i32 .twice x (sliceOf x ∷ [])) $
+      split ! $
       move ! (2 ∷ []) $ fsplit ! $ use1 W (‵ Second ⊛ ‵ Second) (shr-slice-copy 𝓤 H A W erased κ′ i32 .twice y (sliceOf y ∷ [])) $ split ! $
       -- [y; y; the others; x; x]
       move ! (0 ∷ 2 ∷ []) $ fjoin ! $ move ! (2 ∷ 0 ∷ []) $ fjoin ! $ frame ! $ move ! (1 ∷ 0 ∷ []) $ done !

@@ -1,5 +1,5 @@
-// A reader that keeps the word it is given, after `RunIter` of ligkern/mod.rs: the word, and a run's state between two calls of `next`. Thin
-// functions over `step`, which does the work by value.
+// A reader that keeps the word it is given, after `RunIter` of ligkern/mod.rs: the word, and a run's state between two
+// calls of `next`. Thin functions over `step`, which does the work by value.
 ghost use mathlib.Core.Path.{_≡_};
 ghost use Rattle.caption_run_iter.specs.Reader.{MovesOn};
 ghost use Rattle.captions.specs.Steps.{Stepped};
@@ -32,7 +32,8 @@ pub fn next<'s, 'a, 'b, 'c>(
     boundary: i32,
     options: RunOptions,
 ) -> Answer
-    ensures { λ a. ⌜ MovesOn (now (pairs .entry)) (now (ops .entry)) boundary options (now (r .entry)) a (now (r .exit)) ⌝ }
+    ensures { λ a. ⌜ MovesOn (now (pairs .entry)) (now (ops .entry)) boundary options (now (r .entry)) a
+        (now (r .exit)) ⌝ }
 {
     let given = step(pairs, ops, boundary, r.word, options, r.state);
     r.state = given.state;
@@ -48,7 +49,8 @@ pub fn next_of(
     options: RunOptions,
     state: State,
 ) -> Step
-    ensures { λ r. ⌜ Stepped (now (pairs .entry)) (now (ops .entry)) boundary (now (word .entry)) options state r ⌝ }
+    ensures { λ r. ⌜ Stepped (now (pairs .entry)) (now (ops .entry)) boundary (now (word .entry)) options state
+        r ⌝ }
 {
     let mut reader = run_iter(word, state);
     let answer = next(&mut reader, pairs, ops, boundary, options);

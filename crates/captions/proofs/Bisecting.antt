@@ -56,7 +56,8 @@ module _ (pairs : List ℤ) (up : KeysAscend pairs) (k : ℕ) (in-table : k < pa
   is-after m s (inr h) = h
 
   -- one halving
-  halve-by : (lo hi mid u d : ℕ) (s t : Bool) → ltb lo hi ≡ s → ltb (keyAt pairs mid) (keyAt pairs k) ≡ t → (hi ≤ lo → lo ≡ k) → (lo < hi → mid < k → u ≡ k) → (lo < hi → k ≤ mid → d ≡ k) → (lo < hi → mid < pairCount pairs) → cond s (cond t u d) lo ≡ k
+  halve-by : (lo hi mid u d : ℕ) (s t : Bool) → ltb lo hi ≡ s → ltb (keyAt pairs mid) (keyAt pairs k) ≡ t → (hi ≤ lo → lo ≡ k) → (lo < hi → mid < k → u ≡ k) →
+      (lo < hi → k ≤ mid → d ≡ k) → (lo < hi → mid < pairCount pairs) → cond s (cond t u d) lo ≡ k
   halve-by lo hi mid u d true true e i f g h m =
       let l = ltb-true lo hi e in
       g l (is-before mid (m l) (ltb-true (keyAt pairs mid) (keyAt pairs k) i) (less-or-not mid k))
@@ -68,7 +69,8 @@ module _ (pairs : List ℤ) (up : KeysAscend pairs) (k : ℕ) (in-table : k < pa
   ends-at zero lo hi a b c d = omega arith
   ends-at (suc n) lo hi a b c d =
       let mid = lo + (hi - lo) / 2 in
-      halve-by lo hi mid (bisect pairs (keyAt pairs k) n (suc mid) hi) (bisect pairs (keyAt pairs k) n lo mid) (ltb lo hi) (ltb (keyAt pairs mid) (keyAt pairs k)) refl refl
+      halve-by lo hi mid (bisect pairs (keyAt pairs k) n (suc mid) hi) (bisect pairs (keyAt pairs k) n lo mid) (ltb lo hi)
+      (ltb (keyAt pairs mid) (keyAt pairs k)) refl refl
       (λ h. omega arith)
       (λ h l. ends-at n (suc mid) hi (omega arith) b c (omega arith))
       (λ h l. ends-at n lo mid a l (omega arith) (omega arith))
@@ -76,5 +78,6 @@ module _ (pairs : List ℤ) (up : KeysAscend pairs) (k : ℕ) (in-table : k < pa
 
 pub finds : (pairs : List ℤ) → every (pairCount pairs) (keyForm pairs) ≡ true → (k : ℕ) → k < pairCount pairs → find pairs (keyAt pairs k) ≡ some k
 finds pairs form k h =
-    let e : placeFor pairs (keyAt pairs k) ≡ k = ends-at pairs (keys-ascend pairs form) k h (pairCount pairs) 0 (pairCount pairs) (omega arith) (omega arith) (omega arith) (omega arith) in
+    let e : placeFor pairs (keyAt pairs k)
+    ≡ k = ends-at pairs (keys-ascend pairs form) k h (pairCount pairs) 0 (pairCount pairs) (omega arith) (omega arith) (omega arith) (omega arith) in
     rw (e, lt-ltb k (pairCount pairs) h, eq-eqb (keyAt pairs k) (keyAt pairs k) refl)

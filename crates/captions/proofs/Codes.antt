@@ -7,7 +7,9 @@ use mathlib.Core.Option.{some, map-eq-some-iff, Option·some-injective, Option·
 use Prim.Native.Nat.{ℕ, zero, suc, _<_}
 use native.Mathlib.Omega.{arith}
 use lib.IntN.{ℤ}
-use Rattle.lang.specs.declared.operation.PostLigOperation.the-variants.{RetainBothMoveNowhere, RetainBothMoveToInserted, RetainBothMoveToRight, RetainRightMoveToInserted, RetainRightMoveToRight, RetainLeftMoveNowhere, RetainLeftMoveToInserted, RetainNeitherMoveToInserted}
+use Rattle.lang.specs.declared.operation.PostLigOperation.the-variants.{RetainBothMoveNowhere, RetainBothMoveToInserted, RetainBothMoveToRight}
+use Rattle.lang.specs.declared.operation.PostLigOperation.the-variants.{RetainRightMoveToInserted, RetainRightMoveToRight, RetainLeftMoveNowhere}
+use Rattle.lang.specs.declared.operation.PostLigOperation.the-variants.{RetainLeftMoveToInserted, RetainNeitherMoveToInserted}
 use Rattle.reading.specs.Items.{Left, bnd, chr, Rule, free, kerned, lig, Rules, Item, item, code, head, Out, glyph, kern, fin}
 use Rattle.reading.specs.Depth.{Res, Finished, raise, before, raiseLeft, raised, compBy, comp}
 use Rattle.reading.proofs.Flags.{code-raise}
@@ -76,7 +78,8 @@ coded-as {p} {q} e h = subst Coded (Option·some-injective p q e) h
 abbrev CodedBy : Finished → Type 0
 CodedBy f = (l : Left) (r : ℕ) (q : Res) → numberOfLeft l < 257 → r < 256 → f l r ≡ some q → Coded q
 
-small-by : (R : Rule) → RuleSmall R → (f : Finished) → CodedBy f → (l : Left) (r : ℕ) {q : Res} → numberOfLeft l < 257 → r < 256 → compBy R f l r ≡ some q → Coded q
+small-by : (R : Rule) → RuleSmall R → (f : Finished) → CodedBy f → (l : Left) (r : ℕ) {q : Res} → numberOfLeft l < 257 → r < 256 → compBy R f l r ≡ some q →
+    Coded q
 small-by free s f h l r i j e = coded-as e (record { ops = fin-small l i; last = j })
 small-by (kerned k) s f h l r i j e = coded-as e (record { ops = small-both (fin-small l i) (skip nothing); last = j })
 small-by (lig RetainNeitherMoveToInserted c) s f h l r i j e = coded-as e (record { ops = nothing; last = s })
@@ -88,7 +91,8 @@ small-by (lig RetainRightMoveToInserted c) s f h l r i j e =
     coded-as (ap some (m .2)) (raised-coded true false (m .0) (h (chr c) r (m .0) (omega arith) j (m .1)))
 small-by (lig RetainBothMoveToInserted c) s f h l r i j e =
     let m = map-eq-some-iff (λ (q : Res). before (fin (head l)) (raised true false q)) (f (chr c) r) .0 e in
-    coded-as (ap some (m .2)) (before-coded (raised true false (m .0)) (fin-small l i) (raised-coded true false (m .0) (h (chr c) r (m .0) (omega arith) j (m .1))))
+    coded-as (ap some (m .2))
+    (before-coded (raised true false (m .0)) (fin-small l i) (raised-coded true false (m .0) (h (chr c) r (m .0) (omega arith) j (m .1))))
 small-by (lig RetainLeftMoveNowhere c) s f h l r i j e =
     let m = map-eq-some-iff (raised false true) (f l c) .0 e in
     coded-as (ap some (m .2)) (raised-coded false true (m .0) (h l c (m .0) i s (m .1)))

@@ -71,7 +71,9 @@ module _ (f : Finished) (ps : List Ruled) where
 
   one-more : (k : ℕ) → k < length ps → keptBefore (suc k) ≡ keptBefore k ++ one (nth ps k .pair) (entryOf f ps k)
   unfolding kept
-  one-more k h = ap (kept f) (take-suc ps k (record { pair = record { left = bnd; right = 0 }; index = 0 }) h) ∙ kept-append f (take k ps) (nth ps k ∷ []) ∙ simp append-nil
+  one-more k h =
+      ap (kept f) (take-suc ps k (record { pair = record { left = bnd; right = 0 }; index = 0 }) h) ∙ kept-append f (take k ps) (nth ps k ∷ [])
+      ∙ simp append-nil
 
   before-by : (xs : List Entry) (p : Pair) (o : Option Res) → length (opsAll xs) + length (opsOf o) ≡ length (opsAll (xs ++ one p o))
   unfolding opsAll
@@ -93,7 +95,8 @@ module _ (f : Finished) (ps : List Ruled) where
   before-is zero h = refl
   before-is (suc k) h =
       let o = entryOf f ps k in
-      ap (λ (n : ℕ). n + length (opsOf o)) (before-is k (omega arith)) ∙ before-by (keptBefore k) (nth ps k .pair) o ∙ ap (λ (l : List Entry). length (opsAll l)) (sym (one-more k h))
+      ap (λ (n : ℕ). n + length (opsOf o)) (before-is k (omega arith)) ∙ before-by (keptBefore k) (nth ps k .pair) o
+      ∙ ap (λ (l : List Entry). length (opsAll l)) (sym (one-more k h))
 
   table-is : (k : ℕ) → k ≤ length ps → pairTable f ps k ≡ tableFrom 0 (keptBefore k)
   unfolding pairTable kept tableFrom
@@ -101,14 +104,16 @@ module _ (f : Finished) (ps : List Ruled) where
   table-is (suc k) h =
       let o = entryOf f ps k in
       let p = nth ps k .pair in
-      ap₂ (λ (l : List ℤ) (n : ℕ). l ++ pairNumbers p n o) (table-is k (omega arith)) (before-is k (omega arith)) ∙ table-by (keptBefore k) p o ∙ ap (tableFrom 0) (sym (one-more k h))
+      ap₂ (λ (l : List ℤ) (n : ℕ). l ++ pairNumbers p n o) (table-is k (omega arith)) (before-is k (omega arith)) ∙ table-by (keptBefore k) p o
+      ∙ ap (tableFrom 0) (sym (one-more k h))
 
   ops-is : (k : ℕ) → k ≤ length ps → opsTable f ps k ≡ opNumbers (opsAll (keptBefore k))
   unfolding opsTable kept opsAll opNumbers
   ops-is zero h = refl
   ops-is (suc k) h =
       let o = entryOf f ps k in
-      ap (λ (l : List ℤ). l ++ opNumbers (opsOf o)) (ops-is k (omega arith)) ∙ ops-by (keptBefore k) (nth ps k .pair) o ∙ ap (λ (l : List Entry). opNumbers (opsAll l)) (sym (one-more k h))
+      ap (λ (l : List ℤ). l ++ opNumbers (opsOf o)) (ops-is k (omega arith)) ∙ ops-by (keptBefore k) (nth ps k .pair) o
+      ∙ ap (λ (l : List Entry). opNumbers (opsAll l)) (sym (one-more k h))
 
   pub whole-table : pairTable f ps (length ps) ≡ tableFrom 0 (kept f ps)
   whole-table = table-is (length ps) (omega arith) ∙ ap (λ (l : List Ruled). tableFrom 0 (kept f l)) (take-length ps)
@@ -137,7 +142,8 @@ unfolding tableFrom
 length-table n [] = refl
 length-table n (x ∷ xs) = omega (arith, length-table (n + length (x .res .outs)) xs)
 
-pub number-at : (n : ℕ) (xs : List Entry) (m j : ℕ) → m < length xs → j < 6 → number (tableFrom n xs) m j ≡ getD (numbersOf (n + opsUpTo xs m) (entry xs m)) j (pos 0)
+pub number-at : (n : ℕ) (xs : List Entry) (m j : ℕ) → m < length xs → j < 6 →
+    number (tableFrom n xs) m j ≡ getD (numbersOf (n + opsUpTo xs m) (entry xs m)) j (pos 0)
 unfolding tableFrom opsAll
 number-at n [] m j h l = absurd (omega arith)
 number-at n (x ∷ xs) zero j h l =
@@ -198,7 +204,8 @@ ops-after (o ∷ os) rest n = rw (append-assoc (outNumbers o) (opNumbers os) res
 
 -- ops among others
 pub ops-within : (ps os bs : List Out) → opsFrom (opNumbers (ps ++ (os ++ bs))) (length ps) (length os) ≡ os
-ops-within ps os bs = rw (numbers-append ps (os ++ bs), numbers-append os bs) (ops-after ps (opNumbers os ++ opNumbers bs) (length os) ∙ ops-first os (opNumbers bs))
+ops-within ps os bs =
+    rw (numbers-append ps (os ++ bs), numbers-append os bs) (ops-after ps (opNumbers os ++ opNumbers bs) (length os) ∙ ops-first os (opNumbers bs))
 
 -- ---- what the numbers of one of them say
 

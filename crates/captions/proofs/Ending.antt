@@ -24,7 +24,9 @@ use Rattle.captions.specs.declared.Step.{Step}
 use Rattle.captions.specs.declared.Turned.{Turned}
 use Rattle.captions.specs.declared.Turned.the-variants.{Gives, Goes}
 use Rattle.captions.specs.Tables.{opKind, opValue, keyBy, find, countOf, lastCode, lastFlag, recordFits}
-use Rattle.captions.specs.Steps.{refused, taken, takesBoundary, giveCharacter, giveLigature, endsWord, giveOp, opsFit, readOp, longer, afterRight, readOn, withNext, enteredAt, entryReads, givesNothing, turnBy, turnWith, turnAtEnd, turnAtLetter, turn, goesOn, byNext, runOn, afterOp, withNothingNext, placed, rightItem, ranFrom, stepRefusal, handBack, steppedBy, stepOf}
+use Rattle.captions.specs.Steps.{refused, taken, takesBoundary, giveCharacter, giveLigature, endsWord, giveOp, opsFit, readOp, longer, afterRight, readOn}
+use Rattle.captions.specs.Steps.{withNext, enteredAt, entryReads, givesNothing, turnBy, turnWith, turnAtEnd, turnAtLetter, turn, goesOn, byNext, runOn}
+use Rattle.captions.specs.Steps.{afterOp, withNothingNext, placed, rightItem, ranFrom, stepRefusal, handBack, steppedBy, stepOf}
 use Rattle.captions.specs.Runs.{answers}
 use Rattle.captions.specs.Ending.{EndStays}
 
@@ -62,7 +64,8 @@ ligature-given c right s = either (leb (s .given + taken s) (s .read)) (ligature
 op-given : (ops : List ℤ) (s : State) → Tells (giveOp ops s)
 op-given ops s =
     either (eqb (wordOf (opKind ops (s .op))) 0) (character-given (wordOf (opValue ops (s .op))) (afterOp s))
-    (either (eqb (wordOf (opKind ops (s .op))) 1) (ligature-given (wordOf (opValue ops (s .op))) (endsWord ops (afterOp s)) (afterOp s)) (kern (opValue ops (s .op))))
+    (either (eqb (wordOf (opKind ops (s .op))) 1) (ligature-given (wordOf (opValue ops (s .op))) (endsWord ops (afterOp s)) (afterOp s))
+    (kern (opValue ops (s .op))))
 
 op-read : (ops : List ℤ) (s : State) → Tells (readOp ops s)
 op-read ops s = either (opsFit ops s) (op-given ops s) (refusal 7)
@@ -106,8 +109,10 @@ module _ (pairs ops : List ℤ) where
   by-entry x letter s k true l = goes (l refl)
   by-entry x letter s k false l = gives (refusal 7)
 
-  kept : (x : NextLeft) (letter : Bool) (s : State) (k : ℕ) → both (recordFits pairs ops k) (not (givesNothing pairs k)) ≡ true → Later (enteredAt pairs x letter s k)
-  kept x letter s k h z = kept-next letter (eqb (countOf pairs k) 0) (lastFlag pairs k) (lastCode pairs k) (both-right (recordFits pairs ops k) (not (givesNothing pairs k)) h) z
+  kept : (x : NextLeft) (letter : Bool) (s : State) (k : ℕ) → both (recordFits pairs ops k) (not (givesNothing pairs k)) ≡ true →
+      Later (enteredAt pairs x letter s k)
+  kept x letter s k h z =
+      kept-next letter (eqb (countOf pairs k) 0) (lastFlag pairs k) (lastCode pairs k) (both-right (recordFits pairs ops k) (not (givesNothing pairs k)) h) z
 
   -- a left character
   character-quiet : (c : ℕ) (letter : Bool) (y : ℕ) (s : State) (o : Option ℕ) → Quiet (turnBy pairs ops (next.Char c) letter y s o)
@@ -120,7 +125,8 @@ module _ (pairs ops : List ℤ) where
 
   boundary-quiet : (y : ℕ) (s : State) (o : Option ℕ) → Quiet (turnBy pairs ops next.Boundary true y s o)
   boundary-quiet y s none = goes (λ _. refl)
-  boundary-quiet y s (some k) = by-entry next.Boundary true s k (entryReads pairs ops next.Boundary k) (λ _ _. letter-next (item (lastFlag pairs k) (lastCode pairs k)))
+  boundary-quiet y s (some k) =
+      by-entry next.Boundary true s k (entryReads pairs ops next.Boundary k) (λ _ _. letter-next (item (lastFlag pairs k) (lastCode pairs k)))
 
   letter-quiet : (x : NextLeft) (y : ℕ) (s : State) → Quiet (turnWith pairs ops x true y s) → Quiet (turnAtLetter pairs ops x y s)
   letter-quiet x y s q = quiet-either (leb y 255) q (gives (refusal 4))
@@ -149,13 +155,15 @@ module _ (pairs ops : List ℤ) (right : Option ℕ) (word : List ℕ) where
   look-character : (c : ℕ) (s : State) → Quiet (look (next.Char c) s)
   look-character c s =
       let y = getD word (s .read) 0 in
-      quiet-either (ltb (s .read) (length word)) (letter-quiet pairs ops (next.Char c) y s (character-quiet pairs ops c true y s (find pairs (keyBy (suc c) y)))) (end-character pairs ops c s right)
+      quiet-either (ltb (s .read) (length word))
+      (letter-quiet pairs ops (next.Char c) y s (character-quiet pairs ops c true y s (find pairs (keyBy (suc c) y)))) (end-character pairs ops c s right)
 
   look-ligature : (c : ℕ) (s : State) → Quiet (look (next.Lig c) s)
   look-ligature c s =
       let y = getD word (s .read) 0 in
       let g = longer s in
-      quiet-either (ltb (s .read) (length word)) (letter-quiet pairs ops (next.Lig c) y g (ligature-quiet pairs ops c true y g (find pairs (keyBy (suc c) y)))) (end-ligature pairs ops c g right)
+      quiet-either (ltb (s .read) (length word)) (letter-quiet pairs ops (next.Lig c) y g (ligature-quiet pairs ops c true y g (find pairs (keyBy (suc c) y))))
+      (end-ligature pairs ops c g right)
 
   module _ (go : State → Step) (later : (t : State) → Later t → Tells (go t)) where
     onward-quiet : {t : Turned} → Quiet t → Tells (goesOn go t)
@@ -226,4 +234,5 @@ module _ (pairs ops : List ℤ) (boundary : ℤ) (word : List ℕ) (options : Ru
     ends-for-ever (suc n) = rw (e, unmoves e, ends-for-ever n) refl
 
     pub end-stays : EndStays pairs ops boundary word options s
-    end-stays = record { unmoved = unmoves e; again = ap (λ (t : State). stepOf pairs ops boundary word options t .answer) (unmoves e) ∙ e; for-ever = ends-for-ever }
+    end-stays =
+        record { unmoved = unmoves e; again = ap (λ (t : State). stepOf pairs ops boundary word options t .answer) (unmoves e) ∙ e; for-ever = ends-for-ever }

@@ -21,5 +21,6 @@ found-by p n key w k false b e g h = absurd (let z : _≡_ {A = ℕ} 0 1 = cc in
 -- Over any table.
 pub find-inside : (pairs : List ℤ) (w k : ℕ) → find pairs w ≡ some k → (k < pairCount pairs) × (keyAt pairs k ≡ w)
 find-inside pairs w k h =
-    let d = found-by (placeFor pairs w) (pairCount pairs) (keyAt pairs (placeFor pairs w)) w k (ltb (placeFor pairs w) (pairCount pairs)) (eqb (keyAt pairs (placeFor pairs w)) w) refl refl h in
+    let d = found-by (placeFor pairs w) (pairCount pairs) (keyAt pairs (placeFor pairs w)) w k (ltb (placeFor pairs w) (pairCount pairs))
+    (eqb (keyAt pairs (placeFor pairs w)) w) refl refl h in
     (d .1, subst (λ (i : ℕ). keyAt pairs i ≡ w) (d .0) (d .2))

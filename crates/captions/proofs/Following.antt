@@ -27,7 +27,8 @@ use Rattle.captions.specs.declared.State.{State}
 use Rattle.captions.specs.declared.Answer.the-variants.{Char}
 use Rattle.captions.specs.declared.Step.{Step}
 use Rattle.captions.specs.declared.Turned.{Turned}
-use Rattle.captions.specs.Tables.{pairCount, opCount, number, leftPlace, keyBy, find, firstOp, countOf, lastCode, lastFlag, entryOfPair, opsFrom, opFits, recordFits}
+use Rattle.captions.specs.Tables.{pairCount, opCount, number, leftPlace, keyBy, find, firstOp, countOf, lastCode, lastFlag, entryOfPair, opsFrom, opFits}
+use Rattle.captions.specs.Tables.{recordFits}
 use Rattle.captions.specs.Form.{pairForm, tableForm, keyForm, opsEnd, comesAfter, sizesForm}
 use Rattle.captions.specs.Steps.{stepBy}
 use Rattle.captions.proofs.Finding.{find-inside}
@@ -54,8 +55,11 @@ three : (a b c : Bool) → both a (both b c) ≡ true → (a ≡ true) × (b ≡
 three a b c h = (both-left a (both b c) h, both-left b c (both-right a (both b c) h), both-right b c (both-right a (both b c) h))
 
 module _ (pairs ops : List ℤ) (table : tableForm pairs ops ≡ true) where
-  parts : (sizesForm pairs ops ≡ true) × (every (opCount ops) (opFits ops) ≡ true) × (every (pairCount pairs) (pairForm pairs ops) ≡ true) × (eqb (opsEnd pairs (pairCount pairs)) (opCount ops) ≡ true)
-  parts = four (sizesForm pairs ops) (every (opCount ops) (opFits ops)) (every (pairCount pairs) (pairForm pairs ops)) (eqb (opsEnd pairs (pairCount pairs)) (opCount ops)) table
+  parts : (sizesForm pairs ops ≡ true) × (every (opCount ops) (opFits ops) ≡ true) × (every (pairCount pairs) (pairForm pairs ops) ≡ true)
+      × (eqb (opsEnd pairs (pairCount pairs)) (opCount ops) ≡ true)
+  parts =
+      four (sizesForm pairs ops) (every (opCount ops) (opFits ops)) (every (pairCount pairs) (pairForm pairs ops))
+      (eqb (opsEnd pairs (pairCount pairs)) (opCount ops)) table
 
   pub few-ops : opCount ops ≤ 2147483647
   few-ops = leb-true (opCount ops) 2147483647 (three (eqb (length pairs % 6) 0) (eqb (length ops % 2) 0) (leb (opCount ops) 2147483647) (parts .0) .2)
@@ -71,10 +75,12 @@ module _ (pairs ops : List ℤ) (table : tableForm pairs ops ≡ true) where
       let i = find-inside pairs (keyBy left y) k e in
       let right-fits : Bool = within 255 (number pairs k 1) in
       let form = formed (leftOf (leftPlace (number pairs k 0))) (wordOf (number pairs k 1)) (entryOfPair pairs ops k) in
-      let h = four (keyForm pairs k) (recordFits pairs ops k) (eqb (firstOp pairs k) (opsEnd pairs k)) form (every-at (pairCount pairs) k (pairForm pairs ops) all-pairs (i .0)) in
+      let h = four (keyForm pairs k) (recordFits pairs ops k) (eqb (firstOp pairs k) (opsEnd pairs k)) form
+      (every-at (pairCount pairs) k (pairForm pairs ops) all-pairs (i .0)) in
       let keyed = three (absentOr 255 (number pairs k 0)) right-fits (comesAfter pairs k) (h .0) in
       let right : wordOf (number pairs k 1) ≤ 255 = within-bound 255 (number pairs k 1) (keyed .1) in
-      let fits = four (within 255 (number pairs k 2)) (within 1 (number pairs k 3)) (cond (lastFlag pairs k) true (eqb (lastCode pairs k) (wordOf (number pairs k 1)))) (leb (firstOp pairs k + countOf pairs k) (opCount ops)) (h .1) in
+      let fits = four (within 255 (number pairs k 2)) (within 1 (number pairs k 3))
+      (cond (lastFlag pairs k) true (eqb (lastCode pairs k) (wordOf (number pairs k 1)))) (leb (firstOp pairs k + countOf pairs k) (opCount ops)) (h .1) in
       let at-left : leftPlace (number pairs k 0) ≡ left = omega (arith, i .1) in
       record {
         fits = h .1;
@@ -86,14 +92,16 @@ module _ (pairs ops : List ℤ) (table : tableForm pairs ops ≡ true) where
 -- ---- steps that look nothing up
 
 -- ops are given whatever follows
-pub given-first : (t : Finished) (right : Option ℕ) (rest : List ℕ) (b : Bool) (x : Out) (os : List Out) (n : plainly.PlainNext) → plainly.stepFrom t right rest (raiseFirst b (x ∷ os)) n ≡ plainly.given (raiseFirst b (x ∷ os)) n rest
+pub given-first : (t : Finished) (right : Option ℕ) (rest : List ℕ) (b : Bool) (x : Out) (os : List Out) (n : plainly.PlainNext) →
+    plainly.stepFrom t right rest (raiseFirst b (x ∷ os)) n ≡ plainly.given (raiseFirst b (x ∷ os)) n rest
 unfolding plainly.stepFrom raiseFirst
 given-first t right [] b (glyph y) os n = refl
 given-first t right [] b (kern k) os n = refl
 given-first t right (c ∷ cs) b (glyph y) os n = refl
 given-first t right (c ∷ cs) b (kern k) os n = refl
 
-pub given-final : (t : Finished) (right : Option ℕ) (rest : List ℕ) (c : ℕ) → plainly.stepFrom t right rest [] (plainly.final c) ≡ plainly.given [] (plainly.final c) rest
+pub given-final : (t : Finished) (right : Option ℕ) (rest : List ℕ) (c : ℕ) →
+    plainly.stepFrom t right rest [] (plainly.final c) ≡ plainly.given [] (plainly.final c) rest
 unfolding plainly.stepFrom
 given-final t right [] c = refl
 given-final t right (y ∷ ys) c = refl
@@ -116,7 +124,8 @@ no : {A : Type 0} → _≡_ {A = Bool} false true → A
 no e = absurd (let z : _≡_ {A = ℕ} 0 1 = cc in omega arith)
 
 module _ (ops : List ℤ) (word : List ℕ) (fit : every (opCount ops) (opFits ops) ≡ true) (look : NextLeft → State → Turned) where
-  pub gives-now : (go : State → Step) (n : NextLeft) (o m r g p : ℕ) (b : Bool) (k : Consumes) → isNow m n ≡ true → Sound ops word (state n o m r g p b k) (opsFrom ops o m) →
+  pub gives-now : (go : State → Step) (n : NextLeft) (o m r g p : ℕ) (b : Bool) (k : Consumes) → isNow m n ≡ true →
+      Sound ops word (state n o m r g p b k) (opsFrom ops o m) →
       Follows ops word (stepBy ops look go (state n o m r g p b k)) (plainly.given (raiseFirst (isPending p) (opsFrom ops o m)) (nextOf n) (drop r word))
   unfolding opsFrom raiseFirst noPlain
   gives-now go n o (suc m) r g p b k h s =
@@ -125,5 +134,6 @@ module _ (ops : List ℤ) (word : List ℕ) (fit : every (opCount ops) (opFits o
   gives-now go next.Boundary o zero r g p b k h s = no h
   gives-now go (next.Char c) o zero r g p b k h s = no h
   gives-now go (next.Lig c) o zero r g p b k h s = no h
-  gives-now go (next.FinalLig c) o zero r g p b k h s = gives-ligature ops word next.None o 0 r g p b k c true (s .inside, s .among, refl, refl) (omega (arith, s .counted))
+  gives-now go (next.FinalLig c) o zero r g p b k h s =
+      gives-ligature ops word next.None o 0 r g p b k c true (s .inside, s .among, refl, refl) (omega (arith, s .counted))
   gives-now go next.None o zero r g p b k h s = record { answers = refl; leaves = refl; sound = s }

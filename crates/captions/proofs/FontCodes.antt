@@ -53,7 +53,13 @@ module _ (design : ℤ) (kerns : List ℤ) where
   acts-small : (kind : ℕ) (z : ℤ) → RuleSmall (ruleOfOperation design (actsAs kerns (operationOf kind z)))
   acts-small kind z = go (eqb kind 1) (eqb kind 2) (eqb kind 3)
     where
-      go : (a b c : Bool) → RuleSmall (ruleOfOperation design (actsAs kerns (cond a (KernAtIndex (wordOf z % 65536)) (cond b (fromBytes (wordOf z / 256 % 128) (wordOf z % 256)) (cond c (EntrypointRedirect (wordOf z % 65536) (eqb (wordOf z / 65536 % 2) 1)) (Kern (record { 0 = z })))))))
+      go : (a b c : Bool) →
+          RuleSmall
+          (ruleOfOperation design
+          (actsAs kerns
+          (cond a (KernAtIndex (wordOf z % 65536))
+          (cond b (fromBytes (wordOf z / 256 % 128) (wordOf z % 256))
+          (cond c (EntrypointRedirect (wordOf z % 65536) (eqb (wordOf z / 65536 % 2) 1)) (Kern (record { 0 = z })))))))
       go true b c = kern-small (toScaled _ design)
       go false true c =
           let op = wordOf z / 256 % 128 in

@@ -38,7 +38,8 @@ test-true false t = absurd t
 
 -- ---- a member by its place
 
-place-by : (x y : Entry) (xs : List Entry) → (x ≡ y) ⊎ List·Memᴰ x xs → (List·Memᴰ x xs → (m : ℕ) × (m < length xs) × (entry xs m ≡ x)) → (m : ℕ) × (m < suc (length xs)) × (entry (y ∷ xs) m ≡ x)
+place-by : (x y : Entry) (xs : List Entry) → (x ≡ y) ⊎ List·Memᴰ x xs → (List·Memᴰ x xs → (m : ℕ) × (m < length xs) × (entry xs m ≡ x)) →
+    (m : ℕ) × (m < suc (length xs)) × (entry (y ∷ xs) m ≡ x)
 place-by x y xs (inl e) k = (zero, omega arith, sym e)
 place-by x y xs (inr l) k = let h = k l in (suc (h .0), omega (arith, h .1), h .2)
 
@@ -55,7 +56,8 @@ one-pair l r p i j e =
 
 module _ (xs : List Entry) (ranged : (x : Entry) → List·Memᴰ x xs → InRange (x .pair)) where
   -- a pair that has an entry is one of them
-  pub entered : (l : Left) (r : ℕ) (q : Res) → r < 4294967296 → entries (pairs xs) (ops xs) l r ≡ some q → (x : Entry) × List·Memᴰ x xs × (x .pair .left ≡ l) × (x .pair .right ≡ r) × (x .res ≡ q)
+  pub entered : (l : Left) (r : ℕ) (q : Res) → r < 4294967296 → entries (pairs xs) (ops xs) l r ≡ some q →
+      (x : Entry) × List·Memᴰ x xs × (x .pair .left ≡ l) × (x .pair .right ≡ r) × (x .res ≡ q)
   entered l r q h e =
       let m = map-eq-some-iff (entryOfPair (pairs xs) (ops xs)) (find (pairs xs) (keyOf l r)) .0 e in
       let k = m .0 in
@@ -72,7 +74,8 @@ module _ (xs : List Entry) (ranged : (x : Entry) → List·Memᴰ x xs → InRan
       let key : keyAt (pairs xs) k ≡ placeOf (x .pair) = key-is xs ranged k (p .1) ∙ ap (λ (y : Entry). placeOf (y .pair)) (p .2) in
       let at : find (pairs xs) (keyAt (pairs xs) k) ≡ some k = finds (pairs xs) (keys-form xs ranged sorted) k (omega (arith, p .1, pair-count xs)) in
       let is : entryOfPair (pairs xs) (ops xs) k ≡ x .res = entry-is xs k (p .1) ∙ ap (λ (y : Entry). y .res) (p .2) in
-      ap (λ (n : ℕ). Option·map (entryOfPair (pairs xs) (ops xs)) (find (pairs xs) n)) (sym key) ∙ ap (Option·map (entryOfPair (pairs xs) (ops xs))) at ∙ ap some is
+      ap (λ (n : ℕ). Option·map (entryOfPair (pairs xs) (ops xs)) (find (pairs xs) n)) (sym key) ∙ ap (Option·map (entryOfPair (pairs xs) (ops xs))) at
+      ∙ ap some is
 
 -- ---- the table of a font
 
@@ -120,7 +123,9 @@ module _ (f : Font) where
 
   -- The table has the form that begin checks.
   pub font-form-by : SmallRules (rulesOf f) → opCount (fontOps f) ≤ 2147483647 → tableForm (fontTable f) (fontOps f) ≡ true
-  font-form-by s few = ap₂ tableForm (whole-table (finishedOf f) (pairsOf f)) (whole-ops (finishedOf f) (pairsOf f)) ∙ table-form finishing (good s) sorted (subst (λ (o : List ℤ). opCount o ≤ 2147483647) (whole-ops (finishedOf f) (pairsOf f)) few)
+  font-form-by s few =
+      ap₂ tableForm (whole-table (finishedOf f) (pairsOf f)) (whole-ops (finishedOf f) (pairsOf f))
+      ∙ table-form finishing (good s) sorted (subst (λ (o : List ℤ). opCount o ≤ 2147483647) (whole-ops (finishedOf f) (pairsOf f)) few)
 
   -- Every entry is that of its pair, of any left and any u32.
   pub font-sound : (l : Left) (r : ℕ) (q : Res) → r < 4294967296 → entries (fontTable f) (fontOps f) l r ≡ some q → (d : ℕ) × (comp (rulesOf f) d l r ≡ some q)
@@ -130,7 +135,8 @@ module _ (f : Font) where
       (suc (length (pairsOf f)), sym (ap₂ (finishedOf f) (t .2) (t .3)) ∙ h ∙ ap some (t .4))
 
   -- Every pair that has a rule and finishes has its entry.
-  pub font-whole : (l : Left) (r : ℕ) (d : ℕ) (q : Res) → (rulesOf f l r ≡ free → ⊥) → comp (rulesOf f) d l r ≡ some q → entries (fontTable f) (fontOps f) l r ≡ some q
+  pub font-whole : (l : Left) (r : ℕ) (d : ℕ) (q : Res) → (rulesOf f l r ≡ free → ⊥) → comp (rulesOf f) d l r ≡ some q →
+      entries (fontTable f) (fontOps f) l r ≡ some q
   font-whole l r d q n e =
       let c = covers-font f .covers l r n in
       let h : finishedOf f l r ≡ some q = Reading.depth-enough (rulesOf f) (pairsOf f) (covers-font f) d l r e in
@@ -143,5 +149,7 @@ module _ (f : Font) where
   font-holds-below n a b =
       record {
         sound = λ l r q e. let t = below-some n (entries (fontTable f) (fontOps f)) l r q e in font-sound l r q (omega (arith, t .0)) (t .1);
-        whole = λ l r d q i e. let h : r < n = omega (arith, ruled-in-range f l r i .1) in below-is n (entries (fontTable f) (fontOps f)) l r h ∙ font-whole l r d q i e;
+        whole =
+            λ l r d q i e. let h : r < n = omega (arith, ruled-in-range f l r i .1) in
+            below-is n (entries (fontTable f) (fontOps f)) l r h ∙ font-whole l r d q i e;
       }

@@ -26,7 +26,8 @@ use Rattle.compiling.proofs.Sorted.{Pairwise, alone, first}
 use Rattle.captions.specs.Tables.{pairCount, opCount, number, keyBy, keyOf, leftPlace, keyAt, firstOp, entryOfPair, opHolds, opFits, recordFits}
 use Rattle.captions.specs.Form.{opsEnd, comesAfter, keyForm, pairForm, tableForm}
 use Rattle.captions.proofs.Codes.{Small, nothing, character, skip, small-both, Coded}
-use Rattle.captions.proofs.Decoding.{Entry, opsAll, ops-append, tableFrom, nowhere, entry, opsUpTo, length-table, kind-on, value-on, left-is, right-is, last-is, flag-number-is, first-is, count-is, split, entry-is}
+use Rattle.captions.proofs.Decoding.{Entry, opsAll, ops-append, tableFrom, nowhere, entry, opsUpTo, length-table, kind-on, value-on, left-is, right-is}
+use Rattle.captions.proofs.Decoding.{last-is, flag-number-is, first-is, count-is, split, entry-is}
 
 -- ---- places of a list
 
@@ -99,7 +100,8 @@ left-fits bnd h = refl
 left-fits (chr c) h = le-leb c 255 (omega arith)
 
 -- an unflagged last is the right
-last-right : (l : Left) (r : ℕ) (b : Bool) (c : ℕ) (os : List Out) → formed l r (record { outs = os; last = item b c }) ≡ true → cond (eqb (wordOf (flagNumber b)) 1) true (eqb c r) ≡ true
+last-right : (l : Left) (r : ℕ) (b : Bool) (c : ℕ) (os : List Out) → formed l r (record { outs = os; last = item b c }) ≡ true →
+    cond (eqb (wordOf (flagNumber b)) 1) true (eqb c r) ≡ true
 last-right l r true c os e = refl
 last-right l r false c os e = go (eqb c r) e
   where
@@ -147,7 +149,8 @@ module _ (xs : List Entry) (ranged : (x : Entry) → List·Memᴰ x xs → InRan
     comes-after : (m : ℕ) → m < length xs → comesAfter (pairs xs) m ≡ true
     comes-after zero h = refl
     comes-after (suc m) h =
-        lt-ltb (keyAt (pairs xs) m) (keyAt (pairs xs) (suc m)) (omega (arith, key-is m (omega arith), key-is (suc m) h, pairwise-next nowhere Sooner xs sorted m h))
+        lt-ltb (keyAt (pairs xs) m) (keyAt (pairs xs) (suc m))
+        (omega (arith, key-is m (omega arith), key-is (suc m) h, pairwise-next nowhere Sooner xs sorted m h))
 
     key-form : (m : ℕ) → m < length xs → keyForm (pairs xs) m ≡ true
     key-form m h =
@@ -211,12 +214,18 @@ module _ (xs : List Entry) (good : (x : Entry) → List·Memᴰ x xs → Good x)
       (both-of (eq-eqb (firstOp (pairs xs) m) (opsEnd (pairs xs) m) (ap wordOf (first-is xs m h) ∙ sym (ends-is m (omega arith)))) (form-is m h)))
 
   ends-all : opsEnd (pairs xs) (pairCount (pairs xs)) ≡ opCount (ops xs)
-  ends-all = ap (opsEnd (pairs xs)) (pair-count xs) ∙ ends-is (length xs) (omega arith) ∙ ap (λ (l : List Entry). length (opsAll l)) (take-length xs) ∙ sym (op-count xs)
+  ends-all =
+      ap (opsEnd (pairs xs)) (pair-count xs) ∙ ends-is (length xs) (omega arith) ∙ ap (λ (l : List Entry). length (opsAll l)) (take-length xs)
+      ∙ sym (op-count xs)
 
   pub table-form : opCount (ops xs) ≤ 2147483647 → tableForm (pairs xs) (ops xs) ≡ true
   table-form few =
       let p = pairs xs in
       let o = ops xs in
-      both-of (both-of (eq-eqb (length p % 6) 0 (omega (arith, length-table 0 xs))) (both-of (eq-eqb (length o % 2) 0 (omega (arith, length-numbers (opsAll xs)))) (le-leb (opCount o) 2147483647 few)))
-      (both-of (every-all (opCount o) (opFits o) (λ i h. both-of (lt-ltb i (opCount o) h) (ops-hold (opsAll xs) (small-all xs good) i (omega (arith, op-count xs)))))
-      (both-of (every-all (pairCount p) (pairForm p o) (λ m h. pair-form m (omega (arith, pair-count xs)))) (eq-eqb (opsEnd p (pairCount p)) (opCount o) ends-all)))
+      both-of
+      (both-of (eq-eqb (length p % 6) 0 (omega (arith, length-table 0 xs)))
+      (both-of (eq-eqb (length o % 2) 0 (omega (arith, length-numbers (opsAll xs)))) (le-leb (opCount o) 2147483647 few)))
+      (both-of
+      (every-all (opCount o) (opFits o) (λ i h. both-of (lt-ltb i (opCount o) h) (ops-hold (opsAll xs) (small-all xs good) i (omega (arith, op-count xs)))))
+      (both-of (every-all (pairCount p) (pairForm p o) (λ m h. pair-form m (omega (arith, pair-count xs))))
+      (eq-eqb (opsEnd p (pairCount p)) (opCount o) ends-all)))

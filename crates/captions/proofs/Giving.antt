@@ -66,10 +66,12 @@ module _ (ops : List ℤ) (word : List ℕ) where
       (gives-item n o m r g (suc p) b k (Ligature c g (suc p) b false) (suc p) (glyph (inserted c)) refl (s .0) h (s .1) (s .2) (s .3))
 
   -- a ligature that takes in the left
-  pub gives-ligature : (n : NextLeft) (o m r g p : ℕ) (b : Bool) (k : Consumes) (c : ℕ) (e : Bool) → Before n o m r g → g + (p + leftLetters k) + waiting n ≤ r →
+  pub gives-ligature : (n : NextLeft) (o m r g p : ℕ) (b : Bool) (k : Consumes) (c : ℕ) (e : Bool) → Before n o m r g →
+      g + (p + leftLetters k) + waiting n ≤ r →
       Follows ops word (giveLigature c e (state n o m r g p b k)) (plainly.given (glyph (inserted c) ∷ opsFrom ops o m) (nextOf n) (drop r word))
   gives-ligature n o m r g p b k c e s h =
-      gives-item n o m r g p b k (Ligature c g (p + leftLetters k) (takesBoundary (state n o m r g p b k)) e) (p + leftLetters k) (glyph (inserted c)) refl (s .0) h (s .1) (s .2) (s .3)
+      gives-item n o m r g p b k (Ligature c g (p + leftLetters k) (takesBoundary (state n o m r g p b k)) e) (p + leftLetters k) (glyph (inserted c)) refl
+      (s .0) h (s .1) (s .2) (s .3)
 
   -- ---- an op
 
@@ -92,24 +94,33 @@ module _ (ops : List ℤ) (word : List ℕ) where
   after-kern (suc p) consumes.Letter z os n h = h
   after-kern (suc p) consumes.Boundary z os n h = h
 
-  plain-op : (n : NextLeft) (o m r g p : ℕ) (b : Bool) (k : Consumes) (c : ℕ) → Sound ops word (state n o (suc m) r g p b k) (glyph (plain c) ∷ opsFrom ops (suc o) m) →
-      Follows ops word (giveCharacter c (state n (suc o) m r g p b k)) (plainly.given (raiseFirst (isPending p) (glyph (plain c) ∷ opsFrom ops (suc o) m)) (nextOf n) (drop r word))
+  plain-op : (n : NextLeft) (o m r g p : ℕ) (b : Bool) (k : Consumes) (c : ℕ) →
+      Sound ops word (state n o (suc m) r g p b k) (glyph (plain c) ∷ opsFrom ops (suc o) m) →
+      Follows ops word (giveCharacter c (state n (suc o) m r g p b k))
+      (plainly.given (raiseFirst (isPending p) (glyph (plain c) ∷ opsFrom ops (suc o) m)) (nextOf n) (drop r word))
   unfolding noPlain plainFirst hasGlyph raiseFirst
   plain-op n o m r g zero b consumes.Nothing c s = no (s .holds)
-  plain-op n o m r g zero b consumes.Letter c s = gives-letter n (suc o) m r g b consumes.Letter c (s .inside, omega (arith, s .among), s .fits, both-first _ _ (s .holds)) (omega (arith, s .counted))
+  plain-op n o m r g zero b consumes.Letter c s =
+      gives-letter n (suc o) m r g b consumes.Letter c (s .inside, omega (arith, s .among), s .fits, both-first _ _ (s .holds)) (omega (arith, s .counted))
   plain-op n o m r g zero b consumes.Boundary c s = no (s .holds)
-  plain-op n o m r g (suc p) b consumes.Nothing c s = gives-pending n (suc o) m r g p b consumes.Nothing c (s .inside, omega (arith, s .among), s .fits, both-first _ _ (s .holds)) (omega (arith, s .counted))
+  plain-op n o m r g (suc p) b consumes.Nothing c s =
+      gives-pending n (suc o) m r g p b consumes.Nothing c (s .inside, omega (arith, s .among), s .fits, both-first _ _ (s .holds)) (omega (arith, s .counted))
   plain-op n o m r g (suc p) b consumes.Letter c s = no (s .holds)
   plain-op n o m r g (suc p) b consumes.Boundary c s = no (s .holds)
 
-  ligature-op : (n : NextLeft) (o m r g p : ℕ) (b : Bool) (k : Consumes) (c : ℕ) (e : Bool) → Sound ops word (state n o (suc m) r g p b k) (glyph (inserted c) ∷ opsFrom ops (suc o) m) →
-      Follows ops word (giveLigature c e (state n (suc o) m r g p b k)) (plainly.given (raiseFirst (isPending p) (glyph (inserted c) ∷ opsFrom ops (suc o) m)) (nextOf n) (drop r word))
+  ligature-op : (n : NextLeft) (o m r g p : ℕ) (b : Bool) (k : Consumes) (c : ℕ) (e : Bool) →
+      Sound ops word (state n o (suc m) r g p b k) (glyph (inserted c) ∷ opsFrom ops (suc o) m) →
+      Follows ops word (giveLigature c e (state n (suc o) m r g p b k))
+      (plainly.given (raiseFirst (isPending p) (glyph (inserted c) ∷ opsFrom ops (suc o) m)) (nextOf n) (drop r word))
   unfolding raiseFirst
-  ligature-op n o m r g zero b k c e s = gives-ligature n (suc o) m r g zero b k c e (s .inside, omega (arith, s .among), s .fits, after-ligature zero k c _ n (s .holds)) (s .counted)
-  ligature-op n o m r g (suc p) b k c e s = gives-ligature n (suc o) m r g (suc p) b k c e (s .inside, omega (arith, s .among), s .fits, after-ligature (suc p) k c _ n (s .holds)) (s .counted)
+  ligature-op n o m r g zero b k c e s =
+      gives-ligature n (suc o) m r g zero b k c e (s .inside, omega (arith, s .among), s .fits, after-ligature zero k c _ n (s .holds)) (s .counted)
+  ligature-op n o m r g (suc p) b k c e s =
+      gives-ligature n (suc o) m r g (suc p) b k c e (s .inside, omega (arith, s .among), s .fits, after-ligature (suc p) k c _ n (s .holds)) (s .counted)
 
   kern-op : (n : NextLeft) (o m r g p : ℕ) (b : Bool) (k : Consumes) (z : ℤ) → Sound ops word (state n o (suc m) r g p b k) (kern z ∷ opsFrom ops (suc o) m) →
-      Follows ops word (record { answer = Kern z; state = state n (suc o) m r g p b k }) (plainly.given (raiseFirst (isPending p) (kern z ∷ opsFrom ops (suc o) m)) (nextOf n) (drop r word))
+      Follows ops word (record { answer = Kern z; state = state n (suc o) m r g p b k })
+      (plainly.given (raiseFirst (isPending p) (kern z ∷ opsFrom ops (suc o) m)) (nextOf n) (drop r word))
   unfolding raiseFirst
   kern-op n o m r g p b k z s =
       record {
@@ -121,22 +132,30 @@ module _ (ops : List ℤ) (word : List ℕ) where
   -- by kind
   op-by : (n : NextLeft) (o m r g p : ℕ) (b : Bool) (k : Consumes) (c : ℕ) (z : ℤ) (e x y : Bool) →
       Sound ops word (state n o (suc m) r g p b k) (cond x (glyph (plain c)) (cond y (glyph (inserted c)) (kern z)) ∷ opsFrom ops (suc o) m) →
-      Follows ops word (cond x (giveCharacter c (state n (suc o) m r g p b k)) (cond y (giveLigature c e (state n (suc o) m r g p b k)) (record { answer = Kern z; state = state n (suc o) m r g p b k })))
-      (plainly.given (raiseFirst (isPending p) (cond x (glyph (plain c)) (cond y (glyph (inserted c)) (kern z)) ∷ opsFrom ops (suc o) m)) (nextOf n) (drop r word))
+      Follows ops word
+      (cond x (giveCharacter c (state n (suc o) m r g p b k))
+      (cond y (giveLigature c e (state n (suc o) m r g p b k)) (record { answer = Kern z; state = state n (suc o) m r g p b k })))
+      (plainly.given (raiseFirst (isPending p) (cond x (glyph (plain c)) (cond y (glyph (inserted c)) (kern z)) ∷ opsFrom ops (suc o) m)) (nextOf n)
+      (drop r word))
   op-by n o m r g p b k c z e true y s = plain-op n o m r g p b k c s
   op-by n o m r g p b k c z e false true s = ligature-op n o m r g p b k c e s
   op-by n o m r g p b k c z e false false s = kern-op n o m r g p b k z s
 
   -- both ops that are read are ops
-  fit-by : (o m : ℕ) → every (opCount ops) (opFits ops) ≡ true → o + suc m ≤ opCount ops → (t : Bool) → leb 2 (suc m) ≡ t → both (opFits ops o) (cond t (opFits ops (suc o)) true) ≡ true
-  fit-by o m h u true e = let l : 2 ≤ suc m = leb-true 2 (suc m) e in rw (every-at (opCount ops) o (opFits ops) h (omega arith), every-at (opCount ops) (suc o) (opFits ops) h (omega arith)) refl
+  fit-by : (o m : ℕ) → every (opCount ops) (opFits ops) ≡ true → o + suc m ≤ opCount ops → (t : Bool) → leb 2 (suc m) ≡ t →
+      both (opFits ops o) (cond t (opFits ops (suc o)) true) ≡ true
+  fit-by o m h u true e =
+      let l : 2 ≤ suc m = leb-true 2 (suc m) e in
+      rw (every-at (opCount ops) o (opFits ops) h (omega arith), every-at (opCount ops) (suc o) (opFits ops) h (omega arith)) refl
   fit-by o m h u false e = rw (every-at (opCount ops) o (opFits ops) h (omega arith)) refl
 
-  pub gives-op : (n : NextLeft) (o m r g p : ℕ) (b : Bool) (k : Consumes) → every (opCount ops) (opFits ops) ≡ true → Sound ops word (state n o (suc m) r g p b k) (opsFrom ops o (suc m)) →
+  pub gives-op : (n : NextLeft) (o m r g p : ℕ) (b : Bool) (k : Consumes) → every (opCount ops) (opFits ops) ≡ true →
+      Sound ops word (state n o (suc m) r g p b k) (opsFrom ops o (suc m)) →
       Follows ops word (readOp ops (state n o (suc m) r g p b k)) (plainly.given (raiseFirst (isPending p) (opsFrom ops o (suc m))) (nextOf n) (drop r word))
   unfolding opsFrom
   gives-op n o m r g p b k h s =
       let f : opsFit ops (state n o (suc m) r g p b k) ≡ true = fit-by o m h (s .among) (leb 2 (suc m)) refl in
       let d : suc m - 1 ≡ m = omega arith in
       rw (f, d)
-      (op-by n o m r g p b k (wordOf (opValue ops o)) (opValue ops o) (endsWord ops (state n (suc o) m r g p b k)) (eqb (wordOf (opKind ops o)) 0) (eqb (wordOf (opKind ops o)) 1) s)
+      (op-by n o m r g p b k (wordOf (opValue ops o)) (opValue ops o) (endsWord ops (state n (suc o) m r g p b k)) (eqb (wordOf (opKind ops o)) 0)
+      (eqb (wordOf (opKind ops o)) 1) s)

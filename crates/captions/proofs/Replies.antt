@@ -52,7 +52,16 @@ consumesBack (suc (suc n)) = consumes.Boundary
 
 abbrev stateBack : List ℤ → State
 stateBack vs =
-    record { «next_left» = nextBack (place vs 0) (place vs 1); op = place vs 2; ops = place vs 3; read = place vs 4; given = place vs 5; pending = place vs 6; «pending_boundary» = bitBack (place vs 7); «consumes_left» = consumesBack (place vs 8) }
+    record {
+      «next_left» = nextBack (place vs 0) (place vs 1);
+      op = place vs 2;
+      ops = place vs 3;
+      read = place vs 4;
+      given = place vs 5;
+      pending = place vs 6;
+      «pending_boundary» = bitBack (place vs 7);
+      «consumes_left» = consumesBack (place vs 8);
+    }
 
 bit-back : (b : Bool) → bitBack (natural (bitNumber b)) ≡ b
 bit-back true = refl
@@ -72,7 +81,16 @@ consumes-back consumes.Boundary = refl
 
 state-back : (s : State) → stateBack (stateNumbers s) ≡ s
 state-back s i =
-    record { «next_left» = next-back (s .«next_left») i; op = s .op; ops = s .ops; read = s .read; given = s .given; pending = s .pending; «pending_boundary» = bit-back (s .«pending_boundary») i; «consumes_left» = consumes-back (s .«consumes_left») i }
+    record {
+      «next_left» = next-back (s .«next_left») i;
+      op = s .op;
+      ops = s .ops;
+      read = s .read;
+      given = s .given;
+      pending = s .pending;
+      «pending_boundary» = bit-back (s .«pending_boundary») i;
+      «consumes_left» = consumes-back (s .«consumes_left») i;
+    }
 
 -- ---- begin
 
@@ -98,7 +116,8 @@ begun-reply (suc n) s = refl
 pub begin-is : (pairs ops : List ℤ) (boundary : ℤ) (word : List ℕ) (options : RunOptions) (r : Begun) →
     begunReply r ≡ beginReply pairs ops boundary word options → r ≡ beginOf pairs ops boundary word options
 begin-is pairs ops boundary word options r e =
-    begun-determined r (beginOf pairs ops boundary word options) (e ∙ sym (begun-reply (beginRefusal pairs ops boundary word options) (freshState word options)))
+    begun-determined r (beginOf pairs ops boundary word options)
+    (e ∙ sym (begun-reply (beginRefusal pairs ops boundary word options) (freshState word options)))
 
 -- ---- step
 

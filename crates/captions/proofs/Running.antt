@@ -81,22 +81,32 @@ module _ (pairs ops : List ℤ) (table : tableForm pairs ops ≡ true) (boundary
 
   is-placed : (s : State) → Sound ops word s (opsOf ops word s) → placed ops word s ≡ true
   is-placed s h =
-      rw (le-leb (s .read) (length word) (h .inside), le-leb (s .given) (s .read) (omega (arith, h .counted)), le-leb (s .pending) (s .read) (omega (arith, h .counted)), le-leb (opCount ops) 2147483647 (few-ops pairs ops table), le-leb (s .op + s .ops) (opCount ops) (h .among), h .fits) refl
+      rw (
+        le-leb (s .read) (length word) (h .inside),
+        le-leb (s .given) (s .read) (omega (arith, h .counted)),
+        le-leb (s .pending) (s .read) (omega (arith, h .counted)),
+        le-leb (opCount ops) 2147483647 (few-ops pairs ops table),
+        le-leb (s .op + s .ops) (opCount ops) (h .among),
+        h .fits,
+      ) refl
 
   not-refused : stepRefusal boundary word options ≡ 0
   not-refused = rw (edges, word-taken) refl
 
   -- a step
-  pub step-follows : (s : State) → Sound ops word s (opsOf ops word s) → Follows ops word (stepOf pairs ops boundary word options s) (plainly.step held right (runOf ops word s))
+  pub step-follows : (s : State) → Sound ops word s (opsOf ops word s) →
+      Follows ops word (stepOf pairs ops boundary word options s) (plainly.step held right (runOf ops word s))
   step-follows s h =
       let t = runOn ops (turn pairs ops right word) (suc (length word - s .read)) s in
       let f : Follows ops word t (plainly.step held right (runOf ops word s)) =
-      follows pairs ops table word right letters (λ y e. right-item boundary (options .«right_boundary_override») y (fit .boundary-fits) (fit .override-fits) e) (suc (length word - s .read))
+      follows pairs ops table word right letters (λ y e. right-item boundary (options .«right_boundary_override») y (fit .boundary-fits) (fit .override-fits) e)
+      (suc (length word - s .read))
       (s .«next_left») (s .op) (s .ops) (s .read) (s .given) (s .pending) (s .«pending_boundary») (s .«consumes_left») (λ _. omega arith) h in
       rw (not-refused, is-placed s h, handed s (t .state) (t .answer) (plainly.step held right (runOf ops word s) .gives) (f .answers)) f
 
   -- any number of steps
-  steps-follow : (n : ℕ) (s : State) → Sound ops word s (opsOf ops word s) → map shown (answers pairs ops boundary word options n s) ≡ map shownOf (plainly.plainAnswers held right n (runOf ops word s))
+  steps-follow : (n : ℕ) (s : State) → Sound ops word s (opsOf ops word s) →
+      map shown (answers pairs ops boundary word options n s) ≡ map shownOf (plainly.plainAnswers held right n (runOf ops word s))
   unfolding answers plainly.plainAnswers
   steps-follow zero s h = refl
   steps-follow (suc n) s h =
@@ -125,7 +135,12 @@ module _ (pairs ops : List ℤ) (table : tableForm pairs ops ≡ true) (boundary
   starts = starts-by word refl (options .«disable_left_boundary»)
 
   -- Begin is taken, and whatever list the plain run's answers are, the steps from it answer that list, and then the end for ever.
-  pub runs : (os : List Out) → ((n : ℕ) → plainly.plainAnswers held right n (plainly.begin (not (options .«disable_left_boundary»)) word) ≡ plainly.inOrder n os) →
+  pub runs : (os : List Out) →
+      ((n : ℕ) → plainly.plainAnswers held right n (plainly.begin (not (options .«disable_left_boundary»)) word) ≡ plainly.inOrder n os) →
       (s : State) × (beginOf pairs ops boundary word options ≡ Run s) × ((n : ℕ) → map shown (answers pairs ops boundary word options n s) ≡ thenEnds n os)
-  runs os h =
-      (freshState word options, begin-taken, λ n. steps-follow n (freshState word options) (starts .0) ∙ ap (λ (r : plainly.Run). map shownOf (plainly.plainAnswers held right n r)) (starts .1) ∙ ap (λ (a : List (Option Out)). map shownOf a) (h n) ∙ in-order n os)
+  runs os h = (
+    freshState word options,
+    begin-taken,
+    λ n. steps-follow n (freshState word options) (starts .0) ∙ ap (λ (r : plainly.Run). map shownOf (plainly.plainAnswers held right n r)) (starts .1)
+        ∙ ap (λ (a : List (Option Out)). map shownOf a) (h n) ∙ in-order n os,
+  )

@@ -25,7 +25,8 @@ use Rattle.reading.proofs.Theorems as Reading
 use Rattle.fonts.specs.declared.Compiled.the-variants.{Tables}
 use Rattle.fonts.specs.Numbers.{opsOf, entryOf, opNumbers, opsBefore, opsTable, loopNumbers}
 use Rattle.fonts.specs.Fonts.{Font, pairsOf, rulesOf}
-use Rattle.fonts.specs.Compiled.{Room, roomIn, finishedOf, loopsOfFont, totalOps, fontTable, fontOps, fontLoops, fontRefusal, pairsRefusal, kernRefusal, opsRefusal, loopsRefusal, tablesRefusal, compileRefusal, compiledReply, fontCounts, ListsWritten}
+use Rattle.fonts.specs.Compiled.{Room, roomIn, finishedOf, loopsOfFont, totalOps, fontTable, fontOps, fontLoops, fontRefusal, pairsRefusal, kernRefusal}
+use Rattle.fonts.specs.Compiled.{opsRefusal, loopsRefusal, tablesRefusal, compileRefusal, compiledReply, fontCounts, ListsWritten}
 use Rattle.fonts.proofs.Theorems as Compiling
 use Rattle.captions.specs.declared.RunOptions.{RunOptions}
 use Rattle.captions.specs.Tables.{opCount, entries}
@@ -38,7 +39,8 @@ use Rattle.captions.proofs.Running.{Fit, runs}
 
 -- ---- an accepted font
 
-pub accepted : (n : ℕ) (f : Font) (p o l : ℕ) → compiledReply (Tables p o l) ≡ replyOf n (fontCounts f) → (n ≡ 0) × (p ≡ length (fontTable f) / 6) × (o ≡ totalOps f) × (l ≡ length (loopsOfFont f))
+pub accepted : (n : ℕ) (f : Font) (p o l : ℕ) → compiledReply (Tables p o l) ≡ replyOf n (fontCounts f) →
+    (n ≡ 0) × (p ≡ length (fontTable f) / 6) × (o ≡ totalOps f) × (l ≡ length (loopsOfFont f))
 accepted zero f p o l e =
     let v : pos p ∷ pos o ∷ pos l ∷ [] ≡ fontCounts f = ap (λ (r : Reply). r .values) e in
     (refl, cc, cc, cc)
@@ -47,7 +49,8 @@ accepted (suc n) f p o l e = absurd (let z : 0 ≡ suc n = ap (λ (r : Reply). r
 module _ (f : Font) (room : Room) (taken : compileRefusal f room ≡ 0) where
   few-ops : totalOps f ≤ 2147483647
   few-ops =
-      let a = orElse-none (pairsRefusal f room) (orElse (kernRefusal f) (orElse (opsRefusal f room) (loopsRefusal f room))) (orElse-none (fontRefusal f) (tablesRefusal f room) taken .1) .1 in
+      let a = orElse-none (pairsRefusal f room) (orElse (kernRefusal f) (orElse (opsRefusal f room) (loopsRefusal f room)))
+      (orElse-none (fontRefusal f) (tablesRefusal f room) taken .1) .1 in
       let b = orElse-none (kernRefusal f) (orElse (opsRefusal f room) (loopsRefusal f room)) a .1 in
       let c = orElse-none (opsRefusal f room) (loopsRefusal f room) b .0 in
       let t = unless-none 13 (both (leb (totalOps f) 2147483647) (leb (2 * totalOps f) (room .ops))) c in
@@ -56,10 +59,12 @@ module _ (f : Font) (room : Room) (taken : compileRefusal f room ≡ 0) where
   boundary-fits : absentOr 255 (f .boundary) ≡ true
   boundary-fits =
       let edges = orElse (absentRefusal 255 (f .boundary)) (orElse (absentRefusal 65535 (f .left)) (designRefusal (f .design))) in
-      let a = orElse-none (programRefusal (f .instructions)) (orElse (kernsRefusal (f .kerns)) (orElse (entriesRefusal 65535 (f .entries)) edges)) (orElse-none (fontRefusal f) (tablesRefusal f room) taken .0) .1 in
+      let a = orElse-none (programRefusal (f .instructions)) (orElse (kernsRefusal (f .kerns)) (orElse (entriesRefusal 65535 (f .entries)) edges))
+      (orElse-none (fontRefusal f) (tablesRefusal f room) taken .0) .1 in
       let b = orElse-none (kernsRefusal (f .kerns)) (orElse (entriesRefusal 65535 (f .entries)) edges) a .1 in
       let c = orElse-none (entriesRefusal 65535 (f .entries)) edges b .1 in
-      unless-none 3 (absentOr 255 (f .boundary)) (orElse-none (absentRefusal 255 (f .boundary)) (orElse (absentRefusal 65535 (f .left)) (designRefusal (f .design))) c .0)
+      unless-none 3 (absentOr 255 (f .boundary))
+      (orElse-none (absentRefusal 255 (f .boundary)) (orElse (absentRefusal 65535 (f .left)) (designRefusal (f .design))) c .0)
 
 -- ---- what was written, without the zeroed rest
 
@@ -73,7 +78,8 @@ two-each (kern k ∷ os) = omega (arith, two-each os)
 ops-length : (t : Finished) (ps : List Ruled) (k : ℕ) → length (opsTable t ps k) ≡ 2 * opsBefore t ps k
 unfolding opsTable opsBefore
 ops-length t ps zero = refl
-ops-length t ps (suc k) = omega (arith, length-append (opsTable t ps k) (opNumbers (opsOf (entryOf t ps k))), ops-length t ps k, two-each (opsOf (entryOf t ps k)))
+ops-length t ps (suc k) =
+    omega (arith, length-append (opsTable t ps k) (opNumbers (opsOf (entryOf t ps k))), ops-length t ps k, two-each (opsOf (entryOf t ps k)))
 
 loops-length : (ps : List Pair) → length (loopNumbers ps) ≡ 2 * length ps
 unfolding loopNumbers
@@ -95,9 +101,12 @@ pub record Lists (f : Font) (p o l : ℕ) (pairs ops loops : List ℤ) : Type 0 
 in-sixes : (f : Font) → opCount (fontOps f) ≤ 2147483647 → length (fontTable f) % 6 ≡ 0
 in-sixes f few =
     eqb-true (length (fontTable f) % 6) 0
-    (both-left (eqb (length (fontTable f) % 6) 0) (both (eqb (length (fontOps f) % 2) 0) (leb (opCount (fontOps f)) 2147483647)) (both-left (sizesForm (fontTable f) (fontOps f)) _ (font-form f few)))
+    (both-left (eqb (length (fontTable f) % 6) 0) (both (eqb (length (fontOps f) % 2) 0) (leb (opCount (fontOps f)) 2147483647))
+    (both-left (sizesForm (fontTable f) (fontOps f)) _ (font-form f few)))
 
-lists-by : (f : Font) (p o l n : ℕ) (pairs ops loops pairs′ ops′ loops′ : List ℤ) → (n ≡ 0) × (p ≡ length (fontTable f) / 6) × (o ≡ totalOps f) × (l ≡ length (loopsOfFont f)) → opCount (fontOps f) ≤ 2147483647 → ListsWritten f n pairs ops loops pairs′ ops′ loops′ → Lists f p o l pairs′ ops′ loops′
+lists-by : (f : Font) (p o l n : ℕ) (pairs ops loops pairs′ ops′ loops′ : List ℤ) →
+    (n ≡ 0) × (p ≡ length (fontTable f) / 6) × (o ≡ totalOps f) × (l ≡ length (loopsOfFont f)) → opCount (fontOps f) ≤ 2147483647 →
+    ListsWritten f n pairs ops loops pairs′ ops′ loops′ → Lists f p o l pairs′ ops′ loops′
 lists-by f p o l zero pairs ops loops pairs′ ops′ loops′ a few w =
     record {
       table = written (6 * p) (length pairs) (fontTable f) pairs′ (omega (arith, in-sixes f few, a .1)) (w .table);
@@ -107,27 +116,35 @@ lists-by f p o l zero pairs ops loops pairs′ ops′ loops′ a few w =
 lists-by f p o l (suc n) pairs ops loops pairs′ ops′ loops′ a few w = absurd (omega (arith, a .0))
 
 -- runs over what was written
-module _ (f : Font) (few : opCount (fontOps f) ≤ 2147483647) (fits : absentOr 255 (f .boundary) ≡ true) (word : List ℕ) (options : RunOptions) (caption : Caption word options) where
+module _ (f : Font) (few : opCount (fontOps f) ≤ 2147483647) (fits : absentOr 255 (f .boundary) ≡ true) (word : List ℕ) (options : RunOptions)
+    (caption : Caption word options) where
   fit : Fit (f .boundary) word options
   fit = record { boundary-fits = fits; override-fits = caption .override-fits; letters-fit = caption .letters-fit; word-fits = caption .word-fits }
 
-  answer-all : (items : List Out) → ((n : ℕ) → plainly.plainAnswers (below 256 (entries (fontTable f) (fontOps f))) (rightItem (f .boundary) (options .«right_boundary_override»)) n (plainly.begin (not (options .«disable_left_boundary»)) word) ≡ plainly.inOrder n items) → Answered f (fontTable f) (fontOps f) word options items
+  answer-all : (items : List Out) →
+      ((n : ℕ) →
+      plainly.plainAnswers (below 256 (entries (fontTable f) (fontOps f))) (rightItem (f .boundary) (options .«right_boundary_override»)) n
+      (plainly.begin (not (options .«disable_left_boundary»)) word) ≡ plainly.inOrder n items) → Answered f (fontTable f) (fontOps f) word options items
   answer-all items h =
       let d = runs (fontTable f) (fontOps f) (font-form f few) (f .boundary) word options fit items h in
       record { start = d .0; begins = d .1; answered = d .2 }
 
   ended-run : (items : List Out) × Answered f (fontTable f) (fontOps f) word options items
   ended-run =
-      let d = Reading.run-ends (below 256 (entries (fontTable f) (fontOps f))) (not (options .«disable_left_boundary»)) word (rightItem (f .boundary) (options .«right_boundary_override»)) in
+      let d = Reading.run-ends (below 256 (entries (fontTable f) (fontOps f))) (not (options .«disable_left_boundary»)) word
+      (rightItem (f .boundary) (options .«right_boundary_override»)) in
       (d .0, answer-all (d .0) (d .1))
 
   read-run : (items : List Out) → Reads f word options items → Answered f (fontTable f) (fontOps f) word options items
   read-run items r =
-      answer-all items (Reading.run-right (rulesOf f) (below 256 (entries (fontTable f) (fontOps f))) (font-holds-below f 256 (omega arith) (omega arith)) (r .steps) (not (options .«disable_left_boundary»)) word (rightItem (f .boundary) (options .«right_boundary_override»)) (r .reads))
+      answer-all items
+      (Reading.run-right (rulesOf f) (below 256 (entries (fontTable f) (fontOps f))) (font-holds-below f 256 (omega arith) (omega arith)) (r .steps)
+      (not (options .«disable_left_boundary»)) word (rightItem (f .boundary) (options .«right_boundary_override»)) (r .reads))
 
   set-run : loopsOfFont f ≡ [] → (items : List Out) × Reads f word options items × Answered f (fontTable f) (fontOps f) word options items
   set-run e =
-      let d = Reading.word-ends (rulesOf f) (Compiling.no-loops f .0 e) (not (options .«disable_left_boundary»)) word (rightItem (f .boundary) (options .«right_boundary_override»)) in
+      let d = Reading.word-ends (rulesOf f) (Compiling.no-loops f .0 e) (not (options .«disable_left_boundary»)) word
+      (rightItem (f .boundary) (options .«right_boundary_override»)) in
       let r : Reads f word options (d .1) = record { steps = d .0; reads = d .2 } in
       (d .1, r, read-run (d .1) r)
 
@@ -149,14 +166,16 @@ loop-listed f k [] e =
 loop-listed f k (q ∷ qs) e = omega arith
 
 -- compile's own loop list
-demand-by : (f : Font) (l : ℕ) → opCount (fontOps f) ≤ 2147483647 → absentOr 255 (f .boundary) ≡ true → l ≡ length (loopsOfFont f) → Demand3 f l (fontTable f) (fontOps f) (fontLoops f)
+demand-by : (f : Font) (l : ℕ) → opCount (fontOps f) ≤ 2147483647 → absentOr 255 (f .boundary) ≡ true → l ≡ length (loopsOfFont f) →
+    Demand3 f l (fontTable f) (fontOps f) (fontLoops f)
 demand-by f l few fits e =
     record {
       reported = loopsOfFont f;
       loop-list = (refl, sym e);
       reported-never = λ q m. let n = Compiling.reported-never f q m in let r = Compiling.never-in-range f (q .left) (q .right) n in (r .0, r .1, n);
       some-loop = (λ h. a-loop f (omega (arith, h, e)), λ k. omega (arith, loop-listed f k (loopsOfFont f) refl, e));
-      no-loop = (λ h. Compiling.no-loops f .0 (none-listed (loopsOfFont f) (sym e ∙ h)), λ h. e ∙ ap (λ (qs : List Pair). length qs) (Compiling.no-loops f .1 h));
+      no-loop =
+          (λ h. Compiling.no-loops f .0 (none-listed (loopsOfFont f) (sym e ∙ h)), λ h. e ∙ ap (λ (qs : List Pair). length qs) (Compiling.no-loops f .1 h));
       set-as-read = λ h word options c. set-run f few fits word options c (none-listed (loopsOfFont f) (sym e ∙ h));
       run-ends = λ word options c. ended-run f few fits word options c;
       run-reads = λ word options c items r. read-run f few fits word options c items r;

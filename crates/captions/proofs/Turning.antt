@@ -27,9 +27,11 @@ use Rattle.captions.specs.declared.State.{State}
 use Rattle.captions.specs.declared.Turned.{Turned}
 use Rattle.captions.specs.Tables.{opCount, number, keyBy, find, firstOp, countOf, lastCode, lastFlag, entryOfPair, entries, opAt, opsFrom, recordFits}
 use Rattle.captions.specs.Form.{tableForm}
-use Rattle.captions.specs.Steps.{refused, leftLetters, takesBoundary, leftPlaceOf, leftConsumed, afterRight, readOn, enteredAt, turnBy, turnWith, turnAtEnd, turnAtLetter, givesNothing, entryReads, turn, goesOn, runOn, nextFits}
+use Rattle.captions.specs.Steps.{refused, leftLetters, takesBoundary, leftPlaceOf, leftConsumed, afterRight, readOn, enteredAt, turnBy, turnWith}
+use Rattle.captions.specs.Steps.{turnAtEnd, turnAtLetter, givesNothing, entryReads, turn, goesOn, runOn, nextFits}
 use Rattle.captions.proofs.FontTable.{below}
-use Rattle.captions.proofs.Raising.{raiseFirst, raise-outs, raise-last, raise-last-none, hasGlyph, plainFirst, form-ops, left-plain-first, left-carried, boundary-no-plain}
+use Rattle.captions.proofs.Raising.{raiseFirst, raise-outs, raise-last, raise-last-none, hasGlyph, plainFirst, form-ops, left-plain-first, left-carried}
+use Rattle.captions.proofs.Raising.{boundary-no-plain}
 use Rattle.captions.proofs.Sound.{state, isPending, waiting, isLigature, mode, nextOf, Sound, Follows}
 use Rattle.captions.proofs.Giving.{gives-letter, gives-pending}
 use Rattle.captions.proofs.Following.{Formed, found-formed, all-ops, isNow, gives-now, given-first, given-final, given-stop}
@@ -70,7 +72,8 @@ one-waits true false c g w r h = omega arith
 one-waits false true c g w r h = omega arith
 one-waits false false c g w r h = omega arith
 
-entry-mode : {x : NextLeft} {p : ℕ} → Lefts x p → (letter f : Bool) (c : ℕ) (os : List Out) → opsForm (leftOf (leftPlaceOf x)) os (item f c) ≡ true → mode p (leftConsumed x) os (afterRight letter (item f c)) ≡ true
+entry-mode : {x : NextLeft} {p : ℕ} → Lefts x p → (letter f : Bool) (c : ℕ) (os : List Out) → opsForm (leftOf (leftPlaceOf x)) os (item f c) ≡ true →
+    mode p (leftConsumed x) os (afterRight letter (item f c)) ≡ true
 entry-mode boundary letter f c os h = boundary-no-plain os (item f c) h
 entry-mode (character a) letter f c os h = rw (flagged-ligature letter f c, left-plain-first a os (item f c) h) (left-carried a os (item f c) h)
 entry-mode (ligature a p) letter f c os h = rw (flagged-ligature letter f c, left-plain-first a os (item f c) h) (left-carried a os (item f c) h)
@@ -81,12 +84,17 @@ res-is q os x e f = ap (λ (a : List Out). record { outs = a; last = q .last }) 
 -- what the plain run looks up is the entry, with the left's flag put in
 entry-looked : {x : NextLeft} {p : ℕ} → Lefts x p → (y : ℕ) (f : Bool) (c : ℕ) (os : List Out) → opsForm (leftOf (leftPlaceOf x)) os (item f c) ≡ true →
     plainly.entryOr (some (record { outs = os; last = item f c })) (headOf x) y ≡ record { outs = raiseFirst (isPending p) os; last = item f c }
-entry-looked boundary y f c os h = res-is (raiseLeft false os (item f c)) (raiseFirst false os) (item f c) (raise-outs false os (item f c)) (raise-last-none os (item f c))
-entry-looked (character a) y f c os h = res-is (raiseLeft false os (item f c)) (raiseFirst false os) (item f c) (raise-outs false os (item f c)) (raise-last-none os (item f c))
-entry-looked (ligature a p) y f c os h = res-is (raiseLeft true os (item f c)) (raiseFirst true os) (item f c) (raise-outs true os (item f c)) (raise-last true os (item f c) (left-carried a os (item f c) h))
+entry-looked boundary y f c os h =
+    res-is (raiseLeft false os (item f c)) (raiseFirst false os) (item f c) (raise-outs false os (item f c)) (raise-last-none os (item f c))
+entry-looked (character a) y f c os h =
+    res-is (raiseLeft false os (item f c)) (raiseFirst false os) (item f c) (raise-outs false os (item f c)) (raise-last-none os (item f c))
+entry-looked (ligature a p) y f c os h =
+    res-is (raiseLeft true os (item f c)) (raiseFirst true os) (item f c) (raise-outs true os (item f c))
+    (raise-last true os (item f c) (left-carried a os (item f c) h))
 
 -- a character given with nothing after it
-given-one : (t : Finished) (right : Option ℕ) (rest : List ℕ) (o : Out) (n : plainly.PlainNext) → plainly.stepFrom t right rest (o ∷ []) n ≡ plainly.given (o ∷ []) n rest
+given-one : (t : Finished) (right : Option ℕ) (rest : List ℕ) (o : Out) (n : plainly.PlainNext) →
+    plainly.stepFrom t right rest (o ∷ []) n ≡ plainly.given (o ∷ []) n rest
 unfolding plainly.stepFrom
 given-one t right [] o n = refl
 given-one t right (y ∷ ys) o n = refl
@@ -136,7 +144,8 @@ module _ (pairs ops : List ℤ) (table : tableForm pairs ops ≡ true) (word : L
   follows-entry {k = k} (character a) f = keeps-left a k f
   follows-entry {k = k} (ligature a p) f = keeps-left a k f
 
-  entered-sound : {x : NextLeft} {p : ℕ} → Lefts x p → (letter : Bool) (o m r g k : ℕ) (b : Bool) (c : Consumes) → Formed pairs ops (leftPlaceOf x) k → readOn letter r ≤ length word → g + (p + leftLetters (leftConsumed x)) ≤ r →
+  entered-sound : {x : NextLeft} {p : ℕ} → Lefts x p → (letter : Bool) (o m r g k : ℕ) (b : Bool) (c : Consumes) → Formed pairs ops (leftPlaceOf x) k →
+      readOn letter r ≤ length word → g + (p + leftLetters (leftConsumed x)) ≤ r →
       Sound ops word (enteredAt pairs x letter (state x o m r g p b c) k) (opsFrom ops (firstOp pairs k) (countOf pairs k))
   entered-sound {x} {p} s letter o m r g k b c f i h =
       record {
@@ -144,20 +153,26 @@ module _ (pairs ops : List ℤ) (table : tableForm pairs ops ≡ true) (word : L
         counted = one-waits letter (lastFlag pairs k) (lastCode pairs k) g (p + leftLetters (leftConsumed x)) r h;
         among = f .among;
         fits = code-fits letter (lastFlag pairs k) (lastCode pairs k) (f .code);
-        holds = entry-mode s letter (lastFlag pairs k) (lastCode pairs k) (opsFrom ops (firstOp pairs k) (countOf pairs k)) (form-ops (leftOf (leftPlaceOf x)) (wordOf (number pairs k 1)) (entryOfPair pairs ops k) (f .form));
+        holds =
+            entry-mode s letter (lastFlag pairs k) (lastCode pairs k) (opsFrom ops (firstOp pairs k) (countOf pairs k))
+            (form-ops (leftOf (leftPlaceOf x)) (wordOf (number pairs k 1)) (entryOfPair pairs ops k) (f .form));
       }
 
   -- from every sound state with fuel enough
   abbrev Goal : ℕ → Type 0
   Goal F =
-      (n : NextLeft) (o m r g p : ℕ) (b : Bool) (k : Consumes) → (isNow m n ≡ false → length word - r < F) → Sound ops word (state n o m r g p b k) (opsFrom ops o m) →
-      Follows ops word (runOn ops look F (state n o m r g p b k)) (plainly.stepFrom held right (drop r word) (raiseFirst (isPending p) (opsFrom ops o m)) (nextOf n))
+      (n : NextLeft) (o m r g p : ℕ) (b : Bool) (k : Consumes) → (isNow m n ≡ false → length word - r < F) →
+      Sound ops word (state n o m r g p b k) (opsFrom ops o m) →
+      Follows ops word (runOn ops look F (state n o m r g p b k))
+      (plainly.stepFrom held right (drop r word) (raiseFirst (isPending p) (opsFrom ops o m)) (nextOf n))
 
   -- a letter
-  at-letter : (F : ℕ) → Goal F → {x : NextLeft} {p : ℕ} → Lefts x p → (o r g y : ℕ) (b : Bool) (k : Consumes) → suc r ≤ length word → y ≤ 255 → length word - r < suc F → o ≤ opCount ops → g + (p + leftLetters (leftConsumed x)) ≤ r →
+  at-letter : (F : ℕ) → Goal F → {x : NextLeft} {p : ℕ} → Lefts x p → (o r g y : ℕ) (b : Bool) (k : Consumes) → suc r ≤ length word → y ≤ 255 →
+      length word - r < suc F → o ≤ opCount ops → g + (p + leftLetters (leftConsumed x)) ≤ r →
       (e : Option ℕ) → find pairs (keyBy (leftPlaceOf x) y) ≡ e →
       Follows ops word (goesOn (runOn ops look F) (turnBy pairs ops x true y (state x o 0 r g p b k) e))
-      (plainly.stepFrom held right (drop (suc r) word) (plainly.entryOr (Option·map (entryOfPair pairs ops) e) (headOf x) y .outs) (plainly.left (at (plainly.entryOr (Option·map (entryOfPair pairs ops) e) (headOf x) y .last))))
+      (plainly.stepFrom held right (drop (suc r) word) (plainly.entryOr (Option·map (entryOfPair pairs ops) e) (headOf x) y .outs)
+      (plainly.left (at (plainly.entryOr (Option·map (entryOfPair pairs ops) e) (headOf x) y .last))))
   unfolding opsFrom raiseFirst noPlain
   at-letter F ih boundary o r g y b k i small enough u h none e =
       ih (next.Char y) o 0 (suc r) g 0 b consumes.Nothing (λ _. omega arith)
@@ -171,9 +186,11 @@ module _ (pairs ops : List ℤ) (table : tableForm pairs ops ≡ true) (word : L
   at-letter F ih {x} {p} s o r g y b k i small enough u h (some j) e =
       let f = found-formed pairs ops table (leftPlaceOf x) y j small e in
       let os = opsFrom ops (firstOp pairs j) (countOf pairs j) in
-      let q = entry-looked s y (lastFlag pairs j) (lastCode pairs j) os (form-ops (leftOf (leftPlaceOf x)) (wordOf (number pairs j 1)) (entryOfPair pairs ops j) (f .form)) in
+      let q = entry-looked s y (lastFlag pairs j) (lastCode pairs j) os
+      (form-ops (leftOf (leftPlaceOf x)) (wordOf (number pairs j 1)) (entryOfPair pairs ops j) (f .form)) in
       rw (follows-entry s f, q, ← next-flagged (lastFlag pairs j) (lastCode pairs j))
-      (ih (afterRight true (item (lastFlag pairs j) (lastCode pairs j))) (firstOp pairs j) (countOf pairs j) (suc r) g p b (leftConsumed x) (λ _. omega arith) (entered-sound s true o 0 r g j b k f i h))
+      (ih (afterRight true (item (lastFlag pairs j) (lastCode pairs j))) (firstOp pairs j) (countOf pairs j) (suc r) g p b (leftConsumed x) (λ _. omega arith)
+      (entered-sound s true o 0 r g j b k f i h))
 
   -- whatever fuel is left
   run-now : (F : ℕ) (n : NextLeft) (o m r g p : ℕ) (b : Bool) (k : Consumes) → isNow m n ≡ true → Sound ops word (state n o m r g p b k) (opsFrom ops o m) →
@@ -183,10 +200,12 @@ module _ (pairs ops : List ℤ) (table : tableForm pairs ops ≡ true) (word : L
   run-now (suc F) n o m r g p b k h s = gives-now ops word (all-ops pairs ops table) look (runOn ops look F) n o m r g p b k h s
 
   -- the word's end, with a right item
-  at-right : (F : ℕ) {x : NextLeft} {p : ℕ} → Lefts x p → (x ≡ next.Boundary → ⊥) → (o r g y : ℕ) (b : Bool) (k : Consumes) → r ≤ length word → drop r word ≡ [] → y ≤ 255 → o ≤ opCount ops → g + (p + leftLetters (leftConsumed x)) ≤ r →
+  at-right : (F : ℕ) {x : NextLeft} {p : ℕ} → Lefts x p → (x ≡ next.Boundary → ⊥) → (o r g y : ℕ) (b : Bool) (k : Consumes) → r ≤ length word →
+      drop r word ≡ [] → y ≤ 255 → o ≤ opCount ops → g + (p + leftLetters (leftConsumed x)) ≤ r →
       (e : Option ℕ) → find pairs (keyBy (leftPlaceOf x) y) ≡ e →
       Follows ops word (goesOn (runOn ops look F) (turnBy pairs ops x false y (state x o 0 r g p b k) e))
-      (plainly.given (plainly.entryOr (Option·map (entryOfPair pairs ops) e) (headOf x) y .outs) (plainly.plainAfterRight (plainly.entryOr (Option·map (entryOfPair pairs ops) e) (headOf x) y .last)) [])
+      (plainly.given (plainly.entryOr (Option·map (entryOfPair pairs ops) e) (headOf x) y .outs)
+      (plainly.plainAfterRight (plainly.entryOr (Option·map (entryOfPair pairs ops) e) (headOf x) y .last)) [])
   unfolding opsFrom noPlain
   at-right F boundary z o r g y b k i d small u h none e = absurd (z refl)
   at-right F (character c) z o r g y b k i d small u h none e =
@@ -196,23 +215,31 @@ module _ (pairs ops : List ℤ) (table : tableForm pairs ops ≡ true) (word : L
   at-right F {x} {p} s z o r g y b k i d small u h (some j) e =
       let f = found-formed pairs ops table (leftPlaceOf x) y j small e in
       let os = opsFrom ops (firstOp pairs j) (countOf pairs j) in
-      let q = entry-looked s y (lastFlag pairs j) (lastCode pairs j) os (form-ops (leftOf (leftPlaceOf x)) (wordOf (number pairs j 1)) (entryOfPair pairs ops j) (f .form)) in
+      let q = entry-looked s y (lastFlag pairs j) (lastCode pairs j) os
+      (form-ops (leftOf (leftPlaceOf x)) (wordOf (number pairs j 1)) (entryOfPair pairs ops j) (f .form)) in
       let sound = entered-sound s false o 0 r g j b k f i h in
       let t = afterRight false (item (lastFlag pairs j) (lastCode pairs j)) in
       rw (follows-entry s f, q, ← next-final (lastFlag pairs j) (lastCode pairs j), ← d)
       (run-now F t (firstOp pairs j) (countOf pairs j) r g p b (leftConsumed x) (now-final (countOf pairs j) (lastFlag pairs j) (lastCode pairs j)) sound)
 
   -- .. or without
-  at-end : (F : ℕ) {x : NextLeft} {p : ℕ} → Lefts x p → (e : Option ℕ) → right ≡ e → (o r g : ℕ) (b : Bool) (k : Consumes) → r ≤ length word → drop r word ≡ [] → o ≤ opCount ops → g + (p + leftLetters (leftConsumed x)) ≤ r →
+  at-end : (F : ℕ) {x : NextLeft} {p : ℕ} → Lefts x p → (e : Option ℕ) → right ≡ e → (o r g : ℕ) (b : Bool) (k : Consumes) → r ≤ length word →
+      drop r word ≡ [] → o ≤ opCount ops → g + (p + leftLetters (leftConsumed x)) ≤ r →
       Sound ops word (state x o 0 r g p b k) (opsFrom ops o 0) ⊎ (x ≡ next.Boundary → ⊥) →
       Follows ops word (goesOn (runOn ops look F) (turnAtEnd pairs ops e x (state x o 0 r g p b k))) (plainly.atEnd held e (headOf x))
   unfolding opsFrom noPlain raiseFirst
   at-end F boundary e q o r g b k i d u h (inl s) = record { answers = refl; leaves = rw d refl; sound = s }
   at-end F boundary e q o r g b k i d u h (inr z) = absurd (z refl)
-  at-end F (character c) none q o r g b k i d u h z = rw (← d) (gives-letter ops word next.None o 0 r g b consumes.Nothing c (i, omega arith, refl, refl) (omega arith))
-  at-end F (character c) (some y) q o r g b k i d u h z = let t : ltb y 256 ≡ true = lt-ltb y 256 (omega (arith, right-small y q)) in rw t (at-right F (character c) (λ e. no-char e) o r g y b k i d (right-small y q) u h (find pairs (keyBy (suc c) y)) refl)
-  at-end F (ligature c p) none q o r g b k i d u h z = rw (← d) (gives-pending ops word next.None o 0 r g p b consumes.Nothing c (i, omega arith, refl, refl) (omega arith))
-  at-end F (ligature c p) (some y) q o r g b k i d u h z = let t : ltb y 256 ≡ true = lt-ltb y 256 (omega (arith, right-small y q)) in rw t (at-right F (ligature c p) (λ e. no-lig e) o r g y b k i d (right-small y q) u h (find pairs (keyBy (suc c) y)) refl)
+  at-end F (character c) none q o r g b k i d u h z =
+      rw (← d) (gives-letter ops word next.None o 0 r g b consumes.Nothing c (i, omega arith, refl, refl) (omega arith))
+  at-end F (character c) (some y) q o r g b k i d u h z =
+      let t : ltb y 256 ≡ true = lt-ltb y 256 (omega (arith, right-small y q)) in
+      rw t (at-right F (character c) (λ e. no-char e) o r g y b k i d (right-small y q) u h (find pairs (keyBy (suc c) y)) refl)
+  at-end F (ligature c p) none q o r g b k i d u h z =
+      rw (← d) (gives-pending ops word next.None o 0 r g p b consumes.Nothing c (i, omega arith, refl, refl) (omega arith))
+  at-end F (ligature c p) (some y) q o r g b k i d u h z =
+      let t : ltb y 256 ≡ true = lt-ltb y 256 (omega (arith, right-small y q)) in
+      rw t (at-right F (ligature c p) (λ e. no-lig e) o r g y b k i d (right-small y q) u h (find pairs (keyBy (suc c) y)) refl)
 
   -- ---- all turns
 
@@ -225,17 +252,27 @@ module _ (pairs ops : List ℤ) (table : tableForm pairs ops ≡ true) (word : L
   clear (suc p) consumes.Boundary n e h = no h
 
   -- a left with a letter
-  by-letter : (F : ℕ) → Goal F → {x : NextLeft} {p : ℕ} → Lefts x p → (o r g y : ℕ) (b : Bool) (k : Consumes) → suc r ≤ length word → y ≤ 255 → length word - r < suc F → o ≤ opCount ops → g + (p + leftLetters (leftConsumed x)) ≤ r →
-      Follows ops word (goesOn (runOn ops look F) (turnWith pairs ops x true y (state x o 0 r g p b k))) (plainly.stepFrom held right (y ∷ drop (suc r) word) [] (plainly.left (headOf x)))
+  by-letter : (F : ℕ) → Goal F → {x : NextLeft} {p : ℕ} → Lefts x p → (o r g y : ℕ) (b : Bool) (k : Consumes) → suc r ≤ length word → y ≤ 255 →
+      length word - r < suc F → o ≤ opCount ops → g + (p + leftLetters (leftConsumed x)) ≤ r →
+      Follows ops word (goesOn (runOn ops look F) (turnWith pairs ops x true y (state x o 0 r g p b k)))
+      (plainly.stepFrom held right (y ∷ drop (suc r) word) [] (plainly.left (headOf x)))
   unfolding plainly.stepFrom
-  by-letter F ih boundary o r g y b k i small enough u h = let t : ltb y 256 ≡ true = lt-ltb y 256 (omega arith) in rw t (at-letter F ih boundary o r g y b k i small enough u h (find pairs (keyBy 0 y)) refl)
-  by-letter F ih (character c) o r g y b k i small enough u h = let t : ltb y 256 ≡ true = lt-ltb y 256 (omega arith) in rw t (at-letter F ih (character c) o r g y b k i small enough u h (find pairs (keyBy (suc c) y)) refl)
-  by-letter F ih (ligature c p) o r g y b k i small enough u h = let t : ltb y 256 ≡ true = lt-ltb y 256 (omega arith) in rw t (at-letter F ih (ligature c p) o r g y b k i small enough u h (find pairs (keyBy (suc c) y)) refl)
+  by-letter F ih boundary o r g y b k i small enough u h =
+      let t : ltb y 256 ≡ true = lt-ltb y 256 (omega arith) in rw t (at-letter F ih boundary o r g y b k i small enough u h (find pairs (keyBy 0 y)) refl)
+  by-letter F ih (character c) o r g y b k i small enough u h =
+      let t : ltb y 256 ≡ true = lt-ltb y 256 (omega arith) in
+      rw t (at-letter F ih (character c) o r g y b k i small enough u h (find pairs (keyBy (suc c) y)) refl)
+  by-letter F ih (ligature c p) o r g y b k i small enough u h =
+      let t : ltb y 256 ≡ true = lt-ltb y 256 (omega arith) in
+      rw t (at-letter F ih (ligature c p) o r g y b k i small enough u h (find pairs (keyBy (suc c) y)) refl)
 
   -- a left with what is next in the word
-  at-left : (F : ℕ) → Goal F → {x : NextLeft} {p : ℕ} → Lefts x p → (o r g : ℕ) (b : Bool) (k : Consumes) → r ≤ length word → length word - r < suc F → o ≤ opCount ops → g + (p + leftLetters (leftConsumed x)) ≤ r →
+  at-left : (F : ℕ) → Goal F → {x : NextLeft} {p : ℕ} → Lefts x p → (o r g : ℕ) (b : Bool) (k : Consumes) → r ≤ length word → length word - r < suc F →
+      o ≤ opCount ops → g + (p + leftLetters (leftConsumed x)) ≤ r →
       Sound ops word (state x o 0 r g p b k) (opsFrom ops o 0) ⊎ (x ≡ next.Boundary → ⊥) → (t : Bool) → ltb r (length word) ≡ t →
-      Follows ops word (goesOn (runOn ops look F) (cond t (turnAtLetter pairs ops x (getD word r 0) (state x o 0 r g p b k)) (turnAtEnd pairs ops right x (state x o 0 r g p b k))))
+      Follows ops word
+      (goesOn (runOn ops look F)
+      (cond t (turnAtLetter pairs ops x (getD word r 0) (state x o 0 r g p b k)) (turnAtEnd pairs ops right x (state x o 0 r g p b k))))
       (plainly.stepFrom held right (drop r word) [] (plainly.left (headOf x)))
   unfolding plainly.stepFrom
   at-left F ih {x} {p} s o r g b k i enough u h z true e =
@@ -249,7 +286,9 @@ module _ (pairs ops : List ℤ) (table : tableForm pairs ops ≡ true) (word : L
       rw d (at-end F s right refl o r g b k i d u h z)
 
   -- the plain run gives what is to be given at once
-  now-plain : (n : NextLeft) (o m p : ℕ) (rest : List ℕ) → isNow m n ≡ true → plainly.stepFrom held right rest (raiseFirst (isPending p) (opsFrom ops o m)) (nextOf n) ≡ plainly.given (raiseFirst (isPending p) (opsFrom ops o m)) (nextOf n) rest
+  now-plain : (n : NextLeft) (o m p : ℕ) (rest : List ℕ) → isNow m n ≡ true →
+      plainly.stepFrom held right rest (raiseFirst (isPending p) (opsFrom ops o m)) (nextOf n)
+      ≡ plainly.given (raiseFirst (isPending p) (opsFrom ops o m)) (nextOf n) rest
   unfolding opsFrom raiseFirst
   now-plain n o (suc m) p rest h = given-first held right rest (isPending p) (opAt ops o) (opsFrom ops (suc o) m) (nextOf n)
   now-plain next.Boundary o zero p rest h = no h
@@ -259,26 +298,35 @@ module _ (pairs ops : List ℤ) (table : tableForm pairs ops ≡ true) (word : L
   now-plain next.None o zero p rest h = given-stop held right rest
 
   at-once : (F : ℕ) (n : NextLeft) (o m r g p : ℕ) (b : Bool) (k : Consumes) → isNow m n ≡ true → Sound ops word (state n o m r g p b k) (opsFrom ops o m) →
-      Follows ops word (runOn ops look F (state n o m r g p b k)) (plainly.stepFrom held right (drop r word) (raiseFirst (isPending p) (opsFrom ops o m)) (nextOf n))
+      Follows ops word (runOn ops look F (state n o m r g p b k))
+      (plainly.stepFrom held right (drop r word) (raiseFirst (isPending p) (opsFrom ops o m)) (nextOf n))
   at-once F n o m r g p b k h s = rw (now-plain n o m p (drop r word) h) (run-now F n o m r g p b k h s)
 
   -- a left that is no ligature
-  from-boundary : (F : ℕ) → Goal F → (o r g p : ℕ) (b : Bool) (k : Consumes) → length word - r < suc F → Sound ops word (state next.Boundary o 0 r g p b k) (opsFrom ops o 0) → p ≡ 0 →
-      Follows ops word (goesOn (runOn ops look F) (look next.Boundary (state next.Boundary o 0 r g p b k))) (plainly.stepFrom held right (drop r word) [] (plainly.left edge))
+  from-boundary : (F : ℕ) → Goal F → (o r g p : ℕ) (b : Bool) (k : Consumes) → length word - r < suc F →
+      Sound ops word (state next.Boundary o 0 r g p b k) (opsFrom ops o 0) → p ≡ 0 →
+      Follows ops word (goesOn (runOn ops look F) (look next.Boundary (state next.Boundary o 0 r g p b k)))
+      (plainly.stepFrom held right (drop r word) [] (plainly.left edge))
   from-boundary F ih o r g zero b k enough s e =
       at-left F ih boundary o r g b k (s .inside) enough (omega (arith, s .among)) (omega (arith, s .counted)) (inl s) (ltb r (length word)) refl
   from-boundary F ih o r g (suc p) b k enough s e = absurd (omega (arith, e))
 
-  from-character : (F : ℕ) → Goal F → (c o r g p : ℕ) (b : Bool) (k : Consumes) → length word - r < suc F → Sound ops word (state (next.Char c) o 0 r g p b k) (opsFrom ops o 0) → p ≡ 0 →
-      Follows ops word (goesOn (runOn ops look F) (look (next.Char c) (state (next.Char c) o 0 r g p b k))) (plainly.stepFrom held right (drop r word) [] (plainly.left (at (plain c))))
+  from-character : (F : ℕ) → Goal F → (c o r g p : ℕ) (b : Bool) (k : Consumes) → length word - r < suc F →
+      Sound ops word (state (next.Char c) o 0 r g p b k) (opsFrom ops o 0) → p ≡ 0 →
+      Follows ops word (goesOn (runOn ops look F) (look (next.Char c) (state (next.Char c) o 0 r g p b k)))
+      (plainly.stepFrom held right (drop r word) [] (plainly.left (at (plain c))))
   from-character F ih c o r g zero b k enough s e =
-      at-left F ih (character c) o r g b k (s .inside) enough (omega (arith, s .among)) (omega (arith, s .counted)) (inr (λ z. no-char z)) (ltb r (length word)) refl
+      at-left F ih (character c) o r g b k (s .inside) enough (omega (arith, s .among)) (omega (arith, s .counted)) (inr (λ z. no-char z)) (ltb r (length word))
+      refl
   from-character F ih c o r g (suc p) b k enough s e = absurd (omega (arith, e))
 
-  from-ligature : (F : ℕ) → Goal F → (c o r g p : ℕ) (b : Bool) (k : Consumes) → length word - r < suc F → Sound ops word (state (next.Lig c) o 0 r g p b k) (opsFrom ops o 0) →
-      Follows ops word (goesOn (runOn ops look F) (look (next.Lig c) (state (next.Lig c) o 0 r g p b k))) (plainly.stepFrom held right (drop r word) [] (plainly.left (at (inserted c))))
+  from-ligature : (F : ℕ) → Goal F → (c o r g p : ℕ) (b : Bool) (k : Consumes) → length word - r < suc F →
+      Sound ops word (state (next.Lig c) o 0 r g p b k) (opsFrom ops o 0) →
+      Follows ops word (goesOn (runOn ops look F) (look (next.Lig c) (state (next.Lig c) o 0 r g p b k)))
+      (plainly.stepFrom held right (drop r word) [] (plainly.left (at (inserted c))))
   from-ligature F ih c o r g p b k enough s =
-      at-left F ih (ligature c (p + leftLetters k)) o r g (takesBoundary (state (next.Lig c) o 0 r g p b k)) consumes.Nothing (s .inside) enough (omega (arith, s .among)) (omega (arith, s .counted)) (inr (λ z. no-lig z)) (ltb r (length word)) refl
+      at-left F ih (ligature c (p + leftLetters k)) o r g (takesBoundary (state (next.Lig c) o 0 r g p b k)) consumes.Nothing (s .inside) enough
+      (omega (arith, s .among)) (omega (arith, s .counted)) (inr (λ z. no-lig z)) (ltb r (length word)) refl
 
   no-fuel : Goal 0
   no-fuel n o (suc m) r g p b k enough s = at-once 0 n o (suc m) r g p b k refl s

@@ -1,5 +1,6 @@
-// Captions: what a run is given, what it answers, and the state between two steps. After ligkern/mod.rs (`RunOptions`, `RunIter`, `NextLeft`,
-// `PendingLigature`). Types alone: what begin and step do with them is said in specs/, and crate `ligkern` does it.
+// Captions: what a run is given, what it answers, and the state between two steps. After ligkern/mod.rs (`RunOptions`,
+// `RunIter`, `NextLeft`, `PendingLigature`). Types alone: what begin and step do with them is said in specs/, and crate
+// `ligkern` does it.
 
 // How a word is set: without the left boundary, and with another right item than the boundary character (-1 for none).
 pub struct RunOptions {
@@ -7,8 +8,8 @@ pub struct RunOptions {
     pub right_boundary_override: i32,
 }
 
-// What is looked up next, once the ops are given: the left boundary; a character of the word; a ligature that took the last letter read in; or, at the
-// word's end, a ligature that is given as it stands, or nothing.
+// What is looked up next, once the ops are given: the left boundary; a character of the word; a ligature that took the
+// last letter read in; or, at the word's end, a ligature that is given as it stands, or nothing.
 pub enum NextLeft {
     Boundary,
     Char(u32),
@@ -17,7 +18,8 @@ pub enum NextLeft {
     None,
 }
 
-// What the next ligature of a pair takes in of the pair's left: nothing, since it was given or is a pending ligature; its letter; or the left boundary.
+// What the next ligature of a pair takes in of the pair's left: nothing, since it was given or is a pending ligature;
+// its letter; or the left boundary.
 pub enum Consumes {
     Nothing,
     Letter,
@@ -33,14 +35,15 @@ pub struct State {
     // letters of the word that were read, and that were given
     pub read: usize,
     pub given: usize,
-    // the pending ligature: how many letters it took in, 0 where there is none, and whether it took in the left boundary
+    // the pending ligature: how many letters it took in, 0 where there is none, and whether it took in the left
+    // boundary
     pub pending: usize,
     pub pending_boundary: bool,
     pub consumes_left: Consumes,
 }
 
-// What a step answers: a character with the place of its letter; a ligature with its code, its original's start and length, and whether it took in the
-// left and the right boundary; a scaled kern; the end; or the number of its refusal.
+// What a step answers: a character with the place of its letter; a ligature with its code, its original's start and
+// length, and whether it took in the left and the right boundary; a scaled kern; the end; or the number of its refusal.
 pub enum Answer {
     Char(u32, usize),
     Ligature(u32, usize, usize, bool, bool),

@@ -34,14 +34,16 @@ ends-in-feed (some t) =
     text-ends (map writeLine (replyLines (fontTable f) (fontOps f) (fontLoops f) n (columnItems f n (wordOfText t) .values)))
 
 -- the items of a word of at most 64 letters are i32, six each
-word-items : (f : Font) (o : Option (List ℤ)) (word : List ℕ) → Fits (fontOps f) → length (lettersOf o) ≤ 64 → Worded (lengthOfWord o) (columnItems f (lengthOfWord o) word .values)
+word-items : (f : Font) (o : Option (List ℤ)) (word : List ℕ) → Fits (fontOps f) → length (lettersOf o) ≤ 64 →
+    Worded (lengthOfWord o) (columnItems f (lengthOfWord o) word .values)
 word-items f none word h l = without
 word-items f (some zs) word h l =
     let s = set-sixes (fontTable f) (fontOps f) h (f .boundary) word columnOptions itemRoom in
     let items = columnItems f (lengthOfWord (some zs)) word .values in
     letters (length zs) items (omega (arith, l)) (s .whole) (all-fit items (s .fits))
 
--- Whatever text is read and answered: nothing is lost in the format, the X lines are a true meter of loops, and where there is none the T lines are the reading of the word.
+-- Whatever text is read and answered: nothing is lost in the format, the X lines are a true meter of loops, and where there is none the T lines are the reading
+-- of the word.
 pub every-answered-text : EveryAnsweredText
 every-answered-text text t room e taken =
     let f = fontOfText t in
@@ -50,7 +52,8 @@ every-answered-text text t room e taken =
     let ops = font-ops-fit f columnRoom (a .compiled) (k .design) in
     record {
       read-back =
-          reply-read (fontTable f) (fontOps f) (fontLoops f) (font-contiguous f columnRoom (a .compiled) (k .design)) (font-table-fits f columnRoom (a .compiled) (k .design)) ops
+          reply-read (fontTable f) (fontOps f) (fontLoops f) (font-contiguous f columnRoom (a .compiled) (k .design))
+          (font-table-fits f columnRoom (a .compiled) (k .design)) ops
           (omega (arith, loops-long (loopsOfFont f))) (font-loops-fit f) (word-items f (t .word) (wordOfText t) ops (k .short));
       meter = meter f;
       word-read = word-read t k a;

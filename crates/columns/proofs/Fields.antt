@@ -51,7 +51,8 @@ justified (b ∷ bs) z e = by (eqb b 32) refl e (justified bs z)
     unblank true t e = whole (b ∷ bs) z (with-sign bs (unsigned bs) z refl e ∙ ap (λ (x : ℕ). x ∷ bs) (sym (eqb-true b 45 t)))
     unblank false t e = whole (b ∷ bs) z (without-sign (b ∷ bs) (unsigned (b ∷ bs)) z refl e)
 
-    by : (t : Bool) → eqb b 32 ≡ t → cond t (readField bs) (cond (eqb b 45) (withSign (unsigned bs)) (withoutSign (unsigned (b ∷ bs)))) ≡ some z → (readField bs ≡ some z → Justified bs z) → Justified (b ∷ bs) z
+    by : (t : Bool) → eqb b 32 ≡ t → cond t (readField bs) (cond (eqb b 45) (withSign (unsigned bs)) (withoutSign (unsigned (b ∷ bs)))) ≡ some z →
+        (readField bs ≡ some z → Justified bs z) → Justified (b ∷ bs) z
     by true t e k =
         let j = k e in
         let s : length (b ∷ bs) - length (spelled z) ≡ suc (length bs - length (spelled z)) = omega (arith, j .fits) in
@@ -75,14 +76,16 @@ fields-written (suc n) bs zs l e =
 
 -- ---- the lines of a text
 
-feed-written : (bs : List ℕ) (r : Option (List (List ℕ))) (ls : List (List ℕ)) → afterFeed r ≡ some ls → ((ks : List (List ℕ)) → r ≡ some ks → textOf ks ≡ bs) → textOf ls ≡ 10 ∷ bs
+feed-written : (bs : List ℕ) (r : Option (List (List ℕ))) (ls : List (List ℕ)) → afterFeed r ≡ some ls → ((ks : List (List ℕ)) → r ≡ some ks → textOf ks ≡ bs) →
+    textOf ls ≡ 10 ∷ bs
 unfolding textOf
 feed-written bs none ls e h = absurd (none-some e)
 feed-written bs (some ks) ls e h =
     let q : [] ∷ ks ≡ ls = Option·some-injective ([] ∷ ks) ls e in
     ap textOf (sym q) ∙ ap (λ (l : List ℕ). 10 ∷ l) (h ks refl)
 
-byte-written : (b : ℕ) (bs : List ℕ) (r : Option (List (List ℕ))) (ls : List (List ℕ)) → onFirst b r ≡ some ls → ((ks : List (List ℕ)) → r ≡ some ks → textOf ks ≡ bs) → textOf ls ≡ b ∷ bs
+byte-written : (b : ℕ) (bs : List ℕ) (r : Option (List (List ℕ))) (ls : List (List ℕ)) → onFirst b r ≡ some ls →
+    ((ks : List (List ℕ)) → r ≡ some ks → textOf ks ≡ bs) → textOf ls ≡ b ∷ bs
 unfolding textOf
 byte-written b bs none ls e h = absurd (none-some e)
 byte-written b bs (some []) ls e h = absurd (none-some e)
@@ -95,6 +98,7 @@ unfolding linesOf textOf
 lines-written [] ls e = ap textOf (sym (Option·some-injective [] ls e))
 lines-written (b ∷ bs) ls e = by (eqb b 10) refl e (lines-written bs)
   where
-    by : (t : Bool) → eqb b 10 ≡ t → cond t (afterFeed (linesOf bs)) (onFirst b (linesOf bs)) ≡ some ls → ((ks : List (List ℕ)) → linesOf bs ≡ some ks → textOf ks ≡ bs) → textOf ls ≡ b ∷ bs
+    by : (t : Bool) → eqb b 10 ≡ t → cond t (afterFeed (linesOf bs)) (onFirst b (linesOf bs)) ≡ some ls →
+        ((ks : List (List ℕ)) → linesOf bs ≡ some ks → textOf ks ≡ bs) → textOf ls ≡ b ∷ bs
     by true t e h = feed-written bs (linesOf bs) ls e h ∙ ap (λ (x : ℕ). x ∷ bs) (sym (eqb-true b 10 t))
     by false t e h = byte-written b bs (linesOf bs) ls e h

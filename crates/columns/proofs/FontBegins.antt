@@ -16,7 +16,8 @@ use Rattle.reading.specs.Loops.{Ruled}
 use Rattle.fonts.specs.declared.Compiled.the-variants.{Tables}
 use Rattle.fonts.specs.Fonts.{Font, pairsOf}
 use Rattle.fonts.specs.Numbers.{entryOf, opsOf, opNumbers, opsBefore, opsTable, loopNumbers}
-use Rattle.fonts.specs.Compiled.{Room, roomOf, roomIn, finishedOf, loopsOfFont, totalOps, fontTable, tablePairs, fontOps, fontLoops, compileRefusal, fontCounts, Compiles}
+use Rattle.fonts.specs.Compiled.{Room, roomOf, roomIn, finishedOf, loopsOfFont, totalOps, fontTable, tablePairs, fontOps, fontLoops, compileRefusal, fontCounts}
+use Rattle.fonts.specs.Compiled.{Compiles}
 use Rattle.compiling.proofs.OpLaws.{length-numbers}
 use Rattle.captions.specs.declared.State.{State}
 use Rattle.captions.specs.declared.Begun.the-variants.{Run}
@@ -31,7 +32,8 @@ use Rattle.columns.specs.Ligcols.{columnOptions}
 pub ops-long : (t : Finished) (ps : List Ruled) (k : ℕ) → length (opsTable t ps k) ≡ 2 * opsBefore t ps k
 unfolding opsTable opsBefore
 ops-long t ps zero = refl
-ops-long t ps (suc k) = omega (arith, length-append (opsTable t ps k) (opNumbers (opsOf (entryOf t ps k))), ops-long t ps k, length-numbers (opsOf (entryOf t ps k)))
+ops-long t ps (suc k) =
+    omega (arith, length-append (opsTable t ps k) (opNumbers (opsOf (entryOf t ps k))), ops-long t ps k, length-numbers (opsOf (entryOf t ps k)))
 
 pub loops-long : (ps : List Pair) → length (loopNumbers ps) ≡ 2 * length ps
 unfolding loopNumbers
@@ -44,9 +46,11 @@ table-long f = let e = ap length (whole-table (finishedOf f) (pairsOf f)) in ome
 -- ---- an accepted font
 
 -- lists of zeros as long as a room
-room-of : (room : Room) → roomIn (replicate (room .pairs) (pos 0)) (replicate (room .ops) (pos 0)) (replicate (room .loops) (pos 0)) (replicate (room .work) 0) ≡ room
+room-of : (room : Room) →
+    roomIn (replicate (room .pairs) (pos 0)) (replicate (room .ops) (pos 0)) (replicate (room .loops) (pos 0)) (replicate (room .work) 0) ≡ room
 room-of room i =
-    roomOf (length-replicate (room .pairs) (pos 0) i) (length-replicate (room .ops) (pos 0) i) (length-replicate (room .loops) (pos 0) i) (length-replicate {A = ℕ} (room .work) 0 i)
+    roomOf (length-replicate (room .pairs) (pos 0) i) (length-replicate (room .ops) (pos 0) i) (length-replicate (room .loops) (pos 0) i)
+    (length-replicate {A = ℕ} (room .work) 0 i)
 
 taken-list : (n m : ℕ) (xs : List ℤ) → m ≡ 0 → padded (pos 0) n xs ≡ listOf m (pos 0) n xs
 taken-list n zero xs e = refl
@@ -69,7 +73,8 @@ taken-front : (m n k : ℕ) (xs ys : List ℤ) → ys ≡ listOf m (pos 0) n xs 
 taken-front zero n k xs ys e z l = ap (take k) e ∙ written k n xs l
 taken-front (suc m) n k xs ys e z l = absurd (omega (arith, z))
 
-pub lists-of : {f : Font} {pairs ops loops pairs′ ops′ loops′ : List ℤ} {work work′ : List ℕ} {p o l : ℕ} → Compiles f pairs ops loops work (Tables p o l) pairs′ ops′ loops′ work′ →
+pub lists-of : {f : Font} {pairs ops loops pairs′ ops′ loops′ : List ℤ} {work work′ : List ℕ} {p o l : ℕ} →
+    Compiles f pairs ops loops work (Tables p o l) pairs′ ops′ loops′ work′ →
     (compileRefusal f (roomIn pairs ops loops work) ≡ 0) × FontLists f p o l pairs′ ops′ loops′
 lists-of {f} {pairs} {ops} {loops} {pairs′} {ops′} {loops′} {work} {work′} {p} {o} {l} c =
     let m = compileRefusal f (roomIn pairs ops loops work) in

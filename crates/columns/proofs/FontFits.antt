@@ -126,10 +126,13 @@ module _ (pairs ops : List ℤ) (form : tableForm pairs ops ≡ true) where
     ops-inside =
         let a = both-left (recordFits pairs ops k) _ (both-right (keyForm pairs k) _ pair-form) in
         let b = both-right (within 1 (number pairs k 3)) _ (both-right (within 255 (number pairs k 2)) _ a) in
-        leb-true (firstOp pairs k + countOf pairs k) (opCount ops) (both-right (cond (lastFlag pairs k) true (eqb (lastCode pairs k) (wordOf (number pairs k 1)))) _ b)
+        leb-true (firstOp pairs k + countOf pairs k) (opCount ops)
+        (both-right (cond (lastFlag pairs k) true (eqb (lastCode pairs k) (wordOf (number pairs k 1)))) _ b)
 
     ops-follow : firstOp pairs k ≡ opsEnd pairs k
-    ops-follow = eqb-true (firstOp pairs k) (opsEnd pairs k) (both-left (eqb (firstOp pairs k) (opsEnd pairs k)) _ (both-right (recordFits pairs ops k) _ (both-right (keyForm pairs k) _ pair-form)))
+    ops-follow =
+        eqb-true (firstOp pairs k) (opsEnd pairs k)
+        (both-left (eqb (firstOp pairs k) (opsEnd pairs k)) _ (both-right (recordFits pairs ops k) _ (both-right (keyForm pairs k) _ pair-form)))
 
   form-contiguous : Fits pairs → Contiguous pairs ops
   form-contiguous fits =

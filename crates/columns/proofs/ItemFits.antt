@@ -25,7 +25,9 @@ use Rattle.captions.specs.declared.Turned.the-variants.{Gives, Goes}
 use Rattle.captions.specs.Tables.{opKind, opValue, keyBy, find}
 use Rattle.captions.specs.Replies.{bitNumber, answerReply}
 use Rattle.captions.specs.Begin.{beginRefusal, freshState}
-use Rattle.captions.specs.Steps.{refused, taken, giveCharacter, giveLigature, afterOp, endsWord, opsFit, readOp, gathered, leftPlaceOf, afterRight, readOn, withNext, giveLeft, entryReads, turnBy, turnAtEnd, turn, goesOn, withNothingNext, byNext, stepBy, runOn, placed, rightItem, ranFrom, stepRefusal, handBack, steppedBy, stepOf}
+use Rattle.captions.specs.Steps.{refused, taken, giveCharacter, giveLigature, afterOp, endsWord, opsFit, readOp, gathered, leftPlaceOf, afterRight, readOn}
+use Rattle.captions.specs.Steps.{withNext, giveLeft, entryReads, turnBy, turnAtEnd, turn, goesOn, withNothingNext, byNext, stepBy, runOn, placed, rightItem}
+use Rattle.captions.specs.Steps.{ranFrom, stepRefusal, handBack, steppedBy, stepOf}
 use Rattle.word_set.specs.Setting.{andThen, itemsBy, itemsFrom, afterBegin, setReply}
 use Rattle.word_items.specs.ItemLists.{Small}
 use Rattle.word_set.proofs.Bounds.{step-small}
@@ -172,10 +174,17 @@ before-sixes (suc n) ys zs l e h = no-sixes
 then-sixes : (a : Answer) (r : Reply) → Small a → kernFits a ≡ true → Sixes (r .values) → Sixes (andThen a r .values)
 unfolding allI32
 then-sixes (Char c p) r m k h =
-    before-sixes (r .number) (answerReply (Char c p) .values) (r .values) refl (rw (le-leb c 2147483647 (omega (arith, m .0)), le-leb p 2147483647 (omega (arith, m .1)))) h
+    before-sixes (r .number) (answerReply (Char c p) .values) (r .values) refl
+    (rw (le-leb c 2147483647 (omega (arith, m .0)), le-leb p 2147483647 (omega (arith, m .1)))) h
 then-sixes (Ligature c p n a b) r m k h =
     before-sixes (r .number) (answerReply (Ligature c p n a b) .values) (r .values) refl
-    (rw (le-leb c 2147483647 (omega (arith, m .0)), le-leb p 2147483647 (omega (arith, m .1)), le-leb n 2147483647 (omega (arith, m .2)), bit-fits a, bit-fits b)) h
+    (rw (
+      le-leb c 2147483647 (omega (arith, m .0)),
+      le-leb p 2147483647 (omega (arith, m .1)),
+      le-leb n 2147483647 (omega (arith, m .2)),
+      bit-fits a,
+      bit-fits b,
+    )) h
 then-sixes (Kern v) r m k h = before-sixes (r .number) (answerReply (Kern v) .values) (r .values) refl (rw k) h
 then-sixes End r m k h = no-sixes
 then-sixes (Refused n) r m k h = no-sixes
@@ -184,10 +193,12 @@ module _ (pairs ops : List ℤ) (fits : Fits ops) (boundary : ℤ) (word : List 
   from-sixes : (n : ℕ) (s : State) → Sixes (itemsFrom pairs ops boundary word options n s .values)
   unfolding itemsBy
   from-sixes zero s =
-      then-sixes (stepOf pairs ops boundary word options s .answer) (replyOf 15 []) (step-small pairs ops boundary word options s) (step-fits pairs ops fits boundary word options s) no-sixes
+      then-sixes (stepOf pairs ops boundary word options s .answer) (replyOf 15 []) (step-small pairs ops boundary word options s)
+      (step-fits pairs ops fits boundary word options s) no-sixes
   from-sixes (suc n) s =
       let t = stepOf pairs ops boundary word options s in
-      then-sixes (t .answer) (itemsFrom pairs ops boundary word options n (t .state)) (step-small pairs ops boundary word options s) (step-fits pairs ops fits boundary word options s) (from-sixes n (t .state))
+      then-sixes (t .answer) (itemsFrom pairs ops boundary word options n (t .state)) (step-small pairs ops boundary word options s)
+      (step-fits pairs ops fits boundary word options s) (from-sixes n (t .state))
 
   begun-sixes : (n : ℕ) (r : Reply) → Sixes (r .values) → Sixes (afterBegin n r .values)
   begun-sixes zero r h = h
@@ -196,4 +207,5 @@ module _ (pairs ops : List ℤ) (fits : Fits ops) (boundary : ℤ) (word : List 
   -- what is set
   pub set-sixes : (room : ℕ) → Sixes (setReply pairs ops boundary word options room .values)
   set-sixes room =
-      begun-sixes (beginRefusal pairs ops boundary word options) (itemsFrom pairs ops boundary word options (room / 6) (freshState word options)) (from-sixes (room / 6) (freshState word options))
+      begun-sixes (beginRefusal pairs ops boundary word options) (itemsFrom pairs ops boundary word options (room / 6) (freshState word options))
+      (from-sixes (room / 6) (freshState word options))

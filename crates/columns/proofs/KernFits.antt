@@ -1,5 +1,5 @@
--- Every kern of a font is an i32, where its design size is: a rule is what its row in compiling says, whose kern is a number of 32 bits, and the reading of a pair gives the
--- kerns of rules alone. Assumes nothing.
+-- Every kern of a font is an i32, where its design size is: a rule is what its row in compiling says, whose kern is a number of 32 bits, and the reading of a
+-- pair gives the kerns of rules alone. Assumes nothing.
 use mathlib.Core.Path.{_≡_, refl, ap, subst}
 use mathlib.Core.Bool.{Bool, true, false, cond}
 use mathlib.Core.List.{List, [], _∷_, _++_}
@@ -16,7 +16,9 @@ use mir.Val.{SFits}
 use Rattle.words.specs.Words.{numberOf}
 use Rattle.words.proofs.Bits.{number-pos, number-neg}
 use Rattle.words.proofs.Tests.{less-or-not}
-use Rattle.lang.specs.declared.operation.PostLigOperation.the-variants.{RetainBothMoveNowhere, RetainBothMoveToInserted, RetainBothMoveToRight, RetainRightMoveToInserted, RetainRightMoveToRight, RetainLeftMoveNowhere, RetainLeftMoveToInserted, RetainNeitherMoveToInserted}
+use Rattle.lang.specs.declared.operation.PostLigOperation.the-variants.{RetainBothMoveNowhere, RetainBothMoveToInserted, RetainBothMoveToRight}
+use Rattle.lang.specs.declared.operation.PostLigOperation.the-variants.{RetainRightMoveToInserted, RetainRightMoveToRight, RetainLeftMoveNowhere}
+use Rattle.lang.specs.declared.operation.PostLigOperation.the-variants.{RetainLeftMoveToInserted, RetainNeitherMoveToInserted}
 use Rattle.lang.specs.Operations.{retains, keepsLeft, keepsRight, advance}
 use Rattle.lang.specs.Every.{both}
 use Rattle.reading.specs.Items.{Left, bnd, chr, Rule, free, kerned, lig, Rules, Item, code, head, Out, glyph, kern, fin}
@@ -65,7 +67,8 @@ module _ (f : Font) (fits : isI32 (f .design) ≡ true) where
       let u = set (row i) 3 (x .op) in
       let v = set u 4 (x .value) in
       let b = both true (x .scaled) in
-      let e = encoding-step s (f .kerns) (f .design) 1 (row i) (row i) u v 0 true (encoding-none s (f .kerns) (f .design) 1 (row i)) (omega arith) (omega arith) i (operationAt s (f .kerns) (row i) 0) x refl refl refl refl refl b refl in
+      let e = encoding-step s (f .kerns) (f .design) 1 (row i) (row i) u v 0 true (encoding-none s (f .kerns) (f .design) 1 (row i)) (omega arith) (omega arith)
+      i (operationAt s (f .kerns) (row i) 0) x refl refl refl refl refl b refl in
       let w = encoding-end s (f .kerns) (f .design) 1 (row i) v 1 b e (omega arith) (f .design) (i32-fits (f .design) fits) refl in
       subst RuleFits (w .written .rules 0 (omega arith)) (row-fits (at v 0 3) (at v 0 4))
 
@@ -101,7 +104,8 @@ raised-kerned a x (by e s) = by e (raised-kerned a x s)
 kerned-as : {p q : Res} → some p ≡ some q → Kerned (p .outs) → Kerned (q .outs)
 kerned-as {p} {q} e h = subst (λ (r : Res). Kerned (r .outs)) (Option·some-injective p q e) h
 
-kerned-by : (R : Rule) → RuleFits R → (f : Finished) → ((l : Left) (r : ℕ) (q : Res) → f l r ≡ some q → Kerned (q .outs)) → (l : Left) (r : ℕ) {q : Res} → compBy R f l r ≡ some q → Kerned (q .outs)
+kerned-by : (R : Rule) → RuleFits R → (f : Finished) → ((l : Left) (r : ℕ) (q : Res) → f l r ≡ some q → Kerned (q .outs)) → (l : Left) (r : ℕ) {q : Res} →
+    compBy R f l r ≡ some q → Kerned (q .outs)
 kerned-by free s f h l r e = kerned-as e (left-kerned l)
 kerned-by (kerned k) s f h l r e = kerned-as e (kerned-both (left-kerned l) (by s nothing))
 kerned-by (lig RetainNeitherMoveToInserted c) s f h l r e = kerned-as e nothing

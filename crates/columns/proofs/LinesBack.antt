@@ -78,7 +78,8 @@ pub data AllWritable : List Line → Type 0 where
 pub lines-back : {ls : List Line} → AllWritable ls → linesOf (textOf (map writeLine ls)) ≡ some (map writeLine ls)
 unfolding linesOf textOf
 lines-back none = refl
-lines-back (line {l = l} {ls = ls} h t) = line-back (byte (l .letter) (h .letter) (fields-unfed (l .numbers))) (textOf (map writeLine ls)) (map writeLine ls) (lines-back t)
+lines-back (line {l = l} {ls = ls} h t) =
+    line-back (byte (l .letter) (h .letter) (fields-unfed (l .numbers))) (textOf (map writeLine ls)) (map writeLine ls) (lines-back t)
 
 pub writable-both : {ls ks : List Line} → AllWritable ls → AllWritable ks → AllWritable (ls ++ ks)
 writable-both none u = u

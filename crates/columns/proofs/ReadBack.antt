@@ -107,7 +107,8 @@ spelled-read : (z : ℤ) → isI32 z ≡ true → readField (spelled z) ≡ some
 unfolding readField digits moreDigits limit
 spelled-read (pos zero) t = refl
 spelled-read (pos (suc n)) t =
-    positive-read (digits 10 (suc n)) (suc n) (digits-read 10 (suc n) (omega arith) (omega (arith, leb-true (suc n) 2147483647 t))) (leb-true (suc n) 2147483647 t)
+    positive-read (digits 10 (suc n)) (suc n) (digits-read 10 (suc n) (omega arith) (omega (arith, leb-true (suc n) 2147483647 t)))
+    (leb-true (suc n) 2147483647 t)
 spelled-read (negsuc n) t =
     let h = leb-true n 2147483647 t in
     ap withSign (unsigned-read (digits 10 (suc n)) (suc n) (digits-read 10 (suc n) (omega arith) (omega arith))) ∙ rw t
@@ -125,7 +126,12 @@ spelled-few (negsuc n) = omega (arith, digits-few 10 (suc n))
 
 pub field-long : (z : ℤ) → length (fieldOf z) ≡ 12
 field-long z =
-    omega (arith, length-append (replicate {A = ℕ} (12 - length (spelled z)) 32) (spelled z), length-replicate {A = ℕ} (12 - length (spelled z)) 32, spelled-few z)
+    omega (
+      arith,
+      length-append (replicate {A = ℕ} (12 - length (spelled z)) 32) (spelled z),
+      length-replicate {A = ℕ} (12 - length (spelled z)) 32,
+      spelled-few z,
+    )
 
 pub field-read : (z : ℤ) → isI32 z ≡ true → readField (fieldOf z) ≡ some z
 field-read z t = blanks-read (12 - length (spelled z)) (spelled z) ∙ spelled-read z t
@@ -143,6 +149,7 @@ fields-read [] t = refl
 fields-read (z ∷ zs) t =
     let a = both-left (isI32 z) (allI32 zs) t in
     let b = both-right (isI32 z) (allI32 zs) t in
-    ap (λ (l : List ℕ). andNumber (readField l) (readFields (length zs) (drop 12 (fieldOf z ++ fieldsOf zs)))) (take-at (fieldOf z) (fieldsOf zs) 12 (field-long z))
+    ap (λ (l : List ℕ). andNumber (readField l) (readFields (length zs) (drop 12 (fieldOf z ++ fieldsOf zs))))
+    (take-at (fieldOf z) (fieldsOf zs) 12 (field-long z))
     ∙ ap (λ (l : List ℕ). andNumber (readField (fieldOf z)) (readFields (length zs) l)) (drop-at (fieldOf z) (fieldsOf zs) 12 (field-long z))
     ∙ (λ i. andNumber (field-read z a i) (fields-read zs b i))

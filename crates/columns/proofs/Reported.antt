@@ -1,5 +1,5 @@
--- A reply read back: the lines of a table whose ops follow one another, of loops and of a word, read one after the other, give the lists that they were written from.
--- Assumes nothing.
+-- A reply read back: the lines of a table whose ops follow one another, of loops and of a word, read one after the other, give the lists that they were written
+-- from. Assumes nothing.
 use mathlib.Core.Path.{_≡_, refl, sym, ap, _∙_}
 use mathlib.Core.Bool.{true}
 use mathlib.Core.List.{List, [], _∷_, _++_, map, append-assoc, append-nil}
@@ -97,13 +97,15 @@ ops-reported : (r : Reported) (ops : List ℤ) (m c : ℕ) → 2 * m + 2 * c ≤
     reports (tabulate c (λ j. opLine ops (m + j))) (some (opsTo r (take (2 * m) ops))) ≡ some (opsTo r (take (2 * m + 2 * c) ops))
 ops-reported r ops m c h =
     groups 2 ops (2 * m) (opsTo r) (λ j. opLine ops (m + j))
-    (λ n. ap (λ (zs : List ℤ). some (opsTo r (take (2 * m + 2 * n) ops ++ zs))) (two-at ops (2 * m + 2 * n) (2 * (m + n)) (2 * (m + n) + 1) (omega arith) (omega arith)))
+    (λ n. ap (λ (zs : List ℤ). some (opsTo r (take (2 * m + 2 * n) ops ++ zs)))
+    (two-at ops (2 * m + 2 * n) (2 * (m + n)) (2 * (m + n) + 1) (omega arith) (omega arith)))
     c h
 
 whole : (xs : List ℤ) (n : ℕ) → n ≡ length xs → take n xs ≡ xs
 whole xs n e = ap (λ (k : ℕ). take k xs) e ∙ take-length xs
 
-loops-reported : (r : Reported) (loops : List ℤ) (n : ℕ) → length loops ≡ 2 * n → reports (tabulate n (loopLine loops)) (some (loopsTo r [])) ≡ some (loopsTo r loops)
+loops-reported : (r : Reported) (loops : List ℤ) (n : ℕ) → length loops ≡ 2 * n →
+    reports (tabulate n (loopLine loops)) (some (loopsTo r [])) ≡ some (loopsTo r loops)
 loops-reported r loops n h =
     groups 2 loops 0 (loopsTo r) (loopLine loops)
     (λ k. ap (λ (zs : List ℤ). some (loopsTo r (take (0 + 2 * k) loops ++ zs))) (two-at loops (0 + 2 * k) (2 * k) (2 * k + 1) (omega arith) (omega arith)))
@@ -116,12 +118,15 @@ six-at xs k =
     let p : 6 * k ≡ 0 + 6 * k + 0 = omega arith in
     let z : 6 * k ≡ 0 + 6 * k = omega arith in
     λ i.
-    getD xs (p i) (pos 0) ∷ getD xs (z i + 1) (pos 0) ∷ getD xs (z i + 2) (pos 0) ∷ getD xs (z i + 3) (pos 0) ∷ getD xs (z i + 4) (pos 0) ∷ getD xs (z i + 5) (pos 0)
+    getD xs (p i) (pos 0) ∷ getD xs (z i + 1) (pos 0) ∷ getD xs (z i + 2) (pos 0) ∷ getD xs (z i + 3) (pos 0) ∷ getD xs (z i + 4) (pos 0)
+    ∷ getD xs (z i + 5) (pos 0)
     ∷ []
 
-items-reported : (r : Reported) (items : List ℤ) (n : ℕ) → length items ≡ 6 * n → reports (tabulate n (itemLine items)) (some (itemsTo r [])) ≡ some (itemsTo r items)
+items-reported : (r : Reported) (items : List ℤ) (n : ℕ) → length items ≡ 6 * n →
+    reports (tabulate n (itemLine items)) (some (itemsTo r [])) ≡ some (itemsTo r items)
 items-reported r items n h =
-    groups 6 items 0 (itemsTo r) (itemLine items) (λ k. ap (λ (zs : List ℤ). some (itemsTo r (take (0 + 6 * k) items ++ zs))) (six-at items k)) n (omega (arith, h))
+    groups 6 items 0 (itemsTo r) (itemLine items) (λ k. ap (λ (zs : List ℤ). some (itemsTo r (take (0 + 6 * k) items ++ zs))) (six-at items k)) n
+    (omega (arith, h))
     ∙ ap (λ (zs : List ℤ). some (itemsTo r zs)) (whole items (0 + 6 * n) (omega (arith, h)))
 
 -- ---- the table
@@ -148,8 +153,11 @@ pair-reported pairs ops k m h l e =
     let f : pos (length (take (2 * m) ops) / 2) ≡ number pairs k 4 = ap pos n ∙ sym e in
     let s : 6 * suc k ≡ 6 * k + 6 = omega arith in
     let four = number pairs k 0 ∷ number pairs k 1 ∷ number pairs k 2 ∷ number pairs k 3 ∷ [] in
-    ap (λ (l : List ℤ). some (pairsTo (tableTo pairs ops k m) l)) (append-assoc (take (6 * k) pairs) four (pos (length (take (2 * m) ops) / 2) ∷ number pairs k 5 ∷ []))
-    ∙ (λ i. some (pairsTo (tableTo pairs ops k m) (take (6 * k) pairs ++ (number pairs k 0 ∷ number pairs k 1 ∷ number pairs k 2 ∷ number pairs k 3 ∷ f i ∷ number pairs k 5 ∷ []))))
+    ap (λ (l : List ℤ). some (pairsTo (tableTo pairs ops k m) l))
+    (append-assoc (take (6 * k) pairs) four (pos (length (take (2 * m) ops) / 2) ∷ number pairs k 5 ∷ []))
+    ∙ (λ i. some
+    (pairsTo (tableTo pairs ops k m)
+    (take (6 * k) pairs ++ (number pairs k 0 ∷ number pairs k 1 ∷ number pairs k 2 ∷ number pairs k 3 ∷ f i ∷ number pairs k 5 ∷ []))))
     ∙ ap (λ (l : List ℤ). some (pairsTo (tableTo pairs ops k m) l)) (take-group pairs (6 * k) 6 h ∙ ap (λ (j : ℕ). take j pairs) (sym s))
 
 module _ (pairs ops : List ℤ) (c : Contiguous pairs ops) where
@@ -164,7 +172,8 @@ module _ (pairs ops : List ℤ) (c : Contiguous pairs ops) where
       let a : 6 * k + 6 ≤ length pairs = omega (arith, c .sixes, h) in
       let b : 2 * m + 2 * n ≤ length ops = omega (arith, c .twos, f, i) in
       let p = pair-reported pairs ops k m a (omega (arith, b)) (c .first k h ∙ ap pos f) in
-      let lines : tabulate n (λ j. opLine ops (firstOp pairs k + j)) ≡ tabulate n (λ j. opLine ops (m + j)) = ap (λ (x : ℕ). tabulate n (λ j. opLine ops (x + j))) f in
+      let lines : tabulate n (λ j. opLine ops (firstOp pairs k + j))
+      ≡ tabulate n (λ j. opLine ops (m + j)) = ap (λ (x : ℕ). tabulate n (λ j. opLine ops (x + j))) f in
       let e : 2 * m + 2 * n ≡ 2 * (firstOp pairs k + n) = omega (arith, f) in
       reports-both (tableLines pairs ops k) (pairLines pairs ops k) (some nothingReported)
       ∙ ap (reports (pairLines pairs ops k)) (table-reported k (omega arith))
@@ -173,7 +182,8 @@ module _ (pairs ops : List ℤ) (c : Contiguous pairs ops) where
       ∙ ops-reported (tableTo pairs ops (suc k) m) ops m n b
       ∙ ap (λ (j : ℕ). some (opsTo (tableTo pairs ops (suc k) m) (take j ops))) e
 
-  whole-reported : reports (tableLines pairs ops (pairCount pairs)) (some nothingReported) ≡ some (record { pairs = pairs; ops = ops; loops = []; letters = negsuc 0; items = [] })
+  whole-reported : reports (tableLines pairs ops (pairCount pairs)) (some nothingReported)
+      ≡ some (record { pairs = pairs; ops = ops; loops = []; letters = negsuc 0; items = [] })
   whole-reported =
       table-reported (pairCount pairs) (omega arith)
       ∙ (λ i. some (record { pairs = whole pairs (6 * pairCount pairs) (sym (c .sixes)) i; ops = ends i; loops = []; letters = negsuc 0; items = [] }))
@@ -188,7 +198,8 @@ pub data Worded : ℤ → List ℤ → Type 0 where
   without : Worded (negsuc 0) []
   letters : (n : ℕ) (items : List ℤ) → n ≤ 2147483647 → length items % 6 ≡ 0 → Fits items → Worded (pos n) items
 
-word-reported : (r : Reported) {n : ℤ} {items : List ℤ} → Worded n items → reports (wordLines n items) (some (itemsTo (lettersTo r (negsuc 0)) [])) ≡ some (itemsTo (lettersTo r n) items)
+word-reported : (r : Reported) {n : ℤ} {items : List ℤ} → Worded n items →
+    reports (wordLines n items) (some (itemsTo (lettersTo r (negsuc 0)) [])) ≡ some (itemsTo (lettersTo r n) items)
 unfolding reports
 word-reported r without = refl
 word-reported r (letters n items l s f) = items-reported (lettersTo r (pos n)) items (length items / 6) (omega (arith, s))
@@ -216,28 +227,35 @@ table-writable pairs ops f g (suc k) =
     writable-both (table-writable pairs ops f g k)
     (line (pair-writable pairs k f)
     (writable-tabulated (countOf pairs k) (λ j. opLine ops (firstOp pairs k + j))
-    (λ j. let i = firstOp pairs k + j in record { letter = λ e. omega (arith, e); fits = two-fit (getD ops (2 * i) (pos 0)) (getD ops (2 * i + 1) (pos 0)) (g (2 * i)) (g (2 * i + 1)) })))
+    (λ j. let i = firstOp pairs k + j in
+    record { letter = λ e. omega (arith, e); fits = two-fit (getD ops (2 * i) (pos 0)) (getD ops (2 * i + 1) (pos 0)) (g (2 * i)) (g (2 * i + 1)) })))
 
 loops-writable : (loops : List ℤ) → Fits loops → (n : ℕ) → AllWritable (tabulate n (loopLine loops))
 loops-writable loops f n =
-    writable-tabulated n (loopLine loops) (λ i. record { letter = λ e. omega (arith, e); fits = two-fit (getD loops (2 * i) (pos 0)) (getD loops (2 * i + 1) (pos 0)) (f (2 * i)) (f (2 * i + 1)) })
+    writable-tabulated n (loopLine loops)
+    (λ i. record
+    { letter = λ e. omega (arith, e); fits = two-fit (getD loops (2 * i) (pos 0)) (getD loops (2 * i + 1) (pos 0)) (f (2 * i)) (f (2 * i + 1)) })
 
 word-writable : {n : ℤ} {items : List ℤ} → Worded n items → AllWritable (wordLines n items)
 unfolding allI32
 word-writable without = none
 word-writable (letters n items l s f) =
-    line {l = lineOf 87 (pos n ∷ [])} (record { letter = λ e. omega (arith, e); fits = rw (le-leb n 2147483647 l) }) (writable-tabulated (length items / 6) (itemLine items) (λ i. item-writable items i f))
+    line {l = lineOf 87 (pos n ∷ [])} (record { letter = λ e. omega (arith, e); fits = rw (le-leb n 2147483647 l) })
+    (writable-tabulated (length items / 6) (itemLine items) (λ i. item-writable items i f))
 
 -- ---- the reply
 
-pub reply-read : (pairs ops loops : List ℤ) {n : ℤ} {items : List ℤ} → Contiguous pairs ops → Fits pairs → Fits ops → length loops % 2 ≡ 0 → Fits loops → Worded n items →
+pub reply-read : (pairs ops loops : List ℤ) {n : ℤ} {items : List ℤ} → Contiguous pairs ops → Fits pairs → Fits ops → length loops % 2 ≡ 0 → Fits loops →
+    Worded n items →
     readReply (replyBytes pairs ops loops n items) ≡ some (record { pairs = pairs; ops = ops; loops = loops; letters = n; items = items })
 reply-read pairs ops loops {n} {items} c f g s h w =
     let t = tableLines pairs ops (pairCount pairs) in
     let x = tabulate (length loops / 2) (loopLine loops) in
     let y = wordLines n items in
     let r : Reported = record { pairs = pairs; ops = ops; loops = []; letters = negsuc 0; items = [] } in
-    bytes-reported (writable-both (writable-both (table-writable pairs ops f g (pairCount pairs)) (loops-writable loops h (length loops / 2))) (word-writable w))
+    bytes-reported
+    (writable-both (writable-both (table-writable pairs ops f g (pairCount pairs)) (loops-writable loops h (length loops / 2))) (word-writable w))
     ∙ reports-both (t ++ x) y (some nothingReported)
-    ∙ ap (reports y) (reports-both t x (some nothingReported) ∙ ap (reports x) (whole-reported pairs ops c) ∙ loops-reported r loops (length loops / 2) (omega (arith, s)))
+    ∙ ap (reports y)
+    (reports-both t x (some nothingReported) ∙ ap (reports x) (whole-reported pairs ops c) ∙ loops-reported r loops (length loops / 2) (omega (arith, s)))
     ∙ word-reported (loopsTo r loops) w

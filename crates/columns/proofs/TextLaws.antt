@@ -14,7 +14,8 @@ use Rattle.lang.specs.Every.{both}
 use Rattle.lang.proofs.Every.{both-left}
 use Rattle.columns.specs.Numbers.{unsigned, withoutSign, withSign, readField}
 use Rattle.columns.specs.Lines.{Line, linesOf, readFields, lettered, readLine}
-use Rattle.columns.specs.Texts.{Text, opened, withBoundary, withLeft, withInstruction, withKern, withEntry, withWord, byOne, byLetter, unlessWord, addTo, addLines, openedBy, readLines, readText}
+use Rattle.columns.specs.Texts.{Text, opened, withBoundary, withLeft, withInstruction, withKern, withEntry, withWord, byOne, byLetter, unlessWord, addTo}
+use Rattle.columns.specs.Texts.{addLines, openedBy, readLines, readText}
 use Rattle.columns.specs.Scanned.{lettersOf}
 use Rattle.columns.specs.Purpose.{isI32, allI32}
 use Rattle.columns.proofs.Options.{none-some, cond-some, and-some, lettered-some}
@@ -39,7 +40,8 @@ unfolding readField
 field-fits [] z e = absurd (none-some e)
 field-fits (b ∷ bs) z e = by (eqb b 32) (eqb b 45) e (field-fits bs z)
   where
-    by : (s t : Bool) → cond s (readField bs) (cond t (withSign (unsigned bs)) (withoutSign (unsigned (b ∷ bs)))) ≡ some z → (readField bs ≡ some z → isI32 z ≡ true) → isI32 z ≡ true
+    by : (s t : Bool) → cond s (readField bs) (cond t (withSign (unsigned bs)) (withoutSign (unsigned (b ∷ bs)))) ≡ some z →
+        (readField bs ≡ some z → isI32 z ≡ true) → isI32 z ≡ true
     by true t e k = k e
     by false true e k = with-fits (unsigned bs) z e
     by false false e k = without-fits (unsigned (b ∷ bs)) z e

@@ -122,7 +122,8 @@ module _ (pairs ops : List ℤ) (boundary : ℤ) (word : List ℕ) (options : Ru
 
 module _ (f : Font) (word : List ℕ) (taken : compileRefusal f columnRoom ≡ 0) (letters : lettersRefusal word ≡ 0) (short : length word ≤ 65535)
     (set : setReply (fontTable f) (fontOps f) (f .boundary) word columnOptions itemRoom .number ≡ 0) where
-  set-as : (items : List Out) → Answered f (fontTable f) (fontOps f) word columnOptions items → SetAs f (fontTable f) (fontOps f) word columnOptions itemRoom items
+  set-as : (items : List Out) → Answered f (fontTable f) (fontOps f) word columnOptions items →
+      SetAs f (fontTable f) (fontOps f) word columnOptions itemRoom items
   set-as items a =
       let p = fontTable f in
       let o = fontOps f in

@@ -1,5 +1,6 @@
-// The column text, document 01: the types of what is read. What they hold is said in specs/, from the bytes of a text to those of its reply; crate `fields` reads
-// a field, `scan` a text, `reply` writes a reply, and `host` does the whole.
+// The column text, document 01: the types of what is read. What they hold is said in specs/, from the bytes of a text
+// to those of its reply; crate `fields` reads a field, `scan` a text, `reply` writes a reply, and `host` does the
+// whole.
 
 // A field of 12 columns: its number, or 16.
 pub enum FieldRead {
@@ -7,8 +8,8 @@ pub enum FieldRead {
     Unreadable,
 }
 
-// What a text says beside its lists, and how long these are: numbers of instructions, kerns and entries, and the characters of the word (-1 where there is no
-// word).
+// What a text says beside its lists, and how long these are: numbers of instructions, kerns and entries, and the
+// characters of the word (-1 where there is no word).
 pub struct TextHeads {
     pub design: i32,
     pub boundary: i32,

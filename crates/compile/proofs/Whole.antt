@@ -13,11 +13,13 @@ use Rattle.lang.proofs.Refusals.{orElse-none, program-size}
 use Rattle.fonts.specs.declared.Compiled.{Compiled}
 use Rattle.fonts.specs.declared.Compiled.the-variants.{Refused}
 use Rattle.fonts.specs.Fonts.{Font, fontOf}
-use Rattle.fonts.specs.Compiled.{roomIn, longRefusal, fontRefusal, tablesRefusal, buildRefusal, compileRefusal, compiledReply, fontCounts, ListsWritten, Compiles}
+use Rattle.fonts.specs.Compiled.{roomIn, longRefusal, fontRefusal, tablesRefusal, buildRefusal, compileRefusal, compiledReply, fontCounts, ListsWritten}
+use Rattle.fonts.specs.Compiled.{Compiles}
 use Rattle.compile_lists.specs.Builds.{Builds}
 
 -- the same of the font as it was lent
-pub number-as : (s kerns entries : List ℤ) (b b′ l l′ d d′ : ℤ) (k : ℕ) → k ≡ fontRefusal (fontOf s kerns entries b l d) → b ≡ b′ → l ≡ l′ → d ≡ d′ → k ≡ fontRefusal (fontOf s kerns entries b′ l′ d′)
+pub number-as : (s kerns entries : List ℤ) (b b′ l l′ d d′ : ℤ) (k : ℕ) → k ≡ fontRefusal (fontOf s kerns entries b l d) → b ≡ b′ → l ≡ l′ → d ≡ d′ →
+    k ≡ fontRefusal (fontOf s kerns entries b′ l′ d′)
 number-as s kerns entries b b′ l l′ d d′ k e x y z = e ∙ (λ i. fontRefusal (fontOf s kerns entries (x i) (y i) (z i)))
 
 module _ (f : Font) (ps os ls : List ℤ) (work : List ℕ) (r : Compiled) (ps′ os′ ls′ : List ℤ) (work′ : List ℕ) where
@@ -28,9 +30,11 @@ module _ (f : Font) (ps os ls : List ℤ) (work : List ℕ) (r : Compiled) (ps�
   refused-by zero m e h = absurd (h refl)
   refused-by (suc k) m e h = rw e (refl, record { table = refl; ops-table = refl; loop-list = refl })
 
-  pub refused : (k : ℕ) → k ≡ fontRefusal f → (k ≡ 0 → ⊥) → ps′ ≡ z ps → os′ ≡ z os → ls′ ≡ z ls → work′ ≡ replicate (length work) 0 → Compiles f ps os ls work (Refused k) ps′ os′ ls′ work′
+  pub refused : (k : ℕ) → k ≡ fontRefusal f → (k ≡ 0 → ⊥) → ps′ ≡ z ps → os′ ≡ z os → ls′ ≡ z ls → work′ ≡ replicate (length work) 0 →
+      Compiles f ps os ls work (Refused k) ps′ os′ ls′ work′
   refused k e h p o l w =
-      let q = refused-by k (compileRefusal f (roomIn ps os ls work)) (ap (λ (x : ℕ). orElse x (tablesRefusal f (roomIn ps os ls work))) (sym e) ∙ first k h) h in
+      let q = refused-by k (compileRefusal f (roomIn ps os ls work)) (ap (λ (x : ℕ). orElse x (tablesRefusal f (roomIn ps os ls work))) (sym e) ∙ first k h) h
+      in
       record { answer = q .0; lists = rw (p, o, l) (q .1); cleared = w }
     where
       first : (j : ℕ) → (j ≡ 0 → ⊥) → orElse j (tablesRefusal f (roomIn ps os ls work)) ≡ j

@@ -1,6 +1,7 @@
-// Compiling, after ligkern/compiler.rs (reference `CompiledProgram::compile`). The stages are crates of their own, one on top of the other, each of which takes
-// the font as it is lent:
-//   collect, prepare  a row of the work buffer for each pair that has a rule     settle  which pairs finish, and their lasts
+// Compiling, after ligkern/compiler.rs (reference `CompiledProgram::compile`). The stages are crates of their own, one
+// on top of the other, each of which takes the font as it is lent:
+//   collect, prepare  a row of the work buffer for each pair that has a rule     settle  which pairs finish, and their
+//   lasts
 //   walks             the loop list                                              counts  how many ops each pair has
 //   ops, lists        the tables
 ghost use mathlib.Core.Path.{_≡_};
@@ -19,7 +20,8 @@ use words::zero::zero_u32;
 
 // 4 of the boundary or the left entry, else 5.
 fn edge_refusal(boundary: i32, left_entry: i32, design_size: i32) -> u32
-    ensures { λ r. ⌜ r ≡ orElse (absentRefusal 255 boundary) (orElse (absentRefusal 65535 «left_entry») (designRefusal «design_size»)) ⌝ }
+    ensures { λ r. ⌜ r ≡ orElse (absentRefusal 255 boundary)
+        (orElse (absentRefusal 65535 «left_entry») (designRefusal «design_size»)) ⌝ }
 {
     let at_boundary = absent_refusal(255, boundary);
     if at_boundary != 0 {
@@ -41,7 +43,9 @@ fn font_refusal(
     left_entry: i32,
     design_size: i32,
 ) -> u32
-    ensures { λ r. ⌜ r ≡ fontRefusal (fontOf (now (instructions .entry)) (now (kerns .entry)) (now (entries .entry)) boundary «left_entry» «design_size») ⌝ }
+    ensures { λ r. ⌜ r ≡ fontRefusal
+        (fontOf (now (instructions .entry)) (now (kerns .entry)) (now (entries .entry)) boundary «left_entry»
+        «design_size») ⌝ }
 {
     let program = program_refusal(instructions);
     if program != 0 {
@@ -71,7 +75,10 @@ pub fn compile(
     loops: &mut [i32],
     work: &mut [u32],
 ) -> Compiled
-    ensures { λ r. ⌜ Compiles (fontOf (now (instructions .entry)) (now (kerns .entry)) (now (entries .entry)) boundary «left_entry» «design_size») (now (pairs .entry)) (now (ops .entry)) (now (loops .entry)) (now (work .entry)) r (now (pairs .exit)) (now (ops .exit)) (now (loops .exit)) (now (work .exit)) ⌝ }
+    ensures { λ r. ⌜ Compiles
+        (fontOf (now (instructions .entry)) (now (kerns .entry)) (now (entries .entry)) boundary «left_entry»
+        «design_size») (now (pairs .entry)) (now (ops .entry)) (now (loops .entry)) (now (work .entry)) r
+        (now (pairs .exit)) (now (ops .exit)) (now (loops .exit)) (now (work .exit)) ⌝ }
 {
     let number = font_refusal(
         instructions,

@@ -31,7 +31,8 @@ module _ (s table : List ℤ) (cap : ℕ) (w₀ : List ℕ) where
   lefts-long e zero n w h = ap length (h .1)
   lefts-long e (suc t) n w h = h .same-length
 
-  pub lefts-adding : (e t n : ℕ) (w : List ℕ) → Lefts s table cap e w₀ w t n → count s ≤ 32767 → 16 * cap ≤ length w₀ → w₀ ≡ replicate (length w₀) 0 → t < 257 → Adding s table t n cap w
+  pub lefts-adding : (e t n : ℕ) (w : List ℕ) → Lefts s table cap e w₀ w t n → count s ≤ 32767 → 16 * cap ≤ length w₀ → w₀ ≡ replicate (length w₀) 0 → t < 257 →
+      Adding s table t n cap w
   lefts-adding e zero n w h short room z l = rw (h .0, h .1) (adding-first s table cap w₀ short room z)
   lefts-adding e (suc t) n w h short room z l = adding s table cap e w₀ w (suc t) n h short room l
 
@@ -49,7 +50,8 @@ module _ (s table : List ℤ) (cap : ℕ) (w₀ : List ℕ) where
         others = g .others;
       }
 
-  pub lefts-more : (e t n m : ℕ) (w v : List ℕ) → Lefts s table cap e w₀ w t n → t < 257 → length v ≡ length w → Adds s table t n cap m w v → Lefts s table cap (edgeBy t m e) w₀ v (t + 1) m
+  pub lefts-more : (e t n m : ℕ) (w v : List ℕ) → Lefts s table cap e w₀ w t n → t < 257 → length v ≡ length w → Adds s table t n cap m w v →
+      Lefts s table cap (edgeBy t m e) w₀ v (t + 1) m
   lefts-more e zero n m w v h l same a =
       let b : Adds s table 0 0 cap m w₀ v = rw (h .0, h .1) at a in
       from-first m v (same ∙ ap length (h .1)) b

@@ -42,7 +42,9 @@ both v u p x q l e h = go (same-or-not q p)
     go (inl i) = rw i (getD-set-same v p x 0 l ∙ sym (getD-set-same u p x 0 (omega arith)))
     go (inr ne) = getD-set-other v p q x 0 ne ∙ h ∙ sym (getD-set-other u p q x 0 ne)
 
-module _ (t n : ℕ) (first order places₀ indices₀ places indices rights : List ℕ) (m : ℕ) (o : Ordered first order m) (b : Tabled first order places₀ indices₀ places indices rights m) (short : (q : ℕ) → getD first q 0 ≤ 32767) (w : List ℕ) (room : 16 * (n + m) ≤ length w) (few : n + 256 ≤ 65792) where
+module _ (t n : ℕ) (first order places₀ indices₀ places indices rights : List ℕ) (m : ℕ) (o : Ordered first order m)
+    (b : Tabled first order places₀ indices₀ places indices rights m) (short : (q : ℕ) → getD first q 0 ≤ 32767) (w : List ℕ) (room : 16 * (n + m) ≤ length w)
+    (few : n + 256 ≤ 65792) where
   ranks : (r : ℕ) → r ≤ 256 → bitRank rights r ≡ rank first r
   ranks zero l = bit-rank-zero rights ∙ sym (rank-none first)
   ranks (suc r) l =
@@ -158,11 +160,15 @@ module _ (t n : ℕ) (first order places₀ indices₀ places indices rights : L
           let m₀ = length-set (h .mid) (16 * k + 0) t in
           let m₁ = length-set (set (h .mid) (16 * k + 0) t) (16 * k + 1) r in
           let y = both v (h .mid) (16 * k + 0) t (16 * j + f) (omega (arith, fit)) (h .same-length) a in
-          let x = both (set v (16 * k + 0) t) (set (h .mid) (16 * k + 0) t) (16 * k + 1) r (16 * j + f) (omega (arith, fit)) (omega (arith, h .same-length)) y in
-          both (set (set v (16 * k + 0) t) (16 * k + 1) r) (set (set (h .mid) (16 * k + 0) t) (16 * k + 1) r) (16 * k + 2) i (16 * j + f) (omega (arith, fit)) (omega (arith, h .same-length)) x
+          let x = both (set v (16 * k + 0) t) (set (h .mid) (16 * k + 0) t) (16 * k + 1) r (16 * j + f) (omega (arith, fit)) (omega (arith, h .same-length)) y
+          in
+          both (set (set v (16 * k + 0) t) (16 * k + 1) r) (set (set (h .mid) (16 * k + 0) t) (16 * k + 1) r) (16 * k + 2) i (16 * j + f) (omega (arith, fit))
+          (omega (arith, h .same-length)) x
 
       turn-here : at v′ (n + place) 15 ≡ k
-      turn-here = at-stored (three v) (n + place) 15 (k % 4294967296) turn-fit ∙ omega (arith, few, rank-past first r 256 l (omega arith), o .all, few-ruled first order m o)
+      turn-here =
+          at-stored (three v) (n + place) 15 (k % 4294967296) turn-fit
+          ∙ omega (arith, few, rank-past first r 256 l (omega arith), o .all, few-ruled first order m o)
 
       turn-other : (j : ℕ) → (j ≡ n + place → ⊥) → at v′ j 15 ≡ at v j 15
       turn-other j ne =
@@ -198,9 +204,11 @@ module _ (t n : ℕ) (first order places₀ indices₀ places indices rights : L
   placed-start : Placed (rowsFrom n t rights places indices w 0 0) 0
   placed-start = subst (λ (u : List ℕ). Placed u 0) (sym (rows-zero n t rights places indices w 0)) placed-none
 
-  placed-next : (r z : ℕ) → z ≡ r → r < 256 → Placed (rowsFrom n t rights places indices w 0 r) r → Placed (rowBy (bitAt rights z) n t places indices (n + bitRank rights z) z (rowsFrom n t rights places indices w 0 r)) (suc r)
+  placed-next : (r z : ℕ) → z ≡ r → r < 256 → Placed (rowsFrom n t rights places indices w 0 r) r →
+      Placed (rowBy (bitAt rights z) n t places indices (n + bitRank rights z) z (rowsFrom n t rights places indices w 0 r)) (suc r)
   placed-next r z e l h =
-      subst (λ (x : ℕ). Placed (rowBy (bitAt rights x) n t places indices (n + bitRank rights x) x (rowsFrom n t rights places indices w 0 r)) (suc r)) (sym e) (placed-more (rowsFrom n t rights places indices w 0 r) r h l)
+      subst (λ (x : ℕ). Placed (rowBy (bitAt rights x) n t places indices (n + bitRank rights x) x (rowsFrom n t rights places indices w 0 r)) (suc r)) (sym e)
+      (placed-more (rowsFrom n t rights places indices w 0 r) r h l)
 
   placed-suc : (r : ℕ) → r < 256 → Placed (rowsFrom n t rights places indices w 0 r) r → Placed (rowsFrom n t rights places indices w 0 (suc r)) (suc r)
   placed-suc r l h =
@@ -228,11 +236,16 @@ module _ (t n : ℕ) (first order places₀ indices₀ places indices rights : L
 
 -- ---- one left more
 
-module _ (s table : List ℤ) (t n m cap entry : ℕ) (places₀ indices₀ places indices rights w : List ℕ) (a : Adding s table t n cap w) (word : Word (leftEntry table (leftOf t)) entry) (there : entry < 2147483648) (y : Surveys s entry places₀ indices₀ places indices rights m) where
+module _ (s table : List ℤ) (t n m cap entry : ℕ) (places₀ indices₀ places indices rights w : List ℕ) (a : Adding s table t n cap w)
+    (word : Word (leftEntry table (leftOf t)) entry) (there : entry < 2147483648) (y : Surveys s entry places₀ indices₀ places indices rights m) where
   pub adds-left : (v : List ℕ) → m ≤ cap - n → v ≡ rowsFrom n t rights places indices w 0 256 → Adds s table t n cap (n + m) w v
   adds-left v h e =
       let room : 16 * (n + m) ≤ length w = omega (arith, a .room, a .fits) in
       let few : n + 256 ≤ 65792 = omega (arith, a .gathered .few, a .a-left) in
-      let p = placed t n (y .first) (y .order) places₀ indices₀ places indices rights m (y .surveyed .ordered) (y .tabled) (λ q. omega (arith, y .inside q, a .short)) w room few 256 (omega arith) in
-      let z = order-written t n (y .first) (y .order) places₀ indices₀ places indices rights m (y .surveyed .ordered) (y .tabled) (λ q. omega (arith, y .inside q, a .short)) w room few (rowsFrom n t rights places indices w 0 256) p in
-      rw e (adds-some s table t n m cap entry (y .first) (y .order) w a word there (y .surveyed) (p .rows) (p .mid) (rowsFrom n t rights places indices w 0 256) h (p .appended) z)
+      let p = placed t n (y .first) (y .order) places₀ indices₀ places indices rights m (y .surveyed .ordered) (y .tabled)
+      (λ q. omega (arith, y .inside q, a .short)) w room few 256 (omega arith) in
+      let z = order-written t n (y .first) (y .order) places₀ indices₀ places indices rights m (y .surveyed .ordered) (y .tabled)
+      (λ q. omega (arith, y .inside q, a .short)) w room few (rowsFrom n t rights places indices w 0 256) p in
+      rw e
+      (adds-some s table t n m cap entry (y .first) (y .order) w a word there (y .surveyed) (p .rows) (p .mid) (rowsFrom n t rights places indices w 0 256)
+      h (p .appended) z)

@@ -21,7 +21,8 @@ use Rattle.compiling.proofs.RowNumberLaws.{boundary-is, collected-rows}
 use Rattle.compile_collect.specs.Collecting.{collectRefusal, CollectsFontBy, collectedReply, CollectsFont}
 
 -- the work zeroed has room for as many rows
-pub room-zeroed : (room cap : ℕ) (w z : List ℕ) → z ≡ replicate (length w) 0 → cap ≡ min room (length z / 16) → (16 * cap ≤ length z) × (z ≡ replicate (length z) 0)
+pub room-zeroed : (room cap : ℕ) (w z : List ℕ) → z ≡ replicate (length w) 0 → cap ≡ min room (length z / 16) →
+    (16 * cap ≤ length z) × (z ≡ replicate (length z) 0)
 room-zeroed room cap w z e c = (omega (arith, c), e ∙ ap (λ (n : ℕ). replicate n 0) (sym (ap length e ∙ length-replicate (length w) 0)))
 
 module _ (s table : List ℤ) (room : ℕ) (w w′ : List ℕ) where
@@ -31,7 +32,8 @@ module _ (s table : List ℤ) (room : ℕ) (w w′ : List ℕ) where
   pub too-long : 32767 < count s → w′ ≡ replicate (length w) 0 → CollectsFontBy s table top w w′ (Refused 1)
   too-long h z = (rw (lt-leb (count s) 32767 h), omega arith, z)
 
-  module _ (few : count s ≤ 32767) (z : List ℕ) (blank : z ≡ replicate (length w) 0) (cap : ℕ) (c : cap ≡ min room (length z / 16)) (t : List ℤ) (e : t ≡ table) (u : Collected) (w₁ : List ℕ) (d : CollectsBy s t cap z w₁ u) where
+  module _ (few : count s ≤ 32767) (z : List ℕ) (blank : z ≡ replicate (length w) 0) (cap : ℕ) (c : cap ≡ min room (length z / 16)) (t : List ℤ) (e : t ≡ table)
+      (u : Collected) (w₁ : List ℕ) (d : CollectsBy s t cap z w₁ u) where
     long : length z ≡ length w
     long = ap length blank ∙ length-replicate (length w) 0
 
@@ -46,7 +48,15 @@ module _ (s table : List ℤ) (room : ℕ) (w w′ : List ℕ) where
         let q : (n ≤ top) × Collects s table z w₁ n k = subst (CollectsBy s table top z w₁) i at-table in
         let a = q .1 in
         let c : Collects s table w w₁ n k =
-        record { same-length = a .same-length ∙ long; all = a .all; ascending = a .ascending; pair = a .pair; turns = a .turns; rest = a .rest; after = a .after } in (
+        record {
+          same-length = a .same-length ∙ long;
+          all = a .all;
+          ascending = a .ascending;
+          pair = a .pair;
+          turns = a .turns;
+          rest = a .rest;
+          after = a .after;
+        } in (
           rw (le-leb (count s) 32767 few, le-leb (length (pairsBy s table)) top (omega (arith, q .0, a .all))),
           q .0,
           c,
@@ -54,8 +64,11 @@ module _ (s table : List ℤ) (room : ℕ) (w w′ : List ℕ) where
 
     pub zeros-left : (k : ℕ) → u ≡ Refused k → length w₁ ≡ length z → w′ ≡ replicate (length w₁) 0 → CollectsFontBy s table top w w′ (Refused k)
     zeros-left k i l o =
-        let q : (k ≡ 12) × (top < length (pairsBy s table)) = subst (CollectsBy s table top z w₁) i at-table in
-        (rw (le-leb (count s) 32767 few, lt-leb (length (pairsBy s table)) top (q .1)) (sym (q .0)), omega (arith, q .0), o ∙ ap (λ (n : ℕ). replicate n 0) (l ∙ long))
+        let q : (k ≡ 12) × (top < length (pairsBy s table)) = subst (CollectsBy s table top z w₁) i at-table in (
+          rw (le-leb (count s) 32767 few, lt-leb (length (pairsBy s table)) top (q .1)) (sym (q .0)),
+          omega (arith, q .0),
+          o ∙ ap (λ (n : ℕ). replicate n 0) (l ∙ long),
+        )
 
 -- ---- the contract, from what the answer says
 

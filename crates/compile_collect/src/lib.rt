@@ -1,6 +1,7 @@
-// The first half of compiling's first stage: the pairs that have a rule, a row each in the work buffer, in ascending order with the boundary first,
-// after `build_node_to_program_start_map` of ligkern/compiler.rs (lines 113 to 148). Each left's chain is walked once (crate `survey`), and its rows
-// written (crate `chain_rows`). specs/Rows.antt of crate `pairs` says what a row holds.
+// The first half of compiling's first stage: the pairs that have a rule, a row each in the work buffer, in ascending
+// order with the boundary first, after `build_node_to_program_start_map` of ligkern/compiler.rs (lines 113 to 148).
+// Each left's chain is walked once (crate `survey`), and its rows written (crate `chain_rows`). specs/Rows.antt of
+// crate `pairs` says what a row holds.
 ghost use mathlib.Core.Path.{_≡_};
 ghost use Prim.Native.Nat.{_*_, _<_, _≤_, _/_, min};
 ghost use lib.ListN.{length, replicate};
@@ -34,8 +35,8 @@ fn entry_of(table: &[i32; 257], left: usize) -> u32
     word_at(table, place_of(left))
 }
 
-// The rows of one more left, after n others; none where it has no entry. The two tables are for its chain alone: what they held is not read, and
-// what they hold then is free.
+// The rows of one more left, after n others; none where it has no entry. The two tables are for its chain alone: what
+// they held is not read, and what they hold then is free.
 fn add_left(
     instructions: &[i32],
     table: &[i32; 257],
@@ -47,7 +48,8 @@ fn add_left(
     indices: &mut [u32; 256],
 ) -> Added
     requires { ⌜ Adding (now instructions) (now table) left n cap (now work) ⌝ }
-    ensures { λ r. ⌜ AddsBy (now (instructions .entry)) (now (table .entry)) left n cap (now (work .entry)) (now (work .exit)) r ⌝ }
+    ensures { λ r. ⌜ AddsBy (now (instructions .entry)) (now (table .entry)) left n cap (now (work .entry))
+        (now (work .exit)) r ⌝ }
 {
     let entry = entry_of(table, left);
     if 2147483648 <= entry {
@@ -71,8 +73,10 @@ fn edge_rows(left: usize, n: usize, e: usize) -> usize
 
 // At most `cap` rows are written, to a work buffer of zeros. 12.
 fn collect_rows(instructions: &[i32], table: &[i32; 257], work: &mut [u32], cap: usize) -> Collected
-    requires { ⌜ (count (now instructions) ≤ 32767) × (16 * cap ≤ length (now work)) × (now work ≡ replicate (length (now work)) 0) ⌝ }
-    ensures { λ r. ⌜ CollectsBy (now (instructions .entry)) (now (table .entry)) cap (now (work .entry)) (now (work .exit)) r ⌝ }
+    requires { ⌜ (count (now instructions) ≤ 32767) × (16 * cap ≤ length (now work))
+        × (now work ≡ replicate (length (now work)) 0) ⌝ }
+    ensures { λ r. ⌜ CollectsBy (now (instructions .entry)) (now (table .entry)) cap (now (work .entry))
+        (now (work .exit)) r ⌝ }
 {
     let mut places = [0u32; 256];
     let mut indices = [0u32; 256];
@@ -105,8 +109,8 @@ fn smaller(a: usize, b: usize) -> usize
     if a <= b { a } else { b }
 }
 
-// The pairs of a font that have a rule, in a work buffer of sixteen u32 a pair: at most `room` of them. 1 where there are over 32,767 instructions,
-// then 12, with the work all zeros.
+// The pairs of a font that have a rule, in a work buffer of sixteen u32 a pair: at most `room` of them. 1 where there
+// are over 32,767 instructions, then 12, with the work all zeros.
 pub fn collect(
     instructions: &[i32],
     entries: &[i32],
@@ -114,7 +118,9 @@ pub fn collect(
     work: &mut [u32],
     room: usize,
 ) -> Collected
-    ensures { λ r. ⌜ CollectsFont (now (instructions .entry)) (entriesTable (now (entries .entry)) «left_entry») (min room (length (now (work .entry)) / 16)) (now (work .entry)) (now (work .exit)) r ⌝ }
+    ensures { λ r. ⌜ CollectsFont (now (instructions .entry))
+        (entriesTable (now (entries .entry)) «left_entry») (min room (length (now (work .entry)) / 16))
+        (now (work .entry)) (now (work .exit)) r ⌝ }
 {
     zero_u32(work);
     if 32767 < instructions.len() / 4 {

@@ -1,5 +1,6 @@
-// The last stage of compiling: the pair table and the loop list as numbers, from rows that are counted; the ops are crate `ops`'s. After lines 400 to 460 of
-// ligkern/compiler.rs for the loops. specs/Rows.antt of crate `pairs` says what a row holds.
+// The last stage of compiling: the pair table and the loop list as numbers, from rows that are counted; the ops are
+// crate `ops`'s. After lines 400 to 460 of ligkern/compiler.rs for the loops. specs/Rows.antt of crate `pairs` says
+// what a row holds.
 ghost use mathlib.Core.Path.{_≡_};
 ghost use Prim.Native.Nat.{_+_, _*_, _<_, _≤_};
 ghost use lib.ListN.{length, replicate};
@@ -46,8 +47,11 @@ fn put_pair(work: &[u32], k: usize, pairs: &mut [i32], p: usize)
 
 // The six numbers of each finished row, in the order of rows. Answers how many numbers that are.
 fn write_pairs(work: &[u32], n: usize, m: usize, pairs: &mut [i32]) -> usize
-    requires { ⌜ (Ready n m (now work)) × (6 * n ≤ length (now pairs)) × (now pairs ≡ replicate (length (now pairs)) (pos 0)) ⌝ }
-    ensures { λ r. ⌜ (r ≡ length (pairsWritten n (now (work .entry)))) × (now (pairs .exit) ≡ padded (pos 0) (length (now (pairs .entry))) (pairsWritten n (now (work .entry)))) ⌝ }
+    requires { ⌜ (Ready n m (now work)) × (6 * n ≤ length (now pairs))
+        × (now pairs ≡ replicate (length (now pairs)) (pos 0)) ⌝ }
+    ensures { λ r. ⌜ (r ≡ length (pairsWritten n (now (work .entry))))
+        × (now (pairs .exit) ≡ padded (pos 0) (length (now (pairs .entry)))
+        (pairsWritten n (now (work .entry)))) ⌝ }
 {
     let mut end = 0;
     for k in 0..n {
@@ -61,8 +65,10 @@ fn write_pairs(work: &[u32], n: usize, m: usize, pairs: &mut [i32]) -> usize
 
 // The pairs of the r rows that are listed, two numbers each.
 fn write_loops(work: &[u32], r: usize, out: &mut [i32])
-    requires { ⌜ (r ≤ 65792) × (2 * r ≤ length (now out)) × (now out ≡ replicate (length (now out)) (pos 0)) × (Listing r (now work)) ⌝ }
-    ensures { λ _. ⌜ now (out .exit) ≡ padded (pos 0) (length (now (out .entry))) (loopNumbers (tabulate r (λ i. pairAt (now (work .entry)) (at (now (work .entry)) i 8)))) ⌝ }
+    requires { ⌜ (r ≤ 65792) × (2 * r ≤ length (now out))
+        × (now out ≡ replicate (length (now out)) (pos 0)) × (Listing r (now work)) ⌝ }
+    ensures { λ _. ⌜ now (out .exit) ≡ padded (pos 0) (length (now (out .entry)))
+        (loopNumbers (tabulate r (λ i. pairAt (now (work .entry)) (at (now (work .entry)) i 8)))) ⌝ }
 {
     for i in 0..r {
         let k = get(work, i, 8) as usize;
@@ -73,8 +79,8 @@ fn write_loops(work: &[u32], r: usize, out: &mut [i32])
     }
 }
 
-// The three lists of a font whose program, kerns and entries are not looked at here. 1 of the instructions' count, then 12 to 15, with every list all zeros;
-// work is left zero.
+// The three lists of a font whose program, kerns and entries are not looked at here. 1 of the instructions' count, then
+// 12 to 15, with every list all zeros; work is left zero.
 pub fn write_lists(
     instructions: &[i32],
     kerns: &[i32],
@@ -86,7 +92,11 @@ pub fn write_lists(
     loops: &mut [i32],
     work: &mut [u32],
 ) -> Compiled
-    ensures { λ r. ⌜ ((b : ℤ) → Builds (fontOf (now (instructions .entry)) (now (kerns .entry)) (now (entries .entry)) b «left_entry» «design_size») (now (pairs .entry)) (now (ops .entry)) (now (loops .entry)) (now (work .entry)) r (now (pairs .exit)) (now (ops .exit)) (now (loops .exit)) (now (work .exit))) ⌝ }
+    ensures { λ r. ⌜ ((b : ℤ) →
+        Builds
+        (fontOf (now (instructions .entry)) (now (kerns .entry)) (now (entries .entry)) b «left_entry»
+        «design_size») (now (pairs .entry)) (now (ops .entry)) (now (loops .entry)) (now (work .entry)) r
+        (now (pairs .exit)) (now (ops .exit)) (now (loops .exit)) (now (work .exit))) ⌝ }
 {
     zero_i32(pairs);
     zero_i32(loops);

@@ -1,5 +1,5 @@
-// The third stage of compiling: the loop list, a walk from each row that never finishes, in the order of TFtoPL 90, after lines 400 to 460 of
-// ligkern/compiler.rs. specs/Rows.antt of crate `pairs` says what a row holds.
+// The third stage of compiling: the loop list, a walk from each row that never finishes, in the order of TFtoPL 90,
+// after lines 400 to 460 of ligkern/compiler.rs. specs/Rows.antt of crate `pairs` says what a row holds.
 ghost use mathlib.Core.Path.{_≡_};
 ghost use Prim.Native.Nat.{ℕ, _/_, _<_, _≤_, min};
 ghost use lib.ListN.{length};
@@ -16,7 +16,8 @@ use compile_settle::settle;
 use compiling::SettledFont;
 use compiling::WalkedFont;
 
-// Marks rows from row k on with id, each time going on to the row that is waited for, up to one that has a mark. Answers that row.
+// Marks rows from row k on with id, each time going on to the row that is waited for, up to one that has a mark.
+// Answers that row.
 fn walk_from(work: &mut [u32], n: usize, k: usize, id: u32) -> usize
     requires { ⌜ (Walkable n (now work)) × (k < n) × (at (now work) k 5 ≡ 3) × (0 < id) ⌝ }
     ensures { λ r. ⌜ Walk id (now (work .entry)) k (now (work .exit)) r ⌝ }
@@ -30,8 +31,8 @@ fn walk_from(work: &mut [u32], n: usize, k: usize, id: u32) -> usize
     cur
 }
 
-// Walks from row k, where it never finishes, and lists the row at which the walk ends, where that is one of its own. Answers how many rows
-// are listed then.
+// Walks from row k, where it never finishes, and lists the row at which the walk ends, where that is one of its own.
+// Answers how many rows are listed then.
 fn take_turn(work: &mut [u32], n: usize, k: usize, id: u32, r: usize) -> usize
     requires { ⌜ (Walkable n (now work)) × (k < n) × (0 < id) × (r < n) ⌝ }
     ensures { λ t. ⌜ WalkTaken id (now (work .entry)) k r (now (work .exit)) t ⌝ }
@@ -59,9 +60,11 @@ fn row_of_turn(work: &[u32], n: usize, e: usize, s: usize) -> usize
     }
 }
 
-// Walks from each row that never finishes, by left character, the boundary last, then by rule index. Answers how many pairs are listed.
+// Walks from each row that never finishes, by left character, the boundary last, then by rule index. Answers how many
+// pairs are listed.
 fn walk_rows(work: &mut [u32], n: usize, e: usize) -> usize
-    requires { ⌜ (Encoded n (now work)) × ((m : ℕ) × Settled n (now work) (now work) m) × (WalkOrder n e (now work)) × ((k : ℕ) → k < n → at (now work) k 14 ≡ 0) ⌝ }
+    requires { ⌜ (Encoded n (now work)) × ((m : ℕ) × Settled n (now work) (now work) m)
+        × (WalkOrder n e (now work)) × ((k : ℕ) → k < n → at (now work) k 14 ≡ 0) ⌝ }
     ensures { λ r. ⌜ Listed n (now (work .entry)) (now (work .exit)) r ⌝ }
 {
     let mut r = 0;
@@ -72,7 +75,8 @@ fn walk_rows(work: &mut [u32], n: usize, e: usize) -> usize
     r
 }
 
-// The rows of a font, settled, with its loops listed in numbers 8 of the first rows: at most `room` rows. 1, then 12, with the work all zeros.
+// The rows of a font, settled, with its loops listed in numbers 8 of the first rows: at most `room` rows. 1, then 12,
+// with the work all zeros.
 pub fn find_loops(
     instructions: &[i32],
     kerns: &[i32],
@@ -82,7 +86,11 @@ pub fn find_loops(
     work: &mut [u32],
     room: usize,
 ) -> WalkedFont
-    ensures { λ r. ⌜ ((b : ℤ) → FindsLoops (fontOf (now (instructions .entry)) (now (kerns .entry)) (now (entries .entry)) b «left_entry» «design_size») (min room (length (now (work .entry)) / 16)) (now (work .entry)) (now (work .exit)) r) ⌝ }
+    ensures { λ r. ⌜ ((b : ℤ) →
+        FindsLoops
+        (fontOf (now (instructions .entry)) (now (kerns .entry)) (now (entries .entry)) b «left_entry»
+        «design_size») (min room (length (now (work .entry)) / 16)) (now (work .entry)) (now (work .exit))
+        r) ⌝ }
 {
     match settle(
         instructions,

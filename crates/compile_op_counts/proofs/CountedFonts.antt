@@ -58,12 +58,14 @@ module _ (f : Font) (n m r : ℕ) (w : List ℕ) (g : FontWalked f w n m r) wher
     settled₁ = settled-kept n m w w₁ keeps₁ (g .settled)
 
     -- what the capped total refuses
-    refusal-is : (b : Bool) (opRoom loopRoom : ℕ) → sizesRefusal b total r opRoom loopRoom ≡ sizesRefusal b (totalOps f) (length (loopsOfFont f)) opRoom loopRoom
+    refusal-is : (b : Bool) (opRoom loopRoom : ℕ) →
+        sizesRefusal b total r opRoom loopRoom ≡ sizesRefusal b (totalOps f) (length (loopsOfFont f)) opRoom loopRoom
     refusal-is b opRoom loopRoom =
         (let t = ct .total ∙ ap capped total-is in let l = listed-count r w (g .loops-are) in λ i. sizesRefusal b (t i) (l i) opRoom loopRoom)
         ∙ capped-refusal b (totalOps f) (length (loopsOfFont f)) opRoom loopRoom
 
-    pub refused : (b : Bool) (opRoom loopRoom k : ℕ) (w₂ : List ℕ) → k ≡ sizesRefusal b total r opRoom loopRoom → (k ≡ 0 → ⊥) → w₂ ≡ replicate (length w) 0 → MeasuresBy f b opRoom loopRoom n m r w w₂ (Refused k)
+    pub refused : (b : Bool) (opRoom loopRoom k : ℕ) (w₂ : List ℕ) → k ≡ sizesRefusal b total r opRoom loopRoom → (k ≡ 0 → ⊥) → w₂ ≡ replicate (length w) 0 →
+        MeasuresBy f b opRoom loopRoom n m r w w₂ (Refused k)
     refused b opRoom loopRoom k w₂ e h z = (sym (e ∙ refusal-is b opRoom loopRoom), positive k h, z)
       where
         positive : (j : ℕ) → (j ≡ 0 → ⊥) → 0 < j
@@ -81,7 +83,9 @@ module _ (f : Font) (n m r : ℕ) (w : List ℕ) (g : FontWalked f w n m r) wher
       fits = sym (none ∙ refusal-is b opRoom loopRoom)
 
       small : totalOps f ≤ 2147483647
-      small = leb-true (totalOps f) 2147483647 (small-by b (leb (totalOps f) 2147483647) (leb (2 * totalOps f) opRoom) (leb (2 * length (loopsOfFont f)) loopRoom) fits)
+      small =
+          leb-true (totalOps f) 2147483647
+          (small-by b (leb (totalOps f) 2147483647) (leb (2 * totalOps f) opRoom) (leb (2 * length (loopsOfFont f)) loopRoom) fits)
 
       total-exact : total ≡ totalOps f
       total-exact = ct .total ∙ ap capped total-is ∙ capped-small (totalOps f) small
@@ -160,8 +164,11 @@ module _ (f : Font) (room : Room) (w : List ℕ) (long : room .work ≡ length w
   split : buildRefusal f room ≡ orElse (prepareRefusal f cap) sizes
   split =
       let l = length (pairsOf f) in
-      let e : leb l cap ≡ both (leb l (length w / 16)) (leb l (room .pairs / 6)) = cap-by l (length w / 16) (room .pairs / 6) (leb l (length w / 16)) (leb l (room .pairs / 6)) refl refl in
-      let a : buildRefusal f room ≡ orElse (longRefusal (f .instructions)) (orElse (cond (leb l cap) 0 12) sizes) = (λ i. orElse (longRefusal (f .instructions)) (orElse (cond (both (leb l (long i / 16)) (leb l (room .pairs / 6))) 0 12) sizes)) ∙ ap (λ (b : Bool). orElse (longRefusal (f .instructions)) (orElse (cond b 0 12) sizes)) (sym e) in
+      let e : leb l cap ≡ both (leb l (length w / 16)) (leb l (room .pairs / 6)) = cap-by l (length w / 16) (room .pairs / 6) (leb l (length w / 16))
+      (leb l (room .pairs / 6)) refl refl in
+      let a : buildRefusal f room ≡ orElse (longRefusal (f .instructions)) (orElse (cond (leb l cap) 0 12) sizes) =
+      (λ i. orElse (longRefusal (f .instructions)) (orElse (cond (both (leb l (long i / 16)) (leb l (room .pairs / 6))) 0 12) sizes))
+      ∙ ap (λ (b : Bool). orElse (longRefusal (f .instructions)) (orElse (cond b 0 12) sizes)) (sym e) in
       a ∙ orElse-assoc (longRefusal (f .instructions)) (cond (leb l cap) 0 12) sizes
 
   later : (j : ℕ) → 0 < j → orElse j sizes ≡ j
@@ -173,7 +180,8 @@ module _ (f : Font) (room : Room) (w : List ℕ) (long : room .work ≡ length w
 
   module _ (n m r : ℕ) (b : Bool) (w₁ w₂ : List ℕ) (p : FindsLoopsBy f cap w w₁ (walked.Rows n m r b)) where
     whole : (k : ℕ) → sizesRefusal b (totalOps f) (length (loopsOfFont f)) (room .ops) (room .loops) ≡ k → buildRefusal f room ≡ k
-    whole k e = split ∙ ap (λ (x : ℕ). orElse x sizes) (p .0) ∙ (λ i. sizesRefusal (sym (p .2) i) (totalOps f) (length (loopsOfFont f)) (room .ops) (room .loops)) ∙ e
+    whole k e =
+        split ∙ ap (λ (x : ℕ). orElse x sizes) (p .0) ∙ (λ i. sizesRefusal (sym (p .2) i) (totalOps f) (length (loopsOfFont f)) (room .ops) (room .loops)) ∙ e
 
     pub counts : (c : CountedFont) → MeasuresBy f b (room .ops) (room .loops) n m r w₁ w₂ c → CountsBy f room w w₂ c
     counts (Sizes n′ m′ total r′) q = (whole 0 (q .0), q .1 ∙ p .1, q .2, omega (arith, q .3, p .3), q .4)

@@ -25,7 +25,8 @@ use Rattle.compile_op_counts.specs.Counting.{sizesRefusal}
 pub count-same : (n : ℕ) (w u : List ℕ) → SameRules n w u → (k : ℕ) → k < n → rowOps n u k ≡ rowOps n w k
 count-same n w u s k h = ap (λ o. length (opsOf o)) (outcome-same n w u s k h)
 
-part-by : (f : Finished) (ps : List Ruled) (k n : ℕ) → (k ≡ n) ⊎ (k < n) → (k < n → length (opsOf (entryOf f ps k)) ≤ opsBefore f ps n) → length (opsOf (entryOf f ps k)) ≤ opsBefore f ps n + length (opsOf (entryOf f ps n))
+part-by : (f : Finished) (ps : List Ruled) (k n : ℕ) → (k ≡ n) ⊎ (k < n) → (k < n → length (opsOf (entryOf f ps k)) ≤ opsBefore f ps n) →
+    length (opsOf (entryOf f ps k)) ≤ opsBefore f ps n + length (opsOf (entryOf f ps n))
 part-by f ps k n (inl e) i = rw e (omega arith)
 part-by f ps k n (inr h) i = omega (arith, i h)
 
@@ -40,16 +41,20 @@ capped-small n h = omega arith
 -- one row's ops are at most all of them
 pub row-of-total : (n : ℕ) (w : List ℕ) → (k : ℕ) → k < n → rowOps n w k ≤ opTotal n w
 row-of-total n w k h =
-    let q : entryOf (finishedRows n w) (pairs n w) k ≡ outcome n w k = ap (λ (x : Ruled). finishedRows n w (x .pair .left) (x .pair .right)) (getD-tabulate n (ruledAt w) k (record { pair = record { left = bnd; right = 0 }; index = 0 }) h) in
+    let q : entryOf (finishedRows n w) (pairs n w) k
+    ≡ outcome n w k = ap (λ (x : Ruled). finishedRows n w (x .pair .left) (x .pair .right))
+    (getD-tabulate n (ruledAt w) k (record { pair = record { left = bnd; right = 0 }; index = 0 }) h) in
     rw (← q) (part-of-total (finishedRows n w) (pairs n w) k n h)
 
 -- ---- refusals
 
 -- a capped total refuses as the total does
-pub capped-refusal : (b : Bool) (total loops opRoom loopRoom : ℕ) → sizesRefusal b (capped total) loops opRoom loopRoom ≡ sizesRefusal b total loops opRoom loopRoom
+pub capped-refusal : (b : Bool) (total loops opRoom loopRoom : ℕ) →
+    sizesRefusal b (capped total) loops opRoom loopRoom ≡ sizesRefusal b total loops opRoom loopRoom
 capped-refusal b total loops opRoom loopRoom = by b (less-or-not 2147483647 total)
   where
-    by : (c : Bool) → (2147483647 < total) ⊎ (total ≤ 2147483647) → sizesRefusal c (capped total) loops opRoom loopRoom ≡ sizesRefusal c total loops opRoom loopRoom
+    by : (c : Bool) → (2147483647 < total) ⊎ (total ≤ 2147483647) →
+        sizesRefusal c (capped total) loops opRoom loopRoom ≡ sizesRefusal c total loops opRoom loopRoom
     by false h = refl
     by true (inl h) = rw (lt-leb (capped total) 2147483647 (omega arith), lt-leb total 2147483647 h)
     by true (inr h) = ap (λ (n : ℕ). sizesRefusal true n loops opRoom loopRoom) (capped-small total h)

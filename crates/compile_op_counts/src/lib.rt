@@ -1,5 +1,5 @@
-// The fourth stage of compiling: how many ops each pair has, and where they begin, in passes over settled rows; what of the refusals 13 to 15 that tells.
-// specs/Rows.antt of crate `pairs` says what a row holds.
+// The fourth stage of compiling: how many ops each pair has, and where they begin, in passes over settled rows; what of
+// the refusals 13 to 15 that tells. specs/Rows.antt of crate `pairs` says what a row holds.
 ghost use mathlib.Core.Path.{_≡_};
 ghost use Prim.Native.Nat.{ℕ, _+_, _<_};
 ghost use lib.ListN.{length};
@@ -47,8 +47,8 @@ fn part_count(work: &[u32], part: Part) -> u32
     }
 }
 
-// How many ops row k has, by the counts of the rows that it consults. A kern, which most rows have, consults none: it follows its left, if that is a
-// character.
+// How many ops row k has, by the counts of the rows that it consults. A kern, which most rows have, consults none: it
+// follows its left, if that is a character.
 fn row_count(work: &[u32], n: usize, k: usize) -> u32
     requires { ⌜ (Encoded n (now work)) × (k < n) × LastFits n (now work) k ⌝ }
     ensures { λ r. ⌜ r ≡ rowCount n (now (work .entry)) k ⌝ }
@@ -76,7 +76,8 @@ fn zero_counts(work: &mut [u32], n: usize)
 
 // The op count of each row that finishes, in the order in which rows finished.
 fn count_rows(work: &mut [u32], n: usize, m: usize)
-    requires { ⌜ (Encoded n (now work)) × (Settled n (now work) (now work) m) × ((k : ℕ) → k < n → at (now work) k 12 ≡ 0) ⌝ }
+    requires { ⌜ (Encoded n (now work)) × (Settled n (now work) (now work) m)
+        × ((k : ℕ) → k < n → at (now work) k 12 ≡ 0) ⌝ }
     ensures { λ _. ⌜ OpsCounted n (now (work .entry)) (now (work .exit)) ⌝ }
 {
     for i in 0..m {
@@ -110,7 +111,8 @@ fn count_ops(work: &mut [u32], n: usize, m: usize) -> u32
 
 // The first op of each row, in the order of rows.
 fn first_ops(work: &mut [u32], n: usize, m: usize)
-    requires { ⌜ (Encoded n (now work)) × (Settled n (now work) (now work) m) × (Exact n (now work)) × (opTotal n (now work) < 2147483648) ⌝ }
+    requires { ⌜ (Encoded n (now work)) × (Settled n (now work) (now work) m) × (Exact n (now work))
+        × (opTotal n (now work) < 2147483648) ⌝ }
     ensures { λ _. ⌜ Firsts n (now (work .entry)) (now (work .exit)) ⌝ }
 {
     let mut total = 0;
@@ -151,7 +153,8 @@ fn measure(
     loop_room: usize,
 ) -> CountedFont
     requires { ⌜ ((f : Font) × FontWalked f (now work) n m r) ⌝ }
-    ensures { λ c. ⌜ ((f : Font) → FontWalked f (now (work .entry)) n m r → MeasuresBy f scaled «op_room» «loop_room» n m r (now (work .entry)) (now (work .exit)) c) ⌝ }
+    ensures { λ c. ⌜ ((f : Font) → FontWalked f (now (work .entry)) n m r →
+        MeasuresBy f scaled «op_room» «loop_room» n m r (now (work .entry)) (now (work .exit)) c) ⌝ }
 {
     let total = count_ops(work, n, m);
     let number = sizes_refusal(scaled, total, r, op_room, loop_room);
@@ -163,7 +166,8 @@ fn measure(
     CountedFont::Sizes(n, m, total, r)
 }
 
-// The rows of a font, with their loops listed and their ops counted, for lists of so many numbers. 1, then 12 to 15, with the work all zeros.
+// The rows of a font, with their loops listed and their ops counted, for lists of so many numbers. 1, then 12 to 15,
+// with the work all zeros.
 pub fn count(
     instructions: &[i32],
     kerns: &[i32],
@@ -175,7 +179,11 @@ pub fn count(
     op_room: usize,
     loop_room: usize,
 ) -> CountedFont
-    ensures { λ r. ⌜ ((b : ℤ) → CountsFont (fontOf (now (instructions .entry)) (now (kerns .entry)) (now (entries .entry)) b «left_entry» «design_size») (roomOf «pair_room» «op_room» «loop_room» (length (now (work .entry)))) (now (work .entry)) (now (work .exit)) r) ⌝ }
+    ensures { λ r. ⌜ ((b : ℤ) →
+        CountsFont
+        (fontOf (now (instructions .entry)) (now (kerns .entry)) (now (entries .entry)) b «left_entry»
+        «design_size») (roomOf «pair_room» «op_room» «loop_room» (length (now (work .entry))))
+        (now (work .entry)) (now (work .exit)) r) ⌝ }
 {
     match find_loops(
         instructions,

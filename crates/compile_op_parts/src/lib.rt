@@ -1,5 +1,6 @@
-// The parts that a row's ops are made of, over settled rows: counting and writing both go by them. What they are is said in specs/OpSteps.antt of crate
-// `pairs`, after lines 171 to 398 of ligkern/compiler.rs. Each function answers for any rows, and what it promises is of rows whose rules are written.
+// The parts that a row's ops are made of, over settled rows: counting and writing both go by them. What they are is
+// said in specs/OpSteps.antt of crate `pairs`, after lines 171 to 398 of ligkern/compiler.rs. Each function answers for
+// any rows, and what it promises is of rows whose rules are written.
 ghost use mathlib.Core.Path.{_≡_};
 ghost use Prim.Native.Nat.{_+_, _<_};
 ghost use Rattle.compiling.specs.Rows.{Ascending, Encoded};
@@ -22,7 +23,8 @@ fn left_part(left: u32) -> Part
 
 // The ops of a pair: those of its row; where it has none, its left finished.
 fn pair_part(work: &[u32], n: usize, left: u32, right: u32) -> Part
-    ensures { λ r. ⌜ (Ascending n (now (work .entry)) → right < 256 → r ≡ pairPart n (now (work .entry)) left right) ⌝ }
+    ensures { λ r. ⌜ (Ascending n (now (work .entry)) → right < 256 →
+        r ≡ pairPart n (now (work .entry)) left right) ⌝ }
 {
     match find(work, n, left, right) {
         Row::Found(k) => Part::OfRow(k),
@@ -32,7 +34,8 @@ fn pair_part(work: &[u32], n: usize, left: u32, right: u32) -> Part
 
 // The code of a pair's last: its row's; where it has none, its right's.
 fn last_code(work: &[u32], n: usize, left: u32, right: u32) -> u32
-    ensures { λ r. ⌜ (Ascending n (now (work .entry)) → right < 256 → r ≡ rowLastCode n (now (work .entry)) left right) ⌝ }
+    ensures { λ r. ⌜ (Ascending n (now (work .entry)) → right < 256 →
+        r ≡ rowLastCode n (now (work .entry)) left right) ⌝ }
 {
     match find(work, n, left, right) {
         Row::Found(k) => get(work, k, 6),
@@ -68,7 +71,8 @@ pub fn first_part(work: &[u32], n: usize, k: usize) -> Part
 
 // What follows it, with its first character a ligature.
 pub fn second_part(work: &[u32], n: usize, k: usize) -> Part
-    ensures { λ r. ⌜ (Encoded n (now (work .entry)) → k < n → LastFits n (now (work .entry)) k → r ≡ secondPart n (now (work .entry)) k) ⌝ }
+    ensures { λ r. ⌜ (Encoded n (now (work .entry)) → k < n → LastFits n (now (work .entry)) k →
+        r ≡ secondPart n (now (work .entry)) k) ⌝ }
 {
     let op = get(work, k, 3);
     let left = get(work, k, 0);

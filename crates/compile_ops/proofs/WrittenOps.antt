@@ -53,10 +53,12 @@ module _ (f : Font) (pairRoom loopRoom : ℕ) (ops z : List ℤ) (w w₁ : List 
   long : length z ≡ length ops
   long = ap length blank ∙ length-replicate (length ops) (pos 0)
 
-  counted : (c : CountedFont) → CountsBy f (roomOf pairRoom (length z) loopRoom (length w)) w w₁ c → CountsBy f (roomOf pairRoom (length ops) loopRoom (length w)) w w₁ c
+  counted : (c : CountedFont) → CountsBy f (roomOf pairRoom (length z) loopRoom (length w)) w w₁ c →
+      CountsBy f (roomOf pairRoom (length ops) loopRoom (length w)) w w₁ c
   counted c = subst (λ (k : ℕ). CountsBy f (roomOf pairRoom k loopRoom (length w)) w w₁ c) long
 
-  writes : (ops′ : List ℤ) (c : CountedFont) → CountsBy f (roomOf pairRoom (length z) loopRoom (length w)) w w₁ c → OpsBy f ops ops′ c → WritesOps f pairRoom loopRoom ops w ops′ w₁ c
+  writes : (ops′ : List ℤ) (c : CountedFont) → CountsBy f (roomOf pairRoom (length z) loopRoom (length w)) w w₁ c → OpsBy f ops ops′ c →
+      WritesOps f pairRoom loopRoom ops w ops′ w₁ c
   writes ops′ c p o =
       let d = counted c p in
       record { reply = counted-reply f (roomOf pairRoom (length ops) loopRoom (length w)) w w₁ c d; written = o; rows = d }

@@ -1,5 +1,6 @@
-// The fifth stage of compiling: the ops as numbers, in a pass over the rows in the order in which they finished, each copied from rows written before.
-// After lines 171 to 398 of ligkern/compiler.rs. specs/Rows.antt of crate `pairs` says what a row holds.
+// The fifth stage of compiling: the ops as numbers, in a pass over the rows in the order in which they finished, each
+// copied from rows written before. After lines 171 to 398 of ligkern/compiler.rs. specs/Rows.antt of crate `pairs` says
+// what a row holds.
 ghost use mathlib.Core.Path.{_≡_};
 ghost use mathlib.Core.List.{List, [], _∷_};
 ghost use Prim.Native.Nat.{_+_, _*_, _<_, _≤_};
@@ -13,7 +14,8 @@ ghost use Rattle.fonts.specs.Fonts.{fontOf};
 ghost use Rattle.fonts.specs.Numbers.{opsOf, opNumbers};
 ghost use Rattle.compiling.specs.SettledRows.{outcome};
 ghost use Rattle.compiling.specs.OpRows.{Ready, opTotal, opsWritten};
-ghost use Rattle.compiling.specs.OpSteps.{raisedOuts, OpsAt, Apart, opsPlace, opsSize, Copies, PartFits, PartWritten, ToWrite, firstPart, secondPart, LastFits};
+ghost use Rattle.compiling.specs.OpSteps.{raisedOuts, OpsAt, Apart, opsPlace, opsSize, Copies, PartFits, PartWritten};
+ghost use Rattle.compiling.specs.OpSteps.{ToWrite, firstPart, secondPart, LastFits};
 ghost use Rattle.compiling.specs.Rows.{Encoded};
 ghost use Rattle.compile_ops.specs.WritesOps.{WritesOps};
 use compile_op_counts::count;
@@ -27,7 +29,8 @@ use words::zero::zero_i32;
 // An op at place p. Answers the place after it.
 fn put_op(ops: &mut [i32], p: usize, kind: u32, value: u32) -> usize
     requires { ⌜ p + 2 ≤ length (now ops) ⌝ }
-    ensures { λ r. ⌜ (r ≡ p + 2) × (now (ops .exit) ≡ sets (now (ops .entry)) p (numberOf kind ∷ numberOf value ∷ [])) ⌝ }
+    ensures { λ r. ⌜ (r ≡ p + 2)
+        × (now (ops .exit) ≡ sets (now (ops .entry)) p (numberOf kind ∷ numberOf value ∷ [])) ⌝ }
 {
     words::put_word(ops, p, kind);
     words::put_word(ops, p + 1, value);
@@ -36,7 +39,8 @@ fn put_op(ops: &mut [i32], p: usize, kind: u32, value: u32) -> usize
 
 // The numbers from one place on, copied to another.
 fn copy_numbers(ops: &mut [i32], from: usize, to: usize, count: usize)
-    requires { ⌜ (from + count ≤ length (now ops)) × (to + count ≤ length (now ops)) × (Apart from to count) ⌝ }
+    requires { ⌜ (from + count ≤ length (now ops)) × (to + count ≤ length (now ops))
+        × (Apart from to count) ⌝ }
     ensures { λ _. ⌜ now (ops .exit) ≡ sets (now (ops .entry)) to (take count (drop from (now (ops .entry)))) ⌝ }
 {
     for i in 0..count {
@@ -48,7 +52,9 @@ fn copy_numbers(ops: &mut [i32], from: usize, to: usize, count: usize)
 // The ops of row k, copied to place p. Answers the place after them.
 fn copy_row(work: &[u32], k: usize, ops: &mut [i32], p: usize) -> usize
     requires { ⌜ Copies (now work) (now ops) p k ⌝ }
-    ensures { λ r. ⌜ (r ≡ p + opsSize (now (work .entry)) k) × (now (ops .exit) ≡ sets (now (ops .entry)) p (take (opsSize (now (work .entry)) k) (drop (opsPlace (now (work .entry)) k) (now (ops .entry))))) ⌝ }
+    ensures { λ r. ⌜ (r ≡ p + opsSize (now (work .entry)) k)
+        × (now (ops .exit) ≡ sets (now (ops .entry)) p
+        (take (opsSize (now (work .entry)) k) (drop (opsPlace (now (work .entry)) k) (now (ops .entry))))) ⌝ }
 {
     let from = 2 * (get(work, k, 13) as usize);
     let count = 2 * (get(work, k, 12) as usize);
@@ -73,7 +79,8 @@ fn write_part(work: &[u32], part: Part, ops: &mut [i32], p: usize) -> usize
 // The first character op from one place on, before another, becomes a ligature.
 fn raise_first(ops: &mut [i32], from: usize, to: usize)
     requires { ⌜ to ≤ length (now ops) ⌝ }
-    ensures { λ _. ⌜ ((os : List Out) → OpsAt (now (ops .entry)) from to os → now (ops .exit) ≡ sets (now (ops .entry)) from (opNumbers (raisedOuts os))) ⌝ }
+    ensures { λ _. ⌜ ((os : List Out) → OpsAt (now (ops .entry)) from to os →
+        now (ops .exit) ≡ sets (now (ops .entry)) from (opNumbers (raisedOuts os))) ⌝ }
 {
     let mut i = from;
     while i < to {
@@ -85,10 +92,12 @@ fn raise_first(ops: &mut [i32], from: usize, to: usize)
     }
 }
 
-// The first part of row k's ops at place p. Answers the place after it. Of a kern, which most rows have, it is its left.
+// The first part of row k's ops at place p. Answers the place after it. Of a kern, which most rows have, it is its
+// left.
 fn write_first(work: &[u32], n: usize, k: usize, ops: &mut [i32], p: usize) -> usize
     requires { ⌜ (Encoded n (now work)) × (k < n) × PartFits (now work) (now ops) p (firstPart n (now work) k) ⌝ }
-    ensures { λ r. ⌜ PartWritten (now (work .entry)) (now (ops .entry)) (now (ops .exit)) p r (firstPart n (now (work .entry)) k) ⌝ }
+    ensures { λ r. ⌜ PartWritten (now (work .entry)) (now (ops .entry)) (now (ops .exit)) p r
+        (firstPart n (now (work .entry)) k) ⌝ }
 {
     if get(work, k, 3) != 128 {
         return write_part(work, first_part(work, n, k), ops, p);
@@ -102,8 +111,10 @@ fn write_first(work: &[u32], n: usize, k: usize, ops: &mut [i32], p: usize) -> u
 
 // The second part, of a kern the kern itself.
 fn write_second(work: &[u32], n: usize, k: usize, ops: &mut [i32], p: usize) -> usize
-    requires { ⌜ (Encoded n (now work)) × (k < n) × (LastFits n (now work) k) × PartFits (now work) (now ops) p (secondPart n (now work) k) ⌝ }
-    ensures { λ r. ⌜ PartWritten (now (work .entry)) (now (ops .entry)) (now (ops .exit)) p r (secondPart n (now (work .entry)) k) ⌝ }
+    requires { ⌜ (Encoded n (now work)) × (k < n) × (LastFits n (now work) k)
+        × PartFits (now work) (now ops) p (secondPart n (now work) k) ⌝ }
+    ensures { λ r. ⌜ PartWritten (now (work .entry)) (now (ops .entry)) (now (ops .exit)) p r
+        (secondPart n (now (work .entry)) k) ⌝ }
 {
     if get(work, k, 3) != 128 {
         return write_part(work, second_part(work, n, k), ops, p);
@@ -115,7 +126,8 @@ fn write_second(work: &[u32], n: usize, k: usize, ops: &mut [i32], p: usize) -> 
 // The ops of row k, which finishes, at its first op.
 fn write_row(work: &[u32], n: usize, k: usize, ops: &mut [i32])
     requires { ⌜ ToWrite n (now work) (now ops) k ⌝ }
-    ensures { λ _. ⌜ now (ops .exit) ≡ sets (now (ops .entry)) (opsPlace (now (work .entry)) k) (opNumbers (opsOf (outcome n (now (work .entry)) k))) ⌝ }
+    ensures { λ _. ⌜ now (ops .exit) ≡ sets (now (ops .entry)) (opsPlace (now (work .entry)) k)
+        (opNumbers (opsOf (outcome n (now (work .entry)) k))) ⌝ }
 {
     let from = 2 * (get(work, k, 13) as usize);
     let next = write_first(work, n, k, ops, from);
@@ -125,8 +137,10 @@ fn write_row(work: &[u32], n: usize, k: usize, ops: &mut [i32])
 
 // The ops of each finished row at its first op, in the order in which rows finished, copied from rows written before.
 fn write_rows(work: &[u32], n: usize, m: usize, ops: &mut [i32])
-    requires { ⌜ (Ready n m (now work)) × (2 * opTotal n (now work) ≤ length (now ops)) × (now ops ≡ replicate (length (now ops)) (pos 0)) ⌝ }
-    ensures { λ _. ⌜ now (ops .exit) ≡ padded (pos 0) (length (now (ops .entry))) (opsWritten n (now (work .entry))) ⌝ }
+    requires { ⌜ (Ready n m (now work)) × (2 * opTotal n (now work) ≤ length (now ops))
+        × (now ops ≡ replicate (length (now ops)) (pos 0)) ⌝ }
+    ensures { λ _. ⌜ now (ops .exit) ≡ padded (pos 0) (length (now (ops .entry)))
+        (opsWritten n (now (work .entry))) ⌝ }
 {
     for i in 0..m {
         let k = get(work, i, 10) as usize;
@@ -134,8 +148,8 @@ fn write_rows(work: &[u32], n: usize, m: usize, ops: &mut [i32])
     }
 }
 
-// The rows of a font, counted, and its ops, written: for a pair table and a loop list of so many numbers. 1, then 12 to 15, with the work and the ops all
-// zeros.
+// The rows of a font, counted, and its ops, written: for a pair table and a loop list of so many numbers. 1, then 12 to
+// 15, with the work and the ops all zeros.
 pub fn write_ops(
     instructions: &[i32],
     kerns: &[i32],
@@ -147,7 +161,11 @@ pub fn write_ops(
     pair_room: usize,
     loop_room: usize,
 ) -> CountedFont
-    ensures { λ r. ⌜ ((b : ℤ) → WritesOps (fontOf (now (instructions .entry)) (now (kerns .entry)) (now (entries .entry)) b «left_entry» «design_size») «pair_room» «loop_room» (now (ops .entry)) (now (work .entry)) (now (ops .exit)) (now (work .exit)) r) ⌝ }
+    ensures { λ r. ⌜ ((b : ℤ) →
+        WritesOps
+        (fontOf (now (instructions .entry)) (now (kerns .entry)) (now (entries .entry)) b «left_entry»
+        «design_size») «pair_room» «loop_room» (now (ops .entry)) (now (work .entry)) (now (ops .exit))
+        (now (work .exit)) r) ⌝ }
 {
     zero_i32(ops);
     let room = ops.len();

@@ -39,14 +39,16 @@ pub encodes-as : (s kerns : List ℤ) (d d′ : ℤ) (n : ℕ) (w w′ : List �
 encodes-as s kerns d d′ n w w′ r e q = subst (λ (x : ℤ). Encodes s kerns x n w w′ r) q e
 
 -- what collecting answers, at the left entry as it was lent
-pub collects-as : (s : List ℤ) (table : ℤ → List ℤ) (l l′ : ℤ) (cap : ℕ) (w w′ : List ℕ) (u t : Collected) → CollectsFont s (table l) cap w w′ u → u ≡ t → l ≡ l′ → CollectsFont s (table l′) cap w w′ t
+pub collects-as : (s : List ℤ) (table : ℤ → List ℤ) (l l′ : ℤ) (cap : ℕ) (w w′ : List ℕ) (u t : Collected) → CollectsFont s (table l) cap w w′ u → u ≡ t →
+    l ≡ l′ → CollectsFont s (table l′) cap w w′ t
 collects-as s table l l′ cap w w′ u t h e q = subst (λ (x : ℤ). CollectsFont s (table x) cap w w′ t) q (subst (CollectsFont s (table l) cap w w′) e h)
 
 module _ (f : Font) (cap : ℕ) (w : List ℕ) where
   pub unfit : (k : ℕ) (w₁ : List ℕ) → CollectsFontBy (f .instructions) (tableOf f) cap w w₁ (collected.Refused k) → PreparesBy f cap w w₁ (Refused k)
   unfit k w₁ c = c
 
-  module _ (n e : ℕ) (w₁ w₂ : List ℕ) (q : CollectsFontBy (f .instructions) (tableOf f) cap w w₁ (collected.Rows n e)) (b : Bool) (d : Encodes (f .instructions) (f .kerns) (f .design) n w₁ w₂ b) where
+  module _ (n e : ℕ) (w₁ w₂ : List ℕ) (q : CollectsFontBy (f .instructions) (tableOf f) cap w w₁ (collected.Rows n e)) (b : Bool)
+      (d : Encodes (f .instructions) (f .kerns) (f .design) n w₁ w₂ b) where
     abbrev c : Collects (f .instructions) (tableOf f) w w₁ n e
     c = q .2
 
@@ -59,7 +61,8 @@ module _ (f : Font) (cap : ℕ) (w : List ℕ) where
     turns : WalkOrder n e w₂
     turns =
         let r = d .written in
-        turns-same n e w₁ w₂ (λ k g h l. r .same k g (omega arith) (λ i. omega arith) (λ i. omega arith)) (λ k h. r .same k 15 (omega arith) (λ i. omega arith) (λ i. omega arith)) (c .turns)
+        turns-same n e w₁ w₂ (λ k g h l. r .same k g (omega arith) (λ i. omega arith) (λ i. omega arith))
+        (λ k h. r .same k 15 (omega arith) (λ i. omega arith) (λ i. omega arith)) (c .turns)
 
     -- a number that is neither a pair's nor a rule's
     blank : (k g : ℕ) → k < n → 4 < g → g < 15 → at w₂ k g ≡ 0
@@ -72,7 +75,8 @@ module _ (f : Font) (cap : ℕ) (w : List ℕ) where
     numbers : w₂ ≡ padded 0 (length w) (fontRowNumbers f)
     numbers =
         let r = d .written in
-        rows-are (pairsOf f) n e w₂ (ascending f w w₁ w₂ n e c r) (c .all) (ruled-tied f w w₁ w₂ n e c r) turns (λ k. pairEffect f k .op) (λ k. pairEffect f k .value)
+        rows-are (pairsOf f) n e w₂ (ascending f w w₁ w₂ n e c r) (c .all) (ruled-tied f w w₁ w₂ n e c r) turns (λ k. pairEffect f k .op)
+        (λ k. pairEffect f k .value)
         (λ k h. r .op k h ∙ ap (λ (x : Effect). x .op) (effect-same k h))
         (λ k h. r .value k h ∙ ap (λ (x : Effect). x .value) (effect-same k h))
         blank

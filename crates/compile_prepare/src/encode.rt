@@ -1,4 +1,5 @@
-// What each row's rule does: its op byte and inserted character, or 128 and its scaled kern. After lines 171 to 224 of ligkern/compiler.rs.
+// What each row's rule does: its op byte and inserted character, or 128 and its scaled kern. After lines 171 to 224 of
+// ligkern/compiler.rs.
 ghost use mathlib.Core.Path.{_≡_};
 ghost use Rattle.tfm.specs.Scaled.{toScaled};
 ghost use Rattle.lang.specs.Every.{both};
@@ -86,7 +87,8 @@ pub(crate) fn encode(
     n: usize,
 ) -> bool
     requires { ⌜ Ascending n (now work) ⌝ }
-    ensures { λ r. ⌜ Encodes (now (instructions .entry)) (now (kerns .entry)) «design_size» n (now (work .entry)) (now (work .exit)) r ⌝ }
+    ensures { λ r. ⌜ Encodes (now (instructions .entry)) (now (kerns .entry)) «design_size» n
+        (now (work .entry)) (now (work .exit)) r ⌝ }
 {
     let mut scaled = true;
     let mut k = 0;

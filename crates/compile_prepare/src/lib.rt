@@ -1,5 +1,6 @@
-// The first stage of compiling, after ligkern/compiler.rs (reference `CompiledProgram::compile`, lines 113 to 224): the rows of a font in the work buffer;
-// specs/Rows.antt of crate `pairs` says what a row holds. Crate `collect` writes the pairs that have a rule, and `encode` what their rules do.
+// The first stage of compiling, after ligkern/compiler.rs (reference `CompiledProgram::compile`, lines 113 to 224): the
+// rows of a font in the work buffer; specs/Rows.antt of crate `pairs` says what a row holds. Crate `collect` writes the
+// pairs that have a rule, and `encode` what their rules do.
 ghost use Prim.Native.Nat.{_/_, min};
 ghost use lib.ListN.{length};
 ghost use lib.IntN.{ℤ};
@@ -12,8 +13,9 @@ use crate::encode::encode;
 use compiling::Collected;
 use compiling::Prepared;
 
-// The rows of a font, with their rules, in a work buffer of sixteen u32 a pair: at most `room` of them. 1 where there are over 32,767 instructions, then 12,
-// with the work all zeros. Answers also whether every kern that is a rule scales.
+// The rows of a font, with their rules, in a work buffer of sixteen u32 a pair: at most `room` of them. 1 where there
+// are over 32,767 instructions, then 12, with the work all zeros. Answers also whether every kern that is a rule
+// scales.
 pub fn prepare(
     instructions: &[i32],
     kerns: &[i32],
@@ -23,7 +25,11 @@ pub fn prepare(
     work: &mut [u32],
     room: usize,
 ) -> Prepared
-    ensures { λ r. ⌜ ((b : ℤ) → Prepares (fontOf (now (instructions .entry)) (now (kerns .entry)) (now (entries .entry)) b «left_entry» «design_size») (min room (length (now (work .entry)) / 16)) (now (work .entry)) (now (work .exit)) r) ⌝ }
+    ensures { λ r. ⌜ ((b : ℤ) →
+        Prepares
+        (fontOf (now (instructions .entry)) (now (kerns .entry)) (now (entries .entry)) b «left_entry»
+        «design_size») (min room (length (now (work .entry)) / 16)) (now (work .entry)) (now (work .exit))
+        r) ⌝ }
 {
     match compile_collect::collect(instructions, entries, left_entry, work, room) {
         Collected::Refused(number) => Prepared::Refused(number),

@@ -1,4 +1,5 @@
-// Rows of the work buffer of compiling: one number read or stored, and the row of a pair by bisection. specs/Rows.antt of crate `pairs` says what a row holds.
+// Rows of the work buffer of compiling: one number read or stored, and the row of a pair by bisection. specs/Rows.antt
+// of crate `pairs` says what a row holds.
 ghost use mathlib.Core.Path.{_≡_};
 ghost use Prim.Native.Nat.{_+_, _*_, _<_};
 ghost use lib.ListN.{set};
@@ -33,9 +34,11 @@ fn key(work: &[u32], k: usize) -> u64
     256 * left + right
 }
 
-// The row of the pair of a left (0 the boundary, else 1 + character) and a right character among the first n rows, where these ascend.
+// The row of the pair of a left (0 the boundary, else 1 + character) and a right character among the first n rows,
+// where these ascend.
 pub fn find(work: &[u32], n: usize, left: u32, right: u32) -> Row
-    ensures { λ r. ⌜ (Ascending n (now (work .entry)) → right < 256 → r ≡ foundRow (rowOf (now (work .entry)) n left right)) ⌝ }
+    ensures { λ r. ⌜ (Ascending n (now (work .entry)) → right < 256 →
+        r ≡ foundRow (rowOf (now (work .entry)) n left right)) ⌝ }
 {
     let wanted = 256 * (left as u64) + (right as u64);
     let mut lo = 0;

@@ -30,4 +30,5 @@ module _ (n m k : ℕ) (w w₁ : List ℕ) (s : Searching n w 0 m) (l : k < n) (
       let says : RuleSays n w₁ k (Known right 0) = row-plain n w₁ k right c small (inr (inr (sym a ∙ b))) in
       let g = going-begin n m k w w₁ s l e i in
       let t = turned-finish n m w₁ k (Known right 0) says 1 right 0 v (omega arith) began on-path refl f in
-      going-end n m k w w₁ s l e i v (record { path = 0; done = m + 1 }) (going-more n k w₁ w₁ v (record { path = 1; done = m }) (record { path = 0; done = m + 1 }) l g t) (omega arith)
+      going-end n m k w w₁ s l e i v (record { path = 0; done = m + 1 })
+      (going-more n k w₁ w₁ v (record { path = 1; done = m }) (record { path = 0; done = m + 1 }) l g t) (omega arith)

@@ -1,6 +1,7 @@
-// The second stage of compiling: which pairs finish, with which last, and what the others wait for: a depth-first search, after TFtoPL 94 and 95 and
-// `calculate_replacements` of ligkern/compiler.rs (lines 162 to 398). Linear in the rows, times a bisection. The path, from the row that the search began
-// with to the one that it looks at, stands in numbers 8 of the first rows; specs/Rows.antt of crate `pairs` says what a row holds.
+// The second stage of compiling: which pairs finish, with which last, and what the others wait for: a depth-first
+// search, after TFtoPL 94 and 95 and `calculate_replacements` of ligkern/compiler.rs (lines 162 to 398). Linear in the
+// rows, times a bisection. The path, from the row that the search began with to the one that it looks at, stands in
+// numbers 8 of the first rows; specs/Rows.antt of crate `pairs` says what a row holds.
 ghost use mathlib.Core.Path.{_≡_};
 ghost use Prim.Native.Nat.{ℕ, _/_, _<_, min};
 ghost use lib.ListN.{length};
@@ -8,7 +9,8 @@ ghost use lib.IntN.{ℤ};
 ghost use Rattle.compiling.specs.Rows.{at, Ascending, Encoded};
 ghost use Rattle.fonts.specs.Fonts.{leftOf, fontOf};
 ghost use Rattle.compiling.specs.SettledRows.{Settled};
-ghost use Rattle.compiling.specs.SettleSteps.{LastsStored, PairSays, RuleSays, SecondSays, flagged, codeOf, Searching, Opened, Stuck, opening, finishing, GivenUp, Advanced, Searched};
+ghost use Rattle.compiling.specs.SettleSteps.{LastsStored, PairSays, RuleSays, SecondSays, flagged, codeOf, Searching};
+ghost use Rattle.compiling.specs.SettleSteps.{Opened, Stuck, opening, finishing, GivenUp, Advanced, Searched};
 ghost use Rattle.compile_settle.specs.Settles.{Settles};
 use compile_prepare::prepare;
 use compile_rows::find;
@@ -154,7 +156,8 @@ fn turn(work: &mut [u32], n: usize, p: Progress) -> Progress
     }
 }
 
-// All that is met from row k, which is new. m rows have finished before; answers how many have then. A kern, which most rows have, waits for nothing.
+// All that is met from row k, which is new. m rows have finished before; answers how many have then. A kern, which most
+// rows have, waits for nothing.
 fn search(work: &mut [u32], n: usize, k: usize, m: usize) -> usize
     requires { ⌜ (Searching n (now work) 0 m) × (k < n) × (at (now work) k 5 ≡ 0) ⌝ }
     ensures { λ r. ⌜ Searched n (now (work .entry)) (now (work .exit)) k r ⌝ }
@@ -188,7 +191,8 @@ fn settle_rows(work: &mut [u32], n: usize) -> usize
     m
 }
 
-// The rows of a font, settled: at most `room` of them. 1, then 12, with the work all zeros. Answers also whether every kern that is a rule scales.
+// The rows of a font, settled: at most `room` of them. 1, then 12, with the work all zeros. Answers also whether every
+// kern that is a rule scales.
 pub fn settle(
     instructions: &[i32],
     kerns: &[i32],
@@ -198,7 +202,11 @@ pub fn settle(
     work: &mut [u32],
     room: usize,
 ) -> SettledFont
-    ensures { λ r. ⌜ ((b : ℤ) → Settles (fontOf (now (instructions .entry)) (now (kerns .entry)) (now (entries .entry)) b «left_entry» «design_size») (min room (length (now (work .entry)) / 16)) (now (work .entry)) (now (work .exit)) r) ⌝ }
+    ensures { λ r. ⌜ ((b : ℤ) →
+        Settles
+        (fontOf (now (instructions .entry)) (now (kerns .entry)) (now (entries .entry)) b «left_entry»
+        «design_size») (min room (length (now (work .entry)) / 16)) (now (work .entry)) (now (work .exit))
+        r) ⌝ }
 {
     match prepare(
         instructions,

@@ -30,7 +30,9 @@ use Rattle.tfm.proofs.ToScaled.{the-type as scaled-type}
 use Rattle.lang.specs.declared.operation.Operation.{Operation}
 use Rattle.lang.specs.declared.operation.Operation.the-variants.{Kern, KernAtIndex, Ligature, EntrypointRedirect}
 use Rattle.lang.specs.declared.operation.PostLigOperation.{PostLigOperation}
-use Rattle.lang.specs.declared.operation.PostLigOperation.the-variants.{RetainBothMoveNowhere, RetainBothMoveToInserted, RetainBothMoveToRight, RetainRightMoveToInserted, RetainRightMoveToRight, RetainLeftMoveNowhere, RetainLeftMoveToInserted, RetainNeitherMoveToInserted}
+use Rattle.lang.specs.declared.operation.PostLigOperation.the-variants.{RetainBothMoveNowhere, RetainBothMoveToInserted, RetainBothMoveToRight}
+use Rattle.lang.specs.declared.operation.PostLigOperation.the-variants.{RetainRightMoveToInserted, RetainRightMoveToRight, RetainLeftMoveNowhere}
+use Rattle.lang.specs.declared.operation.PostLigOperation.the-variants.{RetainLeftMoveToInserted, RetainNeitherMoveToInserted}
 use Rattle.lang.specs.Every.{both, every}
 use Rattle.lang.specs.Records.{field, instructionAt}
 use Rattle.lang.specs.Operations.{isStandard, fromBytes, ligature}
@@ -58,7 +60,9 @@ kern-unscaled TooLarge h = refl
 
 -- a scaled value is an i32
 module _ (m : Multiplier) (h : Below m) (b c d : ℕ) (v : ℤ) where
-  scaled-by : (s t : Bool) → cond s (Scaled (pos (lowBytes m (b % 256) (c % 256) (d % 256)))) (cond t (Scaled (pos (lowBytes m (b % 256) (c % 256) (d % 256)) -ℤ pos (m .alpha * m .z))) TooLarge) ≡ Scaled v → SFits w32 v
+  scaled-by : (s t : Bool) →
+      cond s (Scaled (pos (lowBytes m (b % 256) (c % 256) (d % 256))))
+      (cond t (Scaled (pos (lowBytes m (b % 256) (c % 256) (d % 256)) -ℤ pos (m .alpha * m .z))) TooLarge) ≡ Scaled v → SFits w32 v
   scaled-by true t e =
       let i : pos (lowBytes m (b % 256) (c % 256) (d % 256)) ≡ v = cc in
       subst (SFits w32) i (record { sfits = low-bytes-below m h b c d })
@@ -72,7 +76,8 @@ unfolding toScaled
 scaled-fits k (negsuc n) v f e = absurd (let z : _≡_ {A = ℕ} 0 1 = cc in omega arith)
 scaled-fits k (pos n) v f e =
     let w = wordOf k in
-    scaled-by (multiplier (n / 16)) (multiplier-halved (n / 16) (omega (arith, f .sfits)) .below) (w / 65536) (w / 256) w v (eqb (w / 16777216) 0) (eqb (w / 16777216) 255) e
+    scaled-by (multiplier (n / 16)) (multiplier-halved (n / 16) (omega (arith, f .sfits)) .below) (w / 65536) (w / 256) w v (eqb (w / 16777216) 0)
+    (eqb (w / 16777216) 255) e
 
 kern-rule : (x : ToScaled) → ((v : ℤ) → x ≡ Scaled v → SFits w32 v) → ruleOf (kernEffect x .op) (kernEffect x .value) ≡ scaledKern x
 kern-rule (Scaled v) f = ap kerned (number-word v (f v refl))
@@ -113,10 +118,12 @@ byte-fits RetainNeitherMoveToInserted v = refl
 
 -- ---- the numbers of an operation
 
-pub kern-effect-is : (design d : ℤ) (o : Operation) (k : FixWord) (x : Effect) → d ≡ design → o ≡ Kern k → x ≡ kernEffect (toScaled (k .0) d) → x ≡ effectOf design o
+pub kern-effect-is : (design d : ℤ) (o : Operation) (k : FixWord) (x : Effect) → d ≡ design → o ≡ Kern k → x ≡ kernEffect (toScaled (k .0) d) →
+    x ≡ effectOf design o
 kern-effect-is design d o k x e i h = h ∙ rw (e, i)
 
-pub ligature-effect : (design : ℤ) (o : Operation) (c : Char) (p : PostLigOperation) (t : Bool) (op : ℕ) → o ≡ Ligature c p t → op ≡ byteOfOperation p → effect op (c .0) true ≡ effectOf design o
+pub ligature-effect : (design : ℤ) (o : Operation) (c : Char) (p : PostLigOperation) (t : Bool) (op : ℕ) → o ≡ Ligature c p t → op ≡ byteOfOperation p →
+    effect op (c .0) true ≡ effectOf design o
 ligature-effect design o c p t op e i = rw (e, i)
 
 pub other-effect : (design : ℤ) (o : Operation) → OneOf (1 ∷ 3 ∷ []) (tagOf operation-type o) → effect 128 0 false ≡ effectOf design o
@@ -140,7 +147,8 @@ effect-scales design (KernAtIndex i) h = absurd (false≢true h)
 effect-scales design (Ligature c p t) h = refl
 effect-scales design (EntrypointRedirect t g) h = absurd (false≢true h)
 
-effect-rule : (design : ℤ) (o : Operation) → SFits w32 design → actsInRow o ≡ true → ruleOf (effectOf design o .op) (effectOf design o .value) ≡ ruleOfOperation design o
+effect-rule : (design : ℤ) (o : Operation) → SFits w32 design → actsInRow o ≡ true →
+    ruleOf (effectOf design o .op) (effectOf design o .value) ≡ ruleOfOperation design o
 effect-rule design (Kern k) f h = kern-rule (toScaled (k .0) design) (λ v. scaled-fits (k .0) design v f)
 effect-rule design (KernAtIndex i) f h = absurd (false≢true h)
 effect-rule design (Ligature c p t) f h = byte-says p (c .0)
@@ -172,7 +180,12 @@ bytes-stay op c = go (ltb op 128) (isStandard op) refl refl
     go false b e i = rw e
 
 -- by kind
-kinds-act : (kerns : List ℤ) (z : ℤ) (a b c : Bool) → actsInRow (actsAs kerns (cond a (KernAtIndex (wordOf z % 65536)) (cond b (fromBytes (wordOf z / 256 % 128) (wordOf z % 256)) (cond c (EntrypointRedirect (wordOf z % 65536) (eqb (wordOf z / 65536 % 2) 1)) (Kern (record { 0 = z })))))) ≡ true
+kinds-act : (kerns : List ℤ) (z : ℤ) (a b c : Bool) →
+    actsInRow
+    (actsAs kerns
+    (cond a (KernAtIndex (wordOf z % 65536))
+    (cond b (fromBytes (wordOf z / 256 % 128) (wordOf z % 256))
+    (cond c (EntrypointRedirect (wordOf z % 65536) (eqb (wordOf z / 65536 % 2) 1)) (Kern (record { 0 = z })))))) ≡ true
 kinds-act kerns z true b c = refl
 kinds-act kerns z false true c =
     let op = wordOf z / 256 % 128 in
@@ -222,12 +235,16 @@ module _ (s kerns : List ℤ) (design : ℤ) (n : ℕ) (w₀ : List ℕ) where
               after = λ j g i. h .after j g (omega arith);
               op = λ j i. h .op j (omega arith);
               value = λ j i. h .value j (omega arith);
-              rules = λ j i. rw (h .op j (omega arith), h .value j (omega arith)) (effect-rule design (operationAt s kerns w₀ j) f (acts-in-row s kerns (at w₀ j 2)));
-              ops = λ j i. rw (h .op j (omega arith), h .value j (omega arith)) (effect-fits design (operationAt s kerns w₀ j) (acts-in-row s kerns (at w₀ j 2)));
+              rules =
+                  λ j i. rw (h .op j (omega arith), h .value j (omega arith))
+                  (effect-rule design (operationAt s kerns w₀ j) f (acts-in-row s kerns (at w₀ j 2)));
+              ops =
+                  λ j i. rw (h .op j (omega arith), h .value j (omega arith)) (effect-fits design (operationAt s kerns w₀ j) (acts-in-row s kerns (at w₀ j 2)));
             };
       }
 
-  pub encoding-end : (w : List ℕ) (k : ℕ) (b : Bool) → Encoding s kerns design n w₀ w k b → n ≤ k → (d : ℤ) → SFits w32 d → design ≡ d → Encodes s kerns d n w₀ w b
+  pub encoding-end : (w : List ℕ) (k : ℕ) (b : Bool) → Encoding s kerns design n w₀ w k b → n ≤ k → (d : ℤ) → SFits w32 d → design ≡ d →
+      Encodes s kerns d n w₀ w b
   encoding-end w k b h l d f e = subst (λ (z : ℤ). Encodes s kerns z n w₀ w b) e (encoded-all w k b h l (subst (SFits w32) (sym e) f))
 
   -- two stores in row k
@@ -242,7 +259,9 @@ module _ (s kerns : List ℤ) (design : ℤ) (n : ℕ) (w₀ : List ℕ) where
     second-is l = rw (ev, eu) (at-stored (set w (16 * k + 3) op) k 4 value (omega (arith, length-set w (16 * k + 3) op)))
 
   -- a turn: the operation of row k, and what is said of it
-  module _ (w u v : List ℕ) (k : ℕ) (b : Bool) (h : Encoding s kerns design n w₀ w k b) (l : k < n) (room : 16 * n ≤ length w₀) (index : ℕ) (o : Operation) (x : Effect) (ei : index ≡ at w k 2) (eo : o ≡ actsAs kerns (instructionAt s index .operation)) (ex : x ≡ effectOf design o) (eu : u ≡ set w (16 * k + 3) (x .op)) (ev : v ≡ set u (16 * k + 4) (x .value)) where
+  module _ (w u v : List ℕ) (k : ℕ) (b : Bool) (h : Encoding s kerns design n w₀ w k b) (l : k < n) (room : 16 * n ≤ length w₀) (index : ℕ) (o : Operation)
+      (x : Effect) (ei : index ≡ at w k 2) (eo : o ≡ actsAs kerns (instructionAt s index .operation)) (ex : x ≡ effectOf design o)
+      (eu : u ≡ set w (16 * k + 3) (x .op)) (ev : v ≡ set u (16 * k + 4) (x .value)) where
     said : x ≡ effectAt s kerns design w₀ k
     said =
         ex
@@ -265,7 +284,8 @@ module _ (s kerns : List ℤ) (design : ℤ) (n : ℕ) (w₀ : List ℕ) where
     pub encoding-step : (c : Bool) → c ≡ both b (x .scaled) → Encoding s kerns design n w₀ v (k + 1) c
     encoding-step c ec =
         let t = every-step k (λ j. scales design (operationAt s kerns w₀ j)) in
-        let y : x .scaled ≡ scales design (operationAt s kerns w₀ k) = ap (λ (y : Effect). y .scaled) said ∙ effect-scales design (operationAt s kerns w₀ k) (acts-in-row s kerns (at w₀ k 2)) in
+        let y : x .scaled ≡ scales design (operationAt s kerns w₀ k) = ap (λ (y : Effect). y .scaled) said
+        ∙ effect-scales design (operationAt s kerns w₀ k) (acts-in-row s kerns (at w₀ k 2)) in
         record {
           within = omega arith;
           same-length = ap length ev ∙ length-set u (16 * k + 4) (x .value) ∙ ap length eu ∙ length-set w (16 * k + 3) (x .op) ∙ h .same-length;

@@ -15,7 +15,8 @@ use Rattle.compiling.specs.SettledRows.{Settled}
 use Rattle.fonts.specs.Numbers.{opsOf, opsBefore}
 use Rattle.compiling.specs.OpRows.{capped, OnlyField, rowOps, opTotal, Exact}
 use Rattle.compiling.specs.OpSteps.{LastFits, firstPart, secondPart, partOuts, partCount, rowCount, countsBefore, FieldStored, OpsCounted}
-use Rattle.compiling.proofs.RowLaws.{SameRules, at-stored, at-other, at-row, keeps-rules, only-keeps, settled-kept, encoded-same, outcome-same, finished-same, pairs-same}
+use Rattle.compiling.proofs.RowLaws.{SameRules, at-stored, at-other, at-row, keeps-rules, only-keeps, settled-kept, encoded-same, outcome-same}
+use Rattle.compiling.proofs.RowLaws.{finished-same, pairs-same}
 use Rattle.compiling.proofs.OpLaws.{opsUpTo, before-more, ends-within, Sound, finished-row, row-finished, unfinished-row, parts-of, last-of, count-parts}
 
 -- ---- a number of each row
@@ -36,11 +37,13 @@ module _ (g n : ℕ) (v : ℕ → ℕ) (w : List ℕ) where
   pub stored-none : FieldStored g n v w w 0
   stored-none = record { only = only-none g n w; stored = λ k h. absurd (omega arith) }
 
-  stored-by : (u : List ℕ) (i x k : ℕ) → g < 16 → 16 * i + g < length u → x ≡ v i → (k < i → at u k g ≡ v k) → (k ≡ i) ⊎ (k ≡ i → ⊥) → k < i + 1 → at (set u (16 * i + g) x) k g ≡ v k
+  stored-by : (u : List ℕ) (i x k : ℕ) → g < 16 → 16 * i + g < length u → x ≡ v i → (k < i → at u k g ≡ v k) → (k ≡ i) ⊎ (k ≡ i → ⊥) → k < i + 1 →
+      at (set u (16 * i + g) x) k g ≡ v k
   stored-by u i x k small l e f (inl j) h = ap (λ (z : ℕ). at (set u (16 * i + g) x) z g) j ∙ at-stored u i g x l ∙ e ∙ ap v (sym j)
   stored-by u i x k small l e f (inr j) h = at-row u i g x k small j ∙ f (omega arith)
 
-  pub stored-more : (u u′ : List ℕ) (i x : ℕ) → g < 16 → i < n → 16 * n ≤ length w → x ≡ v i → FieldStored g n v w u i → u′ ≡ set u (16 * i + g) x → FieldStored g n v w u′ (i + 1)
+  pub stored-more : (u u′ : List ℕ) (i x : ℕ) → g < 16 → i < n → 16 * n ≤ length w → x ≡ v i → FieldStored g n v w u i → u′ ≡ set u (16 * i + g) x →
+      FieldStored g n v w u′ (i + 1)
   stored-more u u′ i x small h room e s l = subst (λ (z : List ℕ). FieldStored g n v w z (i + 1)) (sym l) (record {
     only = only-store w u i x small (s .only);
     stored = λ k j. stored-by u i x k small (omega (arith, s .only .same-length)) e (s .stored k) (same-or-not k i) j;
@@ -50,7 +53,8 @@ module _ (g n : ℕ) (v : ℕ → ℕ) (w : List ℕ) where
   stored-all u i h s = record { only = s .only; stored = λ k j. s .stored k (omega arith) }
 
 -- the first op of row k is stored, and then its count is added
-module _ (n : ℕ) (w : List ℕ) (room : 16 * n ≤ length w) (exact : Exact n w) (u u′ : List ℕ) (k t c : ℕ) (h : k < n) (s : FieldStored 13 n (opsUpTo n w) w u k) (e : t ≡ opsUpTo n w k) (l : u′ ≡ set u (16 * k + 13) t) (j : c ≡ at u′ k 12) where
+module _ (n : ℕ) (w : List ℕ) (room : 16 * n ≤ length w) (exact : Exact n w) (u u′ : List ℕ) (k t c : ℕ) (h : k < n) (s : FieldStored 13 n (opsUpTo n w) w u k)
+    (e : t ≡ opsUpTo n w k) (l : u′ ≡ set u (16 * k + 13) t) (j : c ≡ at u′ k 12) where
   first-stored : FieldStored 13 n (opsUpTo n w) w u′ (k + 1)
   first-stored = stored-more 13 n (opsUpTo n w) w u u′ k t (omega arith) h room e s l
 
@@ -66,7 +70,8 @@ module _ (n : ℕ) (w : List ℕ) (room : 16 * n ≤ length w) (exact : Exact n 
 -- ---- op counts
 
 module _ (n m : ℕ) (w : List ℕ) (e : Encoded n w) (s : Settled n w w m) where
-  part-count : (i : ℕ) (part : Part) → Sound n w i part → ((k : ℕ) → k < n → at w k 5 ≡ 2 → at w k 11 < i → at w k 12 ≡ capped (rowOps n w k)) → partCount w part ≡ capped (length (partOuts n w part))
+  part-count : (i : ℕ) (part : Part) → Sound n w i part → ((k : ℕ) → k < n → at w k 5 ≡ 2 → at w k 11 < i → at w k 12 ≡ capped (rowOps n w k)) →
+      partCount w part ≡ capped (length (partOuts n w part))
   part-count i Nothing x h = refl
   part-count i (Character c) x h = refl
   part-count i (Ligature c) x h = refl
@@ -74,7 +79,8 @@ module _ (n m : ℕ) (w : List ℕ) (e : Encoded n w) (s : Settled n w w m) wher
   part-count i (OfRow k) x h = h k (x .row) (x .status) (x .turn)
 
   -- the count of a row, from the counts of the rows that finished before
-  count-row : (k : ℕ) → k < n → at w k 5 ≡ 2 → ((j : ℕ) → j < n → at w j 5 ≡ 2 → at w j 11 < at w k 11 → at w j 12 ≡ capped (rowOps n w j)) → rowCount n w k ≡ capped (rowOps n w k)
+  count-row : (k : ℕ) → k < n → at w k 5 ≡ 2 → ((j : ℕ) → j < n → at w j 5 ≡ 2 → at w j 11 < at w k 11 → at w j 12 ≡ capped (rowOps n w j)) →
+      rowCount n w k ≡ capped (rowOps n w k)
   count-row k h t f =
       let p = parts-of n m w e s k h t in
       omega (arith, count-parts n m w e s k h t, part-count (at w k 11) (firstPart n w k) (p .first) f, part-count (at w k 11) (secondPart n w k) (p .second) f)
@@ -126,15 +132,18 @@ module _ (n m : ℕ) (w : List ℕ) (e : Encoded n w) (s : Settled n w w m) wher
     turn-place = rw turn-row (s .order i h .2)
 
     turn-last : LastFits n u rowOfTurn
-    turn-last = last-of n m u (encoded-still u (c .only)) (settled-still u (c .only)) rowOfTurn turn-in (status-still u (c .only) rowOfTurn turn-in ∙ turn-status)
+    turn-last =
+        last-of n m u (encoded-still u (c .only)) (settled-still u (c .only)) rowOfTurn turn-in (status-still u (c .only) rowOfTurn turn-in ∙ turn-status)
 
     count-turn : rowCount n u rowOfTurn ≡ capped (rowOps n w rowOfTurn)
     count-turn =
         count-row n m u (encoded-still u (c .only)) (settled-still u (c .only)) rowOfTurn turn-in (status-still u (c .only) rowOfTurn turn-in ∙ turn-status)
-        (λ j l t k. c .counted j l (sym (status-still u (c .only) j l) ∙ t) (omega (arith, turn-still u (c .only) j l, turn-still u (c .only) rowOfTurn turn-in, turn-place)) ∙ ap capped (sym (count-still u (c .only) j l)))
+        (λ j l t k. c .counted j l (sym (status-still u (c .only) j l) ∙ t)
+        (omega (arith, turn-still u (c .only) j l, turn-still u (c .only) rowOfTurn turn-in, turn-place)) ∙ ap capped (sym (count-still u (c .only) j l)))
         ∙ ap capped (count-still u (c .only) rowOfTurn turn-in)
 
-    counted-by : (x k : ℕ) → x ≡ rowCount n u rowOfTurn → k < n → at w k 5 ≡ 2 → at w k 11 < i + 1 → (k ≡ rowOfTurn) ⊎ (k ≡ rowOfTurn → ⊥) → at (set u (16 * rowOfTurn + 12) x) k 12 ≡ capped (rowOps n w k)
+    counted-by : (x k : ℕ) → x ≡ rowCount n u rowOfTurn → k < n → at w k 5 ≡ 2 → at w k 11 < i + 1 → (k ≡ rowOfTurn) ⊎ (k ≡ rowOfTurn → ⊥) →
+        at (set u (16 * rowOfTurn + 12) x) k 12 ≡ capped (rowOps n w k)
     counted-by x k e′ l t p (inl j) =
         ap (λ (z : ℕ). at (set u (16 * rowOfTurn + 12) x) z 12) j
         ∙ at-stored u rowOfTurn 12 x (omega (arith, c .only .same-length, e .ascending .room, turn-in))
@@ -176,7 +185,8 @@ module _ (n m : ℕ) (w : List ℕ) (e : Encoded n w) (s : Settled n w w m) wher
   counting-all u i c l = record { only = c .only; counts = λ k h. counts-by u i k c l h (same-or-not (at w k 5) 2) }
 
 -- the capped sum of capped counts
-pub total-is : (n : ℕ) (w u : List ℕ) → ((k : ℕ) → k < n → at u k 12 ≡ capped (rowOps n w k)) → (k : ℕ) → k ≤ n → capped (countsBefore u k) ≡ capped (opsUpTo n w k)
+pub total-is : (n : ℕ) (w u : List ℕ) → ((k : ℕ) → k < n → at u k 12 ≡ capped (rowOps n w k)) → (k : ℕ) → k ≤ n →
+    capped (countsBefore u k) ≡ capped (opsUpTo n w k)
 unfolding countsBefore opsBefore
 total-is n w u c zero h = refl
 total-is n w u c (suc k) h = omega (arith, total-is n w u c k (omega arith), c k h, before-more n w k h)

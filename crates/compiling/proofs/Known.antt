@@ -13,7 +13,9 @@ use lib.Dec.{T, eqb}
 use borrow.Author.Tests.{eqb-true, ne-eqb}
 use Rattle.lang.proofs.Arms.{oneOf}
 use Rattle.lang.proofs.Standard.{eight}
-use Rattle.lang.specs.declared.operation.PostLigOperation.the-variants.{RetainBothMoveNowhere, RetainBothMoveToInserted, RetainBothMoveToRight, RetainRightMoveToInserted, RetainRightMoveToRight, RetainLeftMoveNowhere, RetainLeftMoveToInserted, RetainNeitherMoveToInserted}
+use Rattle.lang.specs.declared.operation.PostLigOperation.the-variants.{RetainBothMoveNowhere, RetainBothMoveToInserted, RetainBothMoveToRight}
+use Rattle.lang.specs.declared.operation.PostLigOperation.the-variants.{RetainRightMoveToInserted, RetainRightMoveToRight, RetainLeftMoveNowhere}
+use Rattle.lang.specs.declared.operation.PostLigOperation.the-variants.{RetainLeftMoveToInserted, RetainNeitherMoveToInserted}
 use Rattle.reading.specs.Items.{Left, chr, Rule, free, kerned, lig, Item, item, code, flag, plain, inserted, head, Out, glyph, kern, fin}
 use Rattle.reading.specs.Depth.{Res, Finished, Pair, before, raiseLeft, raised, compBy, comp, waitsBoth, waitsBy}
 use Rattle.reading.specs.Form.{lastForm, opsForm}
@@ -41,7 +43,8 @@ abbrev pub HasFinished : Finished → Pair → Type 0
 HasFinished f p = (s : Res) × (f (p .left) (p .right) ≡ some s)
 
 module _ (f g : Finished) (grows : Grows f g) where
-  both-later : (l : Left) (r c : ℕ) (p : Pair) (o : Option Res) → f l c ≡ o → waitsBoth l c r o ≡ p → g (p .left) (p .right) ≡ none → waitsBoth l c r (g l c) ≡ p
+  both-later : (l : Left) (r c : ℕ) (p : Pair) (o : Option Res) → f l c ≡ o → waitsBoth l c r o ≡ p → g (p .left) (p .right) ≡ none →
+      waitsBoth l c r (g l c) ≡ p
   both-later l r c p none e i h = rw (rw (← i) at h) i
   both-later l r c p (some s) e i h = rw (grows l c s e) i
 
@@ -61,7 +64,8 @@ module _ (f g : Finished) (grows : Grows f g) where
   finishes-one : (l : Left) (r : ℕ) (s : Res) → f l r ≡ some s → (p : Pair) → List·Memᴰ p (record { left = l; right = r } ∷ []) → HasFinished f p
   finishes-one l r s e p m = let i = List·Memᴰ·eq-of-singleton m in rw i (s, e)
 
-  both-consults : (l : Left) (r c : ℕ) (p : Res) (s : Res) → f l c ≡ some p → f (chr (code (p .last))) r ≡ some s → (o : Option Res) → g l c ≡ o → (q : Pair) → (q ≡ record { left = l; right = c }) ⊎ List·Memᴰ q (second r o) → HasFinished f q
+  both-consults : (l : Left) (r c : ℕ) (p : Res) (s : Res) → f l c ≡ some p → f (chr (code (p .last))) r ≡ some s → (o : Option Res) → g l c ≡ o → (q : Pair) →
+      (q ≡ record { left = l; right = c }) ⊎ List·Memᴰ q (second r o) → HasFinished f q
   both-consults l r c p s e i o h q (inl j) = rw j (p, e)
   both-consults l r c p s e i none h q (inr m) = absurd (List·Memᴰ·not-nil m)
   both-consults l r c p s e i (some p′) h q (inr m) =
@@ -123,7 +127,8 @@ module _ (n : ℕ) (w : List ℕ) where
   -- a pair with a left character: its last has the left's flag already
   pub last-left : (a r : ℕ) (q : Res) → known n w (chr a) r ≡ some q → raised true false q .last ≡ q .last
   last-left a r q e =
-      flag-in-ops a (q .outs) (q .last) (second-test (lastForm r (q .last)) (opsForm (chr a) (q .outs) (q .last)) (form (rules n w) _ (chr a) r (known-sound (chr a) r q e)))
+      flag-in-ops a (q .outs) (q .last)
+      (second-test (lastForm r (q .last)) (opsForm (chr a) (q .outs) (q .last)) (form (rules n w) _ (chr a) r (known-sound (chr a) r q e)))
 
   pub known-free : (l : Left) (r : ℕ) → rowOf w n (numberOfLeft l) r ≡ none → known n w l r ≡ some (record { outs = fin (head l); last = plain r })
   unfolding known
@@ -183,8 +188,11 @@ module _ (n : ℕ) (w w′ : List ℕ) (s : SameRules n w w′) (fin-still : (k 
 
 module _ (n : ℕ) (w : List ℕ) (a : Ascending n w) where
   pub says-missing : (t r : ℕ) → r < 256 → rowOf w n t r ≡ none → PairSays n w (leftOf t) r (Known r 0)
-  says-missing t r h e =
-      (record { outs = fin (head (leftOf t)); last = plain r }, known-free n w (leftOf t) r (rw (number-left t) e), record { is-code = refl; is-flag = refl; small = h })
+  says-missing t r h e = (
+    record { outs = fin (head (leftOf t)); last = plain r },
+    known-free n w (leftOf t) r (rw (number-left t) e),
+    record { is-code = refl; is-flag = refl; small = h },
+  )
 
   -- the row of a pair that is found
   module _ (t r j : ℕ) (e : rowOf w n t r ≡ some j) where
@@ -227,7 +235,8 @@ second-waits n w r x j e = rw e refl
 abbrev OtherOp : ℕ → Type 0
 OtherOp op = (op ≡ 5) ⊎ ((op ≡ 11) ⊎ (op ≡ 128))
 
-pub other-op : (op v : ℕ) → ruleFits op v ≡ true → ((op ≡ 0) ⊎ (op ≡ 6) → ⊥) → ((op ≡ 1) ⊎ (op ≡ 7) → ⊥) → (op ≡ 2 → ⊥) → (op ≡ 3 → ⊥) → (op ≡ 5) ⊎ ((op ≡ 11) ⊎ (op ≡ 128))
+pub other-op : (op v : ℕ) → ruleFits op v ≡ true → ((op ≡ 0) ⊎ (op ≡ 6) → ⊥) → ((op ≡ 1) ⊎ (op ≡ 7) → ⊥) → (op ≡ 2 → ⊥) → (op ≡ 3 → ⊥) →
+    (op ≡ 5) ⊎ ((op ≡ 11) ⊎ (op ≡ 128))
 other-op op v e a b c d = go (fits-eight op v e)
   where
     left-over : (s t : Bool) → eqb op 5 ≡ s → eqb op 11 ≡ t → (s || (t || false)) ≡ true → OtherOp op
@@ -239,7 +248,14 @@ other-op op v e a b c d = go (fits-eight op v e)
     go (inl i) = inr (inr i)
     go (inr i) =
         left-over (eqb op 5) (eqb op 11) refl refl
-        (rw (ne-eqb op 0 (λ x. a (inl x)), ne-eqb op 1 (λ x. b (inl x)), ne-eqb op 2 c, ne-eqb op 3 d, ne-eqb op 6 (λ x. a (inr x)), ne-eqb op 7 (λ x. b (inr x))) at i)
+        (rw (
+          ne-eqb op 0 (λ x. a (inl x)),
+          ne-eqb op 1 (λ x. b (inl x)),
+          ne-eqb op 2 c,
+          ne-eqb op 3 d,
+          ne-eqb op 6 (λ x. a (inr x)),
+          ne-eqb op 7 (λ x. b (inr x)),
+        ) at i)
 
 -- ---- what a rule says by what is known: TFtoPL 89's classes
 
@@ -252,10 +268,12 @@ same-last : (p q : Res) (c f : ℕ) → p .last ≡ q .last → LastIs q c f →
 same-last p q c f e i = record { is-code = i .is-code ∙ ap code (sym e); is-flag = i .is-flag ∙ ap (λ x. bit (flag x)) (sym e); small = i .small }
 
 module _ (n : ℕ) (w : List ℕ) where
-  says-inserted : (R : Rule) (l : Left) (r v : ℕ) (os : List Out) → v < 256 → compBy R (known n w) l r ≡ some (record { outs = os; last = inserted v }) → SaysBy n w R l r (Known v 1)
+  says-inserted : (R : Rule) (l : Left) (r v : ℕ) (os : List Out) → v < 256 → compBy R (known n w) l r ≡ some (record { outs = os; last = inserted v }) →
+      SaysBy n w R l r (Known v 1)
   says-inserted R l r v os h e = (record { outs = os; last = inserted v }, e, record { is-code = refl; is-flag = refl; small = h })
 
-  says-plain : (R : Rule) (l : Left) (r : ℕ) (os : List Out) → r < 256 → compBy R (known n w) l r ≡ some (record { outs = os; last = plain r }) → SaysBy n w R l r (Known r 0)
+  says-plain : (R : Rule) (l : Left) (r : ℕ) (os : List Out) → r < 256 → compBy R (known n w) l r ≡ some (record { outs = os; last = plain r }) →
+      SaysBy n w R l r (Known r 0)
   says-plain R l r os h e = (record { outs = os; last = plain r }, e, record { is-code = refl; is-flag = refl; small = h })
 
   -- left_z
@@ -271,12 +289,16 @@ module _ (n : ℕ) (w : List ℕ) where
 
   -- right_z
   right-z : (l : Left) (r v : ℕ) (x : Last) → PairSays n w l v x → SaysBy n w (lig RetainLeftMoveNowhere v) l r (flagged x)
-  right-z l r v (Known c f) (q, e, i) =
-      (raised false true q, rw e, record { is-code = i .is-code ∙ sym (code-raised false true q); is-flag = ap bit (sym (flag-raised false q)); small = i .small })
+  right-z l r v (Known c f) (q, e, i) = (
+    raised false true q,
+    rw e,
+    record { is-code = i .is-code ∙ sym (code-raised false true q); is-flag = ap bit (sym (flag-raised false q)); small = i .small },
+  )
   right-z l r v (Waits j) (h, e, ne) = (h, ap some (sym e), ne)
 
   -- both_z
-  second-z : (l : Left) (r v : ℕ) (p : Res) → known n w l v ≡ some p → (x : Last) → PairSays n w (chr (code (p .last))) r x → SaysBy n w (lig RetainBothMoveNowhere v) l r x
+  second-z : (l : Left) (r v : ℕ) (p : Res) → known n w l v ≡ some p → (x : Last) → PairSays n w (chr (code (p .last))) r x →
+      SaysBy n w (lig RetainBothMoveNowhere v) l r x
   second-z l r v p e (Known c f) (q, i, s) =
       let t = before (raised false true p .outs) (raised true false q) in
       (t, rw (e, code-raised false true p, i), same-last t q c f (last-left n w (code (p .last)) r q i) s)
@@ -299,13 +321,25 @@ module _ (n : ℕ) (w : List ℕ) (k : ℕ) where
   says-row op (Waits j) e (h, i, ne) = (record { row = h; waits = rw e i }, ne)
 
   pub row-inserted : (v : ℕ) → v ≡ at w k 4 → v < 256 → (at w k 3 ≡ 0) ⊎ (at w k 3 ≡ 6) → RuleSays n w k (Known v 1)
-  row-inserted v e h (inl o) = says-row 0 (Known v 1) o (rw (← e) (says-inserted n w (lig RetainNeitherMoveToInserted v) (pairAt w k .left) (at w k 1) v [] h refl))
-  row-inserted v e h (inr o) = says-row 6 (Known v 1) o (rw (← e) (says-inserted n w (lig RetainLeftMoveToInserted v) (pairAt w k .left) (at w k 1) v (fin (head (pairAt w k .left))) h refl))
+  row-inserted v e h (inl o) =
+      says-row 0 (Known v 1) o (rw (← e) (says-inserted n w (lig RetainNeitherMoveToInserted v) (pairAt w k .left) (at w k 1) v [] h refl))
+  row-inserted v e h (inr o) =
+      says-row 6 (Known v 1) o
+      (rw (← e) (says-inserted n w (lig RetainLeftMoveToInserted v) (pairAt w k .left) (at w k 1) v (fin (head (pairAt w k .left))) h refl))
 
   pub row-plain : (r : ℕ) → r ≡ at w k 1 → r < 256 → (at w k 3 ≡ 5) ⊎ ((at w k 3 ≡ 11) ⊎ (at w k 3 ≡ 128)) → RuleSays n w k (Known r 0)
-  row-plain r e h (inl o) = says-row 5 (Known r 0) o (rw (← e) (says-plain n w (lig RetainRightMoveToRight (at w k 4)) (pairAt w k .left) r (glyph (inserted (at w k 4)) ∷ []) h refl))
-  row-plain r e h (inr (inl o)) = says-row 11 (Known r 0) o (rw (← e) (says-plain n w (lig RetainBothMoveToRight (at w k 4)) (pairAt w k .left) r (fin (head (pairAt w k .left)) ++ (glyph (inserted (at w k 4)) ∷ [])) h refl))
-  row-plain r e h (inr (inr o)) = says-row 128 (Known r 0) o (rw (← e) (says-plain n w (kerned (numberOf (at w k 4))) (pairAt w k .left) r (fin (head (pairAt w k .left)) ++ (kern (numberOf (at w k 4)) ∷ [])) h refl))
+  row-plain r e h (inl o) =
+      says-row 5 (Known r 0) o
+      (rw (← e) (says-plain n w (lig RetainRightMoveToRight (at w k 4)) (pairAt w k .left) r (glyph (inserted (at w k 4)) ∷ []) h refl))
+  row-plain r e h (inr (inl o)) =
+      says-row 11 (Known r 0) o
+      (rw (← e)
+      (says-plain n w (lig RetainBothMoveToRight (at w k 4)) (pairAt w k .left) r (fin (head (pairAt w k .left)) ++ (glyph (inserted (at w k 4)) ∷ [])) h
+      refl))
+  row-plain r e h (inr (inr o)) =
+      says-row 128 (Known r 0) o
+      (rw (← e)
+      (says-plain n w (kerned (numberOf (at w k 4))) (pairAt w k .left) r (fin (head (pairAt w k .left)) ++ (kern (numberOf (at w k 4)) ∷ [])) h refl))
 
   pub row-left : (v r : ℕ) (x : Last) → v ≡ at w k 4 → r ≡ at w k 1 → PairSays n w (leftOf (1 + v)) r x → (at w k 3 ≡ 1) ⊎ (at w k 3 ≡ 7) → RuleSays n w k x
   row-left v r x e i s (inl o) = says-row 1 x o (rw (← e, ← i) (left-z n w (pairAt w k .left) r v x (rw (one-add v) at s)))
@@ -314,5 +348,6 @@ module _ (n : ℕ) (w : List ℕ) (k : ℕ) where
   pub row-right : (t v : ℕ) (x : Last) → t ≡ at w k 0 → v ≡ at w k 4 → PairSays n w (leftOf t) v x → at w k 3 ≡ 2 → RuleSays n w k (flagged x)
   row-right t v x e i s o = says-row 2 (flagged x) o (rw (← e, ← i) (right-z n w (leftOf t) (at w k 1) v x s))
 
-  pub row-both : Ascending n w → (t r v : ℕ) (y x : Last) → t ≡ at w k 0 → r ≡ at w k 1 → v ≡ at w k 4 → PairSays n w (leftOf t) v y → SecondSays n w r y x → at w k 3 ≡ 3 → RuleSays n w k x
+  pub row-both : Ascending n w → (t r v : ℕ) (y x : Last) → t ≡ at w k 0 → r ≡ at w k 1 → v ≡ at w k 4 → PairSays n w (leftOf t) v y → SecondSays n w r y x →
+      at w k 3 ≡ 3 → RuleSays n w k x
   row-both a t r v y x e i j s u o = says-row 3 x o (rw (← e, ← i, ← j) (both-z n w a (leftOf t) r v y x s u))

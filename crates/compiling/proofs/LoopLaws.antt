@@ -1,6 +1,5 @@
--- Laws of walks. A walk over rows is the walk of `specs/Loops` of crate `reading` over their pairs: a row has the mark of an earlier walk where its pair was met
--- by one, and the mark of this walk where its pair is one of its own. So the turns together give the loop list.
--- Assumes nothing.
+-- Laws of walks. A walk over rows is the walk of `specs/Loops` of crate `reading` over their pairs: a row has the mark of an earlier walk where its pair was
+-- met by one, and the mark of this walk where its pair is one of its own. So the turns together give the loop list. Assumes nothing.
 use mathlib.Core.Path.{_≡_, refl, sym, ap, ap₂, _∙_, subst, subst₂}
 use mathlib.Core.Bool.{Bool, true, false, cond, false≢true}
 use mathlib.Core.List.{List, [], _∷_, _++_, append-assoc, append-nil, List·Memᴰ, List·Memᴰ·head, List·Memᴰ·tail, List·Memᴰ·cases-cons}
@@ -51,12 +50,16 @@ pub table-length : (h : ℕ → Pair) (i : ℕ) → length (loopNumbers (tabulat
 table-length h i = numbers-length (tabulate i h) ∙ ap (λ z. 2 * z) (length-tabulate i h)
 
 -- one more pair is written
-pub written-more : (h : ℕ → Pair) (d₀ d : List ℤ) (i : ℕ) (a b : ℤ) → a ≡ leftNumber (h i .left) → b ≡ pos (h i .right) → Appending (loopNumbers (tabulate i h)) d₀ d → 2 * i + 2 ≤ length d → Appending (loopNumbers (tabulate (i + 1) h)) d₀ (set (set d (2 * i) a) (2 * i + 1) b)
+pub written-more : (h : ℕ → Pair) (d₀ d : List ℤ) (i : ℕ) (a b : ℤ) → a ≡ leftNumber (h i .left) → b ≡ pos (h i .right) →
+    Appending (loopNumbers (tabulate i h)) d₀ d → 2 * i + 2 ≤ length d → Appending (loopNumbers (tabulate (i + 1) h)) d₀ (set (set d (2 * i) a) (2 * i + 1) b)
 unfolding tabulate
 written-more h d₀ d i a b e g s l =
     let n = table-length h i in
-    let done : loopNumbers (tabulate i h) ++ (a ∷ b ∷ []) ≡ loopNumbers (tabulate (i + 1) h) = ap₂ (λ (x y : ℤ). loopNumbers (tabulate i h) ++ (x ∷ y ∷ [])) e g ∙ sym (numbers-last (tabulate i h) (h i)) ∙ ap (λ (z : ℕ). loopNumbers (tabulate z h)) (sym (add-one i)) in
-    let stored : set (set d (length (loopNumbers (tabulate i h))) a) (suc (length (loopNumbers (tabulate i h)))) b ≡ set (set d (2 * i) a) (2 * i + 1) b = (λ j. set (set d (n j) a) (suc (n j)) b) ∙ ap (λ (z : ℕ). set (set d (2 * i) a) z b) (sym (add-one (2 * i))) in
+    let done : loopNumbers (tabulate i h) ++ (a ∷ b ∷ [])
+    ≡ loopNumbers (tabulate (i + 1) h) = ap₂ (λ (x y : ℤ). loopNumbers (tabulate i h) ++ (x ∷ y ∷ [])) e g ∙ sym (numbers-last (tabulate i h) (h i))
+    ∙ ap (λ (z : ℕ). loopNumbers (tabulate z h)) (sym (add-one i)) in
+    let stored : set (set d (length (loopNumbers (tabulate i h))) a) (suc (length (loopNumbers (tabulate i h)))) b
+    ≡ set (set d (2 * i) a) (2 * i + 1) b = (λ j. set (set d (n j) a) (suc (n j)) b) ∙ ap (λ (z : ℕ). set (set d (2 * i) a) z b) (sym (add-one (2 * i))) in
     subst₂ (λ (x y : List ℤ). Appending x d₀ y) done stored (appending-more d₀ (a ∷ b ∷ []) s (omega (arith, n)))
 
 -- the pair of the row that is listed so many-th
@@ -75,14 +78,18 @@ unfolding tabulate loopNumbers
 loops-none w d₀ = appending-none d₀
 
 -- the pair of row k, which is listed i-th: its left number t in the word x, its right number y
-pub loops-more : (w : List ℕ) (r : ℕ) (d₀ d d₁ d₂ : List ℤ) (i k t x y : ℕ) → Listing r w → i < r → 2 * r ≤ length d₀ → k ≡ at w i 8 → t ≡ at w k 0 → numberOf x ≡ leftNumber (leftOf t) → y ≡ at w k 1 → d₁ ≡ set d (2 * i) (numberOf x) → d₂ ≡ set d₁ (2 * i + 1) (numberOf y) → Appending (loopNumbers (tabulate i (listedPair w))) d₀ d → Appending (loopNumbers (tabulate (i + 1) (listedPair w))) d₀ d₂
+pub loops-more : (w : List ℕ) (r : ℕ) (d₀ d d₁ d₂ : List ℤ) (i k t x y : ℕ) → Listing r w → i < r → 2 * r ≤ length d₀ → k ≡ at w i 8 → t ≡ at w k 0 →
+    numberOf x ≡ leftNumber (leftOf t) → y ≡ at w k 1 → d₁ ≡ set d (2 * i) (numberOf x) → d₂ ≡ set d₁ (2 * i + 1) (numberOf y) →
+    Appending (loopNumbers (tabulate i (listedPair w))) d₀ d → Appending (loopNumbers (tabulate (i + 1) (listedPair w))) d₀ d₂
 loops-more w r d₀ d d₁ d₂ i k t x y l h room a b e c p q s =
     let left : numberOf x ≡ leftNumber (leftOf (at w (at w i 8) 0)) = e ∙ ap (λ (z : ℕ). leftNumber (leftOf z)) (b ∙ ap (λ (z : ℕ). at w z 0) a) in
-    let right : numberOf y ≡ pos (at w (at w i 8) 1) = ap numberOf (c ∙ ap (λ (z : ℕ). at w z 1) a) ∙ number-pos (at w (at w i 8) 1) (omega (arith, l .right i h)) in
+    let right : numberOf y ≡ pos (at w (at w i 8) 1) = ap numberOf (c ∙ ap (λ (z : ℕ). at w z 1) a)
+    ∙ number-pos (at w (at w i 8) 1) (omega (arith, l .right i h)) in
     subst (λ (z : List ℤ). Appending (loopNumbers (tabulate (i + 1) (listedPair w))) d₀ z) (sym (q ∙ ap (λ (z : List ℤ). set z (2 * i + 1) (numberOf y)) p))
     (written-more (listedPair w) d₀ d i (numberOf x) (numberOf y) left right s (omega (arith, appending-length d₀ s)))
 
-pub loops-all : (w : List ℕ) (r i : ℕ) (d₀ d : List ℤ) → d₀ ≡ replicate (length d₀) (pos 0) → i ≤ r → r ≤ i → Appending (loopNumbers (tabulate i (listedPair w))) d₀ d → d ≡ padded (pos 0) (length d₀) (loopNumbers (tabulate r (listedPair w)))
+pub loops-all : (w : List ℕ) (r i : ℕ) (d₀ d : List ℤ) → d₀ ≡ replicate (length d₀) (pos 0) → i ≤ r → r ≤ i →
+    Appending (loopNumbers (tabulate i (listedPair w))) d₀ d → d ≡ padded (pos 0) (length d₀) (loopNumbers (tabulate r (listedPair w)))
 loops-all w r i d₀ d e h l s =
     let a : i ≡ r = omega arith in
     subst (λ (z : ℕ). d ≡ padded (pos 0) (length d₀) (loopNumbers (tabulate z (listedPair w)))) a (appending-rest d₀ (pos 0) (length d₀) e s)
@@ -103,7 +110,8 @@ place-within n e s h l = go (ltb (e + s) n) refl
     go false i = omega (arith, ltb-false (e + s) n i)
 
 -- rows whose numbers 0, 1, 2 and 15 are the same have the same turns
-pub turns-same : (n e : ℕ) (w u : List ℕ) → ((k f : ℕ) → k < n → f < 3 → at u k f ≡ at w k f) → ((k : ℕ) → k < n → at u k 15 ≡ at w k 15) → WalkOrder n e w → WalkOrder n e u
+pub turns-same : (n e : ℕ) (w u : List ℕ) → ((k f : ℕ) → k < n → f < 3 → at u k f ≡ at w k f) → ((k : ℕ) → k < n → at u k 15 ≡ at w k 15) → WalkOrder n e w →
+    WalkOrder n e u
 turns-same n e w u s t h = record {
   few = h .few;
   boundary = λ k l. s k 0 (omega (arith, h .few)) (omega arith) ∙ h .boundary k l;
@@ -145,10 +153,14 @@ walkable-kept {n} w u l s a = record { room = rw l (a .room); few = a .few; onwa
         subst (λ (j : ℕ). (j < n) × (at u j 5 ≡ 3)) (sym e) (o .0, s (at w k 9) 5 (o .0) (omega arith) (omega arith) (omega arith) ∙ o .1)
 
 -- after row k was marked: the row that it waits for
-pub marked-on : (n k id : ℕ) (w : List ℕ) → Walkable n w → k < n → at w k 5 ≡ 3 → Walkable n (set w (16 * k + 14) id) × (at w k 9 < n) × (at (set w (16 * k + 14) id) (at w k 9) 5 ≡ 3)
+pub marked-on : (n k id : ℕ) (w : List ℕ) → Walkable n w → k < n → at w k 5 ≡ 3 →
+    Walkable n (set w (16 * k + 14) id) × (at w k 9 < n) × (at (set w (16 * k + 14) id) (at w k 9) 5 ≡ 3)
 marked-on n k id w a h t =
-    let o = a .onward k h t in
-    (walkable-kept w (set w (16 * k + 14) id) (length-set w (16 * k + 14) id) (mark-keeps n k id w) a, o .0, at-other w k 14 id (at w k 9) 5 (omega arith) (omega arith) (omega arith) ∙ o .1)
+    let o = a .onward k h t in (
+      walkable-kept w (set w (16 * k + 14) id) (length-set w (16 * k + 14) id) (mark-keeps n k id w) a,
+      o .0,
+      at-other w k 14 id (at w k 9) 5 (omega arith) (omega arith) (omega arith) ∙ o .1,
+    )
 
 pub walk-keeps : {id : ℕ} {w u : List ℕ} {k r : ℕ} → Walk id w k u r → (j f : ℕ) → f < 16 → (f ≡ 14 → ⊥) → at u j f ≡ at w j f
 walk-keeps (stops h) j f l ne = refl
@@ -186,9 +198,11 @@ counts-one b c x y e i j = rw (e, i) (omega arith)
 unmarked-kept : (n k id : ℕ) (w : List ℕ) → n ≤ k → unmarked n (set w (16 * k + 14) id) ≡ unmarked n w
 unfolding unmarked
 unmarked-kept zero k id w h = refl
-unmarked-kept (suc n) k id w h = ap₂ counted (ap (λ (v : ℕ). eqb v 0) (at-row w k 14 id n (omega arith) (λ e. omega arith))) (unmarked-kept n k id w (omega arith))
+unmarked-kept (suc n) k id w h =
+    ap₂ counted (ap (λ (v : ℕ). eqb v 0) (at-row w k 14 id n (omega arith) (λ e. omega arith))) (unmarked-kept n k id w (omega arith))
 
-unmarked-by : (n k id : ℕ) (w : List ℕ) → at w k 14 ≡ 0 → 0 < id → 16 * k + 14 < length w → (k < n → unmarked n (set w (16 * k + 14) id) < unmarked n w) → (k ≡ n) ⊎ (k < n) → unmarked (suc n) (set w (16 * k + 14) id) < unmarked (suc n) w
+unmarked-by : (n k id : ℕ) (w : List ℕ) → at w k 14 ≡ 0 → 0 < id → 16 * k + 14 < length w → (k < n → unmarked n (set w (16 * k + 14) id) < unmarked n w) →
+    (k ≡ n) ⊎ (k < n) → unmarked (suc n) (set w (16 * k + 14) id) < unmarked (suc n) w
 unfolding unmarked
 unmarked-by n k id w z p l g (inl e) =
     counts-one _ _ _ _
@@ -218,7 +232,13 @@ module _ (n id : ℕ) (w : List ℕ) (k : ℕ) (u : List ℕ) (j : ℕ) (g : Und
   underway-more v l e i =
       let o = marked-on n j id u (g .walkable) (g .row) (g .status) in
       subst₂ (λ (y : List ℕ) (x : ℕ). Underway n id w k y x) (sym e) (sym i)
-      (record { walkable = o .0; row = o .1; status = o .2; same-length = length-set u (16 * j + 14) id ∙ g .same-length; rest = λ x r s. g .rest x r (goes unmet s) })
+      (record {
+        walkable = o .0;
+        row = o .1;
+        status = o .2;
+        same-length = length-set u (16 * j + 14) id ∙ g .same-length;
+        rest = λ x r s. g .rest x r (goes unmet s);
+      })
 
   pub underway-less : 0 < id → (v : List ℕ) → v ≡ set u (16 * j + 14) id → unmarked n v < unmarked n u
   underway-less p v e = rw e (unmarked-less n j id u (g .row) unmet p (omega (arith, g .walkable .room, g .row)))
@@ -326,16 +346,20 @@ pub record Right (n : ℕ) (w : List ℕ) (W : Walked) (met : List Pair) (id : �
   pub found : W .found ≡ cond (eqb (at u r 14) id) (pairAt w r ∷ []) []
 
 module _ (next : Pair → Pair) where
-  walk-goes : (d : ℕ) (met own : List Pair) (p : Pair) → member p met ≡ false → member p own ≡ false → walk next (suc d) met own p ≡ walk next d met (p ∷ own) (next p)
+  walk-goes : (d : ℕ) (met own : List Pair) (p : Pair) → member p met ≡ false → member p own ≡ false →
+      walk next (suc d) met own p ≡ walk next d met (p ∷ own) (next p)
   unfolding walk
   walk-goes d met own p e i = rw (e, i)
 
-  stops-by : (own : List Pair) (p : Pair) (on : Walked) (a b : Bool) (id v : ℕ) → MarkOf a b id v → (v ≡ 0 → ⊥) → (cond a (record { own = own; found = [] }) (cond b (record { own = own; found = p ∷ [] }) on) .own ≡ own) × (cond a (record { own = own; found = [] }) (cond b (record { own = own; found = p ∷ [] }) on) .found ≡ cond (eqb v id) (p ∷ []) [])
+  stops-by : (own : List Pair) (p : Pair) (on : Walked) (a b : Bool) (id v : ℕ) → MarkOf a b id v → (v ≡ 0 → ⊥) →
+      (cond a (record { own = own; found = [] }) (cond b (record { own = own; found = p ∷ [] }) on) .own ≡ own)
+      × (cond a (record { own = own; found = [] }) (cond b (record { own = own; found = p ∷ [] }) on) .found ≡ cond (eqb v id) (p ∷ []) [])
   stops-by own p on true b id v m ne = (refl, rw (ne-eqb v id (λ e. omega (arith, m .1))))
   stops-by own p on false true id v m ne = (refl, rw (eq-eqb v id m))
   stops-by own p on false false id v m ne = absurd (ne m)
 
-  walk-stops : (d : ℕ) (met own : List Pair) (p : Pair) (id v : ℕ) → MarkOf (member p met) (member p own) id v → (v ≡ 0 → ⊥) → (walk next (suc d) met own p .own ≡ own) × (walk next (suc d) met own p .found ≡ cond (eqb v id) (p ∷ []) [])
+  walk-stops : (d : ℕ) (met own : List Pair) (p : Pair) (id v : ℕ) → MarkOf (member p met) (member p own) id v → (v ≡ 0 → ⊥) →
+      (walk next (suc d) met own p .own ≡ own) × (walk next (suc d) met own p .found ≡ cond (eqb v id) (p ∷ []) [])
   unfolding walk
   walk-stops d met own p id v m ne = stops-by own p (walk next d met (p ∷ own) (next p)) (member p met) (member p own) id v m ne
 
@@ -348,21 +372,27 @@ module _ (n : ℕ) (w : List ℕ) (f : Finished) (next : Pair → Pair) (us : Li
   counts-more : (own : List Pair) (k : ℕ) → k < n → at w k 5 ≡ 3 → member (pairAt w k) own ≡ false → count (metIn own) us < count (metIn (pairAt w k ∷ own)) us
   counts-more own k h t e = go (grown (metIn own) (metIn (pairAt w k ∷ own)) (λ u. member-more (u .pair) (pairAt w k) own) us .less)
     where
-      go : (count (metIn own) us < count (metIn (pairAt w k ∷ own)) us) ⊎ ((u : Ruled) → List·Memᴰ u us → metIn own u ≡ metIn (pairAt w k ∷ own) u) → count (metIn own) us < count (metIn (pairAt w k ∷ own)) us
+      go : (count (metIn own) us < count (metIn (pairAt w k ∷ own)) us) ⊎ ((u : Ruled) → List·Memᴰ u us → metIn own u ≡ metIn (pairAt w k ∷ own) u) →
+          count (metIn own) us < count (metIn (pairAt w k ∷ own)) us
       go (inl s) = s
       go (inr s) = absurd (false≢true (sym e ∙ s (ruledAt w k) (φ .within k h t) ∙ member-own (pairAt w k) own))
 
-  marks-more : (met own : List Pair) (id : ℕ) (u : List ℕ) (k : ℕ) → Marking n w met own id u → k < n → member (pairAt w k) met ≡ false → (j : ℕ) → j < n → (j ≡ k) ⊎ (j ≡ k → ⊥) → MarkOf (member (pairAt w j) met) (member (pairAt w j) (pairAt w k ∷ own)) id (at (set u (16 * k + 14) id) j 14)
+  marks-more : (met own : List Pair) (id : ℕ) (u : List ℕ) (k : ℕ) → Marking n w met own id u → k < n → member (pairAt w k) met ≡ false → (j : ℕ) → j < n →
+      (j ≡ k) ⊎ (j ≡ k → ⊥) → MarkOf (member (pairAt w j) met) (member (pairAt w j) (pairAt w k ∷ own)) id (at (set u (16 * k + 14) id) j 14)
   marks-more met own id u k m h e j l (inl i) =
       let a : member (pairAt w j) met ≡ false = ap (λ (z : ℕ). member (pairAt w z) met) i ∙ e in
       let b : member (pairAt w j) (pairAt w k ∷ own) ≡ true = ap (λ (z : ℕ). member (pairAt w z) (pairAt w k ∷ own)) i ∙ member-own (pairAt w k) own in
-      let v : at (set u (16 * k + 14) id) j 14 ≡ id = ap (λ (z : ℕ). at (set u (16 * k + 14) id) z 14) i ∙ at-stored u k 14 id (omega (arith, φ .ascending .room, m .same-length)) in
+      let v : at (set u (16 * k + 14) id) j 14
+      ≡ id = ap (λ (z : ℕ). at (set u (16 * k + 14) id) z 14) i ∙ at-stored u k 14 id (omega (arith, φ .ascending .room, m .same-length)) in
       subst₂ (λ (x y : Bool). MarkOf x y id (at (set u (16 * k + 14) id) j 14)) (sym a) (sym b) v
   marks-more met own id u k m h e j l (inr ne) =
-      let b : member (pairAt w j) (pairAt w k ∷ own) ≡ member (pairAt w j) own = member-skip (pairAt w j) (pairAt w k) own (not-so (samePair (pairAt w j) (pairAt w k)) (λ i. ne (same-row n w (φ .ascending) j k l h i))) in
+      let b : member (pairAt w j) (pairAt w k ∷ own)
+      ≡ member (pairAt w j) own = member-skip (pairAt w j) (pairAt w k) own
+      (not-so (samePair (pairAt w j) (pairAt w k)) (λ i. ne (same-row n w (φ .ascending) j k l h i))) in
       subst₂ (λ (y : Bool) (v : ℕ). MarkOf (member (pairAt w j) met) y id v) (sym b) (sym (at-row u k 14 id j (omega arith) ne)) (m .marks j l)
 
-  marking-more : (met own : List Pair) (id : ℕ) (u : List ℕ) (k : ℕ) → Marking n w met own id u → k < n → member (pairAt w k) met ≡ false → Marking n w met (pairAt w k ∷ own) id (set u (16 * k + 14) id)
+  marking-more : (met own : List Pair) (id : ℕ) (u : List ℕ) (k : ℕ) → Marking n w met own id u → k < n → member (pairAt w k) met ≡ false →
+      Marking n w met (pairAt w k ∷ own) id (set u (16 * k + 14) id)
   marking-more met own id u k m h e = record {
     same-length = length-set u (16 * k + 14) id ∙ m .same-length;
     same = λ j g i l p q. mark-keeps n k id u j g i l p q ∙ m .same j g i l p q;
@@ -370,7 +400,8 @@ module _ (n : ℕ) (w : List ℕ) (f : Finished) (next : Pair → Pair) (us : Li
   }
 
   -- A walk over rows is the walk over their pairs: d, how many pairs it may meet at most, is not reached.
-  walk-right : (d : ℕ) (met own : List Pair) {id : ℕ} {u u′ : List ℕ} {k r : ℕ} → 0 < id → Walk id u k u′ r → Marking n w met own id u → k < n → at w k 5 ≡ 3 → length us < d + count (metIn own) us → Right n w (walk next d met own (pairAt w k)) met id u′ r
+  walk-right : (d : ℕ) (met own : List Pair) {id : ℕ} {u u′ : List ℕ} {k r : ℕ} → 0 < id → Walk id u k u′ r → Marking n w met own id u → k < n → at w k 5 ≡ 3 →
+      length us < d + count (metIn own) us → Right n w (walk next d met own (pairAt w k)) met id u′ r
   walk-right zero met own p s m h t l = absurd (omega (arith, count-all (metIn own) us))
   walk-right (suc d) met own {id} p (stops {w = u} {k = k} ne) m h t l =
       let z = walk-stops next d met own (pairAt w k) id (at u k 14) (m .marks k h) ne in
@@ -381,7 +412,8 @@ module _ (n : ℕ) (w : List ℕ) (f : Finished) (next : Pair → Pair) (us : Li
       let on : walk next (suc d) met own (pairAt w k) ≡ walk next d met (pairAt w k ∷ own) (pairAt w (at u k 9)) =
       walk-goes next d met own (pairAt w k) (z .0) (z .1) ∙ ap (walk next d met (pairAt w k ∷ own)) (sym (φ .next-is k h t) ∙ ap (pairAt w) (sym i)) in
       subst (λ (W : Walked). Right n w W met id u′ r) (sym on)
-      (walk-right d met (pairAt w k ∷ own) p s (marking-more met own id u k m h (z .0)) (rw i (φ .row k h t)) (ap (λ (j : ℕ). at w j 5) i ∙ φ .onward k h t) (omega (arith, counts-more own k h t (z .1))))
+      (walk-right d met (pairAt w k ∷ own) p s (marking-more met own id u k m h (z .0)) (rw i (φ .row k h t)) (ap (λ (j : ℕ). at w j 5) i ∙ φ .onward k h t)
+      (omega (arith, counts-more own k h t (z .1))))
 
 -- ---- turns
 
@@ -414,14 +446,16 @@ taken-skip {w = w} {met = met} {id = id} {u = u} t = record {
 
 module _ (n : ℕ) (w : List ℕ) (ls met : List Pair) (id : ℕ) (u : List ℕ) (r : ℕ) (t : Taken n w ls met id u r) where
   -- row l is listed
-  more-listed : (l : ℕ) → l < n → 16 * r + 8 < length u → (i : ℕ) → (i ≡ r) ⊎ (i < r) → (at (set u (16 * r + 8) l) i 8 < n) × (pairAt w (at (set u (16 * r + 8) l) i 8) ≡ nthPair (ls ++ (pairAt w l ∷ [])) i)
+  more-listed : (l : ℕ) → l < n → 16 * r + 8 < length u → (i : ℕ) → (i ≡ r) ⊎ (i < r) →
+      (at (set u (16 * r + 8) l) i 8 < n) × (pairAt w (at (set u (16 * r + 8) l) i 8) ≡ nthPair (ls ++ (pairAt w l ∷ [])) i)
   more-listed l h k i (inl e) =
       let s : at (set u (16 * r + 8) l) i 8 ≡ l = ap (λ (j : ℕ). at (set u (16 * r + 8) l) j 8) e ∙ at-stored u r 8 l k in
       let z : nthPair (ls ++ (pairAt w l ∷ [])) i ≡ pairAt w l = getD-at ls (pairAt w l) [] (record { left = bnd; right = 0 }) i (sym (e ∙ t .count)) in
       (subst (λ (j : ℕ). j < n) (sym s) h, ap (pairAt w) s ∙ sym z)
   more-listed l h k i (inr m) =
       let s : at (set u (16 * r + 8) l) i 8 ≡ at u i 8 = at-row u r 8 l i (omega arith) (λ e. omega arith) in
-      let z : nthPair (ls ++ (pairAt w l ∷ [])) i ≡ nthPair ls i = List·getD-append ls (pairAt w l ∷ []) (record { left = bnd; right = 0 }) i (omega (arith, t .count)) in
+      let z : nthPair (ls ++ (pairAt w l ∷ [])) i
+      ≡ nthPair ls i = List·getD-append ls (pairAt w l ∷ []) (record { left = bnd; right = 0 }) i (omega (arith, t .count)) in
       let o = t .listed i m in
       (subst (λ (j : ℕ). j < n) (sym s) (o .0), ap (pairAt w) s ∙ o .1 ∙ sym z)
 
@@ -439,13 +473,18 @@ module _ (n : ℕ) (w : List ℕ) (ls met : List Pair) (id : ℕ) (u : List ℕ)
   to-marking = record { same-length = t .same-length; same = t .same; marks = t .marks }
 
   -- after a walk, before its end is listed
-  taken-walked : (W : Walked) (u′ : List ℕ) (l : ℕ) → 0 < id → ((j f : ℕ) → f < 16 → (f ≡ 14 → ⊥) → at u′ j f ≡ at u j f) → Right n w W met id u′ l → Taken n w ls (W .own ++ met) (suc id) u′ r
+  taken-walked : (W : Walked) (u′ : List ℕ) (l : ℕ) → 0 < id → ((j f : ℕ) → f < 16 → (f ≡ 14 → ⊥) → at u′ j f ≡ at u j f) → Right n w W met id u′ l →
+      Taken n w ls (W .own ++ met) (suc id) u′ r
   taken-walked W u′ l p k s = record {
     same-length = s .marking .same-length;
     same = s .marking .same;
-    marks = λ j h. subst (λ (b : Bool). MarkOf b false (suc id) (at u′ j 14)) (sym (member-append (pairAt w j) (W .own) met)) (mark-joined (member (pairAt w j) met) (member (pairAt w j) (W .own)) id (at u′ j 14) p (s .marking .marks j h));
+    marks =
+        λ j h. subst (λ (b : Bool). MarkOf b false (suc id) (at u′ j 14)) (sym (member-append (pairAt w j) (W .own) met))
+        (mark-joined (member (pairAt w j) met) (member (pairAt w j) (W .own)) id (at u′ j 14) p (s .marking .marks j h));
     count = t .count;
-    listed = λ i h. let e : at u i 8 ≡ at u′ i 8 = sym (k i 8 (omega arith) (omega arith)) in subst (λ (j : ℕ). (j < n) × (pairAt w j ≡ nthPair ls i)) e (t .listed i h);
+    listed =
+        λ i h. let e : at u i 8 ≡ at u′ i 8 = sym (k i 8 (omega arith) (omega arith)) in
+        subst (λ (j : ℕ). (j < n) × (pairAt w j ≡ nthPair ls i)) e (t .listed i h);
   }
 
 -- the pairs that walks from a list's pairs meet, and those met before
@@ -453,12 +492,14 @@ unfoldable pub mets : (Pair → Pair) → ℕ → List Pair → List Ruled → L
 mets next d met [] = met
 mets next d met (p ∷ ps) = mets next d (walk next d met [] (p .pair) .own ++ met) ps
 
-walks-append : (next : Pair → Pair) (d : ℕ) (met : List Pair) (xs ys : List Ruled) → walks next d met (xs ++ ys) ≡ walks next d met xs ++ walks next d (mets next d met xs) ys
+walks-append : (next : Pair → Pair) (d : ℕ) (met : List Pair) (xs ys : List Ruled) →
+    walks next d met (xs ++ ys) ≡ walks next d met xs ++ walks next d (mets next d met xs) ys
 unfolding walks mets
 walks-append next d met [] ys = refl
 walks-append next d met (x ∷ xs) ys =
     let W = walk next d met [] (x .pair) in
-    ap (λ (z : List Pair). W .found ++ z) (walks-append next d (W .own ++ met) xs ys) ∙ sym (append-assoc (W .found) (walks next d (W .own ++ met) xs) (walks next d (mets next d (W .own ++ met) xs) ys))
+    ap (λ (z : List Pair). W .found ++ z) (walks-append next d (W .own ++ met) xs ys)
+    ∙ sym (append-assoc (W .found) (walks next d (W .own ++ met) xs) (walks next d (mets next d (W .own ++ met) xs) ys))
 
 mets-append : (next : Pair → Pair) (d : ℕ) (met : List Pair) (xs ys : List Ruled) → mets next d met (xs ++ ys) ≡ mets next d (mets next d met xs) ys
 unfolding mets
@@ -472,9 +513,11 @@ unfinished-by false p us vs ws e = ap (λ (z : List Ruled). p ∷ z) e
 unfinished-append : (f : Finished) (xs ys : List Ruled) → unfinished f (xs ++ ys) ≡ unfinished f xs ++ unfinished f ys
 unfolding unfinished
 unfinished-append f [] ys = refl
-unfinished-append f (x ∷ xs) ys = unfinished-by (isFinished (f (x .pair .left) (x .pair .right))) x (unfinished f (xs ++ ys)) (unfinished f xs) (unfinished f ys) (unfinished-append f xs ys)
+unfinished-append f (x ∷ xs) ys =
+    unfinished-by (isFinished (f (x .pair .left) (x .pair .right))) x (unfinished f (xs ++ ys)) (unfinished f xs) (unfinished f ys) (unfinished-append f xs ys)
 
-keeps-by : (f : Finished) (v p : Ruled) {ps us : List Ruled} (o : Option Res) → f (p .pair .left) (p .pair .right) ≡ o → f (v .pair .left) (v .pair .right) ≡ none → (List·Memᴰ v ps → List·Memᴰ v us) → (v ≡ p) ⊎ List·Memᴰ v ps → List·Memᴰ v (cond (isFinished o) us (p ∷ us))
+keeps-by : (f : Finished) (v p : Ruled) {ps us : List Ruled} (o : Option Res) → f (p .pair .left) (p .pair .right) ≡ o →
+    f (v .pair .left) (v .pair .right) ≡ none → (List·Memᴰ v ps → List·Memᴰ v us) → (v ≡ p) ⊎ List·Memᴰ v ps → List·Memᴰ v (cond (isFinished o) us (p ∷ us))
 keeps-by f v p none i s k (inl e) = List·Memᴰ·head e
 keeps-by f v p none i s k (inr m) = List·Memᴰ·tail (k m)
 keeps-by f v p (some q) i s k (inl e) = absurd (Option·some-ne-none q (sym i ∙ ap (λ (z : Ruled). f (z .pair .left) (z .pair .right)) (sym e) ∙ s))
@@ -485,7 +528,8 @@ unfolding unfinished
 unfinished-keeps f v [] s m = m
 unfinished-keeps f v (p ∷ ps) s m = keeps-by f v p (f (p .pair .left) (p .pair .right)) refl s (unfinished-keeps f v ps s) (List·Memᴰ·cases-cons m)
 
-module _ (n : ℕ) (w : List ℕ) (f : Finished) (next : Pair → Pair) (us : List Ruled) (φ : Follows n w f next us) (ls met : List Pair) (id : ℕ) (u : List ℕ) (r k : ℕ) (t : Taken n w ls met id u r) (positive : 0 < id) (room : r < n) (h : k < n) where
+module _ (n : ℕ) (w : List ℕ) (f : Finished) (next : Pair → Pair) (us : List Ruled) (φ : Follows n w f next us) (ls met : List Pair) (id : ℕ) (u : List ℕ)
+    (r k : ℕ) (t : Taken n w ls met id u r) (positive : 0 < id) (room : r < n) (h : k < n) where
   abbrev turned : Walked
   turned = walk next (suc (length us)) met [] (pairAt w k)
 
@@ -500,7 +544,8 @@ module _ (n : ℕ) (w : List ℕ) (f : Finished) (next : Pair → Pair) (us : Li
   never-turn {u′} {r′} s (meets-own {u = v} {l = l} d z m e i) =
       let R = walked s z in
       let T = taken-walked n w ls met id u r t turned v l positive (walk-keeps z) R in
-      let g : turned .found ++ [] ≡ pairAt w l ∷ [] = append-nil (turned .found) ∙ R .found ∙ ap (λ (b : Bool). cond b (pairAt w l ∷ []) []) (eq-eqb (at v l 14) id m) in
+      let g : turned .found ++ [] ≡ pairAt w l ∷ [] = append-nil (turned .found) ∙ R .found
+      ∙ ap (λ (b : Bool). cond b (pairAt w l ∷ []) []) (eq-eqb (at v l 14) id m) in
       let q : 16 * r + 8 < length v = omega (arith, φ .ascending .room, R .marking .same-length) in
       subst₂ (λ (y : List ℕ) (x : ℕ). Taken n w (ls ++ (turned .found ++ [])) (turned .own ++ met) (suc id) y x) (sym e) (sym i)
       (subst (λ (x : List Pair). Taken n w (ls ++ x) (turned .own ++ met) (suc id) (set v (16 * r + 8) l) (r + 1)) (sym g)
@@ -508,7 +553,9 @@ module _ (n : ℕ) (w : List ℕ) (f : Finished) (next : Pair → Pair) (us : Li
   never-turn {u′} {r′} s (meets-earlier {u = v} {l = l} d z m e i) =
       let R = walked s z in
       let T = taken-walked n w ls met id u r t turned v l positive (walk-keeps z) R in
-      let g : ls ++ (turned .found ++ []) ≡ ls = ap (λ (x : List Pair). ls ++ x) (append-nil (turned .found) ∙ R .found ∙ ap (λ (b : Bool). cond b (pairAt w l ∷ []) []) (ne-eqb (at v l 14) id m)) ∙ append-nil ls in
+      let g : ls ++ (turned .found ++ [])
+      ≡ ls = ap (λ (x : List Pair). ls ++ x)
+      (append-nil (turned .found) ∙ R .found ∙ ap (λ (b : Bool). cond b (pairAt w l ∷ []) []) (ne-eqb (at v l 14) id m)) ∙ append-nil ls in
       subst₂ (λ (y : List ℕ) (x : ℕ). Taken n w (ls ++ (turned .found ++ [])) (turned .own ++ met) (suc id) y x) (sym e) (sym i)
       (subst (λ (x : List Pair). Taken n w x (turned .own ++ met) (suc id) v r) (sym g) T)
 
@@ -519,12 +566,16 @@ module _ (n : ℕ) (w : List ℕ) (f : Finished) (next : Pair → Pair) (us : Li
   finished-turn d (meets-own s z m e i) = absurd (d (sym status-same ∙ s))
   finished-turn d (meets-earlier s z m e i) = absurd (d (sym status-same ∙ s))
 
-  turn-by : (o : Option Res) → f (leftOf (at w k 0)) (at w k 1) ≡ o → {u′ : List ℕ} {r′ : ℕ} → WalkTaken id u k r u′ r′ → Taken n w (ls ++ walks next (suc (length us)) met (cond (isFinished o) [] (ruledAt w k ∷ []))) (mets next (suc (length us)) met (cond (isFinished o) [] (ruledAt w k ∷ []))) (suc id) u′ r′
+  turn-by : (o : Option Res) → f (leftOf (at w k 0)) (at w k 1) ≡ o → {u′ : List ℕ} {r′ : ℕ} → WalkTaken id u k r u′ r′ →
+      Taken n w (ls ++ walks next (suc (length us)) met (cond (isFinished o) [] (ruledAt w k ∷ [])))
+      (mets next (suc (length us)) met (cond (isFinished o) [] (ruledAt w k ∷ []))) (suc id) u′ r′
   unfolding walks mets
   turn-by none e s = never-turn (φ .status k h e) s
   turn-by (some q) e s = finished-turn (λ i. Option·some-ne-none q (sym e ∙ φ .opens k h i)) s
 
-  pub turn-right : {u′ : List ℕ} {r′ : ℕ} → WalkTaken id u k r u′ r′ → Taken n w (ls ++ walks next (suc (length us)) met (unfinished f (ruledAt w k ∷ []))) (mets next (suc (length us)) met (unfinished f (ruledAt w k ∷ []))) (suc id) u′ r′
+  pub turn-right : {u′ : List ℕ} {r′ : ℕ} → WalkTaken id u k r u′ r′ →
+      Taken n w (ls ++ walks next (suc (length us)) met (unfinished f (ruledAt w k ∷ []))) (mets next (suc (length us)) met (unfinished f (ruledAt w k ∷ [])))
+      (suc id) u′ r′
   unfolding unfinished
   turn-right s = turn-by (f (leftOf (at w k 0)) (at w k 1)) refl s
 
@@ -584,7 +635,9 @@ module _ (n m : ℕ) (w : List ℕ) (c : Encoded n w) (s : Settled n w w m) wher
     row = λ k h e. never-row k h (open-row k h e) .row;
     onward = onward-row;
     next-is = λ k h e. never-row k h (open-row k h e) .waits-for;
-    within = λ k h e. unfinished-keeps (finishedRows n w) (ruledAt w k) (ordered (pairs n w)) (open-row k h e) (ordered-keeps (ruledAt w k) (pairs n w) (mem-tabulate n (ruledAt w) k h));
+    within =
+        λ k h e. unfinished-keeps (finishedRows n w) (ruledAt w k) (ordered (pairs n w)) (open-row k h e)
+        (ordered-keeps (ruledAt w k) (pairs n w) (mem-tabulate n (ruledAt w) k h));
   }
 
   walkable-rows : Walkable n w
@@ -605,16 +658,21 @@ module _ (n m : ℕ) (w : List ℕ) (c : Encoded n w) (s : Settled n w w m) wher
       pub going-row : i < n → walkRow n e u i < n
       going-row h = rw (turn-same h) (t .row i h)
 
-      list-more : listedBy n e w (suc i) ≡ listedBy n e w i ++ walks (nextOf n w) (suc (length (openPairs n w))) (metBy n e w i) (unfinished (finishedRows n w) (ruledAt w (walkRow n e w i) ∷ []))
+      list-more : listedBy n e w (suc i)
+          ≡ listedBy n e w i
+          ++ walks (nextOf n w) (suc (length (openPairs n w))) (metBy n e w i) (unfinished (finishedRows n w) (ruledAt w (walkRow n e w i) ∷ []))
       unfolding tabulate listedBy metBy
       list-more =
-          ap (walks (nextOf n w) (suc (length (openPairs n w))) []) (unfinished-append (finishedRows n w) (tabulate i (λ j. ruledAt w (walkRow n e w j))) (ruledAt w (walkRow n e w i) ∷ []))
+          ap (walks (nextOf n w) (suc (length (openPairs n w))) [])
+          (unfinished-append (finishedRows n w) (tabulate i (λ j. ruledAt w (walkRow n e w j))) (ruledAt w (walkRow n e w i) ∷ []))
           ∙ walks-append (nextOf n w) (suc (length (openPairs n w))) [] (turnPairs n e w i) (unfinished (finishedRows n w) (ruledAt w (walkRow n e w i) ∷ []))
 
-      met-more : metBy n e w (suc i) ≡ mets (nextOf n w) (suc (length (openPairs n w))) (metBy n e w i) (unfinished (finishedRows n w) (ruledAt w (walkRow n e w i) ∷ []))
+      met-more : metBy n e w (suc i) ≡ mets (nextOf n w) (suc (length (openPairs n w))) (metBy n e w i)
+          (unfinished (finishedRows n w) (ruledAt w (walkRow n e w i) ∷ []))
       unfolding tabulate metBy
       met-more =
-          ap (mets (nextOf n w) (suc (length (openPairs n w))) []) (unfinished-append (finishedRows n w) (tabulate i (λ j. ruledAt w (walkRow n e w j))) (ruledAt w (walkRow n e w i) ∷ []))
+          ap (mets (nextOf n w) (suc (length (openPairs n w))) [])
+          (unfinished-append (finishedRows n w) (tabulate i (λ j. ruledAt w (walkRow n e w j))) (ruledAt w (walkRow n e w i) ∷ []))
           ∙ mets-append (nextOf n w) (suc (length (openPairs n w))) [] (turnPairs n e w i) (unfinished (finishedRows n w) (ruledAt w (walkRow n e w i) ∷ []))
 
       more-turns : (u′ : List ℕ) (r′ : ℕ) → i < n → WalkTaken (suc i) u (walkRow n e w i) r u′ r′ → Going n e w (suc i) u′ r′
@@ -623,7 +681,8 @@ module _ (n m : ℕ) (w : List ℕ) (c : Encoded n w) (s : Settled n w w m) wher
         few = omega (arith, turn-count v, g .few);
         taken =
             subst₂ (λ (x y : List Pair). Taken n w x y (suc (suc i)) u′ r′) (sym list-more) (sym met-more)
-            (turn-right n w (finishedRows n w) (nextOf n w) (openPairs n w) follows-rows (listedBy n e w i) (metBy n e w i) (suc i) u r (walkRow n e w i) (g .taken) (omega arith) (omega (arith, g .few)) (t .row i h) v);
+            (turn-right n w (finishedRows n w) (nextOf n w) (openPairs n w) follows-rows (listedBy n e w i) (metBy n e w i) (suc i) u r (walkRow n e w i)
+            (g .taken) (omega arith) (omega (arith, g .few)) (t .row i h) v);
       }
 
       pub going-more : (k : ℕ) (u′ : List ℕ) (r′ : ℕ) → i < n → k ≡ walkRow n e u i → WalkTaken (i + 1) u k r u′ r′ → Going n e w (i + 1) u′ r′
@@ -669,5 +728,6 @@ module _ (n r : ℕ) (w u : List ℕ) (l : Listed n w u r) where
   -- and they are the loop list
   pub listed-pairs : tabulate r (listedPair u) ≡ loopsOf n w
   listed-pairs =
-      tabulate-ext r (listedPair u) (nthPair (loopsOf n w)) (λ i h. pair-same w u (λ k f j g. l .rows k f j (omega arith) (omega arith) (omega arith)) (at u i 8) (l .listed i h .0) ∙ l .listed i h .1)
+      tabulate-ext r (listedPair u) (nthPair (loopsOf n w))
+      (λ i h. pair-same w u (λ k f j g. l .rows k f j (omega arith) (omega arith) (omega arith)) (at u i 8) (l .listed i h .0) ∙ l .listed i h .1)
       ∙ table-nth (loopsOf n w) r (l .count)

@@ -13,7 +13,9 @@ use lib.Dec.{eqb}
 use lib.IntN.{ℤ}
 use lib.ListN.{length, length-append}
 use borrow.Author.Tests.{eqb-true, eqb-false, ne-eqb, le-leb, lt-leb}
-use Rattle.lang.specs.declared.operation.PostLigOperation.the-variants.{RetainBothMoveNowhere, RetainBothMoveToInserted, RetainBothMoveToRight, RetainRightMoveToInserted, RetainRightMoveToRight, RetainLeftMoveNowhere, RetainLeftMoveToInserted, RetainNeitherMoveToInserted}
+use Rattle.lang.specs.declared.operation.PostLigOperation.the-variants.{RetainBothMoveNowhere, RetainBothMoveToInserted, RetainBothMoveToRight}
+use Rattle.lang.specs.declared.operation.PostLigOperation.the-variants.{RetainRightMoveToInserted, RetainRightMoveToRight, RetainLeftMoveNowhere}
+use Rattle.lang.specs.declared.operation.PostLigOperation.the-variants.{RetainLeftMoveToInserted, RetainNeitherMoveToInserted}
 use Rattle.lang.specs.Operations.{isStandard, retains, keepsLeft, keepsRight, advance}
 use Rattle.lang.proofs.Arms.{oneOf}
 use Rattle.lang.proofs.Standard.{eight}
@@ -34,7 +36,8 @@ use Rattle.fonts.specs.Fonts.{leftOf, numberOfLeft}
 use Rattle.compiling.specs.SettledRows.{finishedRows, outcome, consults, second, FinishedRow, RowSays, Settled}
 use Rattle.fonts.specs.Numbers.{nth, entryOf, opsOf, opsBefore, outNumbers, opNumbers, opsTable, pairNumbers, pairTable}
 use Rattle.compiling.specs.OpRows.{rowOps, opTotal}
-use Rattle.compiling.specs.OpSteps.{leftPart, partBy, pairPart, lastBy, rowLastCode, firstOf, secondOf, firstPart, secondPart, LastFits, partOuts, raisedOuts}
+use Rattle.compiling.specs.OpSteps.{leftPart, partBy, pairPart, lastBy, rowLastCode, firstOf, secondOf, firstPart, secondPart, LastFits, partOuts}
+use Rattle.compiling.specs.OpSteps.{raisedOuts}
 use Rattle.compiling.proofs.RowLaws.{row-found, number-left, rule-at, fits-parts, fits-eight, value-small, covers-rows}
 
 -- ---- ops as numbers, and ops whose first character is a ligature
@@ -87,9 +90,12 @@ module _ (n : ℕ) (w : List ℕ) (k : ℕ) (h : k < n) where
   unfolding opsTable
   ops-more = ap (λ (o : Option Res). opsTable (finishedRows n w) (pairs n w) k ++ opNumbers (opsOf o)) entry-row
 
-  pub pairs-more : pairTable (finishedRows n w) (pairs n w) (suc k) ≡ pairTable (finishedRows n w) (pairs n w) k ++ pairNumbers (pairAt w k) (opsUpTo n w k) (outcome n w k)
+  pub pairs-more : pairTable (finishedRows n w) (pairs n w) (suc k)
+      ≡ pairTable (finishedRows n w) (pairs n w) k ++ pairNumbers (pairAt w k) (opsUpTo n w k) (outcome n w k)
   unfolding pairTable
-  pairs-more = ap (λ (p : Ruled). pairTable (finishedRows n w) (pairs n w) k ++ pairNumbers (p .pair) (opsUpTo n w k) (finishedRows n w (p .pair .left) (p .pair .right))) nth-row
+  pairs-more =
+      ap (λ (p : Ruled). pairTable (finishedRows n w) (pairs n w) k
+      ++ pairNumbers (p .pair) (opsUpTo n w k) (finishedRows n w (p .pair .left) (p .pair .right))) nth-row
 
 module _ (n : ℕ) (w : List ℕ) where
   grows-by : (j k : ℕ) → (j ≤ k → opsUpTo n w j ≤ opsUpTo n w k) → (j ≡ suc k) ⊎ (j < suc k) → opsUpTo n w j ≤ opsUpTo n w (suc k)
@@ -119,7 +125,8 @@ same-last : {p q : Res} → some p ≡ some q → code (p .last) < 256 → code 
 same-last {p} {q} e h = subst (λ (z : Res). code (z .last) < 256) (Option·some-injective p q e) h
 
 module _ (f : Finished) (small : (l : Left) (r : ℕ) (q : Res) → r < 256 → f l r ≡ some q → code (q .last) < 256) where
-  mapped-last : (g : Res → Res) → ((p : Res) → code (g p .last) ≡ code (p .last)) → (l : Left) (r : ℕ) {q : Res} → r < 256 → Option·map g (f l r) ≡ some q → code (q .last) < 256
+  mapped-last : (g : Res → Res) → ((p : Res) → code (g p .last) ≡ code (p .last)) → (l : Left) (r : ℕ) {q : Res} → r < 256 → Option·map g (f l r) ≡ some q →
+      code (q .last) < 256
   mapped-last g same l r h e =
       let m = map-eq-some-iff g (f l r) .0 e in
       subst (λ (z : Res). code (z .last) < 256) (m .2) (rw (same (m .0)) (small l r (m .0) h (m .1)))
@@ -136,9 +143,11 @@ module _ (f : Finished) (small : (l : Left) (r : ℕ) (q : Res) → r < 256 → 
   last-by (lig RetainLeftMoveNowhere c) s l r h e = mapped-last (raised false true) (code-raised false true) l c s e
   last-by (lig RetainBothMoveNowhere c) s l r h e =
       let m = both-finished f r (raised false true) (f l c) e in
-      subst (λ (z : Res). code (z .last) < 256) (m .4) (rw (code-raised true false (m .2)) (small (chr (code (raised false true (m .0) .last))) r (m .2) h (m .3)))
+      subst (λ (z : Res). code (z .last) < 256) (m .4)
+      (rw (code-raised true false (m .2)) (small (chr (code (raised false true (m .0) .last))) r (m .2) h (m .3)))
 
-last-deep : (rule : Rules) → ((l : Left) (r : ℕ) → RuleFits (rule l r)) → (d : ℕ) (l : Left) (r : ℕ) (q : Res) → r < 256 → comp rule d l r ≡ some q → code (q .last) < 256
+last-deep : (rule : Rules) → ((l : Left) (r : ℕ) → RuleFits (rule l r)) → (d : ℕ) (l : Left) (r : ℕ) (q : Res) → r < 256 → comp rule d l r ≡ some q →
+    code (q .last) < 256
 unfolding comp
 last-deep rule s zero l r q h e = absurd (Option·none-ne-some q e)
 last-deep rule s (suc d) l r q h e = last-by (comp rule d) (last-deep rule s d) (rule l r) (s l r) l r h e
@@ -146,7 +155,8 @@ last-deep rule s (suc d) l r q h e = last-by (comp rule d) (last-deep rule s d) 
 rule-fits : (op v : ℕ) → ruleFits op v ≡ true → RuleFits (ruleOf op v)
 rule-fits op v e = go (eqb op 128) refl (fits-parts op v e)
   where
-    go : (b : Bool) → eqb op 128 ≡ b → (op ≡ 128) ⊎ ((op < 128) × (isStandard op ≡ true) × (v < 256)) → RuleFits (cond b (kerned (numberOf v)) (lig (retains (keepsLeft op) (keepsRight op) (advance op)) v))
+    go : (b : Bool) → eqb op 128 ≡ b → (op ≡ 128) ⊎ ((op < 128) × (isStandard op ≡ true) × (v < 256)) →
+        RuleFits (cond b (kerned (numberOf v)) (lig (retains (keepsLeft op) (keepsRight op) (advance op)) v))
     go true i p = tt
     go false i (inl j) = absurd (eqb-false op 128 i j)
     go false i (inr (l, j, s)) = s
@@ -233,7 +243,8 @@ module _ (n m : ℕ) (w : List ℕ) (e : Encoded n w) (s : Settled n w w m) wher
   pair-by t r p none i f =
       let ruled : rules n w (leftOf t) r ≡ free = ap (ruleBy w) (ap (λ (x : ℕ). rowOf w n x r) (number-left t) ∙ i) in
       let alone : Res = record { outs = fin (head (leftOf t)); last = plain r } in
-      let same : _≡_ {A = Option Res} (some alone) (some p) = ap (λ (R : Rule). compBy R (finishedRows n w) (leftOf t) r) (sym ruled) ∙ once-more (rules n w) (pairs n w) (covers-rows n w) (leftOf t) r ∙ f in
+      let same : _≡_ {A = Option Res} (some alone) (some p) = ap (λ (R : Rule). compBy R (finishedRows n w) (leftOf t) r) (sym ruled)
+      ∙ once-more (rules n w) (pairs n w) (covers-rows n w) (leftOf t) r ∙ f in
       let q : alone ≡ p = Option·some-injective alone p same in
       record { outs = left-outs n w t ∙ ap (λ (z : Res). z .outs) q; last = ap (λ (z : Res). code (z .last)) q; row = λ k j. absurd (Option·none-ne-some k j) }
   pair-by t r p (some k) i f =
@@ -244,7 +255,9 @@ module _ (n m : ℕ) (w : List ℕ) (e : Encoded n w) (s : Settled n w w m) wher
       record {
         outs = ap opsOf out;
         last = says .last-code;
-        row = λ j l. subst (λ (z : ℕ). (z < n) × (at w z 5 ≡ 2) × (pairAt w z ≡ record { left = leftOf t; right = r })) (Option·some-injective k j l) (found .0, says .status, pair);
+        row =
+            λ j l. subst (λ (z : ℕ). (z < n) × (at w z 5 ≡ 2) × (pairAt w z ≡ record { left = leftOf t; right = r })) (Option·some-injective k j l)
+            (found .0, says .status, pair);
       }
 
   pair-parts : (t r : ℕ) (p : Res) → finishedRows n w (leftOf t) r ≡ some p → PairParts n w t r p (rowOf w n t r)
@@ -254,20 +267,24 @@ module _ (n m : ℕ) (w : List ℕ) (e : Encoded n w) (s : Settled n w w m) wher
   abbrev Before : ℕ → Rule → Left → ℕ → Type 0
   Before i R l r = (k : ℕ) → k < n → at w k 5 ≡ 2 → List·Memᴰ (pairAt w k) (consults R (finishedRows n w) l r) → at w k 11 < i
 
-  pair-sound : (i t r : ℕ) (p : Res) → PairParts n w t r p (rowOf w n t r) → t < 257 → ((k : ℕ) → k < n → at w k 5 ≡ 2 → pairAt w k ≡ record { left = leftOf t; right = r } → at w k 11 < i) → Sound n w i (pairPart n w t r)
+  pair-sound : (i t r : ℕ) (p : Res) → PairParts n w t r p (rowOf w n t r) → t < 257 →
+      ((k : ℕ) → k < n → at w k 5 ≡ 2 → pairAt w k ≡ record { left = leftOf t; right = r } → at w k 11 < i) → Sound n w i (pairPart n w t r)
   pair-sound i t r p d h g =
       sound-by n w i t (rowOf w n t r) h (λ k l. let x = d .row k l in record { row = x .0; status = x .1; turn = g k (x .0) (x .1) (x .2) })
 
   -- a rule by its op: a left t with a right r, the op's value v, at turn i
   module _ (t v r i : ℕ) (q : Res) (left : t < 257) (right : r < 256) where
     abbrev Row : ℕ → Type 0
-    Row op = (op < 128 → v < 256) → Before i (ruleOf op v) (leftOf t) r → compBy (ruleOf op v) (finishedRows n w) (leftOf t) r ≡ some q → RowParts n w i (firstOf n w op t v) (secondOf n w op t v r) (q .outs)
+    Row op =
+        (op < 128 → v < 256) → Before i (ruleOf op v) (leftOf t) r → compBy (ruleOf op v) (finishedRows n w) (leftOf t) r ≡ some q →
+        RowParts n w i (firstOf n w op t v) (secondOf n w op t v r) (q .outs)
 
     left-sound : Sound n w i (leftPart t)
     left-sound = sound-by n w i t none left (λ k l. absurd (Option·none-ne-some k l))
 
     -- done at once
-    once : (a b : Part) (p : Res) → Sound n w i a → Sound n w i b → some p ≡ some q → p .outs ≡ partOuts n w a ++ raisedOuts (partOuts n w b) → RowParts n w i a b (q .outs)
+    once : (a b : Part) (p : Res) → Sound n w i a → Sound n w i b → some p ≡ some q → p .outs ≡ partOuts n w a ++ raisedOuts (partOuts n w b) →
+        RowParts n w i a b (q .outs)
     once a b p x y j z = record { first = x; second = y; outs = sym (ap (λ (g : Res). g .outs) (Option·some-injective p q j)) ∙ z }
 
     row-0 : Row 0
@@ -280,7 +297,9 @@ module _ (n m : ℕ) (w : List ℕ) (e : Encoded n w) (s : Settled n w w m) wher
 
     row-6 : Row 6
     unfolding firstOf secondOf raisedOuts
-    row-6 h g j = once (leftPart t) Nothing (record { outs = fin (head (leftOf t)); last = inserted v }) left-sound tt j (sym (append-nil (partOuts n w (leftPart t)) ∙ left-outs n w t))
+    row-6 h g j =
+        once (leftPart t) Nothing (record { outs = fin (head (leftOf t)); last = inserted v }) left-sound tt j
+        (sym (append-nil (partOuts n w (leftPart t)) ∙ left-outs n w t))
 
     row-11 : Row 11
     unfolding firstOf secondOf raisedOuts
@@ -295,7 +314,9 @@ module _ (n m : ℕ) (w : List ℕ) (e : Encoded n w) (s : Settled n w w m) wher
         (ap (λ (x : List Out). x ++ (kern (numberOf v) ∷ [])) (sym (left-outs n w t)))
 
     -- then the inserted character with the right
-    inserted-sound : v < 256 → (p : Res) → PairParts n w (suc v) r p (rowOf w n (suc v) r) → ((k : ℕ) → k < n → at w k 5 ≡ 2 → List·Memᴰ (pairAt w k) (record { left = chr v; right = r } ∷ []) → at w k 11 < i) → Sound n w i (pairPart n w (suc v) r)
+    inserted-sound : v < 256 → (p : Res) → PairParts n w (suc v) r p (rowOf w n (suc v) r) →
+        ((k : ℕ) → k < n → at w k 5 ≡ 2 → List·Memᴰ (pairAt w k) (record { left = chr v; right = r } ∷ []) → at w k 11 < i) →
+        Sound n w i (pairPart n w (suc v) r)
     inserted-sound h p d g = pair-sound i (suc v) r p d (omega arith) (λ k l x y. g k l x (List·Memᴰ·head y))
 
     row-1 : Row 1
@@ -350,7 +371,9 @@ module _ (n m : ℕ) (w : List ℕ) (e : Encoded n w) (s : Settled n w w m) wher
         let small : c < 256 = rw (d .last) (last-small n w e (leftOf t) v (z .0) (h (omega arith)) (z .1)) in
         record {
           first = pair-sound i t v (z .0) d left (λ k l x y. g k l x (List·Memᴰ·head y));
-          second = pair-sound i (suc c) r (z .2) b (omega arith) (λ k l x y. g k l x (later k (z .0) (z .1) (y ∙ ap {B = Pair} (λ (a : ℕ). record { left = chr a; right = r }) (d .last))));
+          second =
+              pair-sound i (suc c) r (z .2) b (omega arith)
+              (λ k l x y. g k l x (later k (z .0) (z .1) (y ∙ ap {B = Pair} (λ (a : ℕ). record { left = chr a; right = r }) (d .last))));
           outs =
               sym (ap (λ (x : Res). x .outs) (z .4))
               ∙ ap (λ (x : Res). x .outs ++ raised true false (z .2) .outs) (raise-left-none (z .0 .outs) (raise true (z .0 .last)))
@@ -358,8 +381,10 @@ module _ (n m : ℕ) (w : List ℕ) (e : Encoded n w) (s : Settled n w w m) wher
               ∙ ap (λ (x : List Out). x ++ raisedOuts (partOuts n w (pairPart n w (suc c) r))) (sym (d .outs));
         }
       where
-        later : (k : ℕ) (p : Res) → finishedRows n w (leftOf t) v ≡ some p → pairAt w k ≡ record { left = chr (code (p .last)); right = r } → List·Memᴰ (pairAt w k) (record { left = leftOf t; right = v } ∷ second r (finishedRows n w (leftOf t) v))
-        later k p f y = subst (λ (o : Option Res). List·Memᴰ (pairAt w k) (record { left = leftOf t; right = v } ∷ second r o)) (sym f) (List·Memᴰ·tail (List·Memᴰ·head y))
+        later : (k : ℕ) (p : Res) → finishedRows n w (leftOf t) v ≡ some p → pairAt w k ≡ record { left = chr (code (p .last)); right = r } →
+            List·Memᴰ (pairAt w k) (record { left = leftOf t; right = v } ∷ second r (finishedRows n w (leftOf t) v))
+        later k p f y =
+            subst (λ (o : Option Res). List·Memᴰ (pairAt w k) (record { left = leftOf t; right = v } ∷ second r o)) (sym f) (List·Memᴰ·tail (List·Memᴰ·head y))
 
     row-by : (op : ℕ) → ruleFits op v ≡ true → Row op
     row-by op fits = go (fits-eight op v fits)
@@ -386,7 +411,8 @@ module _ (n m : ℕ) (w : List ℕ) (e : Encoded n w) (s : Settled n w w m) wher
   last-fits k q h o j =
       let l = leftOf (at w k 0) in
       let v = at w k 4 in
-      let x : compBy (ruleOf 3 v) (finishedRows n w) l (at w k 1) ≡ some q = ap (λ (op : ℕ). compBy (ruleOf op v) (finishedRows n w) l (at w k 1)) (sym j) ∙ comp-row k h ∙ o in
+      let x : compBy (ruleOf 3 v) (finishedRows n w) l (at w k 1)
+      ≡ some q = ap (λ (op : ℕ). compBy (ruleOf op v) (finishedRows n w) l (at w k 1)) (sym j) ∙ comp-row k h ∙ o in
       let z = both-finished (finishedRows n w) (at w k 1) (raised false true) (finishedRows n w l v) x in
       rw (pair-parts (at w k 0) v (z .0) (z .1) .last) (last-small n w e l v (z .0) (value-small (at w k 3) v (e .ops k h) (omega arith)) (z .1))
 
@@ -454,7 +480,14 @@ module _ (n : ℕ) (w : List ℕ) (op t v r : ℕ) where
   pub second-none : (op ≡ 128 → ⊥) → ((op ≡ 5) ⊎ (op ≡ 11) → ⊥) → ((op ≡ 1) ⊎ (op ≡ 7) → ⊥) → (op ≡ 3 → ⊥) → Nothing ≡ secondOf n w op t v r
   unfolding secondOf
   second-none a b c d =
-      rw (ne-eqb op 128 a, ne-eqb op 5 (λ j. b (inl j)), ne-eqb op 11 (λ j. b (inr j)), ne-eqb op 1 (λ j. c (inl j)), ne-eqb op 7 (λ j. c (inr j)), ne-eqb op 3 d)
+      rw (
+        ne-eqb op 128 a,
+        ne-eqb op 5 (λ j. b (inl j)),
+        ne-eqb op 11 (λ j. b (inr j)),
+        ne-eqb op 1 (λ j. c (inl j)),
+        ne-eqb op 7 (λ j. c (inr j)),
+        ne-eqb op 3 d,
+      )
 
 module _ (n : ℕ) (w : List ℕ) (k : ℕ) {op t v : ℕ} (i : op ≡ at w k 3) (j : t ≡ at w k 0) (l : v ≡ at w k 4) where
   pub first-is : {p : Part} → p ≡ firstOf n w op t v → p ≡ firstPart n w k
@@ -467,7 +500,8 @@ module _ (n : ℕ) (w : List ℕ) (k : ℕ) {op t v : ℕ} (i : op ≡ at w k 3)
 pub small-value : (n : ℕ) (w : List ℕ) (k : ℕ) → Encoded n w → k < n → {op v : ℕ} → op ≡ at w k 3 → v ≡ at w k 4 → op < 128 → v < 256
 small-value n w k e h i j l = omega (arith, value-small (at w k 3) (at w k 4) (e .ops k h) (omega arith))
 
-pub small-last : (n : ℕ) (w : List ℕ) (k : ℕ) → LastFits n w k → {op t v x : ℕ} → op ≡ at w k 3 → t ≡ at w k 0 → v ≡ at w k 4 → op ≡ 3 → x ≡ rowLastCode n w t v → x < 256
+pub small-last : (n : ℕ) (w : List ℕ) (k : ℕ) → LastFits n w k → {op t v x : ℕ} → op ≡ at w k 3 → t ≡ at w k 0 → v ≡ at w k 4 → op ≡ 3 →
+    x ≡ rowLastCode n w t v → x < 256
 small-last n w k f i j l three e =
     let same : rowLastCode n w _ _ ≡ rowLastCode n w (at w k 0) (at w k 4) = λ a. rowLastCode n w (j a) (l a) in
     omega (arith, f (sym i ∙ three), e, same)

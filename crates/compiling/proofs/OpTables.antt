@@ -1,6 +1,5 @@
--- The ops and the pair table as they are written: a copy of numbers, a first character that becomes a ligature, a row's ops made of its two parts, each row's ops
--- apart from every other's, and the six numbers of each finished row one after the other.
--- Assumes nothing.
+-- The ops and the pair table as they are written: a copy of numbers, a first character that becomes a ligature, a row's ops made of its two parts, each row's
+-- ops apart from every other's, and the six numbers of each finished row one after the other. Assumes nothing.
 use mathlib.Core.Path.{_≡_, refl, sym, ap, _∙_, subst}
 use mathlib.Core.Bool.{Bool, true, false}
 use mathlib.Core.List.{List, [], _∷_, _++_, append-assoc, append-nil}
@@ -27,9 +26,11 @@ use Rattle.fonts.specs.Fonts.{leftOf}
 use Rattle.compiling.specs.SettledRows.{bit, finishedRows, outcome}
 use Rattle.fonts.specs.Numbers.{opsOf, opsBefore, outNumbers, opNumbers, opsTable, leftNumber, flagNumber, pairNumbers, pairTable}
 use Rattle.compiling.specs.OpRows.{rowOps, opTotal, Ready, opsWritten, pairsWritten}
-use Rattle.compiling.specs.OpSteps.{firstPart, secondPart, partOuts, raisedOuts, rowNumbers, Segment, OpsAt, Apart, opsPlace, opsSize, Copies, PartFits, partNumbers, PartWritten, RowWritten, WrittenBefore, ToWrite}
+use Rattle.compiling.specs.OpSteps.{firstPart, secondPart, partOuts, raisedOuts, rowNumbers, Segment, OpsAt, Apart, opsPlace, opsSize, Copies, PartFits}
+use Rattle.compiling.specs.OpSteps.{partNumbers, PartWritten, RowWritten, WrittenBefore, ToWrite}
 use Rattle.compiling.proofs.Segments.{getD-apart, part-apart, drop-after, part-stored, part-at, sets-over, sets-same, set-within}
-use Rattle.compiling.proofs.OpLaws.{length-numbers, numbers-append, length-raised, opsUpTo, before-more, ops-more, pairs-more, ends-before, ends-within, last-small, Sound, RowParts, finished-row, row-finished, unfinished-row, parts-of, count-parts}
+use Rattle.compiling.proofs.OpLaws.{length-numbers, numbers-append, length-raised, opsUpTo, before-more, ops-more, pairs-more, ends-before, ends-within}
+use Rattle.compiling.proofs.OpLaws.{last-small, Sound, RowParts, finished-row, row-finished, unfinished-row, parts-of, count-parts}
 
 -- ---- a copy of numbers
 
@@ -39,7 +40,8 @@ apart-at from to count i l h e (inr a) = inr (omega arith)
 
 module _ (d₀ : List ℤ) (from to count : ℕ) (there : from + count ≤ length d₀) (apart : Apart from to count) where
   -- the first i numbers are copied
-  pub copy-more : (d d′ : List ℤ) (i r : ℕ) → i < count → d ≡ sets d₀ to (take i (drop from d₀)) → Word (getD d (from + i) (pos 0)) r → d′ ≡ set d (to + i) (numberOf r) → d′ ≡ sets d₀ to (take (i + 1) (drop from d₀))
+  pub copy-more : (d d′ : List ℤ) (i r : ℕ) → i < count → d ≡ sets d₀ to (take i (drop from d₀)) → Word (getD d (from + i) (pos 0)) r →
+      d′ ≡ set d (to + i) (numberOf r) → d′ ≡ sets d₀ to (take (i + 1) (drop from d₀))
   copy-more d d′ i r h e g j =
       let s = drop from d₀ in
       let room : i < length s = rw (length-drop from d₀) (omega arith) in
@@ -61,9 +63,11 @@ pub copies-apart : (w : List ℕ) (p k : ℕ) {x y : ℕ} → x ≡ at w k 13 �
 copies-apart w p k e f (inl h) = inl (omega arith)
 copies-apart w p k e f (inr h) = inr (omega arith)
 
-pub row-copied : (w : List ℕ) (d d′ : List ℤ) (p r k : ℕ) → Copies w d p k → r ≡ p + opsSize w k → d′ ≡ sets d p (take (opsSize w k) (drop (opsPlace w k) d)) → PartWritten w d d′ p r (OfRow k)
+pub row-copied : (w : List ℕ) (d d′ : List ℤ) (p r k : ℕ) → Copies w d p k → r ≡ p + opsSize w k → d′ ≡ sets d p (take (opsSize w k) (drop (opsPlace w k) d)) →
+    PartWritten w d d′ p r (OfRow k)
 row-copied w d d′ p r k h e f =
-    let l : length (take (opsSize w k) (drop (opsPlace w k) d)) ≡ opsSize w k = length-take-le (opsSize w k) (drop (opsPlace w k) d) (rw (length-drop (opsPlace w k) d) (omega (arith, h .there))) in
+    let l : length (take (opsSize w k) (drop (opsPlace w k) d))
+    ≡ opsSize w k = length-take-le (opsSize w k) (drop (opsPlace w k) d) (rw (length-drop (opsPlace w k) d) (omega (arith, h .there))) in
     record { next = omega arith; written = f }
 
 pub nothing-written : (w : List ℕ) (d : List ℤ) (p : ℕ) → PartWritten w d d p p Nothing
@@ -73,7 +77,8 @@ nothing-written w d p = record { next = omega arith; written = refl }
 pub put-two : (d d₁ d₂ : List ℤ) (p : ℕ) (x y : ℤ) → d₁ ≡ set d p x → d₂ ≡ set d₁ (p + 1) y → d₂ ≡ sets d p (x ∷ y ∷ [])
 put-two d d₁ d₂ p x y e f = f ∙ (λ i. set (e i) (add-one p i) y)
 
-pub put-six : (d d₁ d₂ d₃ d₄ d₅ d₆ : List ℤ) (p : ℕ) (x₁ x₂ x₃ x₄ x₅ x₆ : ℤ) → d₁ ≡ set d p x₁ → d₂ ≡ set d₁ (p + 1) x₂ → d₃ ≡ set d₂ (p + 2) x₃ → d₄ ≡ set d₃ (p + 3) x₄ → d₅ ≡ set d₄ (p + 4) x₅ → d₆ ≡ set d₅ (p + 5) x₆ → d₆ ≡ sets d p (x₁ ∷ x₂ ∷ x₃ ∷ x₄ ∷ x₅ ∷ x₆ ∷ [])
+pub put-six : (d d₁ d₂ d₃ d₄ d₅ d₆ : List ℤ) (p : ℕ) (x₁ x₂ x₃ x₄ x₅ x₆ : ℤ) → d₁ ≡ set d p x₁ → d₂ ≡ set d₁ (p + 1) x₂ → d₃ ≡ set d₂ (p + 2) x₃ →
+    d₄ ≡ set d₃ (p + 3) x₄ → d₅ ≡ set d₄ (p + 4) x₅ → d₆ ≡ set d₅ (p + 5) x₆ → d₆ ≡ sets d p (x₁ ∷ x₂ ∷ x₃ ∷ x₄ ∷ x₅ ∷ x₆ ∷ [])
 put-six d d₁ d₂ d₃ d₄ d₅ d₆ p x₁ x₂ x₃ x₄ x₅ x₆ e₁ e₂ e₃ e₄ e₅ e₆ =
     let f₂ : d₂ ≡ sets d p (x₁ ∷ x₂ ∷ []) = e₂ ∙ (λ i. set (e₁ i) (add-one p i) x₂) in
     let f₃ : d₃ ≡ sets d p (x₁ ∷ x₂ ∷ x₃ ∷ []) = e₃ ∙ (λ i. set (f₂ i) (add-two p i) x₃) in
@@ -82,14 +87,18 @@ put-six d d₁ d₂ d₃ d₄ d₅ d₆ p x₁ x₂ x₃ x₄ x₅ x₆ e₁ e�
     e₆ ∙ (λ i. set (f₅ i) (add-five p i) x₆)
 
 -- the six numbers of a row, each stored as it was read
-pub put-row : (w : List ℕ) (k p : ℕ) (d d₁ d₂ d₃ d₄ d₅ d₆ : List ℤ) (l r₁ r₂ r₃ r₄ r₅ r₆ : ℕ) → d₁ ≡ set d p (numberOf l) → d₂ ≡ set d₁ (p + 1) (numberOf r₂) → d₃ ≡ set d₂ (p + 2) (numberOf r₃) → d₄ ≡ set d₃ (p + 3) (numberOf r₄) → d₅ ≡ set d₄ (p + 4) (numberOf r₅) → d₆ ≡ set d₅ (p + 5) (numberOf r₆) → numberOf l ≡ leftNumber (leftOf r₁) → r₁ ≡ at w k 0 → r₂ ≡ at w k 1 → r₃ ≡ at w k 6 → r₄ ≡ at w k 7 → r₅ ≡ at w k 13 → r₆ ≡ at w k 12 → d₆ ≡ sets d p (rowNumbers w k)
+pub put-row : (w : List ℕ) (k p : ℕ) (d d₁ d₂ d₃ d₄ d₅ d₆ : List ℤ) (l r₁ r₂ r₃ r₄ r₅ r₆ : ℕ) → d₁ ≡ set d p (numberOf l) → d₂ ≡ set d₁ (p + 1) (numberOf r₂) →
+    d₃ ≡ set d₂ (p + 2) (numberOf r₃) → d₄ ≡ set d₃ (p + 3) (numberOf r₄) → d₅ ≡ set d₄ (p + 4) (numberOf r₅) → d₆ ≡ set d₅ (p + 5) (numberOf r₆) →
+    numberOf l ≡ leftNumber (leftOf r₁) → r₁ ≡ at w k 0 → r₂ ≡ at w k 1 → r₃ ≡ at w k 6 → r₄ ≡ at w k 7 → r₅ ≡ at w k 13 → r₆ ≡ at w k 12 →
+    d₆ ≡ sets d p (rowNumbers w k)
 put-row w k p d d₁ d₂ d₃ d₄ d₅ d₆ l r₁ r₂ r₃ r₄ r₅ r₆ e₁ e₂ e₃ e₄ e₅ e₆ i₀ i₁ i₂ i₃ i₄ i₅ i₆ =
     let j : numberOf l ≡ leftNumber (leftOf (at w k 0)) = i₀ ∙ ap (λ (x : ℕ). leftNumber (leftOf x)) i₁ in
     put-six d d₁ d₂ d₃ d₄ d₅ d₆ p (numberOf l) (numberOf r₂) (numberOf r₃) (numberOf r₄) (numberOf r₅) (numberOf r₆) e₁ e₂ e₃ e₄ e₅ e₆
     ∙ (λ i. sets d p (j i ∷ numberOf (i₂ i) ∷ numberOf (i₃ i) ∷ numberOf (i₄ i) ∷ numberOf (i₅ i) ∷ numberOf (i₆ i) ∷ []))
 
 -- the ops of a row, copied from where it says that they stand
-pub copied-row : (w : List ℕ) (k p x y : ℕ) (d d′ : List ℤ) → x ≡ at w k 13 → y ≡ at w k 12 → d′ ≡ sets d p (take (2 * y) (drop (2 * x) d)) → (p + 2 * y ≡ p + opsSize w k) × (d′ ≡ sets d p (take (opsSize w k) (drop (opsPlace w k) d)))
+pub copied-row : (w : List ℕ) (k p x y : ℕ) (d d′ : List ℤ) → x ≡ at w k 13 → y ≡ at w k 12 → d′ ≡ sets d p (take (2 * y) (drop (2 * x) d)) →
+    (p + 2 * y ≡ p + opsSize w k) × (d′ ≡ sets d p (take (opsSize w k) (drop (opsPlace w k) d)))
 copied-row w k p x y d d′ e f h = (ap (λ (z : ℕ). p + 2 * z) f, h ∙ (λ i. sets d p (take (2 * f i) (drop (2 * e i) d))))
 
 -- ---- the first character becomes a ligature
@@ -115,15 +124,19 @@ module _ (d : List ℤ) (from to : ℕ) (os : List Out) (a : OpsAt d from to os)
   numbers-as ks o rs e = ap opNumbers e ∙ numbers-append ks (o ∷ rs)
 
   -- the kind of the op at place i
-  kind-at : (i r : ℕ) (ks : List Out) (y : ℤ) (ys : List ℤ) → opNumbers os ≡ opNumbers ks ++ (y ∷ ys) → i ≡ from + length (opNumbers ks) → Word (getD d i (pos 0)) r → (n : ℕ) → y ≡ pos n → r ≡ n
+  kind-at : (i r : ℕ) (ks : List Out) (y : ℤ) (ys : List ℤ) → opNumbers os ≡ opNumbers ks ++ (y ∷ ys) → i ≡ from + length (opNumbers ks) →
+      Word (getD d i (pos 0)) r → (n : ℕ) → y ≡ pos n → r ≡ n
   kind-at i r ks y ys e p g n z =
       read-is g n (ap (λ (x : ℕ). getD d x (pos 0)) p ∙ part-at d from (opNumbers ks) y ys (pos 0) (subst (Segment d from) e (a .stand)) ∙ z)
 
-  more-by : (i r : ℕ) (ks rs : List Out) → os ≡ ks ++ rs → raisedOuts os ≡ ks ++ raisedOuts rs → i ≡ from + length (opNumbers ks) → i < to → Word (getD d i (pos 0)) r → r ≡ 2 → Passed from (i + 2) os
+  more-by : (i r : ℕ) (ks rs : List Out) → os ≡ ks ++ rs → raisedOuts os ≡ ks ++ raisedOuts rs → i ≡ from + length (opNumbers ks) → i < to →
+      Word (getD d i (pos 0)) r → r ≡ 2 → Passed from (i + 2) os
   unfolding raisedOuts
   more-by i r ks [] e f p h g two = absurd (omega (arith, sizes ks [] e))
-  more-by i r ks (glyph (item false c) ∷ rs) e f p h g two = absurd (omega (arith, kind-at i r ks (pos 0) (pos c ∷ opNumbers rs) (numbers-as ks (glyph (item false c)) rs e) p g 0 refl))
-  more-by i r ks (glyph (item true c) ∷ rs) e f p h g two = absurd (omega (arith, kind-at i r ks (pos 1) (pos c ∷ opNumbers rs) (numbers-as ks (glyph (item true c)) rs e) p g 1 refl))
+  more-by i r ks (glyph (item false c) ∷ rs) e f p h g two =
+      absurd (omega (arith, kind-at i r ks (pos 0) (pos c ∷ opNumbers rs) (numbers-as ks (glyph (item false c)) rs e) p g 0 refl))
+  more-by i r ks (glyph (item true c) ∷ rs) e f p h g two =
+      absurd (omega (arith, kind-at i r ks (pos 1) (pos c ∷ opNumbers rs) (numbers-as ks (glyph (item true c)) rs e) p g 1 refl))
   more-by i r ks (kern k ∷ rs) e f p h g two = record {
     kerns = ks ++ (kern k ∷ []);
     rest = rs;
@@ -136,7 +149,8 @@ module _ (d : List ℤ) (from to : ℕ) (os : List Out) (a : OpsAt d from to os)
   passed-more i r p = more-by i r (p .kerns) (p .rest) (p .split) (p .raised) (p .place)
 
   -- the op at place i is a character or a ligature, and becomes a ligature
-  store-by : (i c : ℕ) (y : ℤ) (ks rs : List Out) → opNumbers os ≡ opNumbers ks ++ (y ∷ (pos c ∷ opNumbers rs)) → raisedOuts os ≡ ks ++ (glyph (item true c) ∷ rs) → i ≡ from + length (opNumbers ks) → set d i (numberOf 1) ≡ sets d from (opNumbers (raisedOuts os))
+  store-by : (i c : ℕ) (y : ℤ) (ks rs : List Out) → opNumbers os ≡ opNumbers ks ++ (y ∷ (pos c ∷ opNumbers rs)) →
+      raisedOuts os ≡ ks ++ (glyph (item true c) ∷ rs) → i ≡ from + length (opNumbers ks) → set d i (numberOf 1) ≡ sets d from (opNumbers (raisedOuts os))
   unfolding opNumbers
   store-by i c y ks rs e f p =
       let l : length (opNumbers os) ≡ length (opNumbers ks ++ (y ∷ (pos c ∷ opNumbers rs))) = ap length e in
@@ -144,17 +158,20 @@ module _ (d : List ℤ) (from to : ℕ) (os : List Out) (a : OpsAt d from to os)
       ∙ set-within d from (opNumbers ks) y (pos 1) (pos c ∷ opNumbers rs) (subst (Segment d from) e (a .stand)) (omega (arith, a .ends))
       ∙ ap (λ (x : List ℤ). sets d from x) (sym (ap opNumbers f ∙ numbers-append ks (glyph (item true c) ∷ rs)))
 
-  raise-by : (i r : ℕ) (ks rs : List Out) → os ≡ ks ++ rs → raisedOuts os ≡ ks ++ raisedOuts rs → i ≡ from + length (opNumbers ks) → i < to → Word (getD d i (pos 0)) r → (r ≡ 2 → ⊥) → set d i (numberOf 1) ≡ sets d from (opNumbers (raisedOuts os))
+  raise-by : (i r : ℕ) (ks rs : List Out) → os ≡ ks ++ rs → raisedOuts os ≡ ks ++ raisedOuts rs → i ≡ from + length (opNumbers ks) → i < to →
+      Word (getD d i (pos 0)) r → (r ≡ 2 → ⊥) → set d i (numberOf 1) ≡ sets d from (opNumbers (raisedOuts os))
   unfolding raisedOuts
   raise-by i r ks [] e f p h g other = absurd (omega (arith, sizes ks [] e))
   raise-by i r ks (glyph (item false c) ∷ rs) e f p h g other = store-by i c (pos 0) ks rs (numbers-as ks (glyph (item false c)) rs e) f p
   raise-by i r ks (glyph (item true c) ∷ rs) e f p h g other = store-by i c (pos 1) ks rs (numbers-as ks (glyph (item true c)) rs e) f p
   raise-by i r ks (kern k ∷ rs) e f p h g other = absurd (other (kind-at i r ks (pos 2) (k ∷ opNumbers rs) (numbers-as ks (kern k) rs e) p g 2 refl))
 
-  pub raised-at : (i r : ℕ) → Passed from i os → i < to → Word (getD d i (pos 0)) r → (r ≡ 2 → ⊥) → set d i (numberOf 1) ≡ sets d from (opNumbers (raisedOuts os))
+  pub raised-at : (i r : ℕ) → Passed from i os → i < to → Word (getD d i (pos 0)) r → (r ≡ 2 → ⊥) →
+      set d i (numberOf 1) ≡ sets d from (opNumbers (raisedOuts os))
   raised-at i r p = raise-by i r (p .kerns) (p .rest) (p .split) (p .raised) (p .place)
 
-  end-by : (i : ℕ) (ks rs : List Out) → os ≡ ks ++ rs → raisedOuts os ≡ ks ++ raisedOuts rs → i ≡ from + length (opNumbers ks) → to ≤ i → d ≡ sets d from (opNumbers (raisedOuts os))
+  end-by : (i : ℕ) (ks rs : List Out) → os ≡ ks ++ rs → raisedOuts os ≡ ks ++ raisedOuts rs → i ≡ from + length (opNumbers ks) → to ≤ i →
+      d ≡ sets d from (opNumbers (raisedOuts os))
   unfolding raisedOuts
   end-by i ks [] e f p h =
       sym (sets-same d from (opNumbers os) (a .stand) (omega (arith, a .ends))) ∙ ap (λ (x : List Out). sets d from (opNumbers x)) (e ∙ sym f)
@@ -187,10 +204,12 @@ module _ (n m : ℕ) (w : List ℕ) (r : Ready n m w) where
       go (inr x) = inr (omega (arith, from-is k l, size-is k l, from-is j h, ends-before n w k j (omega arith) l))
 
   -- stores among the ops of row k leave those of row j
-  kept : (d : List ℤ) (j k p : ℕ) (vs : List ℤ) → j < n → k < n → (j ≡ k → ⊥) → opsPlace w k ≤ p → p + length vs ≤ opsPlace w k + opsSize w k → RowWritten n w d j → RowWritten n w (sets d p vs) j
+  kept : (d : List ℤ) (j k p : ℕ) (vs : List ℤ) → j < n → k < n → (j ≡ k → ⊥) → opsPlace w k ≤ p → p + length vs ≤ opsPlace w k + opsSize w k →
+      RowWritten n w d j → RowWritten n w (sets d p vs) j
   kept d j k p vs h l ne a b f = part-apart (length (opNumbers (opsOf (outcome n w j)))) (opsPlace w j) d p vs (go (rows-apart j k h l ne)) ∙ f
     where
-      go : (opsPlace w j + opsSize w j ≤ opsPlace w k) ⊎ (opsPlace w k + opsSize w k ≤ opsPlace w j) → (opsPlace w j + length (opNumbers (opsOf (outcome n w j))) ≤ p) ⊎ (p + length vs ≤ opsPlace w j)
+      go : (opsPlace w j + opsSize w j ≤ opsPlace w k) ⊎ (opsPlace w k + opsSize w k ≤ opsPlace w j) →
+          (opsPlace w j + length (opNumbers (opsOf (outcome n w j))) ≤ p) ⊎ (p + length vs ≤ opsPlace w j)
       go (inl x) = inl (omega (arith, size-numbers j h))
       go (inr x) = inr (omega arith)
 
@@ -206,7 +225,8 @@ module _ (n m : ℕ) (w : List ℕ) (r : Ready n m w) where
   part-numbers d i (OfRow k) x f = ap (λ (z : ℕ). take z (drop (opsPlace w k) d)) (sym (size-numbers k (x .row))) ∙ f k (x .row) (x .status) (x .turn)
 
   -- a part of row k's ops can be written among them
-  part-fits : (d : List ℤ) (k p : ℕ) (part : Part) → 2 * opTotal n w ≤ length d → k < n → Sound n w (at w k 11) part → opsPlace w k ≤ p → p + 2 * length (partOuts n w part) ≤ opsPlace w k + opsSize w k → PartFits w d p part
+  part-fits : (d : List ℤ) (k p : ℕ) (part : Part) → 2 * opTotal n w ≤ length d → k < n → Sound n w (at w k 11) part → opsPlace w k ≤ p →
+      p + 2 * length (partOuts n w part) ≤ opsPlace w k + opsSize w k → PartFits w d p part
   part-fits d k p Nothing room h x a b = tt
   part-fits d k p (Character c) room h x a b = omega (arith, row-within k h)
   part-fits d k p (Ligature c) room h x a b = omega (arith, row-within k h)
@@ -236,7 +256,13 @@ module _ (n : ℕ) (w : List ℕ) (k : ℕ) (d : List ℤ) (t : ToWrite n w d k)
 
   sizes-here : opsSize w k ≡ length (opNumbers firstOuts) + length (opNumbers secondOuts)
   sizes-here =
-      omega (arith, size-is n (t .finished) w (t .ready) k (t .row), length-numbers firstOuts, length-numbers secondOuts, count-parts n (t .finished) w (t .ready .encoded) (t .ready .settled) k (t .row) (t .status))
+      omega (
+        arith,
+        size-is n (t .finished) w (t .ready) k (t .row),
+        length-numbers firstOuts,
+        length-numbers secondOuts,
+        count-parts n (t .finished) w (t .ready .encoded) (t .ready .settled) k (t .row) (t .status),
+      )
 
   within-here : opsPlace w k + opsSize w k ≤ length d
   within-here = omega (arith, t .room, row-within n (t .finished) w (t .ready) k (t .row))
@@ -244,7 +270,8 @@ module _ (n : ℕ) (w : List ℕ) (k : ℕ) (d : List ℤ) (t : ToWrite n w d k)
   pub first-fits : (x : ℕ) (a : Part) → x ≡ at w k 13 → a ≡ firstPart n w k → PartFits w d (2 * x) a
   first-fits x a e i =
       subst (PartFits w d (2 * x)) (sym i)
-      (part-fits n (t .finished) w (t .ready) d k (2 * x) (firstPart n w k) (t .room) (t .row) (here .first) (omega arith) (omega (arith, sizes-here, length-numbers firstOuts)))
+      (part-fits n (t .finished) w (t .ready) d k (2 * x) (firstPart n w k) (t .room) (t .row) (here .first) (omega arith)
+      (omega (arith, sizes-here, length-numbers firstOuts)))
 
   -- the first part is written, and then the second
   abbrev FirstDone : List ℤ → ℕ → Type 0
@@ -255,7 +282,8 @@ module _ (n : ℕ) (w : List ℕ) (k : ℕ) (d : List ℤ) (t : ToWrite n w d k)
 
   pub first-done : (x : ℕ) (a : Part) (d₁ : List ℤ) (next : ℕ) → x ≡ at w k 13 → a ≡ firstPart n w k → PartWritten w d d₁ (2 * x) next a → FirstDone d₁ next
   first-done x a d₁ next e i p =
-      let v : partNumbers w d a ≡ opNumbers firstOuts = ap (partNumbers w d) i ∙ part-numbers n (t .finished) w (t .ready) d (at w k 11) (firstPart n w k) (here .first) (t .before) in
+      let v : partNumbers w d a ≡ opNumbers firstOuts = ap (partNumbers w d) i
+      ∙ part-numbers n (t .finished) w (t .ready) d (at w k 11) (firstPart n w k) (here .first) (t .before) in
       let f : 2 * x ≡ opsPlace w k = ap (λ (z : ℕ). 2 * z) e in
       (p .next ∙ (λ j. f j + length (v j)), p .written ∙ (λ j. sets d (f j) (v j)))
 
@@ -266,16 +294,19 @@ module _ (n : ℕ) (w : List ℕ) (k : ℕ) (d : List ℤ) (t : ToWrite n w d k)
     pub second-fits : (b : Part) → b ≡ secondPart n w k → PartFits w d₁ next b
     second-fits b i =
         subst (PartFits w d₁ next) (sym i)
-        (part-fits n (t .finished) w (t .ready) d₁ k next (secondPart n w k) (omega (arith, first-length, t .room)) (t .row) (here .second) (omega (arith, f .0)) (omega (arith, f .0, sizes-here, length-numbers secondOuts)))
+        (part-fits n (t .finished) w (t .ready) d₁ k next (secondPart n w k) (omega (arith, first-length, t .room)) (t .row) (here .second)
+        (omega (arith, f .0)) (omega (arith, f .0, sizes-here, length-numbers secondOuts)))
 
     before-still : WrittenBefore n w d₁ (at w k 11)
     before-still j h s l =
         subst (λ (z : List ℤ). RowWritten n w z j) (sym (f .1))
-        (kept n (t .finished) w (t .ready) d j k (opsPlace w k) (opNumbers firstOuts) h (t .row) (earlier-other n (t .finished) w (t .ready) j k l) (omega arith) (omega (arith, sizes-here)) (t .before j h s l))
+        (kept n (t .finished) w (t .ready) d j k (opsPlace w k) (opNumbers firstOuts) h (t .row) (earlier-other n (t .finished) w (t .ready) j k l)
+        (omega arith) (omega (arith, sizes-here)) (t .before j h s l))
 
     pub second-done : (b : Part) (d₂ : List ℤ) (end : ℕ) → b ≡ secondPart n w k → PartWritten w d₁ d₂ next end b → SecondDone d₁ next d₂ end
     second-done b d₂ end i p =
-        let v : partNumbers w d₁ b ≡ opNumbers secondOuts = ap (partNumbers w d₁) i ∙ part-numbers n (t .finished) w (t .ready) d₁ (at w k 11) (secondPart n w k) (here .second) before-still in
+        let v : partNumbers w d₁ b ≡ opNumbers secondOuts = ap (partNumbers w d₁) i
+        ∙ part-numbers n (t .finished) w (t .ready) d₁ (at w k 11) (secondPart n w k) (here .second) before-still in
         (p .next ∙ ap (λ (z : List ℤ). next + length z) v, p .written ∙ ap (λ (z : List ℤ). sets d₁ next z) v)
 
     module _ (d₂ : List ℤ) (end : ℕ) (g : SecondDone d₁ next d₂ end) where
@@ -283,7 +314,8 @@ module _ (n : ℕ) (w : List ℕ) (k : ℕ) (d : List ℤ) (t : ToWrite n w d k)
       raise-fits = omega (arith, f .0, g .0, sizes-here, within-here, first-length, ap length (g .1), length-sets d₁ next (opNumbers secondOuts))
 
       -- and the first character of the second part is a ligature
-      pub row-done : (d₃ : List ℤ) → ((os : List Out) → OpsAt d₂ next end os → d₃ ≡ sets d₂ next (opNumbers (raisedOuts os))) → d₃ ≡ sets d (opsPlace w k) (opNumbers (opsOf (outcome n w k)))
+      pub row-done : (d₃ : List ℤ) → ((os : List Out) → OpsAt d₂ next end os → d₃ ≡ sets d₂ next (opNumbers (raisedOuts os))) →
+          d₃ ≡ sets d (opsPlace w k) (opNumbers (opsOf (outcome n w k)))
       row-done d₃ h =
           let x = opNumbers firstOuts in
           let y = opNumbers secondOuts in
@@ -353,7 +385,8 @@ module _ (n m : ℕ) (w : List ℕ) (r : Ready n m w) (d₀ : List ℤ) (room : 
     written-by j l s p (inl x) =
         subst (RowWritten n w written) (sym x) (part-stored d (opsPlace w k) (opNumbers (opsOf (outcome n w k))) (omega (arith, fits-here, o .same-length)))
     written-by j l s p (inr x) =
-        kept n m w r d j k (opsPlace w k) (opNumbers (opsOf (outcome n w k))) l (order-is .0) x (omega arith) (omega (arith, size-numbers n m w r k (order-is .0))) (o .before j l s (before-turn j l s x p))
+        kept n m w r d j k (opsPlace w k) (opNumbers (opsOf (outcome n w k))) l (order-is .0) x (omega arith)
+        (omega (arith, size-numbers n m w r k (order-is .0))) (o .before j l s (before-turn j l s x p))
 
     pub writing-more : (d′ : List ℤ) → d′ ≡ written → WritingOps n w d₀ d′ (i + 1)
     writing-more d′ x = subst (λ (z : List ℤ). WritingOps n w d₀ z (i + 1)) (sym x) (record {
@@ -367,7 +400,8 @@ module _ (n m : ℕ) (w : List ℕ) (r : Ready n m w) (d₀ : List ℤ) (room : 
       let q = finished-row n m w (r .encoded) (r .settled) k h s in
       o .before k h s (omega (arith, row-finished n m w (r .encoded) (r .settled) k (q .0) h (q .1) .place))
   all-by d i k o l h (inr s) =
-      subst (λ (x : Option Res). Segment d (opsPlace w k) (opNumbers (opsOf x))) (sym (unfinished-row n m w (r .encoded) (r .settled) k h s)) (no-ops d (opsPlace w k))
+      subst (λ (x : Option Res). Segment d (opsPlace w k) (opNumbers (opsOf x))) (sym (unfinished-row n m w (r .encoded) (r .settled) k h s))
+      (no-ops d (opsPlace w k))
 
   -- the ops of the first k rows stand at the front
   up-to : (d : List ℤ) → ((k : ℕ) → k < n → RowWritten n w d k) → (k : ℕ) → k ≤ n → take (2 * opsUpTo n w k) d ≡ opsTable (finishedRows n w) (pairs n w) k
@@ -441,12 +475,15 @@ module _ (n m : ℕ) (w : List ℕ) (r : Ready n m w) where
     pairs-next : (vs : List ℤ) → pairNumbers (pairAt w k) (opsUpTo n w k) (outcome n w k) ≡ vs → pairTable (finishedRows n w) (pairs n w) (k + 1) ≡ soFar ++ vs
     pairs-next vs e = ap (pairTable (finishedRows n w) (pairs n w)) (add-one k) ∙ pairs-more n w k h ∙ ap (λ (x : List ℤ). soFar ++ x) e
 
-    pub pairs-finished : 6 * n ≤ length d₀ → (d′ : List ℤ) (p′ : ℕ) → at w k 5 ≡ 2 → d′ ≡ sets d p (rowNumbers w k) → p′ ≡ p + 6 → WritingPairs n w d₀ d′ p′ (k + 1)
+    pub pairs-finished : 6 * n ≤ length d₀ → (d′ : List ℤ) (p′ : ℕ) → at w k 5 ≡ 2 → d′ ≡ sets d p (rowNumbers w k) → p′ ≡ p + 6 →
+        WritingPairs n w d₀ d′ p′ (k + 1)
     pairs-finished room d′ p′ s e i =
         let next = pairs-next (rowNumbers w k) (sym (row-numbers k h s)) in
         let more = appending-more d₀ (rowNumbers w k) (o .appended) (omega (arith, pairs-room room, o .place)) in
         record {
-          appended = subst (λ (x : List ℤ). Appending x d₀ d′) (sym next) (subst (Appending (soFar ++ rowNumbers w k) d₀) (sym (e ∙ ap (λ (x : ℕ). sets d x (rowNumbers w k)) (o .place))) more);
+          appended =
+              subst (λ (x : List ℤ). Appending x d₀ d′) (sym next)
+              (subst (Appending (soFar ++ rowNumbers w k) d₀) (sym (e ∙ ap (λ (x : ℕ). sets d x (rowNumbers w k)) (o .place))) more);
           place = omega (arith, o .place, ap length next, length-append soFar (rowNumbers w k));
           few = omega (arith, o .few);
           within = omega arith;
@@ -462,7 +499,8 @@ module _ (n m : ℕ) (w : List ℕ) (r : Ready n m w) where
           within = omega arith;
         }
 
-  pub pairs-all : (d₀ d : List ℤ) (p k : ℕ) → WritingPairs n w d₀ d p k → n ≤ k → d₀ ≡ replicate (length d₀) (pos 0) → (p ≡ length (pairsWritten n w)) × (d ≡ padded (pos 0) (length d₀) (pairsWritten n w))
+  pub pairs-all : (d₀ d : List ℤ) (p k : ℕ) → WritingPairs n w d₀ d p k → n ≤ k → d₀ ≡ replicate (length d₀) (pos 0) →
+      (p ≡ length (pairsWritten n w)) × (d ≡ padded (pos 0) (length d₀) (pairsWritten n w))
   pairs-all d₀ d p k o l zeros =
       let e : k ≡ n = omega (arith, o .within) in
       let a : Appending (pairsWritten n w) d₀ d = subst (λ (x : ℕ). Appending (pairTable (finishedRows n w) (pairs n w) x) d₀ d) e (o .appended) in

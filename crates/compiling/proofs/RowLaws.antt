@@ -57,7 +57,8 @@ is-row : (w : List ℕ) (k t r : ℕ) → IsRow w k t r → isPair w k t r ≡ t
 is-row w k t r (e, i) = rw (e, i, eq-eqb t t refl, eq-eqb r r refl)
 
 module _ (w : List ℕ) (t r : ℕ) where
-  found-by : (n : ℕ) (o : Option ℕ) (b : Bool) → isPair w n t r ≡ b → ((k : ℕ) → o ≡ some k → (k < n) × IsRow w k t r) → (k : ℕ) → orRow o b n ≡ some k → (k < suc n) × IsRow w k t r
+  found-by : (n : ℕ) (o : Option ℕ) (b : Bool) → isPair w n t r ≡ b → ((k : ℕ) → o ≡ some k → (k < n) × IsRow w k t r) → (k : ℕ) → orRow o b n ≡ some k →
+      (k < suc n) × IsRow w k t r
   found-by n (some j) b i h k e = let s = h k e in (omega (arith, s .0), s .1)
   found-by n none true i h k e =
       let s : n ≡ k = Option·some-injective n k e in
@@ -70,7 +71,8 @@ module _ (w : List ℕ) (t r : ℕ) where
   row-found zero k e = absurd (Option·none-ne-some k e)
   row-found (suc n) k e = found-by n (rowOf w n t r) (isPair w n t r) refl (λ j. row-found n j) k e
 
-  missing-by : (n : ℕ) (o : Option ℕ) (b : Bool) → isPair w n t r ≡ b → (o ≡ none → (k : ℕ) → k < n → IsRow w k t r → ⊥) → orRow o b n ≡ none → (k : ℕ) → (k ≡ n) ⊎ (k < n) → IsRow w k t r → ⊥
+  missing-by : (n : ℕ) (o : Option ℕ) (b : Bool) → isPair w n t r ≡ b → (o ≡ none → (k : ℕ) → k < n → IsRow w k t r → ⊥) → orRow o b n ≡ none → (k : ℕ) →
+      (k ≡ n) ⊎ (k < n) → IsRow w k t r → ⊥
   missing-by n (some j) b i h e k l s = Option·some-ne-none j e
   missing-by n none true i h e k l s = Option·some-ne-none n e
   missing-by n none false i h e k (inl l) s = false≢true (sym i ∙ is-row w n t r (rw l at s))
@@ -141,7 +143,8 @@ module _ (n : ℕ) (w : List ℕ) (a : Ascending n w) (k : ℕ) (h : k < n) wher
 pub fits-parts : (op v : ℕ) → ruleFits op v ≡ true → (op ≡ 128) ⊎ ((op < 128) × (isStandard op ≡ true) × (v < 256))
 fits-parts op v e = go (eqb op 128) (ltb op 128) (isStandard op) (ltb v 256) refl refl refl refl e
   where
-    go : (a b c d : Bool) → eqb op 128 ≡ a → ltb op 128 ≡ b → isStandard op ≡ c → ltb v 256 ≡ d → cond a true (cond b (cond c d false) false) ≡ true → (op ≡ 128) ⊎ ((op < 128) × (isStandard op ≡ true) × (v < 256))
+    go : (a b c d : Bool) → eqb op 128 ≡ a → ltb op 128 ≡ b → isStandard op ≡ c → ltb v 256 ≡ d → cond a true (cond b (cond c d false) false) ≡ true →
+        (op ≡ 128) ⊎ ((op < 128) × (isStandard op ≡ true) × (v < 256))
     go true b c d i j k l h = inl (eqb-true op 128 i)
     go false true true true i j k l h = inr (ltb-true op 128 j, k, ltb-true v 256 l)
     go false true true false i j k l h = absurd (false≢true h)
@@ -164,7 +167,8 @@ fits-eight op v e = go (fits-parts op v e)
 
 -- ---- every pair that has a rule has a row
 
-mem-by {ℓ} : {A : Type ℓ} (n : ℕ) (f : ℕ → A) (k : ℕ) → (k < n → List·Memᴰ (f k) (tabulate n f)) → (k ≡ n) ⊎ (k < n) → List·Memᴰ (f k) (tabulate n f ++ (f n ∷ []))
+mem-by {ℓ} : {A : Type ℓ} (n : ℕ) (f : ℕ → A) (k : ℕ) → (k < n → List·Memᴰ (f k) (tabulate n f)) → (k ≡ n) ⊎ (k < n) →
+    List·Memᴰ (f k) (tabulate n f ++ (f n ∷ []))
 mem-by n f k h (inl e) = Memᴰ·append-right (tabulate n f) (List·Memᴰ·head (ap f e))
 mem-by n f k h (inr l) = Memᴰ·append-left (f n ∷ []) (h l)
 
@@ -176,7 +180,8 @@ mem-tabulate (suc n) f k h = mem-by n f k (mem-tabulate n f k) (eq-or-lt-of-le (
 pub covers-rows : (n : ℕ) (w : List ℕ) → Covers (rules n w) (pairs n w)
 covers-rows n w = record { covers = λ l r ruled. by l r (rowOf w n (numberOfLeft l) r) refl ruled }
   where
-    by : (l : Left) (r : ℕ) (o : Option ℕ) → rowOf w n (numberOfLeft l) r ≡ o → (ruleBy w o ≡ free → ⊥) → (i : ℕ) × List·Memᴰ (record { pair = record { left = l; right = r }; index = i }) (pairs n w)
+    by : (l : Left) (r : ℕ) (o : Option ℕ) → rowOf w n (numberOfLeft l) r ≡ o → (ruleBy w o ≡ free → ⊥) →
+        (i : ℕ) × List·Memᴰ (record { pair = record { left = l; right = r }; index = i }) (pairs n w)
     by l r none e ruled = absurd (ruled refl)
     by l r (some k) e ruled =
         let f = row-found w (numberOfLeft l) r n k e in
@@ -216,7 +221,8 @@ module _ (n : ℕ) (w u : List ℕ) (s : SameRules n w u) where
   rule-by t r (some k) e = rule-same w u s k (row-found w t r n k e .0)
 
   pub rules-same : rules n u ≡ rules n w
-  rules-same = fun-ext (λ l. fun-ext (λ r. ap (ruleBy u) (row-same n w u s (numberOfLeft l) r) ∙ rule-by (numberOfLeft l) r (rowOf w n (numberOfLeft l) r) refl))
+  rules-same =
+      fun-ext (λ l. fun-ext (λ r. ap (ruleBy u) (row-same n w u s (numberOfLeft l) r) ∙ rule-by (numberOfLeft l) r (rowOf w n (numberOfLeft l) r) refl))
 
   pub pairs-same : pairs n u ≡ pairs n w
   pairs-same = tabulate-ext n (ruledAt u) (ruledAt w) (ruled-same w u s)
@@ -229,7 +235,8 @@ module _ (n : ℕ) (w u : List ℕ) (s : SameRules n w u) where
       let e = pair-same w u s k h in
       λ i. finished-same i (e i .left) (e i .right)
 
-  pub consults-same : (k j : ℕ) → k < n → j < n → List·Memᴰ (pairAt u j) (consults (ruleAt u k) (finishedRows n u) (pairAt u k .left) (pairAt u k .right)) → List·Memᴰ (pairAt w j) (consults (ruleAt w k) (finishedRows n w) (pairAt w k .left) (pairAt w k .right))
+  pub consults-same : (k j : ℕ) → k < n → j < n → List·Memᴰ (pairAt u j) (consults (ruleAt u k) (finishedRows n u) (pairAt u k .left) (pairAt u k .right)) →
+      List·Memᴰ (pairAt w j) (consults (ruleAt w k) (finishedRows n w) (pairAt w k .left) (pairAt w k .right))
   consults-same k j h l =
       let r = rule-same w u s k h in
       let g = finished-same in
@@ -243,7 +250,16 @@ module _ (n : ℕ) (w u : List ℕ) (s : SameRules n w u) where
     few = a .few;
     left = λ k h. rw (s k 0 h (omega arith)) (a .left k h);
     right = λ k h. rw (s k 1 h (omega arith)) (a .right k h);
-    ascends = λ k h. omega (arith, s k 0 (omega arith) (omega arith), s k 1 (omega arith) (omega arith), s (suc k) 0 h (omega arith), s (suc k) 1 h (omega arith), a .ascends k h);
+    ascends =
+        λ k h.
+        omega (
+          arith,
+          s k 0 (omega arith) (omega arith),
+          s k 1 (omega arith) (omega arith),
+          s (suc k) 0 h (omega arith),
+          s (suc k) 1 h (omega arith),
+          a .ascends k h,
+        );
   }
 
   pub encoded-same : length u ≡ length w → Encoded n w → Encoded n u
@@ -308,7 +324,8 @@ module _ (n m : ℕ) (w w′ u u′ : List ℕ) (b : SameRules n w u) (c : SameS
     order = ordered;
     earlier = λ k j h l i p t.
         rw (c k 11 h (omega arith) (omega arith) (omega arith), c j 11 l (omega arith) (omega arith) (omega arith))
-        (s .earlier k j h l (sym (c k 5 h (omega arith) (omega arith) (omega arith)) ∙ i) (sym (c j 5 l (omega arith) (omega arith) (omega arith)) ∙ p) (consults-same n w u b k j h l t));
+        (s .earlier k j h l (sym (c k 5 h (omega arith) (omega arith) (omega arith)) ∙ i) (sym (c j 5 l (omega arith) (omega arith) (omega arith)) ∙ p)
+        (consults-same n w u b k j h l t));
     few = s .few;
   }
     where
@@ -316,7 +333,11 @@ module _ (n m : ℕ) (w w′ u u′ : List ℕ) (b : SameRules n w u) (c : SameS
       ordered i h =
           let o = s .order i h in
           let e : at u′ i 10 ≡ at w′ i 10 = c i 10 (omega (arith, s .few)) (omega arith) (omega arith) (omega arith) in
-          rw e (o .0, c (at w′ i 10) 5 (o .0) (omega arith) (omega arith) (omega arith) ∙ o .1, c (at w′ i 10) 11 (o .0) (omega arith) (omega arith) (omega arith) ∙ o .2)
+          rw e (
+            o .0,
+            c (at w′ i 10) 5 (o .0) (omega arith) (omega arith) (omega arith) ∙ o .1,
+            c (at w′ i 10) 11 (o .0) (omega arith) (omega arith) (omega arith) ∙ o .2,
+          )
 
 -- the rows as a pass left them are settled by themselves
 pub settled-self : (n m : ℕ) (w w′ : List ℕ) → Settled n w w′ m → Settled n w′ w′ m

@@ -1,5 +1,5 @@
--- Rows that hold a list of pairs, number by number: the order of a left's rows (number 15), the rows one after the other, and the whole work buffer as an equation.
--- Assumes nothing.
+-- Rows that hold a list of pairs, number by number: the order of a left's rows (number 15), the rows one after the other, and the whole work buffer as an
+-- equation. Assumes nothing.
 use mathlib.Core.Path.{_≡_, refl, sym, ap, ap₂, _∙_}
 use mathlib.Core.Bool.{true, false}
 use mathlib.Core.List.{List, [], _∷_, _++_}
@@ -37,7 +37,8 @@ module _ (row : ℕ → List ℕ) (sixteen : (k : ℕ) → length (row k) ≡ 16
   rows-length zero = refl
   rows-length (suc n) = omega (arith, length-append (inRows row n) (row n), rows-length n, sixteen n)
 
-  row-by : (n k f : ℕ) → f < 16 → (k ≡ n) ⊎ (k < n) → (k < n → getD (inRows row n) (16 * k + f) 0 ≡ getD (row k) f 0) → getD (inRows row n ++ row n) (16 * k + f) 0 ≡ getD (row k) f 0
+  row-by : (n k f : ℕ) → f < 16 → (k ≡ n) ⊎ (k < n) → (k < n → getD (inRows row n) (16 * k + f) 0 ≡ getD (row k) f 0) →
+      getD (inRows row n ++ row n) (16 * k + f) 0 ≡ getD (row k) f 0
   row-by n k f i (inl e) g =
       let a : 16 * k + f ≡ length (inRows row n) + f = omega (arith, rows-length n) in
       ap (λ (x : ℕ). getD (inRows row n ++ row n) x 0) a
@@ -52,7 +53,8 @@ module _ (row : ℕ → List ℕ) (sixteen : (k : ℕ) → length (row k) ≡ 16
   row-at (suc n) k f h i = row-by n k f i (eq-or-lt-of-le (le-of-suc-le-suc h)) (λ l. row-at n k f l i)
 
   -- a list whose rows they are, with zeros after them
-  module _ (n : ℕ) (w : List ℕ) (room : 16 * n ≤ length w) (here : (k f : ℕ) → k < n → f < 16 → at w k f ≡ getD (row k) f 0) (after : (k f : ℕ) → n ≤ k → f < 16 → at w k f ≡ 0) where
+  module _ (n : ℕ) (w : List ℕ) (room : 16 * n ≤ length w) (here : (k f : ℕ) → k < n → f < 16 → at w k f ≡ getD (row k) f 0)
+      (after : (k f : ℕ) → n ≤ k → f < 16 → at w k f ≡ 0) where
     place : (i : ℕ) → i ≡ 16 * (i / 16) + i % 16
     place i = omega arith
 
@@ -68,18 +70,25 @@ module _ (row : ℕ → List ℕ) (sixteen : (k : ℕ) → length (row k) ≡ 16
         let a : i ≡ length (inRows row n) + (i - 16 * n) = omega (arith, rows-length n) in
         ap (λ (x : ℕ). getD w x 0) (place i)
         ∙ after (i / 16) (i % 16) (omega arith) (omega arith)
-        ∙ sym (ap (λ (x : ℕ). getD (inRows row n ++ replicate m 0) x 0) a ∙ getD-append-add (inRows row n) (replicate m 0) (i - 16 * n) 0 ∙ zero-at m (i - 16 * n))
+        ∙ sym (ap (λ (x : ℕ). getD (inRows row n ++ replicate m 0) x 0) a ∙ getD-append-add (inRows row n) (replicate m 0) (i - 16 * n) 0
+        ∙ zero-at m (i - 16 * n))
 
     rows-padded : w ≡ padded 0 (length w) (inRows row n)
     rows-padded =
         ext-getD 0 w (padded 0 (length w) (inRows row n))
-        (omega (arith, length-append (inRows row n) (replicate (length w - length (inRows row n)) 0), length-replicate {A = ℕ} (length w - length (inRows row n)) 0, rows-length n))
+        (omega (
+          arith,
+          length-append (inRows row n) (replicate (length w - length (inRows row n)) 0),
+          length-replicate {A = ℕ} (length w - length (inRows row n)) 0,
+          rows-length n,
+        ))
         (λ i h. number-by i (less-or-not i (16 * n)))
 
 -- ---- the order of a left's rows
 
 -- the first place of a pair
-place-first : (p : Pair) (ps : List Ruled) (j : ℕ) → j < length ps → samePair p (nth ps j .pair) ≡ true → ((i : ℕ) → i < j → samePair p (nth ps i .pair) ≡ false) → pairPlace p ps ≡ j
+place-first : (p : Pair) (ps : List Ruled) (j : ℕ) → j < length ps → samePair p (nth ps j .pair) ≡ true →
+    ((i : ℕ) → i < j → samePair p (nth ps i .pair) ≡ false) → pairPlace p ps ≡ j
 unfolding pairPlace
 place-first p [] j l e g = absurd (omega arith)
 place-first p (q ∷ qs) zero l e g = rw e
@@ -95,7 +104,8 @@ boundary-one : (l : Left) (n : ℕ) → numberOfLeft l ≡ 0 → boundaryMore l 
 boundary-one bnd n h = refl
 boundary-one (chr c) n h = absurd (omega arith)
 
-boundary-count : (ps : List Ruled) (e : ℕ) → e ≤ length ps → ((k : ℕ) → k < e → numberOfLeft (nth ps k .pair .left) ≡ 0) → ((k : ℕ) → e ≤ k → k < length ps → 0 < numberOfLeft (nth ps k .pair .left)) → boundaryPairs ps ≡ e
+boundary-count : (ps : List Ruled) (e : ℕ) → e ≤ length ps → ((k : ℕ) → k < e → numberOfLeft (nth ps k .pair .left) ≡ 0) →
+    ((k : ℕ) → e ≤ k → k < length ps → 0 < numberOfLeft (nth ps k .pair .left)) → boundaryPairs ps ≡ e
 unfolding boundaryPairs
 boundary-count [] e l b o = omega arith
 boundary-count (p ∷ ps) zero l b o =
@@ -118,7 +128,8 @@ module _ (n e k : ℕ) (few : e ≤ n) (h : k < n) where
 
 -- ---- rows that hold a list of pairs
 
-module _ (ps : List Ruled) (n e : ℕ) (w : List ℕ) (a : Ascending n w) (all : n ≡ length ps) (pair : (k : ℕ) → k < n → ruledAt w k ≡ nth ps k) (t : WalkOrder n e w) where
+module _ (ps : List Ruled) (n e : ℕ) (w : List ℕ) (a : Ascending n w) (all : n ≡ length ps) (pair : (k : ℕ) → k < n → ruledAt w k ≡ nth ps k)
+    (t : WalkOrder n e w) where
   left-is : (k : ℕ) → k < n → numberOfLeft (nth ps k .pair .left) ≡ at w k 0
   left-is k h = ap (λ (x : Ruled). numberOfLeft (x .pair .left)) (sym (pair k h)) ∙ number-left (at w k 0)
 
@@ -139,7 +150,8 @@ module _ (ps : List Ruled) (n e : ℕ) (w : List ℕ) (a : Ascending n w) (all :
   place-is j h =
       place-first (pairAt w j) ps j (omega (arith, all))
       (ap (λ (x : Ruled). samePair (pairAt w j) (x .pair)) (sym (pair j h)) ∙ pair-itself (pairAt w j))
-      (λ i l. ap (λ (x : Ruled). samePair (pairAt w j) (x .pair)) (sym (pair i (omega arith))) ∙ not-so (samePair (pairAt w j) (pairAt w i)) (λ q. let y = same-row n w a j i h (omega arith) q in omega arith))
+      (λ i l. ap (λ (x : Ruled). samePair (pairAt w j) (x .pair)) (sym (pair i (omega arith)))
+      ∙ not-so (samePair (pairAt w j) (pairAt w i)) (λ q. let y = same-row n w a j i h (omega arith) q in omega arith))
 
   turn-is : (k : ℕ) → k < n → at w k 15 ≡ turnOf ps k
   unfolding turnOf
@@ -166,10 +178,13 @@ module _ (ps : List Ruled) (n e : ℕ) (w : List ℕ) (a : Ascending n w) (all :
     number-is (suc (suc zero)) l = ap (λ (x : Ruled). x .index) (pair k h)
     number-is (suc (suc (suc zero))) l = o
     number-is (suc (suc (suc (suc zero)))) l = v
-    number-is (suc (suc (suc (suc (suc f))))) l = let e : suc (suc (suc (suc (suc f)))) ≡ 5 + f = omega arith in ap (at w k) e ∙ later-number f (omega arith) (less-or-not f 10)
+    number-is (suc (suc (suc (suc (suc f))))) l =
+        let e : suc (suc (suc (suc (suc f)))) ≡ 5 + f = omega arith in ap (at w k) e ∙ later-number f (omega arith) (less-or-not f 10)
 
   -- the whole list
-  pub rows-are : (op value : ℕ → ℕ) → ((k : ℕ) → k < n → at w k 3 ≡ op k) → ((k : ℕ) → k < n → at w k 4 ≡ value k) → ((k f : ℕ) → k < n → 4 < f → f < 15 → at w k f ≡ 0) → ((k f : ℕ) → n ≤ k → f < 16 → at w k f ≡ 0) → w ≡ padded 0 (length w) (inRows (λ k. sixteenNumbers ps k (op k) (value k)) (length ps))
+  pub rows-are : (op value : ℕ → ℕ) → ((k : ℕ) → k < n → at w k 3 ≡ op k) → ((k : ℕ) → k < n → at w k 4 ≡ value k) →
+      ((k f : ℕ) → k < n → 4 < f → f < 15 → at w k f ≡ 0) → ((k f : ℕ) → n ≤ k → f < 16 → at w k f ≡ 0) →
+      w ≡ padded 0 (length w) (inRows (λ k. sixteenNumbers ps k (op k) (value k)) (length ps))
   rows-are op value o v rest after =
       rows-padded (λ k. sixteenNumbers ps k (op k) (value k)) (λ k. refl) n w (a .room)
       (λ k f h l. number-is k (op k) (value k) h (o k h) (v k h) (λ g. rest k g h) f l)

@@ -64,7 +64,9 @@ module _ (n : ℕ) (w : List ℕ) (a : Ascending n w) (t r lo hi : ℕ) (small :
 
   pub missing : (lo < n → keyAt w lo ≡ 256 * t + r → ⊥) → Missing ≡ foundRow (rowOf w n t r)
   missing ne =
-      sym (ap foundRow (no-row w t r n (λ k h s. let e : keyAt w k ≡ 256 * t + r = omega (arith, s) in other-row ne k h e (eq-or-lt-of-le (not-before k e (less-or-not k lo))))))
+      sym (ap foundRow
+      (no-row w t r n
+      (λ k h s. let e : keyAt w k ≡ 256 * t + r = omega (arith, s) in other-row ne k h e (eq-or-lt-of-le (not-before k e (less-or-not k lo))))))
 
 -- what an answer says of the row of a pair
 pub found-is : (o : Option ℕ) (x : Row) (j : ℕ) → x ≡ foundRow o → x ≡ Found j → o ≡ some j

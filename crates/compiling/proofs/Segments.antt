@@ -6,7 +6,8 @@ use mathlib.Core.Logic.{_⊎_, inl, inr}
 use Prim.Native.Nat.{ℕ, suc, _+_, _-_, _<_, _≤_}
 use native.Mathlib.Omega.{arith}
 use lib.ListN.{length, getD, take, drop, set, length-append, take-append-drop}
-use lib.Seq.{length-take-le, drop-drop, drop-set-lt, drop-set-add, take-set-le, getD-set-other, getD-drop, getD-take, getD-at, set-at, take-at, drop-at, sets, length-sets, sets-eq}
+use lib.Seq.{length-take-le, drop-drop, drop-set-lt, drop-set-add, take-set-le, getD-set-other, getD-drop, getD-take, getD-at, set-at, take-at, drop-at, sets}
+use lib.Seq.{length-sets, sets-eq}
 
 -- ---- places apart
 
@@ -56,7 +57,8 @@ module _ {A : Type 0} where
       ∙ take-at vs (drop (i + length vs) l) (length vs) refl
 
   -- an element of what stands from place p on
-  pub part-at : (l : List A) (p : ℕ) (xs : List A) (y : A) (ys : List A) (d : A) → take (length (xs ++ (y ∷ ys))) (drop p l) ≡ xs ++ (y ∷ ys) → getD l (p + length xs) d ≡ y
+  pub part-at : (l : List A) (p : ℕ) (xs : List A) (y : A) (ys : List A) (d : A) → take (length (xs ++ (y ∷ ys))) (drop p l) ≡ xs ++ (y ∷ ys) →
+      getD l (p + length xs) d ≡ y
   part-at l p xs y ys d s =
       let h : length xs < length (xs ++ (y ∷ ys)) = rw (length-append xs (y ∷ ys)) (omega arith) in
       sym (getD-drop p l (length xs) d)
@@ -82,14 +84,16 @@ module _ {A : Type 0} where
   whole l p vs s =
       sym (take-append-drop p l)
       ∙ ap (λ (r : List A). take p l ++ r)
-      (sym (take-append-drop (length vs) (drop p l)) ∙ ap (λ (r : List A). r ++ drop (length vs) (drop p l)) s ∙ ap (λ (r : List A). vs ++ r) (drop-drop (length vs) p l))
+      (sym (take-append-drop (length vs) (drop p l)) ∙ ap (λ (r : List A). r ++ drop (length vs) (drop p l)) s
+      ∙ ap (λ (r : List A). vs ++ r) (drop-drop (length vs) p l))
 
   -- the same again
   pub sets-same : (l : List A) (p : ℕ) (vs : List A) → take (length vs) (drop p l) ≡ vs → p + length vs ≤ length l → sets l p vs ≡ l
   sets-same l p vs s h = sets-eq vs l p h ∙ append-assoc (take p l) vs (drop (p + length vs) l) ∙ sym (whole l p vs s)
 
   -- one element of it another
-  pub set-within : (l : List A) (p : ℕ) (xs : List A) (y z : A) (ys : List A) → take (length (xs ++ (y ∷ ys))) (drop p l) ≡ xs ++ (y ∷ ys) → p + length (xs ++ (y ∷ ys)) ≤ length l → set l (p + length xs) z ≡ sets l p (xs ++ (z ∷ ys))
+  pub set-within : (l : List A) (p : ℕ) (xs : List A) (y z : A) (ys : List A) → take (length (xs ++ (y ∷ ys))) (drop p l) ≡ xs ++ (y ∷ ys) →
+      p + length (xs ++ (y ∷ ys)) ≤ length l → set l (p + length xs) z ≡ sets l p (xs ++ (z ∷ ys))
   set-within l p xs y z ys s h =
       let b = take p l in
       let d = drop (p + length (xs ++ (y ∷ ys))) l in

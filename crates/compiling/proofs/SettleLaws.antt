@@ -14,7 +14,8 @@ use Rattle.compiling.specs.SettledRows.{Settled}
 use Rattle.compiling.specs.SettleSteps.{status, Waiting, RuleSays, Searching, Stuck, opening, finishing, GivenUp, StillSeen, Advanced, Searched}
 use Rattle.compiling.proofs.RowLaws.{same-rows-none, same-rows-more, settled-since}
 use Rattle.compiling.proofs.Tally.{tally-few, tally-less}
-use Rattle.compiling.proofs.Settling.{path-room, open-rows, searching-open, less-open, seen-open, finish-rows, searching-finish, less-finish, seen-finish, given-rows, searching-given, less-given, seen-given, searching-none, settled-end}
+use Rattle.compiling.proofs.Settling.{path-room, open-rows, searching-open, less-open, seen-open, finish-rows, searching-finish, less-finish}
+use Rattle.compiling.proofs.Settling.{seen-finish, given-rows, searching-given, less-given, seen-given, searching-none, settled-end}
 use Rattle.compiling.proofs.Stores.{Opens, opens, Finishes, finishes}
 
 -- ---- a turn
@@ -29,13 +30,15 @@ module _ {n h m : ℕ} (w : List ℕ) (s : Searching n w h m) where
     top-row = s .opened .row (h - 1) (omega arith)
 
     pub done-few : m < n
-    done-few = omega (arith, s .done .count, tally-less (status w) 2 n (at w (h - 1) 8) top-row (λ e. omega (arith, s .opened .open-still (h - 1) (omega arith))))
+    done-few =
+        omega (arith, s .done .count, tally-less (status w) 2 n (at w (h - 1) 8) top-row (λ e. omega (arith, s .opened .open-still (h - 1) (omega arith))))
 
 module _ (n h m j : ℕ) (w w′ : List ℕ) (s : Searching n w h m) (l : j < n) (e : status w j ≡ 0) (i : w′ ≡ opening w j h) where
   opens-now : Opens w w′ j h
   opens-now = rw i (opens w j h (omega (arith, s .encoded .ascending .room)) (omega (arith, s .encoded .ascending .room, path-room w s l e)))
 
-pub turned-open : (n h m j : ℕ) (w w′ : List ℕ) → Searching n w h m → Stuck n w h j → status w j ≡ 0 → w′ ≡ opening w j h → Advanced n w w′ h (record { path = h + 1; done = m })
+pub turned-open : (n h m j : ℕ) (w w′ : List ℕ) → Searching n w h m → Stuck n w h j → status w j ≡ 0 → w′ ≡ opening w j h →
+    Advanced n w w′ h (record { path = h + 1; done = m })
 turned-open n h m j w w′ s t e i =
     let v = opens-now n h m j w w′ s (t .row) e i in
     record {
@@ -45,7 +48,8 @@ turned-open n h m j w w′ s t e i =
       seen = seen-open n h m j w w′ s (t .row) e (t .waiting) v;
     }
 
-pub turned-given : (n h m j : ℕ) (w w′ : List ℕ) → Searching n w h m → Stuck n w h j → (status w j ≡ 0 → ⊥) → GivenUp w w′ h j 0 → Advanced n w w′ h (record { path = 0; done = m })
+pub turned-given : (n h m j : ℕ) (w w′ : List ℕ) → Searching n w h m → Stuck n w h j → (status w j ≡ 0 → ⊥) → GivenUp w w′ h j 0 →
+    Advanced n w w′ h (record { path = 0; done = m })
 turned-given n h m j w w′ s t old g = record {
   rows = given-rows n h m j w w′ s t old g;
   searching = searching-given n h m j w w′ s t old g;
@@ -65,14 +69,16 @@ module _ (n m : ℕ) (w : List ℕ) (k : ℕ) (x : Last) (says : RuleSays n w k 
         waiting = λ y q. let z : h - 1 ≡ y = omega arith in subst (λ u. Waiting n w u j) (e ∙ ap (λ u. at w u 8) z) (t .0);
       }
 
-  pub turned-finish : (h c f : ℕ) (w′ : List ℕ) → 0 < h → Searching n w h m → k ≡ at w (h - 1) 8 → x ≡ Known c f → w′ ≡ finishing w k m c f → Advanced n w w′ h (record { path = h - 1; done = m + 1 })
+  pub turned-finish : (h c f : ℕ) (w′ : List ℕ) → 0 < h → Searching n w h m → k ≡ at w (h - 1) 8 → x ≡ Known c f → w′ ≡ finishing w k m c f →
+      Advanced n w w′ h (record { path = h - 1; done = m + 1 })
   turned-finish zero c f w′ p s e i v = absurd (omega arith)
   turned-finish (suc h) c f w′ p s e i v =
       let z : suc h - 1 ≡ h = omega arith in
       let o : k ≡ at w h 8 = rw z at e in
       let t : RuleSays n w (at w h 8) (Known c f) = rw (o, i) at says in
       let l = s .opened .row h (omega arith) in
-      let u : Finishes w w′ (at w h 8) m c f = rw (v, o) (finishes w (at w h 8) m c f (omega (arith, s .encoded .ascending .room)) (omega (arith, s .encoded .ascending .room, done-few w s (omega arith)))) in
+      let u : Finishes w w′ (at w h 8) m c f = rw (v, o)
+      (finishes w (at w h 8) m c f (omega (arith, s .encoded .ascending .room)) (omega (arith, s .encoded .ascending .room, done-few w s (omega arith)))) in
       record {
         rows = finish-rows n h m c f w w′ s t u;
         searching = rw (z, add-one m) (searching-finish n h m c f w w′ s t u);

@@ -17,7 +17,8 @@ use Rattle.reading.proofs.Never.{not-both}
 use Rattle.compiling.specs.declared.Last.the-variants.{Known}
 use Rattle.compiling.specs.Rows.{at, pairAt, ruleAt, rules, Ascending, Encoded, SameRows}
 use Rattle.compiling.specs.SettledRows.{finishedRows, outcome, consults, NeverRow, RowSays, Settled}
-use Rattle.compiling.specs.SettleSteps.{status, known, LastsStored, Waiting, RuleSays, DoneRow, Done, Never, Searching, Stuck, GivenUp, remaining, StillSeen}
+use Rattle.compiling.specs.SettleSteps.{status, known, LastsStored, Waiting, RuleSays, DoneRow, Done, Never, Searching, Stuck, GivenUp, remaining}
+use Rattle.compiling.specs.SettleSteps.{StillSeen}
 use Rattle.compiling.proofs.RowLaws.{SameRules, outcome-same, consults-same, ascending-same, encoded-same, same-rows-none, rule-at}
 use Rattle.compiling.proofs.Tally.{tally-few, tally-less, tally-same, tally-none, tally-up, tally-down, tally-still}
 use Rattle.compiling.proofs.Known.{waits-later, consults-finished, known-sound, known-status, ready-finishes, waiting-later}
@@ -87,7 +88,9 @@ module _ (n m : ℕ) (w w′ : List ℕ) (q : Quiet n w w′) where
   }
 
 -- a step by which no row is given up
-never-kept : (n : ℕ) (w w′ : List ℕ) → SameRules n w w′ → Ascending n w′ → ((k : ℕ) → k < n → status w k ≡ 2 → status w′ k ≡ 2) → ((k : ℕ) → k < n → status w′ k ≡ 3 → status w k ≡ 3) → ((k : ℕ) → k < n → status w k ≡ 3 → status w′ k ≡ 3) → ((k : ℕ) → at w′ k 9 ≡ at w k 9) → Never n w → Never n w′
+never-kept : (n : ℕ) (w w′ : List ℕ) → SameRules n w w′ → Ascending n w′ → ((k : ℕ) → k < n → status w k ≡ 2 → status w′ k ≡ 2) →
+    ((k : ℕ) → k < n → status w′ k ≡ 3 → status w k ≡ 3) → ((k : ℕ) → k < n → status w k ≡ 3 → status w′ k ≡ 3) → ((k : ℕ) → at w′ k 9 ≡ at w k 9) → Never n w →
+    Never n w′
 never-kept n w w′ s a still back forth nine v k h e =
     let t = v k h (back k h e) in
     let u = forth (at w k 9) (t .0 .row) (t .1) in
@@ -95,7 +98,8 @@ never-kept n w w′ s a still back forth nine v k h e =
 
 -- ---- a row opens
 
-module _ (n h m j : ℕ) (w w′ : List ℕ) (s : Searching n w h m) (l : j < n) (new : status w j ≡ 0) (top : (i : ℕ) → suc i ≡ h → Waiting n w (at w i 8) j) (o : Opens w w′ j h) where
+module _ (n h m j : ℕ) (w w′ : List ℕ) (s : Searching n w h m) (l : j < n) (new : status w j ≡ 0) (top : (i : ℕ) → suc i ≡ h → Waiting n w (at w i 8) j)
+    (o : Opens w w′ j h) where
   -- rows of another status before it, and after it, are other rows
   not-new : (k : ℕ) → (status w k ≡ 0 → ⊥) → k ≡ j → ⊥
   not-new k ne e = ne (ap (status w) e ∙ new)
@@ -113,7 +117,9 @@ module _ (n h m j : ℕ) (w w′ : List ℕ) (s : Searching n w h m) (l : j < n)
   open-rows = rows-kept w w′ (o .same-length) (λ k f a b. o .same k f a (outside f 5 (omega arith) (omega arith) b) (outside f 8 (omega arith) (omega arith) b))
 
   open-quiet : Quiet n w w′
-  open-quiet = record { rows = open-rows; same = λ k f a p q r. o .same k f a p q; still = λ k a e. forth k 2 (omega arith) e; before = λ k a e. back k 2 (omega arith) e }
+  open-quiet =
+      record
+      { rows = open-rows; same = λ k f a p q r. o .same k f a p q; still = λ k a e. forth k 2 (omega arith) e; before = λ k a e. back k 2 (omega arith) e }
 
   open-ascending : Ascending n w′
   open-ascending = ascending-same n w w′ (open-rows .same) (o .same-length) (s .encoded .ascending)
@@ -149,7 +155,9 @@ module _ (n h m j : ℕ) (w w′ : List ℕ) (s : Searching n w h m) (l : j < n)
 
   open-waiting : (i : ℕ) → (suc i ≡ h) ⊎ (suc i < h) → Waiting n w′ (at w′ i 8) (at w′ (suc i) 8)
   open-waiting i (inl e) = rw (place-by i (omega arith), e, o .entry-is) (later (at w i 8) j (s .opened .row i (omega arith)) (top i e) (o .status-is))
-  open-waiting i (inr a) = rw (place-by i (omega arith), place-by (suc i) a) (later (at w i 8) (at w (suc i) 8) (s .opened .row i (omega arith)) (s .opened .waiting i a) (still-open (suc i) a))
+  open-waiting i (inr a) =
+      rw (place-by i (omega arith), place-by (suc i) a)
+      (later (at w i 8) (at w (suc i) 8) (s .opened .row i (omega arith)) (s .opened .waiting i a) (still-open (suc i) a))
 
   change : (k : ℕ) → k < n → (k ≡ j → ⊥) → status w′ k ≡ status w k
   change k a ne = o .statuses k ne
@@ -164,7 +172,8 @@ module _ (n h m j : ℕ) (w w′ : List ℕ) (s : Searching n w h m) (l : j < n)
     statuses = λ k a. open-status k a (same-or-not k j);
     done = done-kept n m w w′ open-quiet (s .done);
     never =
-        never-kept n w w′ (open-rows .same) open-ascending (λ k a e. forth k 2 (omega arith) e) (λ k a e. back k 3 (omega arith) e) (λ k a e. forth k 3 (omega arith) e)
+        never-kept n w w′ (open-rows .same) open-ascending (λ k a e. forth k 2 (omega arith) e) (λ k a e. back k 3 (omega arith) e)
+        (λ k a e. forth k 3 (omega arith) e)
         (λ k. o .same k 9 (omega arith) (omega arith) (omega arith)) (s .never);
     opened = record {
       row = λ i a. open-row i (last-or-before a) .0;
@@ -220,7 +229,8 @@ module _ (n h m c f : ℕ) (w w′ : List ℕ) (s : Searching n w (suc h) m) (sa
   pub finish-rows : SameRows n w w′
   finish-rows =
       rows-kept w w′ (v .same-length)
-      (λ k g a b. v .same k g a (outside g 5 (omega arith) (omega arith) b) (outside g 6 (omega arith) (omega arith) b) (outside g 7 (omega arith) (omega arith) b) (outside g 10 (omega arith) (omega arith) b) (outside g 11 (omega arith) (omega arith) b))
+      (λ k g a b. v .same k g a (outside g 5 (omega arith) (omega arith) b) (outside g 6 (omega arith) (omega arith) b)
+      (outside g 7 (omega arith) (omega arith) b) (outside g 10 (omega arith) (omega arith) b) (outside g 11 (omega arith) (omega arith) b))
 
   finish-ascending : Ascending n w′
   finish-ascending = ascending-same n w w′ (finish-rows .same) (v .same-length) (s .encoded .ascending)
@@ -254,14 +264,18 @@ module _ (n h m c f : ℕ) (w w′ : List ℕ) (s : Searching n w (suc h) m) (sa
       rw (v .orders i (λ e. omega arith)) (o .0, other-status (at w i 10) ne ∙ o .1, other-place-of (at w i 10) ne ∙ o .2)
 
   -- what goes into the row that finishes has finished before
-  own-earlier : (j : ℕ) → j < n → List·Memᴰ (pairAt w j) (consults (ruleAt w own) (finishedRows n w) (pairAt w own .left) (pairAt w own .right)) → (status w′ j ≡ 2) × (at w′ j 11 < at w′ own 11)
+  own-earlier : (j : ℕ) → j < n → List·Memᴰ (pairAt w j) (consults (ruleAt w own) (finishedRows n w) (pairAt w own .left) (pairAt w own .right)) →
+      (status w′ j ≡ 2) × (at w′ j 11 < at w′ own 11)
   own-earlier j b t =
-      let p = consults-finished (known n w) (finishedRows n w) (known-sound n w) (ruleAt w own) (pairAt w own .left) (pairAt w own .right) (says .0) (says .1) (pairAt w j) t in
+      let p = consults-finished (known n w) (finishedRows n w) (known-sound n w) (ruleAt w own) (pairAt w own .left) (pairAt w own .right) (says .0) (says .1)
+      (pairAt w j) t in
       let e = known-status n w (s .encoded .ascending) j b (p .0) (p .1) in
       let ne = not-own j (λ z. omega (arith, e)) in
       (kept-status j 2 (omega arith) e, rw (other-place-of j ne, v .place-is) (s .done .rows j b e .place))
 
-  finish-earlier : (k j : ℕ) → k < n → j < n → status w′ k ≡ 2 → List·Memᴰ (pairAt w j) (consults (ruleAt w k) (finishedRows n w) (pairAt w k .left) (pairAt w k .right)) → (k ≡ own) ⊎ (k ≡ own → ⊥) → (status w′ j ≡ 2) × (at w′ j 11 < at w′ k 11)
+  finish-earlier : (k j : ℕ) → k < n → j < n → status w′ k ≡ 2 →
+      List·Memᴰ (pairAt w j) (consults (ruleAt w k) (finishedRows n w) (pairAt w k .left) (pairAt w k .right)) → (k ≡ own) ⊎ (k ≡ own → ⊥) →
+      (status w′ j ≡ 2) × (at w′ j 11 < at w′ k 11)
   finish-earlier k j a b e t (inl i) = rw i (own-earlier j b (rw i at t))
   finish-earlier k j a b e t (inr ne) =
       let u = s .done .earlier k j a b (sym (other-status k ne) ∙ e) t in
@@ -285,7 +299,8 @@ module _ (n h m c f : ℕ) (w w′ : List ℕ) (s : Searching n w (suc h) m) (sa
   finish-waiting : (i : ℕ) → suc i < h → Waiting n w′ (at w′ i 8) (at w′ (suc i) 8)
   finish-waiting i a =
       rw (path-same i, path-same (suc i))
-      (waiting-later n w w′ (finish-rows .same) (λ k b e. kept-status k 2 (omega arith) e) finish-ascending (at w i 8) (at w (suc i) 8) (s .opened .row i (omega arith)) (s .opened .waiting i (omega arith)) (λ z. omega (arith, path-open (suc i) a)))
+      (waiting-later n w w′ (finish-rows .same) (λ k b e. kept-status k 2 (omega arith) e) finish-ascending (at w i 8) (at w (suc i) 8)
+      (s .opened .row i (omega arith)) (s .opened .waiting i (omega arith)) (λ z. omega (arith, path-open (suc i) a)))
 
   finish-status : (k : ℕ) → k < n → (k ≡ own) ⊎ (k ≡ own → ⊥) → status w′ k < 4
   finish-status k a (inl e) = omega (arith, ap (status w′) e, v .status-is)
@@ -305,7 +320,8 @@ module _ (n h m c f : ℕ) (w w′ : List ℕ) (s : Searching n w (suc h) m) (sa
       count = ap suc (s .done .count) ∙ sym (tally-up (status w) (status w′) 2 own n own-row differs (λ e. omega (arith, own-open)) (v .status-is));
     };
     never =
-        never-kept n w w′ (finish-rows .same) finish-ascending (λ k a e. kept-status k 2 (omega arith) e) (λ k a e. was-status k 3 (omega arith) e) (λ k a e. kept-status k 3 (omega arith) e)
+        never-kept n w w′ (finish-rows .same) finish-ascending (λ k a e. kept-status k 2 (omega arith) e) (λ k a e. was-status k 3 (omega arith) e)
+        (λ k a e. kept-status k 3 (omega arith) e)
         (λ k. v .same k 9 (omega arith) (omega arith) (omega arith) (omega arith) (omega arith) (omega arith)) (s .never);
     opened = record {
       row = λ i a. rw (path-same i) (s .opened .row i (omega arith));
@@ -343,10 +359,13 @@ module _ (n h m j : ℕ) (w w′ : List ℕ) (s : Searching n w h m) (t : Stuck 
       (sym (off-path k ne .0) ∙ e, ne)
 
   pub given-rows : SameRows n w w′
-  given-rows = rows-kept w w′ (g .same-length) (λ k f a b. g .same k f a (outside f 5 (omega arith) (omega arith) b) (outside f 9 (omega arith) (omega arith) b))
+  given-rows =
+      rows-kept w w′ (g .same-length) (λ k f a b. g .same k f a (outside f 5 (omega arith) (omega arith) b) (outside f 9 (omega arith) (omega arith) b))
 
   given-quiet : Quiet n w w′
-  given-quiet = record { rows = given-rows; same = λ k f a p q r. g .same k f a p r; still = λ k a e. stays k 2 (omega arith) e; before = λ k a e. was k 2 a (omega arith) e .0 }
+  given-quiet =
+      record
+      { rows = given-rows; same = λ k f a p q r. g .same k f a p r; still = λ k a e. stays k 2 (omega arith) e; before = λ k a e. was k 2 a (omega arith) e .0 }
 
   given-ascending : Ascending n w′
   given-ascending = ascending-same n w w′ (given-rows .same) (g .same-length) (s .encoded .ascending)
@@ -450,17 +469,22 @@ module _ (n m : ℕ) (w : List ℕ) (s : Searching n w 0 m) (seen : (k : ℕ) �
       go none i = i
       go (some q) i =
           let r = right (rules n w) _ (pairAt w k .left) (pairAt w k .right) i in
-          absurd (not-both (never (rules n w) (known n w) (λ l r q e. (_, known-sound n w l r q e)) Stays stays-waiting (pairAt w k) (k, a, e, refl) (r .0)) (r .1))
+          absurd
+          (not-both (never (rules n w) (known n w) (λ l r q e. (_, known-sound n w l r q e)) Stays stays-waiting (pairAt w k) (k, a, e, refl) (r .0))
+          (r .1))
 
   never-row : (k : ℕ) → k < n → status w k ≡ 3 → NeverRow n w w k
   never-row k a e =
       let v = s .never k a e in
       let j = at w k 9 in
-      let u = waits-later (known n w) (finishedRows n w) (known-sound n w) (ruleAt w k) (pairAt w k .left) (pairAt w k .right) (pairAt w j) (v .0 .waits) (never-finishes j (v .0 .row) (v .1)) in
+      let u = waits-later (known n w) (finishedRows n w) (known-sound n w) (ruleAt w k) (pairAt w k .left) (pairAt w k .right) (pairAt w j) (v .0 .waits)
+      (never-finishes j (v .0 .row) (v .1)) in
       record {
         status = e;
         row = v .0 .row;
-        waits-for = sym (ap (follow (pairAt w k)) (ap (λ R. waitsBy R (finishedRows n w) (pairAt w k .left) (pairAt w k .right)) (rule-at n w (s .encoded .ascending) k a) ∙ u));
+        waits-for =
+            sym (ap (follow (pairAt w k))
+            (ap (λ R. waitsBy R (finishedRows n w) (pairAt w k .left) (pairAt w k .right)) (rule-at n w (s .encoded .ascending) k a) ∙ u));
       }
 
   row-says-by : (k : ℕ) → k < n → (status w k ≡ 2) ⊎ (status w k ≡ 2 → ⊥) → RowSays n w w m k (outcome n w k)

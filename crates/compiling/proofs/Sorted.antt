@@ -3,7 +3,8 @@
 -- Assumes nothing.
 use mathlib.Core.Path.{_≡_, refl, sym, ap, ap₂, _∙_, subst}
 use mathlib.Core.Bool.{Bool, true, false, cond, false≢true}
-use mathlib.Core.List.{List, [], _∷_, _++_, List·Memᴰ, List·Memᴰ·head, List·Memᴰ·tail, List·Memᴰ·cases-cons, List·Memᴰ·append-cases, List·Memᴰ·eq-of-singleton, List·Memᴰ·not-nil, Memᴰ·cast}
+use mathlib.Core.List.{List, [], _∷_, _++_, List·Memᴰ, List·Memᴰ·head, List·Memᴰ·tail, List·Memᴰ·cases-cons, List·Memᴰ·append-cases, List·Memᴰ·eq-of-singleton}
+use mathlib.Core.List.{List·Memᴰ·not-nil, Memᴰ·cast}
 use mathlib.Core.Logic.{_⊎_, inl, inr, ⊎-elim}
 use Prim.Native.Nat.{ℕ, zero, suc, _<_, _≤_}
 use native.Mathlib.Nat.{eq-or-lt-of-le, le-of-suc-le-suc}
@@ -83,7 +84,8 @@ pub data Pairwise {A : Type 0} (R : A → A → Type 0) : List A → Type 0 wher
   alone : Pairwise R []
   first : {x : A} {xs : List A} → ((y : A) → List·Memᴰ y xs → R x y) → Pairwise R xs → Pairwise R (x ∷ xs)
 
-last-by : {A : Type 0} (R : A → A → Type 0) (x y v : A) {xs : List A} → R x y → ((z : A) → List·Memᴰ z xs → R x z) → List·Memᴰ v xs ⊎ List·Memᴰ v (y ∷ []) → R x v
+last-by : {A : Type 0} (R : A → A → Type 0) (x y v : A) {xs : List A} → R x y → ((z : A) → List·Memᴰ z xs → R x z) → List·Memᴰ v xs ⊎ List·Memᴰ v (y ∷ []) →
+    R x v
 last-by R x y v s g (inl m) = g v m
 last-by R x y v s g (inr m) = subst (R x) (sym (List·Memᴰ·eq-of-singleton m)) s
 
@@ -112,7 +114,8 @@ pairwise-table R (suc n) f g =
 -- ---- two sorted lists with the same members are equal
 
 module _ {A : Type 0} (R : A → A → Type 0) (itself : (x : A) → R x x → ⊥) (on : (x y z : A) → R x y → R y z → R x z) where
-  same-first : (x y : A) {xs ys : List A} → ((v : A) → List·Memᴰ v xs → R x v) → ((v : A) → List·Memᴰ v ys → R y v) → (x ≡ y) ⊎ List·Memᴰ x ys → (y ≡ x) ⊎ List·Memᴰ y xs → x ≡ y
+  same-first : (x y : A) {xs ys : List A} → ((v : A) → List·Memᴰ v xs → R x v) → ((v : A) → List·Memᴰ v ys → R y v) → (x ≡ y) ⊎ List·Memᴰ x ys →
+      (y ≡ x) ⊎ List·Memᴰ y xs → x ≡ y
   same-first x y g h (inl e) s = e
   same-first x y g h (inr m) (inl e) = sym e
   same-first x y g h (inr m) (inr l) = absurd (itself x (on x y x (g y l) (h x m)))
@@ -121,22 +124,27 @@ module _ {A : Type 0} (R : A → A → Type 0) (itself : (x : A) → R x x → �
   same-rest x y v e g m (inl i) = absurd (itself x (subst (R x) (i ∙ sym e) (g v m)))
   same-rest x y v e g m (inr l) = l
 
-  pub same-sorted : {xs ys : List A} → Pairwise R xs → Pairwise R ys → ((v : A) → List·Memᴰ v xs → List·Memᴰ v ys) → ((v : A) → List·Memᴰ v ys → List·Memᴰ v xs) → xs ≡ ys
+  pub same-sorted : {xs ys : List A} → Pairwise R xs → Pairwise R ys → ((v : A) → List·Memᴰ v xs → List·Memᴰ v ys) →
+      ((v : A) → List·Memᴰ v ys → List·Memᴰ v xs) → xs ≡ ys
   same-sorted alone alone f b = refl
   same-sorted alone (first {x = y} h q) f b = absurd (List·Memᴰ·not-nil (b y (List·Memᴰ·head refl)))
   same-sorted (first {x = x} g p) alone f b = absurd (List·Memᴰ·not-nil (f x (List·Memᴰ·head refl)))
   same-sorted (first {x = x} g p) (first {x = y} h q) f b =
       let e : x ≡ y = same-first x y g h (List·Memᴰ·cases-cons (f x (List·Memᴰ·head refl))) (List·Memᴰ·cases-cons (b y (List·Memᴰ·head refl))) in
-      ap₂ _∷_ e (same-sorted p q (λ v m. same-rest x y v e g m (List·Memᴰ·cases-cons (f v (List·Memᴰ·tail m)))) (λ v m. same-rest y x v (sym e) h m (List·Memᴰ·cases-cons (b v (List·Memᴰ·tail m)))))
+      ap₂ _∷_ e
+      (same-sorted p q (λ v m. same-rest x y v e g m (List·Memᴰ·cases-cons (f v (List·Memᴰ·tail m))))
+      (λ v m. same-rest y x v (sym e) h m (List·Memᴰ·cases-cons (b v (List·Memᴰ·tail m)))))
 
 -- ---- insertion
 
 module _ (v u w : Ruled) (us : List Ruled) where
-  only-by : (b : Bool) → (List·Memᴰ v (insert u us) → (v ≡ u) ⊎ List·Memᴰ v us) → List·Memᴰ v (cond b (u ∷ w ∷ us) (w ∷ insert u us)) → (v ≡ u) ⊎ List·Memᴰ v (w ∷ us)
+  only-by : (b : Bool) → (List·Memᴰ v (insert u us) → (v ≡ u) ⊎ List·Memᴰ v us) → List·Memᴰ v (cond b (u ∷ w ∷ us) (w ∷ insert u us)) →
+      (v ≡ u) ⊎ List·Memᴰ v (w ∷ us)
   only-by true k m = List·Memᴰ·cases-cons m
   only-by false k m = ⊎-elim (λ e. inr (List·Memᴰ·head e)) (λ l. ⊎-elim inl (λ i. inr (List·Memᴰ·tail i)) (k l)) (List·Memᴰ·cases-cons m)
 
-  keeps-by : (b : Bool) → ((v ≡ u) ⊎ List·Memᴰ v us → List·Memᴰ v (insert u us)) → (v ≡ u) ⊎ List·Memᴰ v (w ∷ us) → List·Memᴰ v (cond b (u ∷ w ∷ us) (w ∷ insert u us))
+  keeps-by : (b : Bool) → ((v ≡ u) ⊎ List·Memᴰ v us → List·Memᴰ v (insert u us)) → (v ≡ u) ⊎ List·Memᴰ v (w ∷ us) →
+      List·Memᴰ v (cond b (u ∷ w ∷ us) (w ∷ insert u us))
   keeps-by true k (inl e) = List·Memᴰ·head e
   keeps-by true k (inr m) = List·Memᴰ·tail m
   keeps-by false k (inl e) = List·Memᴰ·tail (k (inl e))
@@ -175,7 +183,8 @@ other-way : (p q : Ruled) → walkedBefore p q ≡ false → Apart p q → Befor
 other-way p q e (inl h) = absurd (false≢true (sym e ∙ h))
 other-way p q e (inr h) = h
 
-sorted-by : (p q : Ruled) (qs : List Ruled) (b : Bool) → walkedBefore p q ≡ b → Apart p q → ((u : Ruled) → List·Memᴰ u qs → Before q u) → Pairwise Before qs → Pairwise Before (insert p qs) → Pairwise Before (cond b (p ∷ q ∷ qs) (q ∷ insert p qs))
+sorted-by : (p q : Ruled) (qs : List Ruled) (b : Bool) → walkedBefore p q ≡ b → Apart p q → ((u : Ruled) → List·Memᴰ u qs → Before q u) → Pairwise Before qs →
+    Pairwise Before (insert p qs) → Pairwise Before (cond b (p ∷ q ∷ qs) (q ∷ insert p qs))
 sorted-by p q qs true e a g s t = first (λ v m. before-both p q v e g (List·Memᴰ·cases-cons m)) (first g s)
 sorted-by p q qs false e a g s t = first (λ v m. before-one p q v (other-way p q e a) g (insert-only v p qs m)) t
 
@@ -192,7 +201,8 @@ ordered-sorted (first {x = u} {xs = us} g s) = insert-sorted u (ordered-sorted s
 
 -- ---- a table of places in ascending order, each once, sorts a table
 
-module _ (n : ℕ) (h : ℕ → Ruled) (t : ℕ → ℕ) (row : (s : ℕ) → s < n → t s < n) (sorted : (s : ℕ) → suc s < n → Before (h (t s)) (h (t (suc s)))) (each : (k : ℕ) → k < n → (s : ℕ) × (s < n) × (t s ≡ k)) where
+module _ (n : ℕ) (h : ℕ → Ruled) (t : ℕ → ℕ) (row : (s : ℕ) → s < n → t s < n) (sorted : (s : ℕ) → suc s < n → Before (h (t s)) (h (t (suc s))))
+    (each : (k : ℕ) → k < n → (s : ℕ) × (s < n) × (t s ≡ k)) where
   later-by : (i j : ℕ) → suc j < n → (i < j → Before (h (t i)) (h (t j))) → (i ≡ j) ⊎ (i < j) → Before (h (t i)) (h (t (suc j)))
   later-by i j l g (inl e) = subst (λ z. Before (h (t z)) (h (t (suc j)))) (sym e) (sorted j l)
   later-by i j l g (inr m) = before-on (h (t i)) (h (t j)) (h (t (suc j))) (g m) (sorted j l)
@@ -214,7 +224,8 @@ module _ (n : ℕ) (h : ℕ → Ruled) (t : ℕ → ℕ) (row : (s : ℕ) → s 
       let a = each i (omega arith) in
       let b = each j l in
       let ne : t (a .0) ≡ t (b .0) → ⊥ = λ e. let z : i ≡ j = sym (a .2) ∙ e ∙ b .2 in omega arith in
-      subst (λ z. Apart (h z) (h j)) (a .2) (subst (λ z. Apart (h (t (a .0))) (h z)) (b .2) (apart-by (a .0) (b .0) (a .1) (b .1) (less-or-not (a .0) (b .0)) ne))
+      subst (λ z. Apart (h z) (h j)) (a .2)
+      (subst (λ z. Apart (h (t (a .0))) (h z)) (b .2) (apart-by (a .0) (b .0) (a .1) (b .1) (less-or-not (a .0) (b .0)) ne))
 
   to-row : (v : Ruled) → List·Memᴰ v (tabulate n (λ s. h (t s))) → List·Memᴰ v (tabulate n h)
   to-row v m =

@@ -79,16 +79,22 @@ finishes w k m c f a b =
     let past1 : (j g : ℕ) → g < 16 → (g ≡ 5 → ⊥) → at v1 j g ≡ at w j g = λ j g l p. at-other w k 5 2 j g (omega arith) l p in
     record {
       same-length = simp length-set;
-      status-is = past5 k 5 (omega arith) (omega arith) ∙ past4 k 5 (omega arith) (omega arith) ∙ past3 k 5 (omega arith) (omega arith) ∙ past2 k 5 (omega arith) (omega arith) ∙ at-stored w k 5 2 (omega arith);
-      code-is = past5 k 6 (omega arith) (omega arith) ∙ past4 k 6 (omega arith) (omega arith) ∙ past3 k 6 (omega arith) (omega arith) ∙ at-stored v1 k 6 c (simp length-set (omega arith));
+      status-is =
+          past5 k 5 (omega arith) (omega arith) ∙ past4 k 5 (omega arith) (omega arith) ∙ past3 k 5 (omega arith) (omega arith)
+          ∙ past2 k 5 (omega arith) (omega arith) ∙ at-stored w k 5 2 (omega arith);
+      code-is =
+          past5 k 6 (omega arith) (omega arith) ∙ past4 k 6 (omega arith) (omega arith) ∙ past3 k 6 (omega arith) (omega arith)
+          ∙ at-stored v1 k 6 c (simp length-set (omega arith));
       flag-is = past5 k 7 (omega arith) (omega arith) ∙ past4 k 7 (omega arith) (omega arith) ∙ at-stored v2 k 7 f (simp length-set (omega arith));
       place-is = past5 k 11 (omega arith) (omega arith) ∙ at-stored v3 k 11 m (simp length-set a);
       order-is = at-stored v4 m 10 k (simp length-set b);
       same = λ j g l p q r s t. past5 j g l s ∙ past4 j g l t ∙ past3 j g l r ∙ past2 j g l q ∙ past1 j g l p;
       others = λ j g l p ne.
-          past5 j g l p ∙ another v3 k 11 m j g (omega arith) l ne ∙ another v2 k 7 f j g (omega arith) l ne ∙ another v1 k 6 c j g (omega arith) l ne ∙ another w k 5 2 j g (omega arith) l ne;
+          past5 j g l p ∙ another v3 k 11 m j g (omega arith) l ne ∙ another v2 k 7 f j g (omega arith) l ne ∙ another v1 k 6 c j g (omega arith) l ne
+          ∙ another w k 5 2 j g (omega arith) l ne;
       orders = λ i ne.
-          at-row v4 m 10 k i (omega arith) ne ∙ past4 i 10 (omega arith) (omega arith) ∙ past3 i 10 (omega arith) (omega arith) ∙ past2 i 10 (omega arith) (omega arith) ∙ past1 i 10 (omega arith) (omega arith);
+          at-row v4 m 10 k i (omega arith) ne ∙ past4 i 10 (omega arith) (omega arith) ∙ past3 i 10 (omega arith) (omega arith)
+          ∙ past2 i 10 (omega arith) (omega arith) ∙ past1 i 10 (omega arith) (omega arith);
     }
 
 -- ---- the rows of the path never finish
@@ -105,7 +111,8 @@ module _ (w : List ℕ) (h j : ℕ) where
   next-last x e = rw (le-ltb (suc x) h (omega arith))
 
   -- one more row, at place i
-  module _ (w′ : List ℕ) (i : ℕ) (l : i < h) (once : (x y : ℕ) → x < h → y < h → at w x 8 ≡ at w y 8 → x ≡ y) (g : GivenUp w w′ h j (suc i)) (room : 16 * at w i 8 + 9 < length w) where
+  module _ (w′ : List ℕ) (i : ℕ) (l : i < h) (once : (x y : ℕ) → x < h → y < h → at w x 8 ≡ at w y 8 → x ≡ y) (g : GivenUp w w′ h j (suc i))
+      (room : 16 * at w i 8 + 9 < length w) where
     abbrev row : ℕ
     row = at w i 8
 

@@ -40,7 +40,8 @@ module _ (n m : ℕ) (w : List ℕ) (e : Encoded n w) (s : Settled n w w m) wher
       let r = row-finished n m w e s k (q .0) h (q .1) in
       (r .place, r .ordered)
 
-  among-by : (i k : ℕ) → k < n → (k ≡ at w i 10 → ⊥) → (at w k 5 ≡ 2) ⊎ (at w k 5 ≡ 2 → ⊥) → (at w k 11 < i) ⊎ (i ≤ at w k 11) → amongFirst w (suc i) k ≡ amongFirst w i k
+  among-by : (i k : ℕ) → k < n → (k ≡ at w i 10 → ⊥) → (at w k 5 ≡ 2) ⊎ (at w k 5 ≡ 2 → ⊥) → (at w k 11 < i) ⊎ (i ≤ at w k 11) →
+      amongFirst w (suc i) k ≡ amongFirst w i k
   among-by i k h ne (inr t) l = rw (ne-eqb (at w k 5) 2 t)
   among-by i k h ne (inl t) (inl l) = rw (lt-ltb (at w k 11) (suc i) (omega arith), lt-ltb (at w k 11) i l)
   among-by i k h ne (inl t) (inr l) = go (same-or-not (at w k 11) i)
@@ -67,7 +68,8 @@ module _ (n m : ℕ) (w : List ℕ) (e : Encoded n w) (s : Settled n w w m) wher
   finish-count : tally (status w) 2 n ≡ m
   finish-count = tally-same (amongFirst w m) (status w) 2 n (λ k h. among-all k h (same-or-not (at w k 5) 2)) ∙ among-count m (omega arith)
 
-  numbers-by : (k : ℕ) → k < n → (at w k 5 ≡ 2) ⊎ (at w k 5 ≡ 2 → ⊥) → length (pairNumbers (pairAt w k) (opsUpTo n w k) (outcome n w k)) ≡ 6 * bit (eqb (at w k 5) 2)
+  numbers-by : (k : ℕ) → k < n → (at w k 5 ≡ 2) ⊎ (at w k 5 ≡ 2 → ⊥) →
+      length (pairNumbers (pairAt w k) (opsUpTo n w k) (outcome n w k)) ≡ 6 * bit (eqb (at w k 5) 2)
   numbers-by k h (inl t) = rw (finished-row n m w e s k h t .1, eq-eqb (at w k 5) 2 t)
   numbers-by k h (inr t) = rw (unfinished-row n m w e s k h t, ne-eqb (at w k 5) 2 t)
 
@@ -88,5 +90,6 @@ module _ (f : Font) (n : ℕ) (w : List ℕ) (p : pairs n w ≡ pairsOf f) (q : 
   -- as many rows finish as the table has pairs
   pub finished-count : (m : ℕ) → Encoded n w → Settled n w w m → m ≡ tablePairs f
   finished-count m e s =
-      let t : length (fontTable f) ≡ 6 * m = ap length (sym table-written) ∙ six-each n m w e s n (omega arith) ∙ ap (λ (j : ℕ). 6 * j) (finish-count n m w e s) in
+      let t : length (fontTable f) ≡ 6 * m = ap length (sym table-written) ∙ six-each n m w e s n (omega arith)
+      ∙ ap (λ (j : ℕ). 6 * j) (finish-count n m w e s) in
       omega arith

@@ -42,7 +42,8 @@ tally-none g s (suc n) e = rw (tally-none g s n (λ k h. e k (omega arith)), ne-
 
 -- where g′ differs from g at j alone
 module _ (g g′ : ℕ → ℕ) (s j : ℕ) where
-  change-by : (n : ℕ) → (j < n → tally g′ s n + bit (eqb (g j) s) ≡ tally g s n + bit (eqb (g′ j) s)) → ((k : ℕ) → k < suc n → (k ≡ j → ⊥) → g′ k ≡ g k) → (j ≡ n) ⊎ (j < n) → tally g′ s n + bit (eqb (g′ n) s) + bit (eqb (g j) s) ≡ tally g s n + bit (eqb (g n) s) + bit (eqb (g′ j) s)
+  change-by : (n : ℕ) → (j < n → tally g′ s n + bit (eqb (g j) s) ≡ tally g s n + bit (eqb (g′ j) s)) → ((k : ℕ) → k < suc n → (k ≡ j → ⊥) → g′ k ≡ g k) →
+      (j ≡ n) ⊎ (j < n) → tally g′ s n + bit (eqb (g′ n) s) + bit (eqb (g j) s) ≡ tally g s n + bit (eqb (g n) s) + bit (eqb (g′ j) s)
   change-by n h e (inl i) =
       let t : tally g′ s n ≡ tally g s n = tally-same g g′ s n (λ k l. ap (λ v. eqb v s) (e k (omega arith) (λ x. omega arith))) in
       rw (i, t) (omega arith)

@@ -1,7 +1,8 @@
 -- Rows that hold a font's pairs, with their rules written, say the font's pairs and the font's rules.
 -- Assumes nothing.
 use mathlib.Core.Path.{_≡_, refl, sym, ap, ap₂, _∙_, fun-ext}
-use mathlib.Core.List.{List, [], _∷_, List·Memᴰ, List·Memᴰ·head, List·Memᴰ·tail, List·Memᴰ·cases-cons, List·Memᴰ·not-nil, List·Memᴰ·append-cases, List·Memᴰ·eq-of-singleton}
+use mathlib.Core.List.{List, [], _∷_, List·Memᴰ, List·Memᴰ·head, List·Memᴰ·tail, List·Memᴰ·cases-cons, List·Memᴰ·not-nil, List·Memᴰ·append-cases}
+use mathlib.Core.List.{List·Memᴰ·eq-of-singleton}
 use mathlib.Core.Logic.{_⊎_, inl, inr}
 use mathlib.Core.Option.{Option, none, some}
 use Prim.Native.Nat.{ℕ, zero, suc, _<_}
@@ -27,7 +28,8 @@ nth-member [] k h = absurd (omega arith)
 nth-member (p ∷ ps) zero h = List·Memᴰ·head refl
 nth-member (p ∷ ps) (suc k) h = List·Memᴰ·tail (nth-member ps k (le-of-suc-le-suc h))
 
-place-by : (x p : Ruled) (ps : List Ruled) → (x ≡ p) ⊎ List·Memᴰ x ps → (List·Memᴰ x ps → (k : ℕ) × (k < length ps) × (nth ps k ≡ x)) → (k : ℕ) × (k < suc (length ps)) × (nth (p ∷ ps) k ≡ x)
+place-by : (x p : Ruled) (ps : List Ruled) → (x ≡ p) ⊎ List·Memᴰ x ps → (List·Memᴰ x ps → (k : ℕ) × (k < length ps) × (nth ps k ≡ x)) →
+    (k : ℕ) × (k < suc (length ps)) × (nth (p ∷ ps) k ≡ x)
 place-by x p ps (inl e) i = (zero, omega arith, sym e)
 place-by x p ps (inr m) i = let q = i m in (suc (q .0), omega (arith, q .1), q .2)
 
@@ -45,7 +47,8 @@ module _ (s table : List ℤ) where
   ruled-indexed x l r none e m = absurd (List·Memᴰ·not-nil m)
   ruled-indexed x l r (some i) e m = rw (List·Memᴰ·eq-of-singleton m) e
 
-  row-cases : (x : Ruled) (l : Left) (n : ℕ) → List·Memᴰ x (rowPairs s table l n) ⊎ List·Memᴰ x (ruledBy l n (indexOf s table l n)) → (List·Memᴰ x (rowPairs s table l n) → Indexed x) → Indexed x
+  row-cases : (x : Ruled) (l : Left) (n : ℕ) → List·Memᴰ x (rowPairs s table l n) ⊎ List·Memᴰ x (ruledBy l n (indexOf s table l n)) →
+      (List·Memᴰ x (rowPairs s table l n) → Indexed x) → Indexed x
   row-cases x l n (inl m) k = k m
   row-cases x l n (inr m) k = ruled-indexed x l n (indexOf s table l n) refl m
 
@@ -54,7 +57,8 @@ module _ (s table : List ℤ) where
   row-indexed x l zero m = absurd (List·Memᴰ·not-nil m)
   row-indexed x l (suc n) m = row-cases x l n (List·Memᴰ·append-cases (rowPairs s table l n) m) (row-indexed x l n)
 
-  left-cases : (x : Ruled) (n : ℕ) → List·Memᴰ x (leftPairs s table n) ⊎ List·Memᴰ x (rowPairs s table (leftOf n) 256) → (List·Memᴰ x (leftPairs s table n) → Indexed x) → Indexed x
+  left-cases : (x : Ruled) (n : ℕ) → List·Memᴰ x (leftPairs s table n) ⊎ List·Memᴰ x (rowPairs s table (leftOf n) 256) →
+      (List·Memᴰ x (leftPairs s table n) → Indexed x) → Indexed x
   left-cases x n (inl m) k = k m
   left-cases x n (inr m) k = row-indexed x (leftOf n) 256 m
 
@@ -75,7 +79,8 @@ pairs-are ps n w all each =
     (length-tabulate n (ruledAt w) ∙ all)
     (λ i h. let l : i < n = rw (length-tabulate n (ruledAt w)) at h in getD-tabulate n (ruledAt w) i _ l ∙ each i l)
 
-module _ (f : Font) (w₀ w w′ : List ℕ) (n e : ℕ) (c : Collects (f .instructions) (tableOf f) w₀ w n e) (r : Writes (f .instructions) (f .kerns) (f .design) n w w′) where
+module _ (f : Font) (w₀ w w′ : List ℕ) (n e : ℕ) (c : Collects (f .instructions) (tableOf f) w₀ w n e)
+    (r : Writes (f .instructions) (f .kerns) (f .design) n w w′) where
   kept : (k g : ℕ) → k < n → g < 3 → at w′ k g ≡ at w k g
   kept k g h l = r .same k g (omega arith) (λ i. omega arith) (λ i. omega arith)
 
@@ -98,7 +103,14 @@ module _ (f : Font) (w₀ w w′ : List ℕ) (n e : ℕ) (c : Collects (f .instr
         left = λ k h. omega (arith, c .ascending .left k h, kept k 0 h (omega arith));
         right = λ k h. omega (arith, c .ascending .right k h, kept k 1 h (omega arith));
         ascends = λ k h.
-            omega (arith, c .ascending .ascends k h, kept k 0 (omega arith) (omega arith), kept k 1 (omega arith) (omega arith), kept (suc k) 0 h (omega arith), kept (suc k) 1 h (omega arith));
+            omega (
+              arith,
+              c .ascending .ascends k h,
+              kept k 0 (omega arith) (omega arith),
+              kept k 1 (omega arith) (omega arith),
+              kept (suc k) 0 h (omega arith),
+              kept (suc k) 1 h (omega arith),
+            );
       }
 
   -- the rule of a row is its instruction's
@@ -106,7 +118,8 @@ module _ (f : Font) (w₀ w w′ : List ℕ) (n e : ℕ) (c : Collects (f .instr
   rule-tied k h = r .rules k h ∙ ap (λ (i : ℕ). ruleOfIndex f (some i)) (ap (λ (x : Ruled). x .index) (c .pair k h))
 
   -- the row of a pair of the font
-  row-there : (l : Left) (y j k : ℕ) → k < n → nth (pairsOf f) k ≡ record { pair = record { left = l; right = y }; index = j } → (at w′ k 0 ≡ numberOfLeft l) × (at w′ k 1 ≡ y)
+  row-there : (l : Left) (y j k : ℕ) → k < n → nth (pairsOf f) k ≡ record { pair = record { left = l; right = y }; index = j } →
+      (at w′ k 0 ≡ numberOfLeft l) × (at w′ k 1 ≡ y)
   row-there l y j k h q =
       let u : ruledAt w′ k ≡ record { pair = record { left = l; right = y }; index = j } = ruled-tied k h ∙ q in
       (sym (number-left (at w′ k 0)) ∙ ap (λ (x : Ruled). numberOfLeft (x .pair .left)) u, ap (λ (x : Ruled). x .pair .right) u)

@@ -1,5 +1,5 @@
-// The definitions (specs/) and laws (proofs/) of compiling's passes over the rows of the work buffer, and the types that the passes answer with. Crates `collect` to `lists` hold the
-// passes.
+// The definitions (specs/) and laws (proofs/) of compiling's passes over the rows of the work buffer, and the types
+// that the passes answer with. Crates `collect` to `lists` hold the passes.
 
 // The row of a pair, or nothing.
 pub enum Row {
@@ -19,7 +19,8 @@ pub enum Added {
     Over,
 }
 
-// What a row says of its rule: op byte or 128, and inserted character or scaled kern, 0 for a kern that does not scale; and whether it scales.
+// What a row says of its rule: op byte or 128, and inserted character or scaled kern, 0 for a kern that does not scale;
+// and whether it scales.
 pub struct Effect {
     pub op: u32,
     pub value: u32,
@@ -51,19 +52,22 @@ pub enum Part {
     OfRow(usize),
 }
 
-// The rows of a font, how many of them are the boundary's, and whether every kern that is a rule scales; or the number of a refusal.
+// The rows of a font, how many of them are the boundary's, and whether every kern that is a rule scales; or the number
+// of a refusal.
 pub enum Prepared {
     Rows(usize, usize, bool),
     Refused(u32),
 }
 
-// The same rows, once it is known how many of them finish: rows, the boundary's, those that finish, and whether every kern scales; or a refusal.
+// The same rows, once it is known how many of them finish: rows, the boundary's, those that finish, and whether every
+// kern scales; or a refusal.
 pub enum SettledFont {
     Rows(usize, usize, usize, bool),
     Refused(u32),
 }
 
-// The same rows, once their loops are listed: rows, those that finish, loops, and whether every kern scales; or a refusal.
+// The same rows, once their loops are listed: rows, those that finish, loops, and whether every kern scales; or a
+// refusal.
 pub enum WalkedFont {
     Rows(usize, usize, usize, bool),
     Refused(u32),

@@ -1,5 +1,5 @@
-// What a packed entry stands for (TeX 545): a redirect's target, or itself; and whether it can be followed (TFtoPL 67). After the first part of
-// `unpack_entrypoint` of ligkern/lang.rs (lines 533 to 551).
+// What a packed entry stands for (TeX 545): a redirect's target, or itself; and whether it can be followed (TFtoPL 67).
+// After the first part of `unpack_entrypoint` of ligkern/lang.rs (lines 533 to 551).
 ghost use mathlib.Core.Path.{_≡_};
 ghost use Rattle.lang.specs.Records.{isKind};
 ghost use Rattle.entry_targets.specs.Targets.{targetAt, standsFor, entryRefusal};

@@ -23,7 +23,8 @@ use Rattle.lang.proofs.Filled.{refused-list, written-list}
 use Rattle.program_chain.specs.Chains.{chainOf}
 use Rattle.program_chain.proofs.Walks.{Stepped}
 use Rattle.entry_targets.specs.Targets.{standsFor, entryRefusal}
-use Rattle.entry_unpack.specs.Unpacking.{UnpacksEntry, unpackRefusal, unpackedReply, isNamed, passthroughAt, passthroughAfter, insertsSevenBit, allSevenBit, entrySafe, sevenBitReply}
+use Rattle.entry_unpack.specs.Unpacking.{UnpacksEntry, unpackRefusal, unpackedReply, isNamed, passthroughAt, passthroughAfter, insertsSevenBit}
+use Rattle.entry_unpack.specs.Unpacking.{allSevenBit, entrySafe, sevenBitReply}
 
 -- ---- the answer of unpacking an entry
 
@@ -32,7 +33,8 @@ module _ (s : List ℤ) (e : ℤ) (p out zeros : List ℕ) {r : ℕ} (zs : zeros
   asked : r ≡ unpackRefusal s e p (length out)
   asked = rs ∙ rw (zs, length-replicate)
 
-  pub unpacks-refused : (r ≡ 0 → ⊥) → (u : Unpacked) → (unpackedReply u ≡ record { number = r; values = [] }) × (isNamed u ≡ true) → UnpacksEntry s e p out u zeros
+  pub unpacks-refused : (r ≡ 0 → ⊥) → (u : Unpacked) → (unpackedReply u ≡ record { number = r; values = [] }) × (isNamed u ≡ true) →
+      UnpacksEntry s e p out u zeros
   unpacks-refused h u us =
       record {
         answer = us .0 ∙ refused-reply (pos (standsFor s (wordOf e)) ∷ []) asked h;
@@ -43,12 +45,16 @@ module _ (s : List ℤ) (e : ℤ) (p out zeros : List ℕ) {r : ℕ} (zs : zeros
   module _ (none : r ≡ 0) where
     pub unpacks-room : length p ≤ length zeros
     unpacks-room =
-        let a = orElse-none (programRefusal s) (orElse (rangeRefusal 255 e) (orElse (passthroughRefusal p s) (orElse (entryRefusal s (wordOf e)) (roomRefusal (length p) (length zeros))))) (sym rs ∙ none) in
-        let b = orElse-none (rangeRefusal 255 e) (orElse (passthroughRefusal p s) (orElse (entryRefusal s (wordOf e)) (roomRefusal (length p) (length zeros)))) (a .1) in
+        let a = orElse-none (programRefusal s)
+        (orElse (rangeRefusal 255 e) (orElse (passthroughRefusal p s) (orElse (entryRefusal s (wordOf e)) (roomRefusal (length p) (length zeros)))))
+        (sym rs ∙ none) in
+        let b = orElse-none (rangeRefusal 255 e) (orElse (passthroughRefusal p s) (orElse (entryRefusal s (wordOf e)) (roomRefusal (length p) (length zeros))))
+        (a .1) in
         let c = orElse-none (passthroughRefusal p s) (orElse (entryRefusal s (wordOf e)) (roomRefusal (length p) (length zeros))) (b .1) in
         room-fits (length p) (length zeros) (orElse-none (entryRefusal s (wordOf e)) (roomRefusal (length p) (length zeros)) (c .1) .1)
 
-    pub unpacks-entry : {w : ℕ} → w ≡ wordOf e → {last : List ℕ} → last ≡ passthroughAfter s w p ++ drop (length p) zeros → {t : ℕ} → t ≡ standsFor s w → UnpacksEntry s e p out (Entry t) last
+    pub unpacks-entry : {w : ℕ} → w ≡ wordOf e → {last : List ℕ} → last ≡ passthroughAfter s w p ++ drop (length p) zeros → {t : ℕ} → t ≡ standsFor s w →
+        UnpacksEntry s e p out (Entry t) last
     unpacks-entry ws ls ts =
         record {
           answer = rw (ts, ws) (taken-reply (pos (standsFor s (wordOf e)) ∷ []) (sym asked ∙ none));

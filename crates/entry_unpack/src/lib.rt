@@ -1,12 +1,14 @@
-// The entry of a character from the packed one, after `unpack_entrypoint` (ligkern/lang.rs lines 533 to 551); the program's seven-bit test, after
-// `is_seven_bit_safe` (lines 678 to 689).
+// The entry of a character from the packed one, after `unpack_entrypoint` (ligkern/lang.rs lines 533 to 551); the
+// program's seven-bit test, after `is_seven_bit_safe` (lines 678 to 689).
 ghost use mathlib.Core.Path.{_≡_};
 ghost use mathlib.Core.Bool.{true};
 ghost use mathlib.Core.List.{[], _++_};
 ghost use Prim.Native.Nat.{_<_, _≤_, _/_};
 ghost use lib.ListN.{length, drop};
 ghost use Rattle.program_chain.specs.Chains.{chainOf};
-ghost use Rattle.entry_unpack.specs.Unpacking.{unpackRefusal, unpackedReply, isNamed, passthroughAt, passthroughAfter, UnpacksEntry, insertsSevenBit, allSevenBit, entrySafe, isSevenBitSafe, sevenBitReply, sevenBit};
+ghost use Rattle.entry_unpack.specs.Unpacking.{unpackRefusal, unpackedReply, isNamed, passthroughAt};
+ghost use Rattle.entry_unpack.specs.Unpacking.{passthroughAfter, UnpacksEntry, insertsSevenBit, allSevenBit};
+ghost use Rattle.entry_unpack.specs.Unpacking.{entrySafe, isSevenBitSafe, sevenBitReply, sevenBit};
 use entry_targets::entry_refusal;
 use entry_targets::is_redirect;
 use entry_targets::stands_for;
@@ -91,7 +93,8 @@ fn passthrough_at(instructions: &[i32], entry: usize, passthrough: &[u8], i: usi
 // Passthrough afterwards, at the front of a list that has room for it.
 fn put_passthrough(instructions: &[i32], entry: usize, passthrough: &[u8], out: &mut [u8])
     requires { ⌜ length (now passthrough) ≤ length (now out) ⌝ }
-    ensures { λ _. ⌜ now (out .exit) ≡ passthroughAfter (now (instructions .entry)) entry (now (passthrough .entry)) ++ drop (length (now (passthrough .entry))) (now (out .entry)) ⌝ }
+    ensures { λ _. ⌜ now (out .exit) ≡ passthroughAfter (now (instructions .entry)) entry
+        (now (passthrough .entry)) ++ drop (length (now (passthrough .entry))) (now (out .entry)) ⌝ }
 {
     let mut i = 0;
     while i < passthrough.len() {
@@ -107,7 +110,8 @@ pub fn unpack_entrypoint(
     passthrough: &[u8],
     out: &mut [u8],
 ) -> Unpacked
-    ensures { λ r. ⌜ UnpacksEntry (now (instructions .entry)) entry (now (passthrough .entry)) (now (out .entry)) r (now (out .exit)) ⌝ }
+    ensures { λ r. ⌜ UnpacksEntry (now (instructions .entry)) entry (now (passthrough .entry))
+        (now (out .entry)) r (now (out .exit)) ⌝ }
 {
     words::zero::zero_u8(out);
     let refusal = unpack_refusal(instructions, entry, passthrough, out.len());

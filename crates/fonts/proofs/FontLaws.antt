@@ -17,10 +17,12 @@ use Rattle.program_chain.specs.Chains.{Program, firstFor, chainOf}
 use Rattle.reading.specs.Items.{Left, bnd, chr, free}
 use Rattle.reading.specs.Loops.{Ruled}
 use Rattle.reading.proofs.Covers.{Covers}
-use Rattle.fonts.specs.Fonts.{Font, leftOf, numberOfLeft, indexOf, leftEntry, ruleFrom, ruledBy, rowPairs, leftPairs, pairsBy, pairsOf, tableOf, rulesOf, ruleOfIndex}
+use Rattle.fonts.specs.Fonts.{Font, leftOf, numberOfLeft, indexOf, leftEntry, ruleFrom, ruledBy, rowPairs, leftPairs, pairsBy, pairsOf, tableOf, rulesOf}
+use Rattle.fonts.specs.Fonts.{ruleOfIndex}
 
 -- the first instruction for a character is one for it
-first-by : (program : Program) (r : ℕ) (j : ℕ) (is : List ℕ) (i : ℕ) (b : Bool) → eqb (program j .«right_char» .0) r ≡ b → (firstFor program r is ≡ some i → program i .«right_char» .0 ≡ r) → cond b (some j) (firstFor program r is) ≡ some i → program i .«right_char» .0 ≡ r
+first-by : (program : Program) (r : ℕ) (j : ℕ) (is : List ℕ) (i : ℕ) (b : Bool) → eqb (program j .«right_char» .0) r ≡ b →
+    (firstFor program r is ≡ some i → program i .«right_char» .0 ≡ r) → cond b (some j) (firstFor program r is) ≡ some i → program i .«right_char» .0 ≡ r
 first-by program r j is i true t k h =
     let m : j ≡ i = cc in
     rw (← m) (eqb-true (program j .«right_char» .0) r t)
@@ -45,7 +47,8 @@ module _ (s table : List ℤ) where
   in-ruled : (l : Left) (r i : ℕ) → List·Memᴰ (ruled l r i) (ruledBy l r (some i))
   in-ruled l r i = List·Memᴰ·head refl
 
-  row-by : (l : Left) (r n i : ℕ) → indexOf s table l r ≡ some i → (r ≡ n) ⊎ (r < n) → (r < n → List·Memᴰ (ruled l r i) (rowPairs s table l n)) → List·Memᴰ (ruled l r i) (rowPairs s table l n ++ ruledBy l n (indexOf s table l n))
+  row-by : (l : Left) (r n i : ℕ) → indexOf s table l r ≡ some i → (r ≡ n) ⊎ (r < n) → (r < n → List·Memᴰ (ruled l r i) (rowPairs s table l n)) →
+      List·Memᴰ (ruled l r i) (rowPairs s table l n ++ ruledBy l n (indexOf s table l n))
   row-by l r n i e (inl q) k = Memᴰ·append-right (rowPairs s table l n) (rw (← q, e) (in-ruled l r i))
   row-by l r n i e (inr h) k = Memᴰ·append-left (ruledBy l n (indexOf s table l n)) (k h)
 
@@ -54,7 +57,8 @@ module _ (s table : List ℤ) where
   in-row l r zero i e h = absurd (omega arith)
   in-row l r (suc n) i e h = row-by l r n i e (eq-or-lt-of-le (le-of-suc-le-suc h)) (in-row l r n i e)
 
-  left-by : (x : Ruled) (t n : ℕ) → List·Memᴰ x (rowPairs s table (leftOf t) 256) → (t ≡ n) ⊎ (t < n) → (t < n → List·Memᴰ x (leftPairs s table n)) → List·Memᴰ x (leftPairs s table n ++ rowPairs s table (leftOf n) 256)
+  left-by : (x : Ruled) (t n : ℕ) → List·Memᴰ x (rowPairs s table (leftOf t) 256) → (t ≡ n) ⊎ (t < n) → (t < n → List·Memᴰ x (leftPairs s table n)) →
+      List·Memᴰ x (leftPairs s table n ++ rowPairs s table (leftOf n) 256)
   left-by x t n m (inl q) k = Memᴰ·append-right (leftPairs s table n) (rw (← q) m)
   left-by x t n m (inr h) k = Memᴰ·append-left (rowPairs s table (leftOf n) 256) (k h)
 
@@ -78,7 +82,8 @@ module _ (s table : List ℤ) where
       in-left (ruled (chr c) r i) (suc c) 257 (in-row (chr c) r 256 i e (rule-right s (leftEntry table (chr c)) r i e)) (omega arith)
 
 -- Every pair that has a rule is among the font's pairs.
-covers-by : (f : Font) (l : Left) (r : ℕ) (o : Option ℕ) → indexOf (f .instructions) (tableOf f) l r ≡ o → (ruleOfIndex f o ≡ free → ⊥) → (i : ℕ) × List·Memᴰ (record { pair = record { left = l; right = r }; index = i }) (pairsOf f)
+covers-by : (f : Font) (l : Left) (r : ℕ) (o : Option ℕ) → indexOf (f .instructions) (tableOf f) l r ≡ o → (ruleOfIndex f o ≡ free → ⊥) →
+    (i : ℕ) × List·Memᴰ (record { pair = record { left = l; right = r }; index = i }) (pairsOf f)
 covers-by f l r none e h = absurd (h refl)
 covers-by f l r (some i) e h = (i, has-pair (f .instructions) (tableOf f) l r i e)
 
@@ -86,7 +91,8 @@ pub covers-font : (f : Font) → Covers (rulesOf f) (pairsOf f)
 covers-font f = record { covers = λ l r h. covers-by f l r (indexOf (f .instructions) (tableOf f) l r) refl h }
 
 -- A pair that has a rule is of a left of -1 to 255 and a right of 0 to 255.
-range-by : (f : Font) (l : Left) (r : ℕ) (o : Option ℕ) → indexOf (f .instructions) (tableOf f) l r ≡ o → (ruleOfIndex f o ≡ free → ⊥) → (numberOfLeft l < 257) × (r < 256)
+range-by : (f : Font) (l : Left) (r : ℕ) (o : Option ℕ) → indexOf (f .instructions) (tableOf f) l r ≡ o → (ruleOfIndex f o ≡ free → ⊥) →
+    (numberOfLeft l < 257) × (r < 256)
 range-by f l r none e h = absurd (h refl)
 range-by f bnd r (some i) e h = (omega arith, rule-right (f .instructions) (leftEntry (tableOf f) bnd) r i e)
 range-by f (chr c) r (some i) e h =

@@ -26,7 +26,8 @@ module _ {x y : Reply} (e : x ≡ y) where
   number-known = ap (λ (r : Reply). r .number) e
 
 -- an answer that has values is not refused
-pub taken-unlike : {A : Type 0} {v : ℤ} {vs : List ℤ} {m n : ℕ} → _≡_ {A = Reply} (record { number = m; values = v ∷ vs }) (record { number = n; values = [] }) → A
+pub taken-unlike : {A : Type 0} {v : ℤ} {vs : List ℤ} {m n : ℕ} →
+    _≡_ {A = Reply} (record { number = m; values = v ∷ vs }) (record { number = n; values = [] }) → A
 taken-unlike e = let q = values-known e in let z : _≡_ {A = ℕ} 0 1 = cc in absurd (omega arith)
 
 pub compiled-determined : (a b : Compiled) → compiledReply a ≡ compiledReply b → a ≡ b

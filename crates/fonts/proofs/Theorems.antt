@@ -20,11 +20,13 @@ use Rattle.fonts.specs.Compiled.{finishedOf, loopsOfFont}
 use Rattle.fonts.proofs.FontLaws.{covers-font, ruled-in-range}
 
 -- Every entry of the table is the reading of its pair: those ops, and that last.
-pub entry-reads : (f : Font) (l : Left) (r : ℕ) (q : Res) → finishedOf f l r ≡ some q → (n : ℕ) × (read (rulesOf f) n (head l) (plain r ∷ []) ≡ done (q .outs) (at (q .last)))
+pub entry-reads : (f : Font) (l : Left) (r : ℕ) (q : Res) → finishedOf f l r ≡ some q →
+    (n : ℕ) × (read (rulesOf f) n (head l) (plain r ∷ []) ≡ done (q .outs) (at (q .last)))
 entry-reads f l r q e = Reading.right (rulesOf f) _ l r e
 
 -- And whatever the reading of a pair gives once it ends, its entry holds.
-pub reading-entered : (f : Font) (n : ℕ) (l : Left) (r : ℕ) {os : List Out} {u : Head} → read (rulesOf f) n (head l) (plain r ∷ []) ≡ done os u → (q : Res) × (finishedOf f l r ≡ some q) × (os ≡ q .outs) × (u ≡ at (q .last))
+pub reading-entered : (f : Font) (n : ℕ) (l : Left) (r : ℕ) {os : List Out} {u : Head} → read (rulesOf f) n (head l) (plain r ∷ []) ≡ done os u →
+    (q : Res) × (finishedOf f l r ≡ some q) × (os ≡ q .outs) × (u ≡ at (q .last))
 reading-entered f n l r e = Reading.complete (rulesOf f) (pairsOf f) (covers-font f) n l r e
 
 -- A pair has no entry exactly when it never ends.
@@ -63,7 +65,8 @@ free-ends rule l r e h =
   where
     by : (u : Rule) → u ≡ free → read rule 0 (act u (head l) (plain r) .left) (act u (head l) (plain r) .back ++ []) ≡ more → ⊥
     by u i m =
-        let k : read rule 0 (at (plain r)) [] ≡ more = subst (λ (v : Rule). read rule 0 (act v (head l) (plain r) .left) (act v (head l) (plain r) .back ++ []) ≡ more) i m in
+        let k : read rule 0 (at (plain r)) []
+        ≡ more = subst (λ (v : Rule). read rule 0 (act v (head l) (plain r) .left) (act v (head l) (plain r) .back ++ []) ≡ more) i m in
         more-not-done (sym k ∙ nothing-right rule 0 (at (plain r)))
 
 -- A pair that never ends has a left of -1 to 255 and a right of 0 to 255: no other pair has a rule.

@@ -90,7 +90,8 @@ top-or : (t : Bool) → bitOr (one t) 1 ≡ 1
 top-or true = refl
 top-or false = refl
 
-or-by : (p : ℕ → Bool) (n j : ℕ) → (j ≡ n) ⊎ (j < n) → (j < n → bitOr (bitsBy n p) (2 ^ j) ≡ bitsBy n (andAlso p j)) → bitOr (bitsBy (suc n) p) (2 ^ j) ≡ bitsBy (suc n) (andAlso p j)
+or-by : (p : ℕ → Bool) (n j : ℕ) → (j ≡ n) ⊎ (j < n) → (j < n → bitOr (bitsBy n p) (2 ^ j) ≡ bitsBy n (andAlso p j)) →
+    bitOr (bitsBy (suc n) p) (2 ^ j) ≡ bitsBy (suc n) (andAlso p j)
 or-by p n j (inl e) f =
     let m = bits-ext n p (andAlso p j) (λ i l. sym (rw (ne-eqb i j (λ z. let y : i ≡ n = z ∙ e in omega arith)))) in
     ap₂ bitOr (bits-step n p) (ap (λ (k : ℕ). 2 ^ k) e ∙ sym (one-mul (2 ^ n)) ∙ sym (add-zero (1 * 2 ^ n)))

@@ -1,6 +1,6 @@
--- On a table whose keys are of the form: lefts and rights are in range and the lefts ascend; as many keys come before that of a pair as the pair has pairs before it; and the keys that come before a left and a
--- right are those of the lefts before it, and one for each smaller right that has a pair. Where the pairs of a left begin.
--- Assumes nothing.
+-- On a table whose keys are of the form: lefts and rights are in range and the lefts ascend; as many keys come before that of a pair as the pair has pairs
+-- before it; and the keys that come before a left and a right are those of the lefts before it, and one for each smaller right that has a pair. Where the pairs
+-- of a left begin. Assumes nothing.
 use mathlib.Core.Path.{_≡_, sym, ap, ap₂, _∙_}
 use mathlib.Core.Bool.{Bool, true}
 use mathlib.Core.List.{List}
@@ -56,7 +56,8 @@ module _ (pairs : List ℤ) (form : every (pairCount pairs) (keyForm pairs) ≡ 
   pub left-small : (k : ℕ) → k < pairCount pairs → leftPlace (number pairs k 0) ≤ 256
   left-small k h =
       place-small (number pairs k 0)
-      (both-left (absentOr 255 (number pairs k 0)) (both (within 255 (number pairs k 1)) (comesAfter pairs k)) (every-at (pairCount pairs) k (keyForm pairs) form h))
+      (both-left (absentOr 255 (number pairs k 0)) (both (within 255 (number pairs k 1)) (comesAfter pairs k))
+      (every-at (pairCount pairs) k (keyForm pairs) form h))
 
   -- a right is a character
   pub right-small : (k : ℕ) → k < pairCount pairs → wordOf (number pairs k 1) ≤ 255
@@ -74,7 +75,8 @@ module _ (pairs : List ℤ) (form : every (pairCount pairs) (keyForm pairs) ≡ 
   -- one key more
   one-more : (key : ℕ) → keysBelow pairs (suc key) ≡ keysBelow pairs key + one (isAmong pairs (pairCount pairs) key)
   one-more key =
-      many-sum (pairCount pairs) (λ k. ltb (keyAt pairs k) (suc key)) (λ k. ltb (keyAt pairs k) key) (λ k. eqb (keyAt pairs k) key) (λ k. below-suc (keyAt pairs k) key)
+      many-sum (pairCount pairs) (λ k. ltb (keyAt pairs k) (suc key)) (λ k. ltb (keyAt pairs k) key) (λ k. eqb (keyAt pairs k) key)
+      (λ k. below-suc (keyAt pairs k) key)
       ∙ ap (λ (m : ℕ). keysBelow pairs key + m)
       (many-once (pairCount pairs) (λ k. eqb (keyAt pairs k) key)
       (λ i j h l a b. omega (arith, keys-ascend pairs form i j h l, eqb-true (keyAt pairs i) key a, eqb-true (keyAt pairs j) key b)))
@@ -124,7 +126,11 @@ module _ (pairs : List ℤ) (form : every (pairCount pairs) (keyForm pairs) ≡ 
     goes-on e =
         let n : k + 1 + (pairCount pairs - (k + 1)) ≡ pairCount pairs = omega arith in
         let s = many-add (k + 1) (pairCount pairs - (k + 1)) isBefore in
-        omega (arith, rw n at s, many-all (k + 1) isBefore (λ j i. lt-ltb (leftPlace (number pairs j 0)) l (smaller j (eq-or-lt-of-le (le-of-suc-le-suc (rw add-one at i))))))
+        omega (
+          arith,
+          rw n at s,
+          many-all (k + 1) isBefore (λ j i. lt-ltb (leftPlace (number pairs j 0)) l (smaller j (eq-or-lt-of-le (le-of-suc-le-suc (rw add-one at i))))),
+        )
       where
         smaller : (j : ℕ) → (j ≡ k) ⊎ (j < k) → leftPlace (number pairs j 0) < l
         smaller j (inl i) = rw i e
@@ -135,7 +141,12 @@ module _ (pairs : List ℤ) (form : every (pairCount pairs) (keyForm pairs) ≡ 
     begins-by e =
         let n : k + (pairCount pairs - k) ≡ pairCount pairs = omega arith in
         let s = many-add k (pairCount pairs - k) isBefore in
-        omega (arith, rw n at s, many-le k isBefore, many-none (pairCount pairs - k) (λ j. isBefore (k + j)) (λ j i. le-ltb (leftPlace (number pairs (k + j) 0)) l (later j i)))
+        omega (
+          arith,
+          rw n at s,
+          many-le k isBefore,
+          many-none (pairCount pairs - k) (λ j. isBefore (k + j)) (λ j i. le-ltb (leftPlace (number pairs (k + j) 0)) l (later j i)),
+        )
       where
         later : (j : ℕ) → j < pairCount pairs - k → l ≤ leftPlace (number pairs (k + j) 0)
         later zero i = let z : k + 0 ≡ k = omega arith in rw z e

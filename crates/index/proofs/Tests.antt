@@ -25,7 +25,8 @@ unfolding anyBelow
 any-at zero k p h g = absurd (omega arith)
 any-at (suc n) k p h g = any-by n k p (p n) refl (eq-or-lt-of-le (le-of-suc-le-suc h)) g (λ l. any-at n k p l g)
 
-witness-by : (n : ℕ) (p : ℕ → Bool) (t : Bool) → p n ≡ t → cond t true (anyBelow n p) ≡ true → (anyBelow n p ≡ true → (k : ℕ) × (k < n) × (p k ≡ true)) → (k : ℕ) × (k < suc n) × (p k ≡ true)
+witness-by : (n : ℕ) (p : ℕ → Bool) (t : Bool) → p n ≡ t → cond t true (anyBelow n p) ≡ true → (anyBelow n p ≡ true → (k : ℕ) × (k < n) × (p k ≡ true)) →
+    (k : ℕ) × (k < suc n) × (p k ≡ true)
 witness-by n p true e h f = (n, omega arith, e)
 witness-by n p false e h f = let w = f h in (w .0, omega (arith, w .1), w .2)
 
@@ -79,7 +80,8 @@ many-le n p = omega (arith, many-mono n p (λ _. true) (λ i l e. refl), many-al
 pub many-add : (a b : ℕ) (p : ℕ → Bool) → howMany (a + b) p ≡ howMany a p + howMany b (λ i. p (a + i))
 unfolding howMany
 many-add a zero p = rw (add-zero a) (omega arith)
-many-add a (suc b) p = rw (add-suc a b) (ap (λ (m : ℕ). m + one (p (a + b))) (many-add a b p) ∙ add-assoc (howMany a p) (howMany b (λ i. p (a + i))) (one (p (a + b))))
+many-add a (suc b) p =
+    rw (add-suc a b) (ap (λ (m : ℕ). m + one (p (a + b))) (many-add a b p) ∙ add-assoc (howMany a p) (howMany b (λ i. p (a + i))) (one (p (a + b))))
 
 -- a test that is one of two others, never both
 pub many-sum : (n : ℕ) (p q r : ℕ → Bool) → ((i : ℕ) → one (p i) ≡ one (q i) + one (r i)) → howMany n p ≡ howMany n q + howMany n r
@@ -88,7 +90,8 @@ many-sum zero p q r h = refl
 many-sum (suc n) p q r h = omega (arith, many-sum n p q r h, h n)
 
 -- a test that no two numbers pass
-once-by : (n : ℕ) (p : ℕ → Bool) (t : Bool) → p n ≡ t → ((i : ℕ) → i < n → p i ≡ true → p n ≡ true → ⊥) → howMany n p ≡ one (anyBelow n p) → howMany n p + one t ≡ one (cond t true (anyBelow n p))
+once-by : (n : ℕ) (p : ℕ → Bool) (t : Bool) → p n ≡ t → ((i : ℕ) → i < n → p i ≡ true → p n ≡ true → ⊥) → howMany n p ≡ one (anyBelow n p) →
+    howMany n p + one t ≡ one (cond t true (anyBelow n p))
 once-by n p true e h f =
     let none : howMany n p ≡ 0 = many-none n p (λ i l. go i l (p i) refl) in
     omega arith

@@ -23,7 +23,8 @@ use Rattle.captions.specs.Form.{keyForm}
 use Rattle.captions.proofs.Bisecting.{finds}
 use Rattle.captions.proofs.Finding.{find-inside}
 use Rattle.index.specs.declared.Looked.the-variants.{Missing}
-use Rattle.index.specs.Index.{howMany, isAmong, rightsOf, pairsBefore, indexNumber, indexOfTable, FillsIndex, hasBit, onesFrom, onesBelow, placeIn, lookedUp, lookedAt}
+use Rattle.index.specs.Index.{howMany, isAmong, rightsOf, pairsBefore, indexNumber, indexOfTable, FillsIndex, hasBit, onesFrom, onesBelow, placeIn}
+use Rattle.index.specs.Index.{lookedUp, lookedAt}
 use Rattle.index.specs.Purpose.{LooksUpAsFound, FilledLooksUp}
 use Rattle.index.proofs.Tests.{one, any-at, any-witness, many-add}
 use Rattle.index.proofs.Bits.{bits-at, bits-low, ones-bits}
@@ -83,7 +84,8 @@ module _ (pairs : List ℤ) (rest : List ℕ) (l : ℕ) (hl : l ≤ 256) where
       place-is = ap₂ (λ (a b : ℕ). a + b) count-is ones-below ∙ sym (before-right pairs form l r)
 
       -- the pair is at k
-      there : (k : ℕ) → k < pairCount pairs → keyAt pairs k ≡ keyBy l r → has r ≡ true → lookedUp (indexOfTable pairs ++ rest) pairs l r ≡ lookedAt (find pairs (keyBy l r))
+      there : (k : ℕ) → k < pairCount pairs → keyAt pairs k ≡ keyBy l r → has r ≡ true →
+          lookedUp (indexOfTable pairs ++ rest) pairs l r ≡ lookedAt (find pairs (keyBy l r))
       there k h e t =
           let p : placeIn (indexOfTable pairs ++ rest) l r ≡ k = place-is ∙ ap (keysBelow pairs) (sym e) ∙ before-pair pairs form k h in
           let f : find pairs (keyBy l r) ≡ some k = ap (find pairs) (sym e) ∙ finds pairs form k h in

@@ -1,5 +1,6 @@
-// A pair looked up by an index over the table: a bit is tested, and the ones below it are counted. The index may hold anything: what it says of a place
-// is checked by the pair that stands there. Crate index_fill writes the index of a table.
+// A pair looked up by an index over the table: a bit is tested, and the ones below it are counted. The index may hold
+// anything: what it says of a place is checked by the pair that stands there. Crate index_fill writes the index of a
+// table.
 ghost use mathlib.Core.Path.{_≡_};
 ghost use Prim.Native.Nat.{_+_, _*_, _/_, _%_, _<_, _≤_};
 ghost use lib.Dec.{eqb};

@@ -60,7 +60,8 @@ none-filled : (pairs : List ℤ) (i : ℕ) → Kind i → filledNumber pairs 0 0
 none-filled pairs i (past h) = past-is pairs 0 0 i h
 none-filled pairs i (count h e) = count-is pairs 0 0 i h e ∙ rw (le-ltb (i / 5) 0 (omega arith))
 none-filled pairs i (rights h e) =
-    rights-is pairs 0 0 i h e ∙ bits-none 64 (λ b. isAmong pairs 0 (keyBy (i / 5) (64 * (i % 5) + b))) (λ b. any-none (λ k. eqb (keyAt pairs k) (keyBy (i / 5) (64 * (i % 5) + b))))
+    rights-is pairs 0 0 i h e
+    ∙ bits-none 64 (λ b. isAmong pairs 0 (keyBy (i / 5) (64 * (i % 5) + b))) (λ b. any-none (λ k. eqb (keyAt pairs k) (keyBy (i / 5) (64 * (i % 5) + b))))
 
 pub filled-none : (pairs : List ℤ) {d : List ℕ} (k : ℕ) → d ≡ replicate k 0 → Filled pairs 0 0 d d
 filled-none pairs k e =
@@ -103,7 +104,8 @@ module _ (pairs : List ℤ) (k l r : ℕ) (ls : leftPlace (number pairs k 0) ≡
       rights-is pairs k 0 i h e ∙ other-word (i / 5) (i % 5) e (λ z. o (omega arith)) ∙ sym (rights-is pairs (k + 1) 0 i h e)
 
   module _ {d₀ d : List ℕ} (f : Filled pairs k 0 d₀ d) (room : 5 * l + r / 64 < length d) where
-    pair-number : (i : ℕ) → (i ≡ 5 * l + r / 64) ⊎ (i ≡ 5 * l + r / 64 → ⊥) → getD (set d (5 * l + r / 64) (bitOr (getD d (5 * l + r / 64) 0) (2 ^ (r % 64)))) i 0 ≡ filledNumber pairs (k + 1) 0 i
+    pair-number : (i : ℕ) → (i ≡ 5 * l + r / 64) ⊎ (i ≡ 5 * l + r / 64 → ⊥) →
+        getD (set d (5 * l + r / 64) (bitOr (getD d (5 * l + r / 64) 0) (2 ^ (r % 64)))) i 0 ≡ filledNumber pairs (k + 1) 0 i
     pair-number i (inl e) =
         rw e
         (getD-set-same d (5 * l + r / 64) (bitOr (getD d (5 * l + r / 64) 0) (2 ^ (r % 64))) 0 room
@@ -157,7 +159,8 @@ module _ (pairs : List ℤ) {d₀ d : List ℕ} (f : Filled pairs (pairCount pai
   all-number : (i : ℕ) → (i < 1285) ⊎ (1285 ≤ i) → filledNumber pairs (pairCount pairs) 257 i ≡ getD (padded 0 (length d₀) (indexOfTable pairs)) i 0
   all-number i (inl h) =
       rw (lt-ltb i 1285 h, lt-ltb (i / 5) 257 (omega arith))
-      (sym (List·getD-append (indexOfTable pairs) (replicate (length d₀ - length (indexOfTable pairs)) 0) 0 i (rw (length-tabulate 1285 (indexNumber pairs)) h) ∙ getD-tabulate 1285 (indexNumber pairs) i 0 h))
+      (sym (List·getD-append (indexOfTable pairs) (replicate (length d₀ - length (indexOfTable pairs)) 0) 0 i
+      (rw (length-tabulate 1285 (indexNumber pairs)) h) ∙ getD-tabulate 1285 (indexNumber pairs) i 0 h))
   all-number i (inr h) =
       let e : length (indexOfTable pairs) + (i - 1285) ≡ i = rw (length-tabulate 1285 (indexNumber pairs)) (omega arith) in
       past-is pairs (pairCount pairs) 257 i h

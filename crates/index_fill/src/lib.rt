@@ -1,4 +1,5 @@
-// The index of a table, into a lent list: one pass over the pairs sets their bits, and one over the lefts counts the pairs before each. Linear in both.
+// The index of a table, into a lent list: one pass over the pairs sets their bits, and one over the lefts counts the
+// pairs before each. Linear in both.
 ghost use mathlib.Core.Path.{_≡_};
 ghost use mathlib.Core.Bool.{true};
 ghost use Prim.Native.Nat.{_+_, _*_, _/_, _%_, _^_, _<_, _≤_};
@@ -30,7 +31,8 @@ fn index_refusal(pairs: &[i32], room: usize) -> u32
 // The bit of a left and a right is set.
 fn set_bit(index: &mut [u64], left: u32, right: u32)
     requires { ⌜ (5 * left + right / 64 < length (now index)) × (right ≤ 255) ⌝ }
-    ensures { λ _. ⌜ now (index .exit) ≡ set (now (index .entry)) (5 * left + right / 64) (bitOr (getD (now (index .entry)) (5 * left + right / 64) 0) (2 ^ (right % 64))) ⌝ }
+    ensures { λ _. ⌜ now (index .exit) ≡ set (now (index .entry)) (5 * left + right / 64)
+        (bitOr (getD (now (index .entry)) (5 * left + right / 64) 0) (2 ^ (right % 64))) ⌝ }
 {
     let at = 5 * (left as usize) + (right as usize) / 64;
     index[at] = index[at] | (1u64 << ((right % 64) as u64));
@@ -38,8 +40,10 @@ fn set_bit(index: &mut [u64], left: u32, right: u32)
 
 // The bits of all pairs, in an index of zeros.
 fn set_bits(pairs: &[i32], index: &mut [u64])
-    requires { ⌜ (now index ≡ replicate (length (now index)) 0) × (1285 ≤ length (now index)) × (every (pairCount (now pairs)) (keyForm (now pairs)) ≡ true) ⌝ }
-    ensures { λ _. ⌜ Filled (now (pairs .entry)) (pairCount (now (pairs .entry))) 0 (now (index .entry)) (now (index .exit)) ⌝ }
+    requires { ⌜ (now index ≡ replicate (length (now index)) 0) × (1285 ≤ length (now index))
+        × (every (pairCount (now pairs)) (keyForm (now pairs)) ≡ true) ⌝ }
+    ensures { λ _. ⌜ Filled (now (pairs .entry)) (pairCount (now (pairs .entry))) 0 (now (index .entry))
+        (now (index .exit)) ⌝ }
 {
     let mut k = 0;
     while k < pairs.len() / 6 {
@@ -54,7 +58,8 @@ fn set_bits(pairs: &[i32], index: &mut [u64])
 
 // How many pairs come before those of a left, where `from` come before those of the left before it.
 fn count_on(pairs: &[i32], from: usize, left: u32) -> usize
-    requires { ⌜ (every (pairCount (now pairs)) (keyForm (now pairs)) ≡ true) × (from ≤ pairsBefore (now pairs) left) ⌝ }
+    requires { ⌜ (every (pairCount (now pairs)) (keyForm (now pairs)) ≡ true)
+        × (from ≤ pairsBefore (now pairs) left) ⌝ }
     ensures { λ r. ⌜ r ≡ pairsBefore (now (pairs .entry)) left ⌝ }
 {
     let n = pairs.len() / 6;
@@ -72,7 +77,8 @@ fn count_on(pairs: &[i32], from: usize, left: u32) -> usize
 fn count_pairs(pairs: &[i32], index: &mut [u64])
     requires { ⌜ (1285 ≤ length (now index)) × (every (pairCount (now pairs)) (keyForm (now pairs)) ≡ true) ⌝ }
     requires { ⌜ Filled (now pairs) (pairCount (now pairs)) 0 (now index) (now index) ⌝ }
-    ensures { λ _. ⌜ Filled (now (pairs .entry)) (pairCount (now (pairs .entry))) 257 (now (index .entry)) (now (index .exit)) ⌝ }
+    ensures { λ _. ⌜ Filled (now (pairs .entry)) (pairCount (now (pairs .entry))) 257 (now (index .entry))
+        (now (index .exit)) ⌝ }
 {
     let mut k = 0;
     let mut left: u32 = 0;
@@ -84,7 +90,8 @@ fn count_pairs(pairs: &[i32], index: &mut [u64])
     }
 }
 
-// The index of a table, whose lefts and rights are in range and whose pairs ascend. Answers 0, or the number of its refusal.
+// The index of a table, whose lefts and rights are in range and whose pairs ascend. Answers 0, or the number of its
+// refusal.
 pub fn fill_index(pairs: &[i32], index: &mut [u64]) -> u32
     ensures { λ r. ⌜ FillsIndex (now (pairs .entry)) (now (index .entry)) r (now (index .exit)) ⌝ }
 {

@@ -33,7 +33,8 @@ use Rattle.index_plain_letters.specs.Running.{Runs, none, more, isAlone,
 
 -- a quick state
 module _ (ops : List ℤ) (boundary : ℤ) (word : List ℕ) (options : RunOptions) where
-  quick-from : (u : State) → u .ops ≡ 0 → u .read < length word → u .given < u .read → nextLetter word u ≤ 255 → isPlain ops boundary word options u ≡ true → isQuick ops boundary word options u ≡ true
+  quick-from : (u : State) → u .ops ≡ 0 → u .read < length word → u .given < u .read → nextLetter word u ≤ 255 → isPlain ops boundary word options u ≡ true →
+      isQuick ops boundary word options u ≡ true
   quick-from u o l g y p =
       rw (eq-eqb (u .ops) 0 o, lt-ltb (u .read) (length word) l, lt-ltb (u .given) (u .read) g, le-leb (nextLetter word u) 255 y) p
 
@@ -49,7 +50,8 @@ module _ (ops : List ℤ) (boundary : ℤ) (word : List ℕ) (options : RunOptio
         (both-left (opsPlaced ops s) (nextFits (s .«next_left»))
         (both-right (leb (s .pending) (s .read)) (both (opsPlaced ops s) (nextFits (s .«next_left»)))
         (both-right (leb (s .given) (s .read)) (both (leb (s .pending) (s .read)) (both (opsPlaced ops s) (nextFits (s .«next_left»))))
-        (both-right (leb (s .read) (length word)) (both (leb (s .given) (s .read)) (both (leb (s .pending) (s .read)) (both (opsPlaced ops s) (nextFits (s .«next_left»))))) (q .inside))))) in
+        (both-right (leb (s .read) (length word))
+        (both (leb (s .given) (s .read)) (both (leb (s .pending) (s .read)) (both (opsPlaced ops s) (nextFits (s .«next_left»))))) (q .inside))))) in
         rw (
           le-leb c 255 l,
           le-leb (s .read + suc n) (length word) (omega (arith, g .read-is)),
@@ -82,7 +84,8 @@ module _ (ops : List ℤ) (boundary : ℤ) (word : List ℕ) (options : RunOptio
     code-on c (suc n) h = refl
 
     -- one letter more, which has no bit with the character left of it
-    module _ (index : List ℕ) (pairs : List ℤ) (c n y : ℕ) (first : n ≡ 0 → c ≡ code) (small : c ≤ 255) (there : read + n < length word) (ys : y ≡ getD word (read + n) 0) (letter : y ≤ 255) where
+    module _ (index : List ℕ) (pairs : List ℤ) (c n y : ℕ) (first : n ≡ 0 → c ≡ code) (small : c ≤ 255) (there : read + n < length word)
+        (ys : y ≡ getD word (read + n) 0) (letter : y ≤ 255) where
       abbrev u : State
       u = lettersState c n s
 
@@ -91,20 +94,36 @@ module _ (ops : List ℤ) (boundary : ℤ) (word : List ℕ) (options : RunOptio
 
       quick-on : isQuick ops boundary word options u ≡ true
       quick-on =
-          quick-from u (ops-on c n) (omega (arith, read-on c n, g .read-is)) (omega (arith, read-on c n, given-on c n, g .read-is, g .given-is, g .waits)) (omega (arith, letter-on))
+          quick-from u (ops-on c n) (omega (arith, read-on c n, g .read-is)) (omega (arith, read-on c n, given-on c n, g .read-is, g .given-is, g .waits))
+          (omega (arith, letter-on))
           (plain-on c n small (omega arith))
 
-      pub step-on : hasBit index (suc c) y ≡ false → indexedStepOf index pairs ops boundary word options u ≡ record { answer = Char c (given + n); state = lettersState y (suc n) s }
+      pub step-on : hasBit index (suc c) y ≡ false →
+          indexedStepOf index pairs ops boundary word options u ≡ record { answer = Char c (given + n); state = lettersState y (suc n) s }
       step-on b =
-          let missing : lookedUp index pairs (suc (plainCode (u .«next_left»))) (nextLetter word u) ≡ Missing = ap₂ (λ (a e : ℕ). lookedUp index pairs (suc a) e) (code-on c n first) letter-on ∙ rw b in
+          let missing : lookedUp index pairs (suc (plainCode (u .«next_left»))) (nextLetter word u)
+          ≡ Missing = ap₂ (λ (a e : ℕ). lookedUp index pairs (suc a) e) (code-on c n first) letter-on ∙ rw b in
           let r : suc (u .read) ≡ s .read + suc n = omega (arith, read-on c n) in
           let v : suc (u .given) ≡ s .given + suc n = omega (arith, given-on c n) in
           let w : u .given ≡ given + n = omega (arith, given-on c n, g .given-is) in
           let o = op-on c n in
           let e = code-on c n first in
-          ap (λ (t : Bool). cond t (lookedStep pairs ops boundary word options u (lookedUp index pairs (suc (plainCode (u .«next_left»))) (nextLetter word u))) (stepOf pairs ops boundary word options u)) quick-on
+          ap (λ (t : Bool). cond t (lookedStep pairs ops boundary word options u (lookedUp index pairs (suc (plainCode (u .«next_left»))) (nextLetter word u)))
+          (stepOf pairs ops boundary word options u)) quick-on
           ∙ ap (lookedStep pairs ops boundary word options u) missing
-          ∙ (λ i. record { answer = Char (e i) (w i); state = record { «next_left» = next.Char (letter-on i); op = o i; ops = 0; read = r i; given = v i; pending = 0; «pending_boundary» = false; «consumes_left» = consumes.Nothing } })
+          ∙ (λ i. record {
+            answer = Char (e i) (w i);
+            state = record {
+              «next_left» = next.Char (letter-on i);
+              op = o i;
+              ops = 0;
+              read = r i;
+              given = v i;
+              pending = 0;
+              «pending_boundary» = false;
+              «consumes_left» = consumes.Nothing;
+            };
+          })
 
 -- ---- the loop over letters
 
@@ -117,13 +136,16 @@ module _ (index word : List ℕ) (code read given k most : ℕ) (d : List ℤ) w
         small = l;
         first = λ _. refl;
         same = refl;
-        alone = let z : read + 0 ≡ read = omega arith in let y : most - 0 ≡ most = omega arith in sym (ap₂ (λ (a b : ℕ). 0 + lettersAlone index word code a b) z y ∙ zero-add (lettersAlone index word code read most));
+        alone =
+            let z : read + 0 ≡ read = omega arith in let y : most - 0 ≡ most = omega arith in
+            sym (ap₂ (λ (a b : ℕ). 0 + lettersAlone index word code a b) z y ∙ zero-add (lettersAlone index word code read most));
         runs = λ pairs ops boundary options s g. subst (λ (m : ℕ). Runs (indexedStepOf index pairs ops boundary word options) s k d s m d) (sym e) none;
       }
 
   -- a letter that is alone, and one that is not
   module _ (c n y : ℕ) (ys : y ≡ getD word (read + n) 0) where
-    one-alone : y ≤ 255 → hasBit index (c + 1) y ≡ false → n < most → n + lettersAlone index word c (read + n) (most - n) ≡ n + 1 + lettersAlone index word y (read + (n + 1)) (most - (n + 1))
+    one-alone : y ≤ 255 → hasBit index (c + 1) y ≡ false → n < most →
+        n + lettersAlone index word c (read + n) (most - n) ≡ n + 1 + lettersAlone index word y (read + (n + 1)) (most - (n + 1))
     unfolding lettersAlone
     one-alone letter b l =
         let m : most - n ≡ suc (most - (n + 1)) = omega arith in
@@ -152,7 +174,8 @@ module _ (index word : List ℕ) (code read given k most : ℕ) (d : List ℤ) w
     unfolding lettersAlone
     plain-end h = let z : most - n ≡ 0 = omega arith in done-by (rw z)
 
-  pub plain-more : {c n : ℕ} {d′ d″ : List ℤ} {y : ℕ} → PlainSet index word code read given k most d c n d′ → n < most → read + most ≤ length word → k + most ≤ length d / 6 → y ≡ getD word (read + n) 0 → y ≤ 255 → hasBit index (c + 1) y ≡ false →
+  pub plain-more : {c n : ℕ} {d′ d″ : List ℤ} {y : ℕ} → PlainSet index word code read given k most d c n d′ → n < most → read + most ≤ length word →
+      k + most ≤ length d / 6 → y ≡ getD word (read + n) 0 → y ≤ 255 → hasBit index (c + 1) y ≡ false →
       d″ ≡ sets d′ (6 * (k + n)) (answerReply (Char c (given + n)) .values) → PlainSet index word code read given k most d y (n + 1) d″
   plain-more {c} {n} {d′} {d″} {y} p l fits room ys letter b e =
       record {
@@ -164,13 +187,24 @@ module _ (index word : List ℕ) (code read given k most : ℕ) (d : List ℤ) w
         runs =
             λ pairs ops boundary options s g.
             more (p .runs pairs ops boundary options s g) (record { answer = Char c (given + n); state = lettersState y (suc n) s })
-            (sym (step-on ops boundary word options s code read given g index pairs c n y (p .first) (p .small) (omega arith) ys letter (ap (λ (a : ℕ). hasBit index a y) (sym (add-one c)) ∙ b)))
+            (sym (step-on ops boundary word options s code read given g index pairs c n y (p .first) (p .small) (omega arith) ys letter
+            (ap (λ (a : ℕ). hasBit index a y) (sym (add-one c)) ∙ b)))
             refl (omega (arith, p .same)) (lettersState y (n + 1) s) (k + (n + 1)) d″ (ap (λ (m : ℕ). lettersState y m s) (add-one n)) (omega arith) e;
       }
 
 -- ---- a state that is written out
 
-pub letters-some : (c n : ℕ) (s : State) → (n ≡ 0 → ⊥) → record { «next_left» = next.Char c; op = s .op; ops = 0; read = s .read + n; given = s .given + n; pending = 0; «pending_boundary» = false; «consumes_left» = consumes.Nothing } ≡ lettersState c n s
+pub letters-some : (c n : ℕ) (s : State) → (n ≡ 0 → ⊥) →
+    record {
+      «next_left» = next.Char c;
+      op = s .op;
+      ops = 0;
+      read = s .read + n;
+      given = s .given + n;
+      pending = 0;
+      «pending_boundary» = false;
+      «consumes_left» = consumes.Nothing;
+    } ≡ lettersState c n s
 letters-some c zero s h = absurd (h refl)
 letters-some c (suc n) s h = refl
 
@@ -183,7 +217,8 @@ pub record Quickly (ops : List ℤ) (boundary : ℤ) (word : List ℕ) (options 
   pub there : s .read < length word
   pub short : length word ≤ 65535
 
-pub quickly : (ops : List ℤ) (boundary : ℤ) (word : List ℕ) (options : RunOptions) (s : State) (l : ℕ) → l ≡ quickLeft ops boundary word options s → (l ≡ 0 → ⊥) → Quickly ops boundary word options s l
+pub quickly : (ops : List ℤ) (boundary : ℤ) (word : List ℕ) (options : RunOptions) (s : State) (l : ℕ) → l ≡ quickLeft ops boundary word options s →
+    (l ≡ 0 → ⊥) → Quickly ops boundary word options s l
 quickly ops boundary word options s l e h =
     let w = is-quick (isQuick ops boundary word options s) e in
     let q = quick-is ops boundary word options s (w .0) in
@@ -201,7 +236,9 @@ quickly ops boundary word options s l e h =
           };
       code = omega (arith, w .1, q .calm .code);
       there = q .there;
-      short = leb-true (length word) 65535 (unless-none 5 (leb (length word) 65535) (orElse-none (edgesRefusal boundary options) (wordRefusal word) (q .calm .taken) .1));
+      short =
+          leb-true (length word) 65535
+          (unless-none 5 (leb (length word) 65535) (orElse-none (edgesRefusal boundary options) (wordRefusal word) (q .calm .taken) .1));
     }
   where
     is-quick : (b : Bool) → l ≡ cond b (suc (plainCode (s .«next_left»))) 0 → (b ≡ true) × (l ≡ suc (plainCode (s .«next_left»)))
@@ -211,7 +248,8 @@ quickly ops boundary word options s l e h =
 -- ---- how many letters are set from a state on
 
 module _ (index : List ℕ) (ops : List ℤ) (boundary : ℤ) (word : List ℕ) (options : RunOptions) (s : State) where
-  from-by : (l m : ℕ) (b : Bool) → l ≡ cond b (suc (plainCode (s .«next_left»))) 0 → (n : ℕ) → (l ≡ 0 → n ≡ 0) → ((l ≡ 0 → ⊥) → lettersAlone index word (l - 1) (s .read) m ≡ n) →
+  from-by : (l m : ℕ) (b : Bool) → l ≡ cond b (suc (plainCode (s .«next_left»))) 0 → (n : ℕ) → (l ≡ 0 → n ≡ 0) →
+      ((l ≡ 0 → ⊥) → lettersAlone index word (l - 1) (s .read) m ≡ n) →
       cond b (lettersAlone index word (plainCode (s .«next_left»)) (s .read) m) 0 ≡ n
   from-by l m true e n f g =
       let c : plainCode (s .«next_left») ≡ l - 1 = omega arith in
@@ -223,7 +261,8 @@ module _ (index : List ℕ) (ops : List ℤ) (boundary : ℤ) (word : List ℕ) 
   from-none {l} e z room = from-by l (lesser room (length word - s .read)) (isQuick ops boundary word options s) e 0 (λ _. refl) (λ h. absurd (h z))
 
   -- it is
-  pub from-quick : {l : ℕ} → l ≡ quickLeft ops boundary word options s → (l ≡ 0 → ⊥) → (room n : ℕ) → lettersAlone index word (l - 1) (s .read) (lesser room (length word - s .read)) ≡ n → lettersFrom index ops boundary word options s room ≡ n
+  pub from-quick : {l : ℕ} → l ≡ quickLeft ops boundary word options s → (l ≡ 0 → ⊥) → (room n : ℕ) →
+      lettersAlone index word (l - 1) (s .read) (lesser room (length word - s .read)) ≡ n → lettersFrom index ops boundary word options s room ≡ n
   from-quick {l} e h room n a = from-by l (lesser room (length word - s .read)) (isQuick ops boundary word options s) e n (λ z. absurd (h z)) (λ _. a)
 
   -- there is no room

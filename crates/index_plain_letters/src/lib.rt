@@ -1,5 +1,5 @@
-// Letters that have no pair with the character left of them, by an index over the table: that character is given for each, one after the other. The steps of crate
-// indexed, in a loop of their own.
+// Letters that have no pair with the character left of them, by an index over the table: that character is given for
+// each, one after the other. The steps of crate indexed, in a loop of their own.
 ghost use mathlib.Core.Path.{_≡_};
 ghost use Prim.Native.Nat.{_+_, _/_, _<_, _≤_};
 ghost use lib.ListN.{length};
@@ -55,8 +55,10 @@ fn set_plain(
     k: usize,
     most: usize,
 ) -> Letters
-    requires { ⌜ (code ≤ 255) × (read + most ≤ length (now word)) × (given + most ≤ 65535) × (k + most ≤ length (now items) / 6) ⌝ }
-    ensures { λ r. ⌜ PlainDone (now (index .entry)) (now (word .entry)) code read given k most (now (items .entry)) (r .code) (r .count) (now (items .exit)) ⌝ }
+    requires { ⌜ (code ≤ 255) × (read + most ≤ length (now word)) × (given + most ≤ 65535)
+        × (k + most ≤ length (now items) / 6) ⌝ }
+    ensures { λ r. ⌜ PlainDone (now (index .entry)) (now (word .entry)) code read given k most
+        (now (items .entry)) (r .code) (r .count) (now (items .exit)) ⌝ }
 {
     let mut c = code;
     let mut n = 0;
@@ -92,7 +94,8 @@ pub fn set_letters(
     items: &mut [i32],
     count: usize,
 ) -> PlainStretch
-    ensures { λ r. ⌜ LettersSet (now (index .entry)) (now (ops .entry)) boundary (now (word .entry)) options state count (now (items .entry)) (r .state) (r .count) (now (items .exit)) ⌝ }
+    ensures { λ r. ⌜ LettersSet (now (index .entry)) (now (ops .entry)) boundary (now (word .entry)) options
+        state count (now (items .entry)) (r .state) (r .count) (now (items .exit)) ⌝ }
 {
     let left = quick_left(ops, boundary, word, options, state);
     if left == 0 {

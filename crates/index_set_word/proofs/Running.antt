@@ -10,7 +10,8 @@ use Rattle.word_set.proofs.Standing.{Standing, standing-more}
 use Rattle.index_plain_letters.specs.Running.{Runs, none, more}
 
 -- they stand where the last of them left them
-pub standing-runs : (step : State → Step) (s₀ : State) (d₀ : List ℤ) {s : State} {k : ℕ} {d : List ℤ} {s′ : State} {k′ : ℕ} {d′ : List ℤ} → Runs step s k d s′ k′ d′ → Standing step s₀ d₀ d s k → Standing step s₀ d₀ d′ s′ k′
+pub standing-runs : (step : State → Step) (s₀ : State) (d₀ : List ℤ) {s : State} {k : ℕ} {d : List ℤ} {s′ : State} {k′ : ℕ} {d′ : List ℤ} →
+    Runs step s k d s′ k′ d′ → Standing step s₀ d₀ d s k → Standing step s₀ d₀ d′ s′ k′
 standing-runs step s₀ d₀ none i = i
 standing-runs step s₀ d₀ (more {s′} {k′} {d′} r t e h l s″ k″ d″ p q w) i =
     rw (p, q) (standing-more step s₀ d₀ d′ s′ k′ (standing-runs step s₀ d₀ r i) t e h l d″ w)

@@ -38,7 +38,8 @@ module _ (pairs ops : List ℤ) (boundary : ℤ) (word : List ℕ) (options : Ru
     within-word : s .given ≤ 65535
     within-word =
         let f = quick-is ops boundary word options s q in
-        let l = leb-true (length word) 65535 (unless-none 5 (leb (length word) 65535) (orElse-none (edgesRefusal boundary options) (wordRefusal word) (f .calm .taken) .1)) in
+        let l = leb-true (length word) 65535
+        (unless-none 5 (leb (length word) 65535) (orElse-none (edgesRefusal boundary options) (wordRefusal word) (f .calm .taken) .1)) in
         omega (arith, f .there, f .waits)
 
     entered-by : (k : ℕ) (t : Bool) → isEntered pairs ops k ≡ t → Small (cond t (givenFirst pairs ops k s) (stepOf pairs ops boundary word options s) .answer)
@@ -55,9 +56,13 @@ module _ (pairs ops : List ℤ) (boundary : ℤ) (word : List ℕ) (options : Ru
     looked-small (At k) = entered-by k (isEntered pairs ops k) refl
     looked-small Wrong = (omega arith, omega arith)
 
-  small-by : (index : List ℕ) (t : Bool) → isQuick ops boundary word options s ≡ t → Small (cond t (lookedStep pairs ops boundary word options s (lookedUp index pairs (suc (plainCode (s .«next_left»))) (nextLetter word s))) (stepOf pairs ops boundary word options s) .answer)
+  small-by : (index : List ℕ) (t : Bool) → isQuick ops boundary word options s ≡ t →
+      Small
+      (cond t (lookedStep pairs ops boundary word options s (lookedUp index pairs (suc (plainCode (s .«next_left»))) (nextLetter word s)))
+      (stepOf pairs ops boundary word options s) .answer)
   small-by index true q = looked-small q (lookedUp index pairs (suc (plainCode (s .«next_left»))) (nextLetter word s))
   small-by index false q = step-small pairs ops boundary word options s
 
-pub indexed-small : (index : List ℕ) (pairs ops : List ℤ) (boundary : ℤ) (word : List ℕ) (options : RunOptions) (s : State) → Small (indexedStepOf index pairs ops boundary word options s .answer)
+pub indexed-small : (index : List ℕ) (pairs ops : List ℤ) (boundary : ℤ) (word : List ℕ) (options : RunOptions) (s : State) →
+    Small (indexedStepOf index pairs ops boundary word options s .answer)
 indexed-small index pairs ops boundary word options s = small-by pairs ops boundary word options s index (isQuick ops boundary word options s) refl

@@ -12,7 +12,8 @@ use Rattle.index_set_word.specs.Purpose.{IndexedSets, SetsAsWell}
 
 pub indexed-sets : IndexedSets
 indexed-sets pairs ops index index′ w boundary word options room =
-    λ j. afterBegin (beginRefusal pairs ops boundary word options) (itemsBy (λ s. indexed-steps pairs ops index index′ w boundary word options s j) (room / 6) (freshState word options))
+    λ j. afterBegin (beginRefusal pairs ops boundary word options)
+    (itemsBy (λ s. indexed-steps pairs ops index index′ w boundary word options s j) (room / 6) (freshState word options))
 
 pub sets-as-well : SetsAsWell
 sets-as-well pairs ops index index′ w boundary word options items r items′ t =

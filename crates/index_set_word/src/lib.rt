@@ -1,5 +1,5 @@
-// A word set whole by an index over its table: what `set_word` of crate word_set does, with the steps of crate index_step. Letters that have no pair with the
-// character left of them are set by crate index_plain_letters.
+// A word set whole by an index over its table: what `set_word` of crate word_set does, with the steps of crate
+// index_step. Letters that have no pair with the character left of them are set by crate index_plain_letters.
 ghost use mathlib.Core.Path.{_≡_};
 ghost use Prim.Native.Nat.{_/_};
 ghost use lib.IntN.{pos};
@@ -33,7 +33,11 @@ fn set_from(
     items: &mut [i32],
 ) -> Written
     requires { ⌜ now items ≡ replicate (length (now items)) (pos 0) ⌝ }
-    ensures { λ r. ⌜ Tells (itemsBy (indexedStepOf (now (index .entry)) (now (pairs .entry)) (now (ops .entry)) boundary (now (word .entry)) options) (length (now (items .entry)) / 6) state) (now (items .entry)) r (now (items .exit)) ⌝ }
+    ensures { λ r. ⌜ Tells
+        (itemsBy
+        (indexedStepOf (now (index .entry)) (now (pairs .entry)) (now (ops .entry)) boundary
+        (now (word .entry)) options) (length (now (items .entry)) / 6) state) (now (items .entry)) r
+        (now (items .exit)) ⌝ }
 {
     let mut s = state;
     let mut k = 0;
@@ -55,8 +59,8 @@ fn set_from(
     }
 }
 
-// The items of a word up to its end, six numbers each as a T line has them, with zeros after them. Answers how many there are. Begin's numbers, then those of
-// the steps, then 15.
+// The items of a word up to its end, six numbers each as a T line has them, with zeros after them. Answers how many
+// there are. Begin's numbers, then those of the steps, then 15.
 pub fn set_word_indexed(
     index: &[u64],
     pairs: &[i32],
@@ -66,7 +70,9 @@ pub fn set_word_indexed(
     options: RunOptions,
     items: &mut [i32],
 ) -> Written
-    ensures { λ r. ⌜ Tells (indexedReply (now (index .entry)) (now (pairs .entry)) (now (ops .entry)) boundary (now (word .entry)) options (length (now (items .entry)))) (now (items .entry)) r (now (items .exit)) ⌝ }
+    ensures { λ r. ⌜ Tells
+        (indexedReply (now (index .entry)) (now (pairs .entry)) (now (ops .entry)) boundary (now (word .entry))
+        options (length (now (items .entry)))) (now (items .entry)) r (now (items .exit)) ⌝ }
 {
     zero_i32(items);
     match begin(pairs, ops, boundary, word, options) {

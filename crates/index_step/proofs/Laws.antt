@@ -32,18 +32,23 @@ module _ (index : List ℕ) (pairs ops : List ℤ) (boundary : ℤ) (word : List
   -- what meets the contract is the step of the definition
   pub answered-is : {r : Step} → IndexedStepped index pairs ops boundary word options s r → r ≡ indexedStepOf index pairs ops boundary word options s
   answered-is {r} h i =
-      record { answer = answer-determined (r .answer) (indexedStepOf index pairs ops boundary word options s .answer) (h .reply) (h .ends) i; state = h .state i }
+      record
+      { answer = answer-determined (r .answer) (indexedStepOf index pairs ops boundary word options s .answer) (h .reply) (h .ends) i; state = h .state i }
 
   -- a state that is not quick
-  pub other-is : {l : ℕ} {t : Step} → l ≡ quickLeft ops boundary word options s → l ≡ 0 → t ≡ stepOf pairs ops boundary word options s → t ≡ indexedStepOf index pairs ops boundary word options s
+  pub other-is : {l : ℕ} {t : Step} → l ≡ quickLeft ops boundary word options s → l ≡ 0 → t ≡ stepOf pairs ops boundary word options s →
+      t ≡ indexedStepOf index pairs ops boundary word options s
   other-is {l} {t} e z h = go (isQuick ops boundary word options s) (sym e ∙ z)
     where
-      go : (b : Bool) → cond b (suc (plainCode (s .«next_left»))) 0 ≡ 0 → t ≡ cond b (lookedStep pairs ops boundary word options s (lookedUp index pairs (suc (plainCode (s .«next_left»))) (nextLetter word s))) (stepOf pairs ops boundary word options s)
+      go : (b : Bool) → cond b (suc (plainCode (s .«next_left»))) 0 ≡ 0 →
+          t ≡ cond b (lookedStep pairs ops boundary word options s (lookedUp index pairs (suc (plainCode (s .«next_left»))) (nextLetter word s)))
+          (stepOf pairs ops boundary word options s)
       go true f = absurd (omega arith)
       go false f = h
 
   -- a quick state: its left, its letter, and what the index says of them
-  module _ {l y : ℕ} (ls : l ≡ quickLeft ops boundary word options s) (h : l ≡ 0 → ⊥) (ys : y ≡ nextLetter word s) {o : Looked} (os : o ≡ lookedUp index pairs l y) where
+  module _ {l y : ℕ} (ls : l ≡ quickLeft ops boundary word options s) (h : l ≡ 0 → ⊥) (ys : y ≡ nextLetter word s) {o : Looked}
+      (os : o ≡ lookedUp index pairs l y) where
     quick-by : (b : Bool) → l ≡ cond b (suc (plainCode (s .«next_left»))) 0 → (b ≡ true) × (l ≡ suc (plainCode (s .«next_left»)))
     quick-by true e = (refl, e)
     quick-by false e = absurd (h e)
@@ -59,7 +64,9 @@ module _ (index : List ℕ) (pairs ops : List ℤ) (boundary : ℤ) (word : List
     by-look : lookedStep pairs ops boundary word options s o ≡ indexedStepOf index pairs ops boundary word options s
     by-look =
         ap (lookedStep pairs ops boundary word options s) (os ∙ ap₂ (lookedUp index pairs) (quick-by (isQuick ops boundary word options s) ls .1) ys)
-        ∙ sym (ap (λ (b : Bool). cond b (lookedStep pairs ops boundary word options s (lookedUp index pairs (suc (plainCode (s .«next_left»))) (nextLetter word s))) (stepOf pairs ops boundary word options s)) is-quick)
+        ∙ sym (ap (λ (b : Bool). cond b
+        (lookedStep pairs ops boundary word options s (lookedUp index pairs (suc (plainCode (s .«next_left»))) (nextLetter word s)))
+        (stepOf pairs ops boundary word options s)) is-quick)
 
     plain-given : quickStep pairs ops word (pairCount pairs) s ≡ givenPlain word s
     plain-given = rw (letter, le-ltb (pairCount pairs) (pairCount pairs) (omega arith))

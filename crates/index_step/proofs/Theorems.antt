@@ -31,16 +31,20 @@ module _ (pairs ops : List ℤ) (boundary : ℤ) (word : List ℕ) (options : Ru
   abbrev right : ℕ
   right = nextLetter word s
 
-  entered-by : (k : ℕ) (t : Bool) → isEntered pairs ops k ≡ t → isQuick ops boundary word options s ≡ true → find pairs (keyBy left right) ≡ some k → cond t (givenFirst pairs ops k s) (stepOf pairs ops boundary word options s) ≡ stepOf pairs ops boundary word options s
+  entered-by : (k : ℕ) (t : Bool) → isEntered pairs ops k ≡ t → isQuick ops boundary word options s ≡ true → find pairs (keyBy left right) ≡ some k →
+      cond t (givenFirst pairs ops k s) (stepOf pairs ops boundary word options s) ≡ stepOf pairs ops boundary word options s
   entered-by k true e q f = sym (quick-enters pairs ops boundary word options s k q f e)
   entered-by k false e q f = refl
 
-  found-step : (o : Option ℕ) → find pairs (keyBy left right) ≡ o → isQuick ops boundary word options s ≡ true → lookedStep pairs ops boundary word options s (lookedAt o) ≡ stepOf pairs ops boundary word options s
+  found-step : (o : Option ℕ) → find pairs (keyBy left right) ≡ o → isQuick ops boundary word options s ≡ true →
+      lookedStep pairs ops boundary word options s (lookedAt o) ≡ stepOf pairs ops boundary word options s
   found-step none f q = sym (quick-passes pairs ops boundary word options s q f)
   found-step (some k) f q = entered-by k (isEntered pairs ops k) refl q f
 
   module _ (index index′ : List ℕ) (w : FillsIndex pairs index 0 index′) where
-    step-by : (t : Bool) → isQuick ops boundary word options s ≡ t → cond t (lookedStep pairs ops boundary word options s (lookedUp index′ pairs left right)) (stepOf pairs ops boundary word options s) ≡ stepOf pairs ops boundary word options s
+    step-by : (t : Bool) → isQuick ops boundary word options s ≡ t →
+        cond t (lookedStep pairs ops boundary word options s (lookedUp index′ pairs left right)) (stepOf pairs ops boundary word options s)
+        ≡ stepOf pairs ops boundary word options s
     step-by true q =
         let i = quick-is ops boundary word options s q in
         ap (lookedStep pairs ops boundary word options s)

@@ -1,5 +1,5 @@
-// One step of a run, by an index over its table: a pair is looked up by a bit and a count of ones, where the step bisects. The index may hold anything; on
-// the one that fill_index wrote for the table this is the step.
+// One step of a run, by an index over its table: a pair is looked up by a bit and a count of ones, where the step
+// bisects. The index may hold anything; on the one that fill_index wrote for the table this is the step.
 ghost use Rattle.index_step.specs.Indexed.{IndexedStepped};
 use caption_run::steps::kern_step;
 use caption_run::steps::step;
@@ -24,7 +24,8 @@ pub fn step_indexed(
     options: RunOptions,
     state: State,
 ) -> Step
-    ensures { λ r. ⌜ IndexedStepped (now (index .entry)) (now (pairs .entry)) (now (ops .entry)) boundary (now (word .entry)) options state r ⌝ }
+    ensures { λ r. ⌜ IndexedStepped (now (index .entry)) (now (pairs .entry)) (now (ops .entry)) boundary
+        (now (word .entry)) options state r ⌝ }
 {
     let left = quick_left(ops, boundary, word, options, state);
     if left == 0 {

@@ -59,10 +59,13 @@ marks-more es seen i w h e l =
         (h .marked c k ∙ sym (both-true (unseen es i c)))
 
 -- The test by the marks is the test by the places before.
-pub marks-fit : (limit : ℕ) (es : List ℤ) (seen : List ℕ) (i : ℕ) → Marks es seen i → both (within 255 (charAt es i)) (both (within limit (entryAt es i)) (eqb (getD seen (wordOf (charAt es i)) 0) 0)) ≡ entryFits limit es i
+pub marks-fit : (limit : ℕ) (es : List ℤ) (seen : List ℕ) (i : ℕ) → Marks es seen i →
+    both (within 255 (charAt es i)) (both (within limit (entryAt es i)) (eqb (getD seen (wordOf (charAt es i)) 0) 0)) ≡ entryFits limit es i
 marks-fit limit es seen i h = go (within 255 (charAt es i)) refl
   where
-    go : (t : Bool) → within 255 (charAt es i) ≡ t → both t (both (within limit (entryAt es i)) (eqb (getD seen (wordOf (charAt es i)) 0) 0)) ≡ both t (both (within limit (entryAt es i)) (enteredOnce es i))
+    go : (t : Bool) → within 255 (charAt es i) ≡ t →
+        both t (both (within limit (entryAt es i)) (eqb (getD seen (wordOf (charAt es i)) 0) 0))
+        ≡ both t (both (within limit (entryAt es i)) (enteredOnce es i))
     go true e = let l : wordOf (charAt es i) < 256 = omega (arith, within-bound 255 (charAt es i) e) in rw (h .marked (wordOf (charAt es i)) l)
     go false e = refl
 

@@ -12,7 +12,8 @@ use Rattle.lang.specs.Answers.{listOf}
 -- ---- filling
 
 -- one more, by a store of its value
-pub filling-put : {A : Type 0} {f : ℕ → A} {d₀ d d′ : List A} {i : ℕ} {v : A} → Filling f d₀ d i → i < length d₀ → d′ ≡ set d i v → v ≡ f i → Filling f d₀ d′ (i + 1)
+pub filling-put : {A : Type 0} {f : ℕ → A} {d₀ d d′ : List A} {i : ℕ} {v : A} → Filling f d₀ d i → i < length d₀ → d′ ≡ set d i v → v ≡ f i →
+    Filling f d₀ d′ (i + 1)
 filling-put {f = f} {d₀} h l e g = rw (e, g) (filling-more f d₀ h (omega (arith, filling-length f d₀ h)))
 
 -- n of them
@@ -26,5 +27,6 @@ refused-list o n xs {m = zero} e h g = absurd (h e)
 refused-list o n xs {m = suc m} e h g = g
 
 -- k values of f written over zeros
-pub written-list : {A : Type 0} (o : A) (n k : ℕ) (f : ℕ → A) {m : ℕ} {d₀ d : List A} → m ≡ 0 → d₀ ≡ replicate n o → d ≡ tabulate k f ++ drop k d₀ → d ≡ listOf m o n (tabulate k f)
+pub written-list : {A : Type 0} (o : A) (n k : ℕ) (f : ℕ → A) {m : ℕ} {d₀ d : List A} → m ≡ 0 → d₀ ≡ replicate n o → d ≡ tabulate k f ++ drop k d₀ →
+    d ≡ listOf m o n (tabulate k f)
 written-list {A} o n k f z a e = rw (e, a, z, length-tabulate k f) (ap (λ (t : List A). tabulate k f ++ t) (drop-replicate k n o))

@@ -111,6 +111,8 @@ operand-read p q = rw (number-is q, p .is)
 
 -- ---- the whole instruction, from the words of its four numbers
 
-module _ (s : List ℤ) (i w₀ w₁ w₂ w₃ : ℕ) (r₀ : Word (field s i 0) w₀) (r₁ : Word (field s i 1) w₁) (r₂ : Word (field s i 2) w₂) (r₃ : Word (field s i 3) w₃) where
-  pub instruction-is : (n : NextInstruction) (o : Operation) → n ≡ nextOf (numberOf w₀) → o ≡ operationOf w₂ (numberOf w₃) → _≡_ {A = Instruction} (record { «next_instruction» = n; «right_char» = record { 0 = w₁ % 256 }; operation = o }) (instructionAt s i)
-  instruction-is n o e f = rw (e, f, number-is r₀, number-is r₃, r₁ .is, r₂ .is)
+module _ (s : List ℤ) (i w₀ w₁ w₂ w₃ : ℕ) (r₀ : Word (field s i 0) w₀) (r₁ : Word (field s i 1) w₁) (r₂ : Word (field s i 2) w₂) (r₃ : Word (field s i 3) w₃)
+  where
+    pub instruction-is : (n : NextInstruction) (o : Operation) → n ≡ nextOf (numberOf w₀) → o ≡ operationOf w₂ (numberOf w₃) →
+        _≡_ {A = Instruction} (record { «next_instruction» = n; «right_char» = record { 0 = w₁ % 256 }; operation = o }) (instructionAt s i)
+    instruction-is n o e f = rw (e, f, number-is r₀, number-is r₃, r₁ .is, r₂ .is)

@@ -59,7 +59,9 @@ program-size s e =
 -- its numbers are in fours, and each four is an instruction
 pub program-fours : (s : List ℤ) → programRefusal s ≡ 0 → length s ≡ 4 * count s
 program-fours s e =
-    let h : length s % 4 ≡ 0 = eqb-true (length s % 4) 0 (both-left (eqb (length s % 4) 0) (leb (count s) 32767) (unless-none 0 (both (eqb (length s % 4) 0) (leb (count s) 32767)) (orElse-none (sizeRefusal s) (recordRefusal s) e .0))) in
+    let h : length s % 4 ≡ 0 = eqb-true (length s % 4) 0
+    (both-left (eqb (length s % 4) 0) (leb (count s) 32767)
+    (unless-none 0 (both (eqb (length s % 4) 0) (leb (count s) 32767)) (orElse-none (sizeRefusal s) (recordRefusal s) e .0))) in
     omega arith
 
 pub program-record : (s : List ℤ) → programRefusal s ≡ 0 → (i : ℕ) → i < count s → isInstruction s i ≡ true
@@ -97,6 +99,8 @@ taken-answer n e = taken-reply (pos n ∷ []) e
 -- the answer is known from its reply
 pub written-injective : (x y : Written) → writtenReply x ≡ writtenReply y → x ≡ y
 written-injective (Count m) (Count n) e = let q : _≡_ {A = List ℤ} (pos m ∷ []) (pos n ∷ []) = ap (λ (r : Reply). r .values) e in cc
-written-injective (Count m) (Refused n) e = let q : _≡_ {A = List ℤ} (pos m ∷ []) [] = ap (λ (r : Reply). r .values) e in let z : _≡_ {A = ℕ} 0 1 = cc in absurd (omega arith)
-written-injective (Refused m) (Count n) e = let q : _≡_ {A = List ℤ} [] (pos n ∷ []) = ap (λ (r : Reply). r .values) e in let z : _≡_ {A = ℕ} 0 1 = cc in absurd (omega arith)
+written-injective (Count m) (Refused n) e =
+    let q : _≡_ {A = List ℤ} (pos m ∷ []) [] = ap (λ (r : Reply). r .values) e in let z : _≡_ {A = ℕ} 0 1 = cc in absurd (omega arith)
+written-injective (Refused m) (Count n) e =
+    let q : _≡_ {A = List ℤ} [] (pos n ∷ []) = ap (λ (r : Reply). r .values) e in let z : _≡_ {A = ℕ} 0 1 = cc in absurd (omega arith)
 written-injective (Refused m) (Refused n) e = ap Refused (ap (λ (r : Reply). r .number) e)

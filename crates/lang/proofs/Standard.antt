@@ -1,6 +1,5 @@
--- Which op bytes below 128 are standard, as a list, and what any other acts as: TeX 545 and TFtoPL 77 in a form to read. And the steps of the code that goes by a
--- table's place: a place stands for its op byte's operation.
--- Assumes nothing.
+-- Which op bytes below 128 are standard, as a list, and what any other acts as: TeX 545 and TFtoPL 77 in a form to read. And the steps of the code that goes by
+-- a table's place: a place stands for its op byte's operation. Assumes nothing.
 use mathlib.Core.Path.{_≡_, refl, _∙_}
 use mathlib.Core.Bool.{Bool, true, false}
 use mathlib.Core.List.{List, [], _∷_}

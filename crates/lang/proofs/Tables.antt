@@ -26,7 +26,8 @@ unfolding entered
 entered-more es n c e hc he = rw (add-one, hc .is, number-is he)
 
 -- the left boundary's entry, once all the others are in
-pub entered-all : (es table : List ℤ) (left : ℤ) (n : ℕ) → SFits w32 left → table ≡ entered es n → n ≤ length es / 2 → length es / 2 ≤ n → set table 256 (toZ w32 (ofZ w32 left)) ≡ entriesTable es left
+pub entered-all : (es table : List ℤ) (left : ℤ) (n : ℕ) → SFits w32 left → table ≡ entered es n → n ≤ length es / 2 → length es / 2 ≤ n →
+    set table 256 (toZ w32 (ofZ w32 left)) ≡ entriesTable es left
 unfolding entriesTable
 entered-all es table left n f e h k =
     let all : n ≡ length es / 2 = omega arith in

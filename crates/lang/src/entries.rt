@@ -5,7 +5,8 @@ ghost use lib.IntN.{pos};
 ghost use Rattle.words.specs.Words.{Word};
 ghost use Rattle.lang.specs.Entries.{entriesTable};
 
-// Filled once from the lent entries, and read by every chain start. An entry whose character is past 255 is passed over.
+// Filled once from the lent entries, and read by every chain start. An entry whose character is past 255 is passed
+// over.
 pub fn entries_table(entries: &[i32], left_entry: i32) -> [i32; 257]
     ensures { λ r. ⌜ r ≡ entriesTable (now (entries .entry)) «left_entry» ⌝ }
 {

@@ -1,4 +1,5 @@
-// The record at an index of a lent list of instruction numbers, as a struct, after `Instruction` of ligkern/lang.rs (lines 28 to 54).
+// The record at an index of a lent list of instruction numbers, as a struct, after `Instruction` of ligkern/lang.rs
+// (lines 28 to 54).
 ghost use mathlib.Core.Path.{_≡_};
 ghost use Rattle.words.specs.Words.{Word, numberOf};
 ghost use Rattle.lang.specs.Records.{field, nextOf, operationOf, instructionAt};

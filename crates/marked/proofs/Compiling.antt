@@ -1,5 +1,5 @@
--- What compiling gives of fonts whose entries are of one left. A font has 65,792 pairs to ask for a rule; here the lefts without an entry are passed over by a law.
--- Assumes nothing.
+-- What compiling gives of fonts whose entries are of one left. A font has 65,792 pairs to ask for a rule; here the lefts without an entry are passed over by a
+-- law. Assumes nothing.
 use mathlib.Core.Path.{_≡_, refl, sym, ap, _∙_}
 use mathlib.Core.Bool.{Bool, true, false, cond}
 use mathlib.Core.List.{List, [], _∷_, _++_, append-nil}
@@ -41,7 +41,8 @@ row-none program table l (negsuc e) (suc n) h a = rw (h, row-none program table 
 abbrev only : Font → ℕ → ℕ → Bool
 only f u k = cond (eqb k u) true (isAbsent (leftEntry (tableOf f) (leftOf k)))
 
-only-by : (f : Font) (u k : ℕ) (b : Bool) → eqb k u ≡ b → (k ≡ u → ⊥) → cond b true (isAbsent (leftEntry (tableOf f) (leftOf k))) ≡ true → isAbsent (leftEntry (tableOf f) (leftOf k)) ≡ true
+only-by : (f : Font) (u k : ℕ) (b : Bool) → eqb k u ≡ b → (k ≡ u → ⊥) → cond b true (isAbsent (leftEntry (tableOf f) (leftOf k))) ≡ true →
+    isAbsent (leftEntry (tableOf f) (leftOf k)) ≡ true
 only-by f u k true e h a = absurd (h (eqb-true k u e))
 only-by f u k false e h a = a
 
@@ -51,14 +52,17 @@ module _ (f : Font) (u : ℕ) (all-only : every 257 (only f u) ≡ true) where
   own = rowPairs (f .instructions) (tableOf f) (leftOf u) 256
 
   left-none : (k : ℕ) → k < 257 → (k ≡ u → ⊥) → rowPairs (f .instructions) (tableOf f) (leftOf k) 256 ≡ []
-  left-none k l h = row-none (f .instructions) (tableOf f) (leftOf k) (leftEntry (tableOf f) (leftOf k)) 256 refl (only-by f u k (eqb k u) refl h (every-at 257 k (only f u) all-only l))
+  left-none k l h =
+      row-none (f .instructions) (tableOf f) (leftOf k) (leftEntry (tableOf f) (leftOf k)) 256 refl
+      (only-by f u k (eqb k u) refl h (every-at 257 k (only f u) all-only l))
 
   before : (k : ℕ) → k ≤ u → k ≤ 257 → leftPairs (f .instructions) (tableOf f) k ≡ []
   unfolding leftPairs
   before zero h l = refl
   before (suc k) h l = rw (before k (omega arith) (omega arith), left-none k (omega arith) (λ e. omega (arith, e))) refl
 
-  after-by : (k : ℕ) → k < 257 → (k ≡ u) ⊎ (u < k) → (u < k → leftPairs (f .instructions) (tableOf f) k ≡ own) → leftPairs (f .instructions) (tableOf f) k ++ rowPairs (f .instructions) (tableOf f) (leftOf k) 256 ≡ own
+  after-by : (k : ℕ) → k < 257 → (k ≡ u) ⊎ (u < k) → (u < k → leftPairs (f .instructions) (tableOf f) k ≡ own) →
+      leftPairs (f .instructions) (tableOf f) k ++ rowPairs (f .instructions) (tableOf f) (leftOf k) 256 ≡ own
   after-by k l (inl e) ih = rw (e, before u (omega arith) (omega (arith, e))) refl
   after-by k l (inr h) ih = rw (ih h, left-none k l (λ e. omega (arith, e))) (append-nil own)
 
@@ -90,7 +94,8 @@ example-only : every 257 (only exampleFont 103) ≡ true
 unfolding every entered entriesTable
 example-only = refl
 
-example-pairs : pairsOf exampleFont ≡ record { pair = record { left = chr 102; right = 33 }; index = 1 } ∷ record { pair = record { left = chr 102; right = 105 }; index = 0 } ∷ []
+example-pairs : pairsOf exampleFont
+    ≡ record { pair = record { left = chr 102; right = 33 }; index = 1 } ∷ record { pair = record { left = chr 102; right = 105 }; index = 0 } ∷ []
 unfolding rowPairs entered entriesTable chainFrom firstFor
 example-pairs = pairs-own exampleFont 103 example-only (omega arith)
 

@@ -1,5 +1,5 @@
--- Every marked reading of document 01 holds of the definitions: what each row gives is what document 01 says. antt computes all but the rows of whole fonts, which are lemmas.
--- Assumes nothing.
+-- Every marked reading of document 01 holds of the definitions: what each row gives is what document 01 says. antt computes all but the rows of whole fonts,
+-- which are lemmas. Assumes nothing.
 use mathlib.Core.Path.{_≡_, refl}
 use mathlib.Core.List.{map}
 use Rattle.tfm.specs.Scaled.{toScaled, halve}
@@ -17,7 +17,8 @@ use Rattle.marked.specs.Rows.{MarkedRow, otherRows, rows, rulesBy, pairs
 use Rattle.marked.proofs.Compiling.{one-loop, accepted, table, ops, word}
 
 others : map (λ (row : MarkedRow). row .given) otherRows ≡ map (λ (row : MarkedRow). row .said) otherRows
-unfolding otherRows rulesBy pairsFrom loopNumbers toScaled halve fromBytes ligature comp raiseLeft loopList insert ordered unfinished walk walks member insertLabel labels redirectsFrom placeAmong redirectsTo unpackedUpto entriesMarked marksAfter repairedUpto entryWarnings skipWarnings stepsWarnings
+unfolding otherRows rulesBy pairsFrom loopNumbers toScaled halve fromBytes ligature comp raiseLeft loopList insert ordered unfinished walk walks member
+    insertLabel labels redirectsFrom placeAmong redirectsTo unpackedUpto entriesMarked marksAfter repairedUpto entryWarnings skipWarnings stepsWarnings
 others = refl
 
 pub marked : map (λ (row : MarkedRow). row .given) rows ≡ map (λ (row : MarkedRow). row .said) rows

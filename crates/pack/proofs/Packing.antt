@@ -26,7 +26,9 @@ use Rattle.lang.proofs.Refusals.{first-refusal, second-is, orElse-none, unless-
 use Rattle.lang.proofs.Filled.{refused-list}
 use Rattle.pack_labels.specs.Labels.{labelsOf, redirectsOf, offsetBy, largest}
 use Rattle.pack_labels.proofs.Redirects.{Under, labels-under, largest-le, redirects-le}
-use Rattle.pack.specs.Packing.{Packable, packable, redirectsTo, redirect, presentOr, leftOr, front, back, fontRedirects, fontOffset, packableRefusal, redirectRefusal, fitsShifted, shiftRefusal, packingRefusal, packedInstructions, packedEntry, entryNumber, packedEntries, packedSizes, packedReply, placeAmong, Packs}
+use Rattle.pack.specs.Packing.{Packable, packable, redirectsTo, redirect, presentOr, leftOr, front, back, fontRedirects, fontOffset, packableRefusal}
+use Rattle.pack.specs.Packing.{redirectRefusal, fitsShifted, shiftRefusal, packingRefusal, packedInstructions, packedEntry, entryNumber, packedEntries}
+use Rattle.pack.specs.Packing.{packedSizes, packedReply, placeAmong, Packs}
 use Rattle.lang.proofs.Entered.{entry-le}
 use Rattle.pack.proofs.Places.{present-test, present-is}
 
@@ -105,12 +107,14 @@ font-entered f e =
 -- what is refused of f once it is taken so far
 abbrev pub laterRefusal : Packable → ℕ → ℕ → ℕ
 laterRefusal f room entryRoom =
-    refusalBy (fontRedirects f) (fontOffset f) (largest (labelsOf (f .entries))) (leftOr (f .left)) (length (packedInstructions f)) room (length (f .entries)) entryRoom
+    refusalBy (fontRedirects f) (fontOffset f) (largest (labelsOf (f .entries))) (leftOr (f .left)) (length (packedInstructions f)) room (length (f .entries))
+    entryRoom
 
 pub taken : (f : Packable) (room entryRoom : ℕ) → packingRefusal f room entryRoom ≡ 0 → Taken f room entryRoom
 taken f room entryRoom e =
     let a = orElse-none (packableRefusal f) (laterRefusal f room entryRoom) e in
-    let t = parts (fontRedirects f) (fontOffset f) (largest (labelsOf (f .entries))) (leftOr (f .left)) (length (packedInstructions f)) room (length (f .entries)) entryRoom (a .1) in
+    let t = parts (fontRedirects f) (fontOffset f) (largest (labelsOf (f .entries))) (leftOr (f .left)) (length (packedInstructions f)) room
+    (length (f .entries)) entryRoom (a .1) in
     record {
       entered = font-entered f (a .0);
       few = t .0;
@@ -130,7 +134,8 @@ module _ (right : ℤ) (o : ℕ) where
   length-redirects (suc k) (l ∷ ls) h = rw (length-redirects k ls (omega arith)) (omega arith)
 
   -- number m of redirect i
-  redirects-at : (k : ℕ) (ls : List ℕ) (i m : ℕ) → i < k → k ≤ length ls → m < 4 → getD (redirectsTo right o k ls) (4 * i + m) (pos 0) ≡ getD (redirect right (getD ls i 0 + o) 1) m (pos 0)
+  redirects-at : (k : ℕ) (ls : List ℕ) (i m : ℕ) → i < k → k ≤ length ls → m < 4 →
+      getD (redirectsTo right o k ls) (4 * i + m) (pos 0) ≡ getD (redirect right (getD ls i 0 + o) 1) m (pos 0)
   unfolding redirectsTo
   redirects-at zero ls i m h g l = absurd (omega arith)
   redirects-at (suc k) [] i m h g l = absurd (omega arith)
@@ -150,14 +155,17 @@ length-front (pos b) zero o ls e h = rw e
 length-front (negsuc b) zero o ls e h = rw e
 length-front z (suc k) o ls e h = length-redirects (presentOr z) o (suc k) ls h ∙ rw e
 
-front-at : (z : ℤ) (k o : ℕ) (ls : List ℕ) (j : ℕ) → o ≡ offsetBy (nonNeg z) k → k ≤ length ls → j < 4 * o → getD (front z k o ls) j (pos 0) ≡ getD (redirect (presentOr z) (targetOf k o ls (j / 4)) 1) (j % 4) (pos 0)
+front-at : (z : ℤ) (k o : ℕ) (ls : List ℕ) (j : ℕ) → o ≡ offsetBy (nonNeg z) k → k ≤ length ls → j < 4 * o →
+    getD (front z k o ls) j (pos 0) ≡ getD (redirect (presentOr z) (targetOf k o ls (j / 4)) 1) (j % 4) (pos 0)
 front-at (pos b) zero o ls j e h l =
     let m : j % 4 ≡ j = omega arith in
     rw m
 front-at (negsuc b) zero o ls j e h l = absurd (omega arith)
 front-at z (suc k) o ls j e h l =
     let m : 4 * (j / 4) + j % 4 ≡ j = omega arith in
-    rw (ne-eqb (suc k) 0 (λ g. omega arith)) (ap (λ (t : ℕ). getD (redirectsTo (presentOr z) o (suc k) ls) t (pos 0)) (sym m) ∙ redirects-at (presentOr z) o (suc k) ls (j / 4) (j % 4) (omega arith) h (omega arith))
+    rw (ne-eqb (suc k) 0 (λ g. omega arith))
+    (ap (λ (t : ℕ). getD (redirectsTo (presentOr z) o (suc k) ls) t (pos 0)) (sym m)
+    ∙ redirects-at (presentOr z) o (suc k) ls (j / 4) (j % 4) (omega arith) h (omega arith))
 
 -- ---- where number j stands: in front, among the old ones, at the end
 
@@ -241,7 +249,8 @@ module _ (z : ℤ) (k o : ℕ) (ls : List ℕ) (s : List ℤ) (l : ℤ) (os : o 
       length-three (front z k o ls) s (back l o) ∙ ap (λ (n : ℕ). n + length s + length (back l o)) (length-front z k o ls os few)
 
 -- a redirect's numbers, from the words that are stored
-words-of : (x y : ℤ) (right operand m : ℕ) → numberOf right ≡ x → numberOf operand ≡ y → getD (negsuc 0 ∷ numberOf right ∷ pos 3 ∷ numberOf operand ∷ []) m (pos 0) ≡ getD (negsuc 0 ∷ x ∷ pos 3 ∷ y ∷ []) m (pos 0)
+words-of : (x y : ℤ) (right operand m : ℕ) → numberOf right ≡ x → numberOf operand ≡ y →
+    getD (negsuc 0 ∷ numberOf right ∷ pos 3 ∷ numberOf operand ∷ []) m (pos 0) ≡ getD (negsuc 0 ∷ x ∷ pos 3 ∷ y ∷ []) m (pos 0)
 words-of x y right operand m e g = rw (e, g)
 
 pub target-le : (k o : ℕ) (ls : List ℕ) (i : ℕ) → ((j : ℕ) → getD ls j 0 + o ≤ 65535) → targetOf k o ls i ≤ 65535
@@ -251,7 +260,9 @@ target-le k o ls i h = go (eqb k 0)
     go true = omega arith
     go false = h i
 
-pub front-words : (w k o : ℕ) (ls : List ℕ) (i m right target : ℕ) → right ≡ leftOr (numberOf w) → target ≡ targetOf k o ls i → target ≤ 65535 → getD (negsuc 0 ∷ numberOf right ∷ pos 3 ∷ numberOf (target + 65536) ∷ []) m (pos 0) ≡ getD (redirect (presentOr (numberOf w)) (targetOf k o ls i) 1) m (pos 0)
+pub front-words : (w k o : ℕ) (ls : List ℕ) (i m right target : ℕ) → right ≡ leftOr (numberOf w) → target ≡ targetOf k o ls i → target ≤ 65535 →
+    getD (negsuc 0 ∷ numberOf right ∷ pos 3 ∷ numberOf (target + 65536) ∷ []) m (pos 0)
+    ≡ getD (redirect (presentOr (numberOf w)) (targetOf k o ls i) 1) m (pos 0)
 front-words w k o ls i m right target e g h =
     words-of (presentOr (numberOf w)) (pos (targetOf k o ls i + 65536)) right (target + 65536) m
     (ap numberOf e ∙ present-word w (left-lt w)) (number-pos (target + 65536) (omega arith) ∙ ap (λ (t : ℕ). pos (t + 65536)) g)
@@ -263,7 +274,8 @@ present-left w e = go (ltb w 2147483648) refl
     go true t = present-is w (ltb-true w 2147483648 t)
     go false t = let z : true ≡ false = sym e ∙ sym (present-test w false t) in let y : _≡_ {A = ℕ} 0 1 = cc in absurd (omega arith)
 
-pub back-words : (w o m : ℕ) → nonNeg (numberOf w) ≡ true → leftOr (numberOf w) + o ≤ 65535 → getD (negsuc 0 ∷ numberOf 0 ∷ pos 3 ∷ numberOf (w + o) ∷ []) m (pos 0) ≡ getD (back (numberOf w) o) m (pos 0)
+pub back-words : (w o m : ℕ) → nonNeg (numberOf w) ≡ true → leftOr (numberOf w) + o ≤ 65535 →
+    getD (negsuc 0 ∷ numberOf 0 ∷ pos 3 ∷ numberOf (w + o) ∷ []) m (pos 0) ≡ getD (back (numberOf w) o) m (pos 0)
 back-words w o m e h =
     let g : leftOr (numberOf w) ≡ w = present-left w e in
     words-of (pos 0) (pos (leftOr (numberOf w) + o + 0)) 0 (w + o) m refl
@@ -295,7 +307,8 @@ offset-le true zero = omega arith
 offset-le false zero = omega arith
 offset-le b (suc k) = omega arith
 
-refusal-same : {k k′ o o′ big big′ size size′ : ℕ} (left room n entryRoom : ℕ) → k ≡ k′ → o ≡ o′ → big ≡ big′ → size ≡ size′ → refusalBy k o big left size room n entryRoom ≡ refusalBy k′ o′ big′ left size′ room n entryRoom
+refusal-same : {k k′ o o′ big big′ size size′ : ℕ} (left room n entryRoom : ℕ) → k ≡ k′ → o ≡ o′ → big ≡ big′ → size ≡ size′ →
+    refusalBy k o big left size room n entryRoom ≡ refusalBy k′ o′ big′ left size′ room n entryRoom
 refusal-same left room n entryRoom a b c d = rw (a, b, c, d)
 
 pub under : (limit : ℕ) (es : List ℤ) → entriesRefusal limit es ≡ 0 → Under (suc limit) (labelsOf es)
@@ -331,7 +344,8 @@ module _ {f : Packable} {ls : List ℕ} {b : Bool} {k o : ℕ} (p : Plan f ls b 
   plan-size =
       ap length (sym plan-packed) ∙ number-count (f .boundary) k o ls (f .instructions) (f .left) plan-front plan-few
 
-  pub plan-refusal : (room entryRoom size : ℕ) → packableRefusal f ≡ 0 → size ≡ 4 * o + length (f .instructions) + length (back (f .left) o) → refusalBy k o (largest ls) (leftOr (f .left)) size room (length (f .entries)) entryRoom ≡ packingRefusal f room entryRoom
+  pub plan-refusal : (room entryRoom size : ℕ) → packableRefusal f ≡ 0 → size ≡ 4 * o + length (f .instructions) + length (back (f .left) o) →
+      refusalBy k o (largest ls) (leftOr (f .left)) size room (length (f .entries)) entryRoom ≡ packingRefusal f room entryRoom
   plan-refusal room entryRoom size ok sizes =
       refusal-same (leftOr (f .left)) room (length (f .entries)) entryRoom plan-redirects plan-offset (ap largest (p .same)) (sizes ∙ sym plan-size)
       ∙ sym (second-is (packableRefusal f) (laterRefusal f room entryRoom) ok)
@@ -348,7 +362,8 @@ module _ {f : Packable} {ls : List ℕ} {b : Bool} {k o : ℕ} (p : Plan f ls b 
       ∙ ap (λ (n : ℕ). tabulate (length (f .entries)) (entryNumber (f .entries) (fontRedirects f) n ls)) plan-offset
       ∙ ap (λ (t : List ℕ). tabulate (length (f .entries)) (entryNumber (f .entries) (fontRedirects f) (fontOffset f) t)) (p .same)
 
-  pub plan-answer : (size : ℕ) → size ≡ 4 * o + length (f .instructions) + length (back (f .left) o) → packedReply (Sizes (size / 4) o k) ≡ replyOf 0 (packedSizes f)
+  pub plan-answer : (size : ℕ) → size ≡ 4 * o + length (f .instructions) + length (back (f .left) o) →
+      packedReply (Sizes (size / 4) o k) ≡ replyOf 0 (packedSizes f)
   plan-answer size e = rw (e, ← plan-size, plan-redirects, plan-offset)
 
   -- every label, shifted, fits
@@ -372,22 +387,25 @@ pub packing-first : (f : Packable) (room entryRoom : ℕ) {r : ℕ} → r ≡ pa
 packing-first f room entryRoom e h = first-refusal (laterRefusal f room entryRoom) e h
 
 -- by the outputs, which are zero
-module _ (f : Packable) (out entriesOut : List ℤ) (zeros : out ≡ replicate (length out) (pos 0)) (zerosOut : entriesOut ≡ replicate (length entriesOut) (pos 0)) where
-  pub packs-refused : (r : ℕ) → r ≡ packingRefusal f (length out) (length entriesOut) → (r ≡ 0 → ⊥) → Packs f out entriesOut (Refused r) out entriesOut
-  packs-refused r t h =
-      record {
-        answer = refused-reply (packedSizes f) t h;
-        instructions = refused-list (pos 0) (length out) (packedInstructions f) t h zeros;
-        entries = refused-list (pos 0) (length entriesOut) (packedEntries f) t h zerosOut;
-      }
+module _ (f : Packable) (out entriesOut : List ℤ) (zeros : out ≡ replicate (length out) (pos 0)) (zerosOut : entriesOut ≡ replicate (length entriesOut) (pos 0))
+  where
+    pub packs-refused : (r : ℕ) → r ≡ packingRefusal f (length out) (length entriesOut) → (r ≡ 0 → ⊥) → Packs f out entriesOut (Refused r) out entriesOut
+    packs-refused r t h =
+        record {
+          answer = refused-reply (packedSizes f) t h;
+          instructions = refused-list (pos 0) (length out) (packedInstructions f) t h zeros;
+          entries = refused-list (pos 0) (length entriesOut) (packedEntries f) t h zerosOut;
+        }
 
-  pub packs-taken : (r : Packed) (out′ entriesOut′ : List ℤ) → packingRefusal f (length out) (length entriesOut) ≡ 0 → packedReply r ≡ replyOf 0 (packedSizes f) → Appending (packedInstructions f) out out′ → Appending (packedEntries f) entriesOut entriesOut′ → Packs f out entriesOut r out′ entriesOut′
-  packs-taken r out′ entriesOut′ q a x y =
-      record {
-        answer = rw q a;
-        instructions = rw q (appending-rest out (pos 0) (length out) zeros x);
-        entries = rw q (appending-rest entriesOut (pos 0) (length entriesOut) zerosOut y);
-      }
+    pub packs-taken : (r : Packed) (out′ entriesOut′ : List ℤ) → packingRefusal f (length out) (length entriesOut) ≡ 0 →
+        packedReply r ≡ replyOf 0 (packedSizes f) → Appending (packedInstructions f) out out′ → Appending (packedEntries f) entriesOut entriesOut′ →
+        Packs f out entriesOut r out′ entriesOut′
+    packs-taken r out′ entriesOut′ q a x y =
+        record {
+          answer = rw q a;
+          instructions = rw q (appending-rest out (pos 0) (length out) zeros x);
+          entries = rw q (appending-rest entriesOut (pos 0) (length entriesOut) zerosOut y);
+        }
 
 -- an output that was zeroed
 pub zeroed-length : (out : List ℤ) {zeros : List ℤ} → zeros ≡ replicate (length out) (pos 0) → length zeros ≡ length out
@@ -397,14 +415,18 @@ pub zeroed-is : (out : List ℤ) {zeros : List ℤ} → zeros ≡ replicate (len
 zeroed-is out e = e ∙ ap (λ (n : ℕ). replicate n (pos 0)) (sym (zeroed-length out e))
 
 -- only the lengths of the outputs matter
-pub packs-lengths : {f g : Packable} (out out₀ entriesOut entriesOut₀ : List ℤ) {r : Packed} {out′ entriesOut′ : List ℤ} → f ≡ g → length out₀ ≡ length out → length entriesOut₀ ≡ length entriesOut → Packs f out₀ entriesOut₀ r out′ entriesOut′ → Packs g out entriesOut r out′ entriesOut′
+pub packs-lengths : {f g : Packable} (out out₀ entriesOut entriesOut₀ : List ℤ) {r : Packed} {out′ entriesOut′ : List ℤ} → f ≡ g → length out₀ ≡ length out →
+    length entriesOut₀ ≡ length entriesOut → Packs f out₀ entriesOut₀ r out′ entriesOut′ → Packs g out entriesOut r out′ entriesOut′
 packs-lengths out out₀ entriesOut entriesOut₀ e n m p =
     record { answer = rw (e, n, m) at (p .answer); instructions = rw (e, n, m) at (p .instructions); entries = rw (e, n, m) at (p .entries) }
 
 -- ---- the answer is known from its reply
 
 pub packed-injective : (x y : Packed) → packedReply x ≡ packedReply y → x ≡ y
-packed-injective (Sizes a b c) (Sizes a′ b′ c′) e = let q : _≡_ {A = List ℤ} (pos a ∷ pos b ∷ pos c ∷ []) (pos a′ ∷ pos b′ ∷ pos c′ ∷ []) = ap (λ (r : Reply). r .values) e in cc
-packed-injective (Sizes a b c) (Refused n) e = let q : _≡_ {A = List ℤ} (pos a ∷ pos b ∷ pos c ∷ []) [] = ap (λ (r : Reply). r .values) e in let z : _≡_ {A = ℕ} 0 1 = cc in absurd (omega arith)
-packed-injective (Refused m) (Sizes a b c) e = let q : _≡_ {A = List ℤ} [] (pos a ∷ pos b ∷ pos c ∷ []) = ap (λ (r : Reply). r .values) e in let z : _≡_ {A = ℕ} 0 1 = cc in absurd (omega arith)
+packed-injective (Sizes a b c) (Sizes a′ b′ c′) e =
+    let q : _≡_ {A = List ℤ} (pos a ∷ pos b ∷ pos c ∷ []) (pos a′ ∷ pos b′ ∷ pos c′ ∷ []) = ap (λ (r : Reply). r .values) e in cc
+packed-injective (Sizes a b c) (Refused n) e =
+    let q : _≡_ {A = List ℤ} (pos a ∷ pos b ∷ pos c ∷ []) [] = ap (λ (r : Reply). r .values) e in let z : _≡_ {A = ℕ} 0 1 = cc in absurd (omega arith)
+packed-injective (Refused m) (Sizes a b c) e =
+    let q : _≡_ {A = List ℤ} [] (pos a ∷ pos b ∷ pos c ∷ []) = ap (λ (r : Reply). r .values) e in let z : _≡_ {A = ℕ} 0 1 = cc in absurd (omega arith)
 packed-injective (Refused m) (Refused n) e = ap Refused (ap (λ (r : Reply). r .number) e)

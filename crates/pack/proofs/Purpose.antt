@@ -24,10 +24,12 @@ use Rattle.entry_targets.proofs.Targets.{stands-target, stands-itself, entry-pl
 use Rattle.entry_unpack.specs.Unpacking.{unpackRefusal, unpackEntry}
 use Rattle.pack_labels.specs.Labels.{labelsOf}
 use Rattle.pack_labels.proofs.Redirects.{offset-some, labels-has, unredirected}
-use Rattle.pack.specs.Packing.{Packable, redirect, presentOr, leftOr, back, fontRedirects, fontOffset, packableRefusal, packingRefusal, packedInstructions, packedEntry, packedEntryNumber, packedEntries, placeAmong}
+use Rattle.pack.specs.Packing.{Packable, redirect, presentOr, leftOr, back, fontRedirects, fontOffset, packableRefusal, packingRefusal}
+use Rattle.pack.specs.Packing.{packedInstructions, packedEntry, packedEntryNumber, packedEntries, placeAmong}
 use Rattle.pack.specs.Purpose.{oldEntry, UnpacksAt, PackedUnpacks}
 use Rattle.pack.proofs.Places.{place-is, place-lt}
-use Rattle.pack.proofs.Packing.{Plan, Taken, taken, laterRefusal, targetOf, target-le, number-front, number-old, number-back, plan-few, plan-size, plan-shifts, back-some, back-none, under, entry-char, entry-entry}
+use Rattle.pack.proofs.Packing.{Plan, Taken, taken, laterRefusal, targetOf, target-le, number-front, number-old, number-back, plan-few, plan-size}
+use Rattle.pack.proofs.Packing.{plan-shifts, back-some, back-none, under, entry-char, entry-entry}
 
 -- ---- an instruction by its four numbers
 
@@ -75,22 +77,26 @@ module _ (f : Packable) where
       let q : (4 * i + m) / 4 ≡ i = omega arith in
       let r : (4 * i + m) % 4 ≡ m = omega arith in
       rw (lt-ltb i (count (packedInstructions f)) (omega (arith, whole-size)))
-      (sym (number-front (f .boundary) (fontRedirects f) (fontOffset f) (labelsOf (f .entries)) (f .instructions) (f .left) refl (plan-few plan-of) (4 * i + m) (omega arith))
+      (sym (number-front (f .boundary) (fontRedirects f) (fontOffset f) (labelsOf (f .entries)) (f .instructions) (f .left) refl (plan-few plan-of) (4 * i + m)
+      (omega arith))
       ∙ rw (q, r))
 
   old-field : (e m : ℕ) → e < count (f .instructions) → m < 4 → field (packedInstructions f) (e + fontOffset f) m ≡ field (f .instructions) e m
   old-field e m h l =
       let j : 4 * (e + fontOffset f) + m - 4 * fontOffset f ≡ 4 * e + m = omega arith in
       rw (lt-ltb (e + fontOffset f) (count (packedInstructions f)) (omega (arith, whole-size)), lt-ltb e (count (f .instructions)) h)
-      (sym (number-old (f .boundary) (fontRedirects f) (fontOffset f) (labelsOf (f .entries)) (f .instructions) (f .left) refl (plan-few plan-of) (4 * (e + fontOffset f) + m) (omega arith) (omega arith))
+      (sym (number-old (f .boundary) (fontRedirects f) (fontOffset f) (labelsOf (f .entries)) (f .instructions) (f .left) refl (plan-few plan-of)
+      (4 * (e + fontOffset f) + m) (omega arith) (omega arith))
       ∙ ap (λ (n : ℕ). getD (f .instructions) n (pos 0)) j)
 
-  back-field : (m : ℕ) → length (f .instructions) % 4 ≡ 0 → nonNeg (f .left) ≡ true → m < 4 → field (packedInstructions f) (fontOffset f + count (f .instructions)) m ≡ getD (redirect (pos 0) (leftOr (f .left) + fontOffset f) 0) m (pos 0)
+  back-field : (m : ℕ) → length (f .instructions) % 4 ≡ 0 → nonNeg (f .left) ≡ true → m < 4 →
+      field (packedInstructions f) (fontOffset f + count (f .instructions)) m ≡ getD (redirect (pos 0) (leftOr (f .left) + fontOffset f) 0) m (pos 0)
   back-field m z t l =
       let b = back-some (f .left) (fontOffset f) t in
       let j : 4 * (fontOffset f + count (f .instructions)) + m - 4 * fontOffset f - length (f .instructions) ≡ m = omega arith in
       rw (lt-ltb (fontOffset f + count (f .instructions)) (count (packedInstructions f)) (omega (arith, whole-size, ap length b)))
-      (sym (number-back (f .boundary) (fontRedirects f) (fontOffset f) (labelsOf (f .entries)) (f .instructions) (f .left) refl (plan-few plan-of) (4 * (fontOffset f + count (f .instructions)) + m) (omega arith) (omega arith))
+      (sym (number-back (f .boundary) (fontRedirects f) (fontOffset f) (labelsOf (f .entries)) (f .instructions) (f .left) refl (plan-few plan-of)
+      (4 * (fontOffset f + count (f .instructions)) + m) (omega arith) (omega arith))
       ∙ rw (j, b))
 
   -- the old instructions stand behind those in front
@@ -110,11 +116,14 @@ module _ (f : Packable) where
 
     edges : orElse (absentRefusal 255 (f .boundary)) (absentRefusal 65535 (f .left)) ≡ 0
     edges =
-        let a = orElse-none (programRefusal (f .instructions)) (orElse (entriesRefusal 65535 (f .entries)) (orElse (absentRefusal 255 (f .boundary)) (absentRefusal 65535 (f .left)))) lent in
+        let a = orElse-none (programRefusal (f .instructions))
+        (orElse (entriesRefusal 65535 (f .entries)) (orElse (absentRefusal 255 (f .boundary)) (absentRefusal 65535 (f .left)))) lent in
         orElse-none (entriesRefusal 65535 (f .entries)) (orElse (absentRefusal 255 (f .boundary)) (absentRefusal 65535 (f .left))) (a .1) .1
 
     old-program : programRefusal (f .instructions) ≡ 0
-    old-program = orElse-none (programRefusal (f .instructions)) (orElse (entriesRefusal 65535 (f .entries)) (orElse (absentRefusal 255 (f .boundary)) (absentRefusal 65535 (f .left)))) lent .0
+    old-program =
+        orElse-none (programRefusal (f .instructions))
+        (orElse (entriesRefusal 65535 (f .entries)) (orElse (absentRefusal 255 (f .boundary)) (absentRefusal 65535 (f .left)))) lent .0
 
     old-fours : length (f .instructions) % 4 ≡ 0
     old-fours = omega (arith, program-fours (f .instructions) old-program)
@@ -125,7 +134,8 @@ module _ (f : Packable) where
     front-fits : (i : ℕ) → i < fontOffset f → isInstruction (packedInstructions f) i ≡ true
     unfolding fitsFields
     front-fits i h =
-        let b = right-fits (f .boundary) (unless-none 3 (absentOr 255 (f .boundary)) (orElse-none (absentRefusal 255 (f .boundary)) (absentRefusal 65535 (f .left)) edges .0)) in
+        let b = right-fits (f .boundary)
+        (unless-none 3 (absentOr 255 (f .boundary)) (orElse-none (absentRefusal 255 (f .boundary)) (absentRefusal 65535 (f .left)) edges .0)) in
         fits-same (front-field i 0 h (omega arith)) (front-field i 1 h (omega arith)) (front-field i 2 h (omega arith)) (front-field i 3 h (omega arith))
         ∙ redirect-fits (presentOr (f .boundary)) (target i + 65536) b
         (omega (arith, target-le (fontRedirects f) (fontOffset f) (labelsOf (f .entries)) i (plan-shifts plan-of packs)))
@@ -139,11 +149,13 @@ module _ (f : Packable) where
     back-fits : nonNeg (f .left) ≡ true → isInstruction (packedInstructions f) (fontOffset f + count (f .instructions)) ≡ true
     unfolding fitsFields
     back-fits t =
-        fits-same (back-field 0 old-fours t (omega arith)) (back-field 1 old-fours t (omega arith)) (back-field 2 old-fours t (omega arith)) (back-field 3 old-fours t (omega arith))
+        fits-same (back-field 0 old-fours t (omega arith)) (back-field 1 old-fours t (omega arith)) (back-field 2 old-fours t (omega arith))
+        (back-field 3 old-fours t (omega arith))
         ∙ redirect-fits (pos 0) (leftOr (f .left) + fontOffset f + 0) refl (omega (arith, packs .shifts-left))
 
     -- at any place behind those in front
-    later-fits : (i : ℕ) → fontOffset f ≤ i → i < count (packedInstructions f) → (b : Bool) → ltb (i - fontOffset f) (count (f .instructions)) ≡ b → (l : Bool) → nonNeg (f .left) ≡ l → isInstruction (packedInstructions f) i ≡ true
+    later-fits : (i : ℕ) → fontOffset f ≤ i → i < count (packedInstructions f) → (b : Bool) → ltb (i - fontOffset f) (count (f .instructions)) ≡ b →
+        (l : Bool) → nonNeg (f .left) ≡ l → isInstruction (packedInstructions f) i ≡ true
     later-fits i h g true t l n =
         let e : i - fontOffset f + fontOffset f ≡ i = omega arith in
         rw e at (shifted-fits (i - fontOffset f) (ltb-true (i - fontOffset f) (count (f .instructions)) t))
@@ -174,14 +186,19 @@ module _ (f : Packable) where
 
     packed-program : count (packedInstructions f) ≤ 32767 → programRefusal (packedInstructions f) ≡ 0
     packed-program few =
-        rw (eq-eqb (length (packedInstructions f) % 4) 0 packed-fours, le-leb (count (packedInstructions f)) 32767 few, every-all (count (packedInstructions f)) (isInstruction (packedInstructions f)) place-fits)
+        rw (
+          eq-eqb (length (packedInstructions f) % 4) 0 packed-fours,
+          le-leb (count (packedInstructions f)) 32767 few,
+          every-all (count (packedInstructions f)) (isInstruction (packedInstructions f)) place-fits,
+        )
 
     -- ---- the packed entry of e, which is an old instruction and no redirect itself, stands for e, shifted
 
     Follows : ℕ → ℕ → Type 0
     Follows e p = (0 ≡ entryRefusal (packedInstructions f) p) × (e + fontOffset f ≡ standsFor (packedInstructions f) p)
 
-    redirected : (e : ℕ) → placeAmong e (labelsOf (f .entries)) < fontRedirects f → e < count (f .instructions) → Follows e (placeAmong e (labelsOf (f .entries)))
+    redirected : (e : ℕ) → placeAmong e (labelsOf (f .entries)) < fontRedirects f → e < count (f .instructions) →
+        Follows e (placeAmong e (labelsOf (f .entries)))
     unfolding Follows
     redirected e h l =
         let p : ℕ = placeAmong e (labelsOf (f .entries)) in
@@ -191,7 +208,8 @@ module _ (f : Packable) where
         let n : (e + fontOffset f + 65536) % 65536 ≡ e + fontOffset f = omega arith in
         let k : isKind 3 (packedInstructions f) p ≡ true = ap (λ (z : ℤ). eqb (wordOf z) 3) (front-field p 2 (omega arith) (omega arith)) in
         let t : target p ≡ e + fontOffset f = rw (ne-eqb (fontRedirects f) 0 (λ z. omega arith), x) in
-        let g : e + fontOffset f ≡ targetAt (packedInstructions f) p = sym (ap (λ (z : ℤ). wordOf z % 65536) (front-field p 3 (omega arith) (omega arith)) ∙ ap (λ (w : ℕ). (w + 65536) % 65536) t ∙ n) in
+        let g : e + fontOffset f ≡ targetAt (packedInstructions f) p =
+        sym (ap (λ (z : ℤ). wordOf z % 65536) (front-field p 3 (omega arith) (omega arith)) ∙ ap (λ (w : ℕ). (w + 65536) % 65536) t ∙ n) in
         (entry-followed (packedInstructions f) p (omega (arith, whole-size)) k g (omega (arith, whole-size)), g ∙ stands-target (packedInstructions f) p k)
 
     shifted : (e : ℕ) → e < count (f .instructions) → isKind 3 (f .instructions) e ≡ false → Follows e (e + fontOffset f)
@@ -200,10 +218,12 @@ module _ (f : Packable) where
         let q : isKind 3 (packedInstructions f) (e + fontOffset f) ≡ false = ap (λ (z : ℤ). eqb (wordOf z) 3) (old-field e 2 h (omega arith)) ∙ k in
         (entry-plain (packedInstructions f) (e + fontOffset f) (omega (arith, whole-size)) q, stands-itself (packedInstructions f) (e + fontOffset f) q)
 
-    follows : (e : ℕ) → e < count (f .instructions) → isKind 3 (f .instructions) e ≡ false → Follows e (packedEntry (fontRedirects f) (fontOffset f) (labelsOf (f .entries)) e)
+    follows : (e : ℕ) → e < count (f .instructions) → isKind 3 (f .instructions) e ≡ false →
+        Follows e (packedEntry (fontRedirects f) (fontOffset f) (labelsOf (f .entries)) e)
     follows e h k = by (ltb (placeAmong e (labelsOf (f .entries))) (fontRedirects f)) refl
       where
-        by : (b : Bool) → ltb (placeAmong e (labelsOf (f .entries))) (fontRedirects f) ≡ b → Follows e (cond b (placeAmong e (labelsOf (f .entries))) (e + fontOffset f))
+        by : (b : Bool) → ltb (placeAmong e (labelsOf (f .entries))) (fontRedirects f) ≡ b →
+            Follows e (cond b (placeAmong e (labelsOf (f .entries))) (e + fontOffset f))
         by true t = redirected e (ltb-true (placeAmong e (labelsOf (f .entries))) (fontRedirects f) t) h
         by false t = shifted e h k
 
@@ -211,12 +231,17 @@ module _ (f : Packable) where
     packed-byte : {e : ℕ} → List·Memᴰ e (labelsOf (f .entries)) → packedEntry (fontRedirects f) (fontOffset f) (labelsOf (f .entries)) e ≤ 255
     packed-byte {e} m = by (ltb (placeAmong e (labelsOf (f .entries))) (fontRedirects f)) refl
       where
-        by : (b : Bool) → ltb (placeAmong e (labelsOf (f .entries))) (fontRedirects f) ≡ b → cond b (placeAmong e (labelsOf (f .entries))) (e + fontOffset f) ≤ 255
+        by : (b : Bool) → ltb (placeAmong e (labelsOf (f .entries))) (fontRedirects f) ≡ b →
+            cond b (placeAmong e (labelsOf (f .entries))) (e + fontOffset f) ≤ 255
         by true t = omega (arith, ltb-true (placeAmong e (labelsOf (f .entries))) (fontRedirects f) t, packs .few)
         by false t =
             let l : fontRedirects f ≤ placeAmong e (labelsOf (f .entries)) = ltb-false (placeAmong e (labelsOf (f .entries))) (fontRedirects f) t in
             let x : getD (labelsOf (f .entries)) (placeAmong e (labelsOf (f .entries))) 0 ≡ e = place-is e (labelsOf (f .entries)) (place-lt m) in
-            omega (arith, unredirected (nonNeg (f .boundary)) (labelsOf (f .entries)) (under 65535 (f .entries) (packs .entered)) (placeAmong e (labelsOf (f .entries))) (place-lt m) l)
+            omega (
+              arith,
+              unredirected (nonNeg (f .boundary)) (labelsOf (f .entries)) (under 65535 (f .entries) (packs .entered)) (placeAmong e (labelsOf (f .entries)))
+                  (place-lt m) l,
+            )
 
     -- ---- the entry at place i
 
@@ -232,20 +257,25 @@ module _ (f : Packable) where
       byte-le : byte ≤ 255
       byte-le = packed-byte (labels-has (f .entries) (length (f .entries) / 2) i h)
 
-      unpacked : oldEntry f i < count (f .instructions) → isKind 3 (f .instructions) (oldEntry f i) ≡ false → (p : List ℕ) (room′ : ℕ) → length p ≡ count (packedInstructions f) → length p ≤ room′ → unpackEntry (packedInstructions f) (pos byte) p room′ ≡ replyOf 0 (pos (oldEntry f i + fontOffset f) ∷ [])
+      unpacked : oldEntry f i < count (f .instructions) → isKind 3 (f .instructions) (oldEntry f i) ≡ false → (p : List ℕ) (room′ : ℕ) →
+          length p ≡ count (packedInstructions f) → length p ≤ room′ →
+          unpackEntry (packedInstructions f) (pos byte) p room′ ≡ replyOf 0 (pos (oldEntry f i + fontOffset f) ∷ [])
       unfolding Follows
       unpacked l k p room′ n r =
           let g = follows (oldEntry f i) l k in
           let w : wordOf (pos byte) ≡ byte = refl in
           let a : rangeRefusal 255 (pos byte) ≡ 0 = rw (le-leb byte 255 byte-le) in
           let b : passthroughRefusal p (packedInstructions f) ≡ 0 = rw (eq-eqb (length p) (count (packedInstructions f)) n) in
-          let z : unpackRefusal (packedInstructions f) (pos byte) p room′ ≡ 0 = none-of-five (packed-program few) a b (sym (g .0)) (room-is (length p) room′ r) in
+          let z : unpackRefusal (packedInstructions f) (pos byte) p room′
+          ≡ 0 = none-of-five (packed-program few) a b (sym (g .0)) (room-is (length p) room′ r) in
           sym (taken-reply (pos (standsFor (packedInstructions f) byte) ∷ []) z) ∙ ap (λ (t : ℕ). replyOf 0 (pos t ∷ [])) (sym (g .1))
 
       unpacks-at : oldEntry f i < count (f .instructions) → isKind 3 (f .instructions) (oldEntry f i) ≡ false → UnpacksAt f i
       unpacks-at l k =
           record {
-            char = getD-tabulate (length (f .entries)) (packedEntryNumber f) (2 * i) (pos 0) (omega arith) ∙ sym (entry-char (f .entries) (fontRedirects f) (fontOffset f) (labelsOf (f .entries)) (2 * i) (omega arith));
+            char =
+                getD-tabulate (length (f .entries)) (packedEntryNumber f) (2 * i) (pos 0) (omega arith)
+                ∙ sym (entry-char (f .entries) (fontRedirects f) (fontOffset f) (labelsOf (f .entries)) (2 * i) (omega arith));
             byte = ap (within 255) byte-is ∙ le-leb byte 255 byte-le;
             entry = λ p room′ n r. ap (λ (z : ℤ). unpackEntry (packedInstructions f) z p room′) byte-is ∙ unpacked l k p room′ n r;
             same = packed-same (oldEntry f i) l;

@@ -1,5 +1,5 @@
-// Packing of entries into one byte each, after `pack_entrypoints` of ligkern/lang.rs (lines 553 to 622). What the Rust changes in place becomes two
-// more lent lists.
+// Packing of entries into one byte each, after `pack_entrypoints` of ligkern/lang.rs (lines 553 to 622). What the Rust
+// changes in place becomes two more lent lists.
 ghost use mathlib.Core.Path.{_≡_};
 ghost use mathlib.Core.List.{_++_};
 ghost use mathlib.Core.Bool.{cond};
@@ -13,7 +13,8 @@ ghost use Rattle.words.specs.Lists.{tabulate, Appending};
 ghost use Rattle.lang.specs.Checks.{entriesRefusal, orElse};
 ghost use Rattle.lang.specs.Answers.{roomRefusal};
 ghost use Rattle.pack_labels.specs.Labels.{largest, offsetBy};
-ghost use Rattle.pack.specs.Packing.{Packs, packable, front, back, leftOr, entryNumber, redirectRefusal, shiftRefusal, packableRefusal};
+ghost use Rattle.pack.specs.Packing.{Packs, packable, front, back, leftOr, entryNumber, redirectRefusal};
+ghost use Rattle.pack.specs.Packing.{shiftRefusal, packableRefusal};
 
 mod numbers;
 
@@ -35,7 +36,8 @@ pub enum Packed {
 
 // 1, else 2, else 4: what is lent is no font.
 fn packable_refusal(instructions: &[i32], entries: &[i32], boundary: i32, left_entry: i32) -> u32
-    ensures { λ r. ⌜ r ≡ packableRefusal (packable (now (instructions .entry)) (now (entries .entry)) boundary «left_entry») ⌝ }
+    ensures { λ r. ⌜ r ≡ packableRefusal
+        (packable (now (instructions .entry)) (now (entries .entry)) boundary «left_entry») ⌝ }
 {
     let program = program_refusal(instructions);
     if program != 0 {
@@ -52,10 +54,12 @@ fn packable_refusal(instructions: &[i32], entries: &[i32], boundary: i32, left_e
     absent_refusal(65535, left_entry)
 }
 
-// How many numbers the packed instructions are: those in front, the old ones, and the redirect to the left boundary's entry.
+// How many numbers the packed instructions are: those in front, the old ones, and the redirect to the left boundary's
+// entry.
 fn packed_size(instructions: &[i32], left: u32, offset: usize) -> usize
     requires { ⌜ offset < 65536 ⌝ }
-    ensures { λ r. ⌜ r ≡ 4 * offset + length (now (instructions .entry)) + length (back (numberOf left) offset) ⌝ }
+    ensures { λ r. ⌜ r ≡ 4 * offset + length (now (instructions .entry))
+        + length (back (numberOf left) offset) ⌝ }
 {
     if is_present(left) {
         4 * offset + instructions.len() + 4
@@ -79,8 +83,8 @@ fn shift_refusal(labels: &[u32], left: u32, offset: usize) -> u32
     }
 }
 
-// 10, else 11, else 15, of a font that is taken so far, from its labels and sizes: 256 redirects, a shifted entry that passes 65,535, an output that
-// is too short.
+// 10, else 11, else 15, of a font that is taken so far, from its labels and sizes: 256 redirects, a shifted entry that
+// passes 65,535, an output that is too short.
 fn labels_refusal(
     labels: &[u32],
     redirects: usize,
@@ -92,7 +96,9 @@ fn labels_refusal(
     entry_room: usize,
 ) -> u32
     requires { ⌜ offset < 65536 ⌝ }
-    ensures { λ r. ⌜ r ≡ orElse (redirectRefusal redirects) (orElse (shiftRefusal (largest (now (labels .entry))) (leftOr (numberOf left)) offset) (orElse (roomRefusal size room) (roomRefusal «entry_size» «entry_room»))) ⌝ }
+    ensures { λ r. ⌜ r ≡ orElse (redirectRefusal redirects)
+        (orElse (shiftRefusal (largest (now (labels .entry))) (leftOr (numberOf left)) offset)
+        (orElse (roomRefusal size room) (roomRefusal «entry_size» «entry_room»))) ⌝ }
 {
     let shift = shift_refusal(labels, left, offset);
     if 255 < redirects {
@@ -141,8 +147,13 @@ fn packed_number(
     offset: usize,
     j: usize,
 ) -> u32
-    requires { ⌜ (offset ≡ offsetBy (nonNeg (numberOf boundary)) redirects) × ((redirects ≤ length (now labels)) × (((k : ℕ) → getD (now labels) k 0 + offset ≤ 65535) × (leftOr (numberOf left) + offset ≤ 65535))) ⌝ }
-    ensures { λ r. ⌜ numberOf r ≡ getD (front (numberOf boundary) redirects offset (now (labels .entry)) ++ now (instructions .entry) ++ back (numberOf left) offset) j (pos 0) ⌝ }
+    requires { ⌜ (offset ≡ offsetBy (nonNeg (numberOf boundary)) redirects)
+        × ((redirects ≤ length (now labels))
+        × (((k : ℕ) → getD (now labels) k 0 + offset ≤ 65535)
+        × (leftOr (numberOf left) + offset ≤ 65535))) ⌝ }
+    ensures { λ r. ⌜ numberOf r ≡ getD
+        (front (numberOf boundary) redirects offset (now (labels .entry)) ++ now (instructions .entry)
+        ++ back (numberOf left) offset) j (pos 0) ⌝ }
 {
     if j < 4 * offset {
         let target = front_target(labels, redirects, offset, j / 4);
@@ -165,9 +176,16 @@ fn put_instructions(
     offset: usize,
     out: &mut [i32],
 )
-    requires { ⌜ (offset ≡ offsetBy (nonNeg (numberOf boundary)) redirects) × ((redirects ≤ length (now labels)) × (((k : ℕ) → getD (now labels) k 0 + offset ≤ 65535) × (leftOr (numberOf left) + offset ≤ 65535))) ⌝ }
-    requires { ⌜ length (front (numberOf boundary) redirects offset (now labels) ++ now instructions ++ back (numberOf left) offset) ≤ length (now out) ⌝ }
-    ensures { λ r. ⌜ Appending (front (numberOf boundary) redirects offset (now (labels .entry)) ++ now (instructions .entry) ++ back (numberOf left) offset) (now (out .entry)) (now (out .exit)) ⌝ }
+    requires { ⌜ (offset ≡ offsetBy (nonNeg (numberOf boundary)) redirects)
+        × ((redirects ≤ length (now labels))
+        × (((k : ℕ) → getD (now labels) k 0 + offset ≤ 65535)
+        × (leftOr (numberOf left) + offset ≤ 65535))) ⌝ }
+    requires { ⌜ length
+        (front (numberOf boundary) redirects offset (now labels) ++ now instructions
+        ++ back (numberOf left) offset) ≤ length (now out) ⌝ }
+    ensures { λ r. ⌜ Appending
+        (front (numberOf boundary) redirects offset (now (labels .entry)) ++ now (instructions .entry)
+        ++ back (numberOf left) offset) (now (out .entry)) (now (out .exit)) ⌝ }
 {
     let size = packed_size(instructions, left, offset);
     let mut j = 0;
@@ -197,8 +215,13 @@ fn entry_number(entries: &[i32], labels: &[u32], redirects: usize, offset: usize
 
 // The entries, packed, written to the front of the output in the lent order.
 fn put_entries(entries: &[i32], labels: &[u32], redirects: usize, offset: usize, out: &mut [i32])
-    requires { ⌜ (redirects ≤ 255) × ((offset ≤ 256) × ((entriesRefusal 65535 (now entries) ≡ 0) × (length (now entries) ≤ length (now out)))) ⌝ }
-    ensures { λ _. ⌜ Appending (tabulate (length (now (entries .entry))) (entryNumber (now (entries .entry)) redirects offset (now (labels .entry)))) (now (out .entry)) (now (out .exit)) ⌝ }
+    requires { ⌜ (redirects ≤ 255)
+        × ((offset ≤ 256)
+        × ((entriesRefusal 65535 (now entries) ≡ 0) × (length (now entries) ≤ length (now out)))) ⌝ }
+    ensures { λ _. ⌜ Appending
+        (tabulate (length (now (entries .entry)))
+        (entryNumber (now (entries .entry)) redirects offset (now (labels .entry)))) (now (out .entry))
+        (now (out .exit)) ⌝ }
 {
     let mut j = 0;
     while j < entries.len() {
@@ -208,7 +231,8 @@ fn put_entries(entries: &[i32], labels: &[u32], redirects: usize, offset: usize,
     }
 }
 
-// A font that is taken so far, and outputs that are zero: its labels, what they refuse, and else both outputs and the answer.
+// A font that is taken so far, and outputs that are zero: its labels, what they refuse, and else both outputs and the
+// answer.
 fn pack_font(
     instructions: &[i32],
     entries: &[i32],
@@ -217,9 +241,13 @@ fn pack_font(
     out: &mut [i32],
     entries_out: &mut [i32],
 ) -> Packed
-    requires { ⌜ packableRefusal (packable (now instructions) (now entries) (numberOf boundary) (numberOf left)) ≡ 0 ⌝ }
-    requires { ⌜ (now out ≡ replicate (length (now out)) (pos 0)) × (now «entries_out» ≡ replicate (length (now «entries_out»)) (pos 0)) ⌝ }
-    ensures { λ r. ⌜ Packs (packable (now (instructions .entry)) (now (entries .entry)) (numberOf boundary) (numberOf left)) (now (out .entry)) (now («entries_out» .entry)) r (now (out .exit)) (now («entries_out» .exit)) ⌝ }
+    requires { ⌜ packableRefusal (packable (now instructions) (now entries) (numberOf boundary) (numberOf left))
+        ≡ 0 ⌝ }
+    requires { ⌜ (now out ≡ replicate (length (now out)) (pos 0))
+        × (now «entries_out» ≡ replicate (length (now «entries_out»)) (pos 0)) ⌝ }
+    ensures { λ r. ⌜ Packs
+        (packable (now (instructions .entry)) (now (entries .entry)) (numberOf boundary) (numberOf left))
+        (now (out .entry)) (now («entries_out» .entry)) r (now (out .exit)) (now («entries_out» .exit)) ⌝ }
 {
     let mut table = [0u32; 256];
     let found = label(entries, is_present(boundary), &mut table);
@@ -246,7 +274,8 @@ fn pack_font(
     Packed::Sizes(size / 4, offset, redirects)
 }
 
-// The instructions with redirects in front and the left boundary's entry at the end; the entries, packed, in the lent order.
+// The instructions with redirects in front and the left boundary's entry at the end; the entries, packed, in the lent
+// order.
 pub fn pack_entrypoints(
     instructions: &[i32],
     entries: &[i32],
@@ -255,7 +284,9 @@ pub fn pack_entrypoints(
     out: &mut [i32],
     entries_out: &mut [i32],
 ) -> Packed
-    ensures { λ r. ⌜ Packs (packable (now (instructions .entry)) (now (entries .entry)) boundary «left_entry») (now (out .entry)) (now («entries_out» .entry)) r (now (out .exit)) (now («entries_out» .exit)) ⌝ }
+    ensures { λ r. ⌜ Packs
+        (packable (now (instructions .entry)) (now (entries .entry)) boundary «left_entry») (now (out .entry))
+        (now («entries_out» .entry)) r (now (out .exit)) (now («entries_out» .exit)) ⌝ }
 {
     words::zero::zero_i32(out);
     words::zero::zero_i32(entries_out);

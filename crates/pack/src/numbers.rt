@@ -38,7 +38,8 @@ pub(crate) fn place_among(labels: &[u32], e: u32) -> usize
 
 // Number m of a redirect: no next, the right character, kind 3 and the operand; 0 past these.
 pub(crate) fn redirect_number(m: usize, right: u32, operand: u32) -> u32
-    ensures { λ r. ⌜ numberOf r ≡ getD (negsuc 0 ∷ numberOf right ∷ pos 3 ∷ numberOf operand ∷ []) m (pos 0) ⌝ }
+    ensures { λ r. ⌜ numberOf r ≡ getD (negsuc 0 ∷ numberOf right ∷ pos 3 ∷ numberOf operand ∷ []) m
+        (pos 0) ⌝ }
 {
     if m == 0 {
         return 4294967295;

@@ -76,7 +76,8 @@ length-chain (suc most) n program i = bounded (ltb i n) i most _ (length-chain m
 -- ---- a step of a walk
 
 -- inside, a step goes where the instruction says
-pub step-to : (n : ℕ) (program : Program) (at : ℕ) (x : NextInstruction) → at < n → program at .«next_instruction» ≡ x → At at (onwardFrom n x at) ≡ stepAt n program at
+pub step-to : (n : ℕ) (program : Program) (at : ℕ) (x : NextInstruction) → at < n → program at .«next_instruction» ≡ x →
+    At at (onwardFrom n x at) ≡ stepAt n program at
 step-to n program at x h e = rw (lt-ltb at n h, e)
 
 -- a step from index `at` that goes on: it is at that index, moves ahead, and the chain is the index and what is left
@@ -86,7 +87,8 @@ pub record Stepped (n : ℕ) (program : Program) (at i on : ℕ) : Type 0 where
   pub ahead : at < on
   pub rest : chain n program at ≡ at ∷ chain n program on
 
-stepped-by : (t : Bool) (n : ℕ) (program : Program) (at i on : ℕ) → ltb at n ≡ t → cond t (At at (onwardFrom n (program at .«next_instruction») at)) End ≡ At i on → Stepped n program at i on
+stepped-by : (t : Bool) (n : ℕ) (program : Program) (at i on : ℕ) → ltb at n ≡ t →
+    cond t (At at (onwardFrom n (program at .«next_instruction») at)) End ≡ At i on → Stepped n program at i on
 stepped-by true n program at i on e h =
     let l = ltb-true at n e in
     let o : onwardFrom n (program at .«next_instruction») at ≡ on = cc in
@@ -101,7 +103,8 @@ stepped-by false n program at i on e h = absurd (let z : _≡_ {A = ℕ} 0 1 = c
 pub step-on : (n : ℕ) (program : Program) (at i on : ℕ) → stepAt n program at ≡ At i on → Stepped n program at i on
 step-on n program at i on h = stepped-by (ltb at n) n program at i on refl h
 
-ended-by : (t : Bool) (n : ℕ) (program : Program) (at : ℕ) → ltb at n ≡ t → cond t (At at (onwardFrom n (program at .«next_instruction») at)) End ≡ End → chain n program at ≡ []
+ended-by : (t : Bool) (n : ℕ) (program : Program) (at : ℕ) → ltb at n ≡ t → cond t (At at (onwardFrom n (program at .«next_instruction») at)) End ≡ End →
+    chain n program at ≡ []
 ended-by true n program at e h = absurd (let z : _≡_ {A = ℕ} 0 1 = cc in omega arith)
 ended-by false n program at e h = chain-end n program at (ltb-false at n e)
 
@@ -114,22 +117,26 @@ pub first-here : (program : Program) (right i : ℕ) (is : List ℕ) → program
 unfolding firstFor
 first-here program right i is e = rw (eq-eqb (program i .«right_char» .0) right e)
 
-pub first-later : (program : Program) (right i : ℕ) (is : List ℕ) → (program i .«right_char» .0 ≡ right → ⊥) → firstFor program right (i ∷ is) ≡ firstFor program right is
+pub first-later : (program : Program) (right i : ℕ) (is : List ℕ) → (program i .«right_char» .0 ≡ right → ⊥) →
+    firstFor program right (i ∷ is) ≡ firstFor program right is
 unfolding firstFor
 first-later program right i is e = rw (ne-eqb (program i .«right_char» .0) right e)
 
 -- a walk from an entry that has come to index `at`, where the rule of the chain from there is the entry's
 module _ (n : ℕ) (program : Program) (right entry at : ℕ) where
-  pub rule-here : (i on : ℕ) → Stepped n program at i on → firstFor program right (chain n program at) ≡ ruleIndex n program entry right → program i .«right_char» .0 ≡ right → Rule i ≡ found (ruleIndex n program entry right)
+  pub rule-here : (i on : ℕ) → Stepped n program at i on → firstFor program right (chain n program at) ≡ ruleIndex n program entry right →
+      program i .«right_char» .0 ≡ right → Rule i ≡ found (ruleIndex n program entry right)
   rule-here i on step inv e =
       let left : firstFor program right (i ∷ chain n program on) ≡ ruleIndex n program entry right = rw (step .here, ← step .rest) inv in
       ap found (sym (first-here program right i (chain n program on) e) ∙ left)
 
-  pub rule-later : (i on : ℕ) → Stepped n program at i on → firstFor program right (chain n program at) ≡ ruleIndex n program entry right → (program i .«right_char» .0 ≡ right → ⊥) → firstFor program right (chain n program on) ≡ ruleIndex n program entry right
+  pub rule-later : (i on : ℕ) → Stepped n program at i on → firstFor program right (chain n program at) ≡ ruleIndex n program entry right →
+      (program i .«right_char» .0 ≡ right → ⊥) → firstFor program right (chain n program on) ≡ ruleIndex n program entry right
   rule-later i on step inv e =
       sym (first-later program right i (chain n program on) e) ∙ rw (step .here, ← step .rest) inv
 
-  pub rule-nowhere : chain n program at ≡ [] → firstFor program right (chain n program at) ≡ ruleIndex n program entry right → Nothing ≡ found (ruleIndex n program entry right)
+  pub rule-nowhere : chain n program at ≡ [] → firstFor program right (chain n program at) ≡ ruleIndex n program entry right →
+      Nothing ≡ found (ruleIndex n program entry right)
   unfolding firstFor
   rule-nowhere e inv = ap found (sym (ap (firstFor program right) e) ∙ inv)
 
@@ -149,11 +156,13 @@ module _ {s : List ℤ} {entry : ℕ} {out₀ out : List ℕ} {n at : ℕ} where
   pub walking-length : Walking s entry out₀ out n at → length out ≡ length out₀
   walking-length h = appending-length out₀ (h .written)
 
-  pub walking-room : {i on : ℕ} → Stepped (count s) (instructionAt s) at i on → Walking s entry out₀ out n at → length (chainOf s entry) ≤ length out₀ → n < length out
+  pub walking-room : {i on : ℕ} → Stepped (count s) (instructionAt s) at i on → Walking s entry out₀ out n at → length (chainOf s entry) ≤ length out₀ →
+      n < length out
   walking-room step h l =
       omega (arith, walking-length h, h .reached, ap length (step .rest), simp length-append at (ap length (h .split)))
 
-  pub walking-more : {i on : ℕ} → Stepped (count s) (instructionAt s) at i on → Walking s entry out₀ out n at → n < length out → Walking s entry out₀ (set out n i) (n + 1) on
+  pub walking-more : {i on : ℕ} → Stepped (count s) (instructionAt s) at i on → Walking s entry out₀ out n at → n < length out →
+      Walking s entry out₀ (set out n i) (n + 1) on
   walking-more {i} {on} step h l =
       record {
         done = h .done ++ (i ∷ []);

@@ -1,11 +1,13 @@
-// Chains: which instruction is a pair's rule, and what it does. After `build_node_to_program_start_map` of ligkern/compiler.rs (lines 113 to
-// 148), and `instructions_for_entrypoint` of ligkern/lang.rs (lines 667 to 676 and 1005 to 1026).
+// Chains: which instruction is a pair's rule, and what it does. After `build_node_to_program_start_map` of
+// ligkern/compiler.rs (lines 113 to 148), and `instructions_for_entrypoint` of ligkern/lang.rs (lines 667 to 676 and
+// 1005 to 1026).
 ghost use mathlib.Core.Path.{_≡_};
 ghost use Rattle.lang.specs.Records.{count, instructionAt};
 ghost use Prim.Native.Nat.{_≤_};
 ghost use lib.ListN.{length};
 ghost use Rattle.words.specs.Lists.{Appending};
-ghost use Rattle.program_chain.specs.Chains.{stepAt, ruleIndexOf, found, redirected, kernOf, actsAs, chainOf, walkRefusal, WalksChain};
+ghost use Rattle.program_chain.specs.Chains.{stepAt, ruleIndexOf, found, redirected, kernOf, actsAs, chainOf};
+ghost use Rattle.program_chain.specs.Chains.{walkRefusal, WalksChain};
 use lang::Written;
 use lang::instruction::field_at;
 use lang::instruction::instruction_at;
@@ -29,7 +31,8 @@ pub enum FoundRule {
 
 // The instruction at index `at` of a walk, and where the walk goes on.
 pub fn next_instruction(instructions: &[i32], at: usize) -> Next
-    ensures { λ r. ⌜ r ≡ stepAt (count (now (instructions .entry))) (instructionAt (now (instructions .entry))) at ⌝ }
+    ensures { λ r. ⌜ r ≡ stepAt (count (now (instructions .entry)))
+        (instructionAt (now (instructions .entry))) at ⌝ }
 {
     let n = instructions.len() / 4;
     if n <= at {
@@ -136,8 +139,10 @@ fn walk_refusal(instructions: &[i32], entry: i32, room: usize) -> u32
 
 // The indices of the chain from an entry, at the front of a list that has room for them. Answers how many.
 fn write_chain(instructions: &[i32], entry: usize, out: &mut [u32]) -> usize
-    requires { ⌜ (count (now instructions) ≤ 32767) × (length (chainOf (now instructions) entry) ≤ length (now out)) ⌝ }
-    ensures { λ r. ⌜ (r ≡ length (chainOf (now (instructions .entry)) entry)) × Appending (chainOf (now (instructions .entry)) entry) (now (out .entry)) (now (out .exit)) ⌝ }
+    requires { ⌜ (count (now instructions) ≤ 32767)
+        × (length (chainOf (now instructions) entry) ≤ length (now out)) ⌝ }
+    ensures { λ r. ⌜ (r ≡ length (chainOf (now (instructions .entry)) entry))
+        × Appending (chainOf (now (instructions .entry)) entry) (now (out .entry)) (now (out .exit)) ⌝ }
 {
     let mut n: usize = 0;
     let mut at = entry;

@@ -1,5 +1,6 @@
-// The refusals 1 and 2 of document 01, of a program, and 4 of a single number, each a function whose result is the number where it holds and 0
-// where it does not. Every one is linear in what it is lent. The refusals of what is lent beside the program are crate program_limits.
+// The refusals 1 and 2 of document 01, of a program, and 4 of a single number, each a function whose result is the
+// number where it holds and 0 where it does not. Every one is linear in what it is lent. The refusals of what is lent
+// beside the program are crate program_limits.
 ghost use mathlib.Core.Path.{_≡_};
 ghost use Prim.Native.Nat.{_<_};
 ghost use Rattle.lang.specs.Records.{isInstruction, absentOr, within, operandFits};

@@ -40,7 +40,8 @@ unfolding kernPlace
 place-grows v [] xs h = absurd (omega arith)
 place-grows v (k ∷ ks) xs h = by (eqb (wordOf k) (wordOf v)) (place-grows v ks xs) h
   where
-    by : (t : Bool) → (kernPlace v ks < length ks → kernPlace v (ks ++ xs) ≡ kernPlace v ks) → cond t 0 (suc (kernPlace v ks)) < suc (length ks) → cond t 0 (suc (kernPlace v (ks ++ xs))) ≡ cond t 0 (suc (kernPlace v ks))
+    by : (t : Bool) → (kernPlace v ks < length ks → kernPlace v (ks ++ xs) ≡ kernPlace v ks) → cond t 0 (suc (kernPlace v ks)) < suc (length ks) →
+        cond t 0 (suc (kernPlace v (ks ++ xs))) ≡ cond t 0 (suc (kernPlace v ks))
     by true e l = refl
     by false e l = ap suc (e (omega arith))
 
@@ -50,7 +51,8 @@ unfolding kernPlace
 place-new v [] h = rw (eq-eqb (wordOf v) (wordOf v) refl)
 place-new v (k ∷ ks) h = by (eqb (wordOf k) (wordOf v)) (place-new v ks) h
   where
-    by : (t : Bool) → (kernPlace v ks ≡ length ks → kernPlace v (ks ++ (v ∷ [])) ≡ length ks) → cond t 0 (suc (kernPlace v ks)) ≡ suc (length ks) → cond t 0 (suc (kernPlace v (ks ++ (v ∷ [])))) ≡ suc (length ks)
+    by : (t : Bool) → (kernPlace v ks ≡ length ks → kernPlace v (ks ++ (v ∷ [])) ≡ length ks) → cond t 0 (suc (kernPlace v ks)) ≡ suc (length ks) →
+        cond t 0 (suc (kernPlace v (ks ++ (v ∷ [])))) ≡ suc (length ks)
     by true e l = l
     by false e l = ap suc (e (omega arith))
 

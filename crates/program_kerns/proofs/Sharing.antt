@@ -35,7 +35,8 @@ module _ (s : List ℤ) where
   values-there i k h = rw (add-one i, k, ne-eqb (kernPlace (field s i 3) (values s i)) (length (values s i)) h)
 
   -- a value that is new
-  pub values-new : (i : ℕ) → isKind 0 s i ≡ true → kernPlace (field s i 3) (values s i) ≡ length (values s i) → values s (i + 1) ≡ values s i ++ (field s i 3 ∷ [])
+  pub values-new : (i : ℕ) → isKind 0 s i ≡ true → kernPlace (field s i 3) (values s i) ≡ length (values s i) →
+      values s (i + 1) ≡ values s i ++ (field s i 3 ∷ [])
   unfolding values
   values-new i k h = rw (add-one i, k, eq-eqb (kernPlace (field s i 3) (values s i)) (length (values s i)) h)
 
@@ -44,7 +45,9 @@ module _ (s : List ℤ) where
   unfolding values
   values-step i = by (isKind 0 s i) (eqb (kernPlace (field s i 3) (values s i)) (length (values s i)))
     where
-      by : (t u : Bool) → (length (values s i) ≤ length (cond t (cond u (values s i ++ (field s i 3 ∷ [])) (values s i)) (values s i))) × (length (cond t (cond u (values s i ++ (field s i 3 ∷ [])) (values s i)) (values s i)) ≤ suc (length (values s i)))
+      by : (t u : Bool) →
+          (length (values s i) ≤ length (cond t (cond u (values s i ++ (field s i 3 ∷ [])) (values s i)) (values s i)))
+          × (length (cond t (cond u (values s i ++ (field s i 3 ∷ [])) (values s i)) (values s i)) ≤ suc (length (values s i)))
       by true true = rw (snoc-length (values s i) (field s i 3)) (omega arith)
       by true false = omega arith
       by false true = omega arith
@@ -60,7 +63,8 @@ module _ (s : List ℤ) where
 
 -- ---- what stands in the list
 
-pub gathered-none : (s : List ℤ) (n : ℕ) (kerns : List ℤ) (links : List ℕ) → kerns ≡ replicate n (pos 0) → links ≡ replicate 65536 0 → Gathered s 0 n kerns links 0
+pub gathered-none : (s : List ℤ) (n : ℕ) (kerns : List ℤ) (links : List ℕ) → kerns ≡ replicate n (pos 0) → links ≡ replicate 65536 0 →
+    Gathered s 0 n kerns links 0
 unfolding values
 gathered-none s n kerns links k e = record { counted = refl; stands = rw k (appending-none (replicate n (pos 0))); linked = linked-none links e }
 
@@ -74,7 +78,11 @@ module _ {s : List ℤ} {i n : ℕ} {kerns : List ℤ} {links : List ℕ} {m : �
 
   -- the instruction adds no value
   pub counted-same : values s (i + 1) ≡ values s i → Counted s (i + 1) n kerns links m
-  counted-same e = record { short = λ h. absurd (omega (arith, gathered-room)); whole = λ h. record { counted = rw e (g .counted); stands = rw e (g .stands); linked = rw e (g .linked) } }
+  counted-same e =
+      record {
+        short = λ h. absurd (omega (arith, gathered-room));
+        whole = λ h. record { counted = rw e (g .counted); stands = rw e (g .stands); linked = rw e (g .linked) };
+      }
 
   -- it adds one, whose link goes into the slot at which the search for it ended
   module _ {w slot : ℕ} (word : Word (field s i 3) w) (kind : isKind 0 s i ≡ true) (h : SearchEnds (values s i) links w slot) where
@@ -103,8 +111,13 @@ module _ {s : List ℤ} {i n : ℕ} {kerns : List ℤ} {links : List ℕ} {m : �
             whole = λ l.
                 record {
                   counted = more-counted;
-                  stands = rw (values-new s i kind absent, g .counted, number-is word) (appending-one (replicate n (pos 0)) (field s i 3) (g .stands) (omega (arith, g .counted, appending-length (replicate n (pos 0)) (g .stands), length-replicate n (pos 0))));
-                  linked = rw (values-new s i kind absent, g .counted) (linked-more (g .linked) (field s i 3) at-value none absent (rw (word .is) at (read-lt word)) (omega (arith, g .counted)));
+                  stands =
+                      rw (values-new s i kind absent, g .counted, number-is word)
+                      (appending-one (replicate n (pos 0)) (field s i 3) (g .stands)
+                      (omega (arith, g .counted, appending-length (replicate n (pos 0)) (g .stands), length-replicate n (pos 0))));
+                  linked =
+                      rw (values-new s i kind absent, g .counted)
+                      (linked-more (g .linked) (field s i 3) at-value none absent (rw (word .is) at (read-lt word)) (omega (arith, g .counted)));
                 };
           }
 
@@ -112,5 +125,6 @@ module _ {s : List ℤ} {i n : ℕ} {kerns : List ℤ} {links : List ℕ} {m : �
   counted-whole = record { short = λ h. absurd (omega (arith, gathered-room)); whole = λ h. g }
 
 -- too few places for the first values are too few for all
-pub counted-short : {s : List ℤ} {i n : ℕ} {kerns : List ℤ} {links : List ℕ} {m : ℕ} → Counted s i n kerns links m → n < m → (j : ℕ) → i ≤ j → Counted s j n kerns links m
+pub counted-short : {s : List ℤ} {i n : ℕ} {kerns : List ℤ} {links : List ℕ} {m : ℕ} → Counted s i n kerns links m → n < m → (j : ℕ) → i ≤ j →
+    Counted s j n kerns links m
 counted-short {s} {i} c l j h = record { short = λ k. omega (arith, c .short k, values-mono s i j h); whole = λ k. absurd (omega arith) }

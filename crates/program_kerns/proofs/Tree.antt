@@ -1,6 +1,5 @@
--- Laws of the tree by which values are found: a search comes to each value, passes at most 32 others, and finds an empty slot where the value is not there; a new
--- value goes into that slot, and what was found before is found as before.
--- Assumes nothing.
+-- Laws of the tree by which values are found: a search comes to each value, passes at most 32 others, and finds an empty slot where the value is not there; a
+-- new value goes into that slot, and what was found before is found as before. Assumes nothing.
 use mathlib.Core.Path.{_≡_, refl, sym, ap, _∙_}
 use mathlib.Core.List.{List, [], _∷_, _++_}
 use mathlib.Core.Logic.{_⊎_, inl, inr}
@@ -24,7 +23,9 @@ pub bits-same : (n w v : ℕ) → w < 2 ^ n → v < 2 ^ n → ((j : ℕ) → j <
 bits-same zero w v a b h = omega arith
 bits-same (suc n) w v a b h =
     let low : w % 2 ≡ v % 2 = rw (div-one w, div-one v) at (h 0 (omega arith)) in
-    let half : w / 2 ≡ v / 2 = bits-same n (w / 2) (v / 2) (omega arith) (omega arith) (λ j l. rw (div-div-eq-div-mul w 2 (2 ^ j), div-div-eq-div-mul v 2 (2 ^ j), ← pow-succ' 2 j) (h (suc j) (omega arith))) in
+    let half : w / 2 ≡ v
+    / 2 = bits-same n (w / 2) (v / 2) (omega arith) (omega arith)
+    (λ j l. rw (div-div-eq-div-mul w 2 (2 ^ j), div-div-eq-div-mul v 2 (2 ^ j), ← pow-succ' 2 j) (h (suc j) (omega arith))) in
     omega arith
 
 -- ---- a search
@@ -72,13 +73,16 @@ module _ {ks : List ℤ} {links : List ℕ} (c : Linked ks links) where
       let a = s .linked n (omega arith) in
       let b = t .linked k (omega arith) in
       let same : linkAfter links v n ≡ linkAfter links w k = omega arith in
-      meet-more v w n k (meets v w n k (descends-less s n (omega arith)) (descends-less t k (omega arith)) (c .single (slotAfter links v n) (slotAfter links w k) a same)) (omega arith)
+      meet-more v w n k
+      (meets v w n k (descends-less s n (omega arith)) (descends-less t k (omega arith)) (c .single (slotAfter links v n) (slotAfter links w k) a same))
+      (omega arith)
 
   -- the value to whose link a search comes after n others agrees with w in n bits
   met : (w n p : ℕ) → Descends ks links w n → (l : p < length ks) → linkAfter links w n ≡ p + 1 → Meet w (wordAt ks p) n (c .reached p l .depth)
   met w n p s l e =
       let r = c .reached p l in
-      meets w (wordAt ks p) n (r .depth) s (r .descends) (c .single (slotAfter links w n) (slotAfter links (wordAt ks p) (r .depth)) (λ z. omega arith) (e ∙ sym (r .link-is)))
+      meets w (wordAt ks p) n (r .depth) s (r .descends)
+      (c .single (slotAfter links w n) (slotAfter links (wordAt ks p) (r .depth)) (λ z. omega arith) (e ∙ sym (r .link-is)))
 
   -- so that the search for w passes at most 32
   pub descends-few : (w n : ℕ) → w < 2 ^ 32 → Descends ks links w n → n ≤ 32
@@ -223,7 +227,8 @@ module _ {ks : List ℤ} {links : List ℕ} (c : Linked ks links) (v : ℤ) {slo
       by (inl e) = omega arith
       by (inr e) = omega (arith, c .places s)
 
-  single-more : (s t : ℕ) → (getD (set links slot (length ks + 1)) s 0 ≡ 0 → ⊥) → getD (set links slot (length ks + 1)) s 0 ≡ getD (set links slot (length ks + 1)) t 0 → s ≡ t
+  single-more : (s t : ℕ) → (getD (set links slot (length ks + 1)) s 0 ≡ 0 → ⊥) →
+      getD (set links slot (length ks + 1)) s 0 ≡ getD (set links slot (length ks + 1)) t 0 → s ≡ t
   single-more s t some d = by (link-cases s) (link-cases t)
     where
       by : LinkCase links slot (length ks + 1) s → LinkCase links slot (length ks + 1) t → s ≡ t

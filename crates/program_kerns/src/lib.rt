@@ -1,5 +1,5 @@
-// Kern values and kern indices, one for the other, after `pack_kerns` and `unpack_kerns` of ligkern/lang.rs (lines 624 to 654). What the Rust
-// changes in place becomes a second lent list.
+// Kern values and kern indices, one for the other, after `pack_kerns` and `unpack_kerns` of ligkern/lang.rs (lines 624
+// to 654). What the Rust changes in place becomes a second lent list.
 ghost use mathlib.Core.Path.{_≡_};
 ghost use mathlib.Core.List.{_++_};
 ghost use Prim.Native.Nat.{_≤_};
@@ -10,7 +10,8 @@ ghost use Rattle.words.specs.Lists.{tabulate};
 ghost use Rattle.lang.specs.Records.{field, isKind};
 ghost use Rattle.lang.specs.Checks.{programRefusal, orElse};
 ghost use Rattle.lang.specs.Answers.{roomRefusal};
-ghost use Rattle.program_kerns.specs.Kerns.{changed, kernAt, packed, packRefusal, kernPlace, PacksKerns, UnpacksKerns};
+ghost use Rattle.program_kerns.specs.Kerns.{changed, kernAt, packed, packRefusal, kernPlace, PacksKerns};
+ghost use Rattle.program_kerns.specs.Kerns.{UnpacksKerns};
 ghost use Rattle.program_kerns.specs.Sharing.{Linked};
 
 mod share;
@@ -40,7 +41,9 @@ fn pack_refusal(instructions: &[i32], kerns: &[i32], room: usize) -> u32
 
 // Number j of the program in which each kern index is the kern there, as its 32 bits.
 fn packed_word(instructions: &[i32], kerns: &[i32], j: usize) -> u32
-    ensures { λ r. ⌜ Word (changed (now (instructions .entry)) (isKind 1 (now (instructions .entry))) (pos 0) (kernAt (now (instructions .entry)) (now (kerns .entry))) j) r ⌝ }
+    ensures { λ r. ⌜ Word
+        (changed (now (instructions .entry)) (isKind 1 (now (instructions .entry))) (pos 0)
+        (kernAt (now (instructions .entry)) (now (kerns .entry))) j) r ⌝ }
 {
     if field_at(instructions, j / 4, 2) != 1 {
         return words::word_at(instructions, j);
@@ -56,7 +59,8 @@ fn packed_word(instructions: &[i32], kerns: &[i32], j: usize) -> u32
 
 fn write_packed(instructions: &[i32], kerns: &[i32], out: &mut [i32])
     requires { ⌜ length (now instructions) ≤ length (now out) ⌝ }
-    ensures { λ _. ⌜ now (out .exit) ≡ packed (now (instructions .entry)) (now (kerns .entry)) ++ drop (length (now (instructions .entry))) (now (out .entry)) ⌝ }
+    ensures { λ _. ⌜ now (out .exit) ≡ packed (now (instructions .entry)) (now (kerns .entry))
+        ++ drop (length (now (instructions .entry))) (now (out .entry)) ⌝ }
 {
     let mut j = 0;
     while j < instructions.len() {
@@ -67,7 +71,8 @@ fn write_packed(instructions: &[i32], kerns: &[i32], out: &mut [i32])
 
 // Each kern index becomes the kern there, or past the list a kern of zero. Answers the count of instructions.
 pub fn pack_kerns(instructions: &[i32], kerns: &[i32], out: &mut [i32]) -> Written
-    ensures { λ r. ⌜ PacksKerns (now (instructions .entry)) (now (kerns .entry)) (now (out .entry)) r (now (out .exit)) ⌝ }
+    ensures { λ r. ⌜ PacksKerns (now (instructions .entry)) (now (kerns .entry)) (now (out .entry)) r
+        (now (out .exit)) ⌝ }
 {
     words::zero::zero_i32(out);
     let refusal = pack_refusal(instructions, kerns, out.len());
@@ -80,7 +85,8 @@ pub fn pack_kerns(instructions: &[i32], kerns: &[i32], out: &mut [i32]) -> Writt
 
 // 1, 2 or 15: what is known before the kerns are counted.
 fn unpack_refusal(instructions: &[i32], room: usize) -> u32
-    ensures { λ r. ⌜ r ≡ orElse (programRefusal (now (instructions .entry))) (roomRefusal (length (now (instructions .entry))) room) ⌝ }
+    ensures { λ r. ⌜ r ≡ orElse (programRefusal (now (instructions .entry)))
+        (roomRefusal (length (now (instructions .entry))) room) ⌝ }
 {
     let program = program_refusal(instructions);
     if program != 0 {
@@ -92,7 +98,9 @@ fn unpack_refusal(instructions: &[i32], room: usize) -> u32
 // Number j of the program in which each kern value is its place in `kerns`, as its 32 bits.
 fn unpacked_word(instructions: &[i32], kerns: &[i32], links: &[u16; 65536], j: usize) -> u32
     requires { ⌜ Linked (now kerns) (now links) ⌝ }
-    ensures { λ r. ⌜ Word (changed (now (instructions .entry)) (isKind 0 (now (instructions .entry))) (pos 1) (λ i. pos (kernPlace (field (now (instructions .entry)) i 3) (now (kerns .entry)))) j) r ⌝ }
+    ensures { λ r. ⌜ Word
+        (changed (now (instructions .entry)) (isKind 0 (now (instructions .entry))) (pos 1)
+        (λ i. pos (kernPlace (field (now (instructions .entry)) i 3) (now (kerns .entry)))) j) r ⌝ }
 {
     if field_at(instructions, j / 4, 2) != 0 {
         return words::word_at(instructions, j);
@@ -109,7 +117,10 @@ fn unpacked_word(instructions: &[i32], kerns: &[i32], links: &[u16; 65536], j: u
 fn write_unpacked(instructions: &[i32], kerns: &[i32], links: &[u16; 65536], out: &mut [i32])
     requires { ⌜ Linked (now kerns) (now links) ⌝ }
     requires { ⌜ length (now instructions) ≤ length (now out) ⌝ }
-    ensures { λ _. ⌜ now (out .exit) ≡ tabulate (length (now (instructions .entry))) (changed (now (instructions .entry)) (isKind 0 (now (instructions .entry))) (pos 1) (λ i. pos (kernPlace (field (now (instructions .entry)) i 3) (now (kerns .entry))))) ++ drop (length (now (instructions .entry))) (now (out .entry)) ⌝ }
+    ensures { λ _. ⌜ now (out .exit) ≡ tabulate (length (now (instructions .entry)))
+        (changed (now (instructions .entry)) (isKind 0 (now (instructions .entry))) (pos 1)
+        (λ i. pos (kernPlace (field (now (instructions .entry)) i 3) (now (kerns .entry)))))
+        ++ drop (length (now (instructions .entry))) (now (out .entry)) ⌝ }
 {
     let mut j = 0;
     while j < instructions.len() {
@@ -118,10 +129,11 @@ fn write_unpacked(instructions: &[i32], kerns: &[i32], links: &[u16; 65536], out
     }
 }
 
-// Each kern value becomes its index in the list of kerns, which holds each value once, in the order in which they first appear.
-// Answers the count of kerns.
+// Each kern value becomes its index in the list of kerns, which holds each value once, in the order in which they first
+// appear. Answers the count of kerns.
 pub fn unpack_kerns(instructions: &[i32], out: &mut [i32], kerns: &mut [i32]) -> Written
-    ensures { λ r. ⌜ UnpacksKerns (now (instructions .entry)) (now (out .entry)) (now (kerns .entry)) r (now (out .exit)) (now (kerns .exit)) ⌝ }
+    ensures { λ r. ⌜ UnpacksKerns (now (instructions .entry)) (now (out .entry)) (now (kerns .entry)) r
+        (now (out .exit)) (now (kerns .exit)) ⌝ }
 {
     words::zero::zero_i32(out);
     words::zero::zero_i32(kerns);

@@ -1,6 +1,7 @@
-// Kern values shared: each stands once in the list of kerns. A value is found again by the bits of its word, the lowest first: the places are the nodes of a
-// digital search tree, and `links` holds its root in slot 0, and what is left and right of place p in slots 2 p + 1 and 2 p + 2, each one more than the
-// place, and 0 for none. Two values part at one of their 32 bits, so that a search compares at most 33 of them.
+// Kern values shared: each stands once in the list of kerns. A value is found again by the bits of its word, the lowest
+// first: the places are the nodes of a digital search tree, and `links` holds its root in slot 0, and what is left and
+// right of place p in slots 2 p + 1 and 2 p + 2, each one more than the place, and 0 for none. Two values part at one
+// of their 32 bits, so that a search compares at most 33 of them.
 ghost use mathlib.Core.Path.{_≡_};
 ghost use Prim.Native.Nat.{_+_, _<_, _≤_};
 ghost use lib.ListN.{length};
@@ -10,7 +11,8 @@ ghost use Rattle.program_kerns.specs.Kerns.{kernPlace};
 ghost use Rattle.program_kerns.specs.Sharing.{Linked, SearchEnds, Gathered, Counted};
 use lang::instruction::field_at;
 
-// The slot at which the search for the value with these 32 bits ends: its link is that of the value, or 0 where the value is not there.
+// The slot at which the search for the value with these 32 bits ends: its link is that of the value, or 0 where the
+// value is not there.
 fn slot_of(kerns: &[i32], links: &[u16; 65536], word: u32) -> usize
     requires { ⌜ Linked (now kerns) (now links) ⌝ }
     ensures { λ r. ⌜ SearchEnds (now (kerns .entry)) (now (links .entry)) word r ⌝ }
@@ -41,8 +43,8 @@ pub(crate) fn place_of(kerns: &[i32], links: &[u16; 65536], word: u32) -> usize
     link - 1
 }
 
-// The value of instruction i, if it is a kern value, is added to the `m` kerns that are there, unless it is among them. Answers how many kerns there
-// then are, one more than the list's length where it has no place left.
+// The value of instruction i, if it is a kern value, is added to the `m` kerns that are there, unless it is among them.
+// Answers how many kerns there then are, one more than the list's length where it has no place left.
 fn share_kern(
     instructions: &[i32],
     i: usize,
@@ -52,7 +54,8 @@ fn share_kern(
 ) -> usize
     requires { ⌜ i < 32767 ⌝ }
     requires { ⌜ Gathered (now instructions) i (length (now kerns)) (now kerns) (now links) m ⌝ }
-    ensures { λ r. ⌜ Counted (now (instructions .entry)) (i + 1) (length (now (kerns .entry))) (now (kerns .exit)) (now (links .exit)) r ⌝ }
+    ensures { λ r. ⌜ Counted (now (instructions .entry)) (i + 1) (length (now (kerns .entry)))
+        (now (kerns .exit)) (now (links .exit)) r ⌝ }
 {
     if field_at(instructions, i, 2) != 0 {
         return m;
@@ -67,12 +70,13 @@ fn share_kern(
     m + 1
 }
 
-// The kern values of a program, each once, in the order in which they first appear, into a list of zeros. Answers how many there are; where the list
-// has no place for them all, one more than its length.
+// The kern values of a program, each once, in the order in which they first appear, into a list of zeros. Answers how
+// many there are; where the list has no place for them all, one more than its length.
 pub(crate) fn gather(instructions: &[i32], kerns: &mut [i32], links: &mut [u16; 65536]) -> usize
     requires { ⌜ count (now instructions) ≤ 32767 ⌝ }
     requires { ⌜ Gathered (now instructions) 0 (length (now kerns)) (now kerns) (now links) 0 ⌝ }
-    ensures { λ r. ⌜ Counted (now (instructions .entry)) (count (now (instructions .entry))) (length (now (kerns .entry))) (now (kerns .exit)) (now (links .exit)) r ⌝ }
+    ensures { λ r. ⌜ Counted (now (instructions .entry)) (count (now (instructions .entry)))
+        (length (now (kerns .entry))) (now (kerns .exit)) (now (links .exit)) r ⌝ }
 {
     let mut m = 0;
     let mut i = 0;

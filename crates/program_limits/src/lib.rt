@@ -1,5 +1,6 @@
-// The refusals 3, 4, 5 and 15 of document 01, of what is lent beside the program: kerns, entries, passthrough, a design size and a list's room. Each is
-// a function whose result is the number where it holds and 0 where it does not. Every one is linear in what it is lent.
+// The refusals 3, 4, 5 and 15 of document 01, of what is lent beside the program: kerns, entries, passthrough, a design
+// size and a list's room. Each is a function whose result is the number where it holds and 0 where it does not. Every
+// one is linear in what it is lent.
 ghost use mathlib.Core.Path.{_≡_};
 ghost use Prim.Native.Nat.{_<_, _/_};
 ghost use lib.Dec.{eqb};
@@ -21,7 +22,8 @@ pub fn kerns_refusal(kerns: &[i32]) -> u32
 fn entry_fits(limit: u16, entries: &[i32], i: usize, seen: &[u8; 256]) -> bool
     requires { ⌜ i < length (now entries) / 2 ⌝ }
     ensures { λ r. ⌜ r ≡ both (within 255 (charAt (now (entries .entry)) i))
-        (both (within limit (entryAt (now (entries .entry)) i)) (eqb (getD (now (seen .entry)) (wordOf (charAt (now (entries .entry)) i)) 0) 0)) ⌝ }
+        (both (within limit (entryAt (now (entries .entry)) i))
+        (eqb (getD (now (seen .entry)) (wordOf (charAt (now (entries .entry)) i)) 0) 0)) ⌝ }
 {
     let c = words::word_at(entries, 2 * i);
     if 255 < c {

@@ -19,12 +19,15 @@ unfolding chainFrom
 chain-alike p p′ e zero n i = refl
 chain-alike p p′ e (suc most) n i = rw (e i, chain-alike p p′ e most n (onwardFrom n (p′ i .«next_instruction») i))
 
-first-alike : (p p′ : Program) → ((i : ℕ) → p i .«right_char» .0 ≡ p′ i .«right_char» .0) → (right : ℕ) (is : List ℕ) → firstFor p right is ≡ firstFor p′ right is
+first-alike : (p p′ : Program) → ((i : ℕ) → p i .«right_char» .0 ≡ p′ i .«right_char» .0) → (right : ℕ) (is : List ℕ) →
+    firstFor p right is ≡ firstFor p′ right is
 unfolding firstFor
 first-alike p p′ e right [] = refl
 first-alike p p′ e right (i ∷ is) = rw (e i, first-alike p p′ e right is)
 
-module _ (s : List ℤ) (xs : List Instruction) (size : length xs ≡ count s) (nexts : (i : ℕ) → recordAt xs i .«next_instruction» ≡ instructionAt s i .«next_instruction») (rights : (i : ℕ) → recordAt xs i .«right_char» .0 ≡ instructionAt s i .«right_char» .0) (refused : recordsRefusal (length xs) ≡ programRefusal s) where
+module _ (s : List ℤ) (xs : List Instruction) (size : length xs ≡ count s)
+    (nexts : (i : ℕ) → recordAt xs i .«next_instruction» ≡ instructionAt s i .«next_instruction»)
+    (rights : (i : ℕ) → recordAt xs i .«right_char» .0 ≡ instructionAt s i .«right_char» .0) (refused : recordsRefusal (length xs) ≡ programRefusal s) where
   chains : (entry : ℕ) → chain (length xs) (recordAt xs) entry ≡ chainOf s entry
   chains entry = chain-alike (recordAt xs) (instructionAt s) nexts (length xs) (length xs) entry ∙ rw size
 
@@ -33,10 +36,12 @@ module _ (s : List ℤ) (xs : List Instruction) (size : length xs ≡ count s) (
       first-alike (recordAt xs) (instructionAt s) rights right (chain (length xs) (recordAt xs) entry) ∙ ap (firstFor (instructionAt s) right) (chains entry)
 
   module _ (entry : ℤ) (out : List ℕ) where
-    answers : replyOf (recordsWalkRefusal xs entry (length out)) (pos (length (chain (length xs) (recordAt xs) (wordOf entry))) ∷ []) ≡ replyOf (walkRefusal s entry (length out)) (pos (length (chainOf s (wordOf entry))) ∷ [])
+    answers : replyOf (recordsWalkRefusal xs entry (length out)) (pos (length (chain (length xs) (recordAt xs) (wordOf entry))) ∷ [])
+        ≡ replyOf (walkRefusal s entry (length out)) (pos (length (chainOf s (wordOf entry))) ∷ [])
     answers = rw (refused, chains (wordOf entry))
 
-    lists : listOf (recordsWalkRefusal xs entry (length out)) 0 (length out) (chain (length xs) (recordAt xs) (wordOf entry)) ≡ listOf (walkRefusal s entry (length out)) 0 (length out) (chainOf s (wordOf entry))
+    lists : listOf (recordsWalkRefusal xs entry (length out)) 0 (length out) (chain (length xs) (recordAt xs) (wordOf entry))
+        ≡ listOf (walkRefusal s entry (length out)) 0 (length out) (chainOf s (wordOf entry))
     lists = rw (refused, chains (wordOf entry))
 
   pub alike : SameWalks s xs

@@ -13,7 +13,9 @@ use borrow.Author.Tests.{lt-ltb, le-ltb, ltb-true, ltb-false, le-leb}
 use Rattle.words.specs.Words.{wordOf}
 use Rattle.words.proofs.Lists.{length-tabulate, getD-tabulate}
 use Rattle.lang.specs.declared.operation.PostLigOperation.{PostLigOperation}
-use Rattle.lang.specs.declared.operation.PostLigOperation.the-variants.{RetainBothMoveNowhere, RetainBothMoveToInserted, RetainBothMoveToRight, RetainRightMoveToInserted, RetainRightMoveToRight, RetainLeftMoveNowhere, RetainLeftMoveToInserted, RetainNeitherMoveToInserted}
+use Rattle.lang.specs.declared.operation.PostLigOperation.the-variants.{RetainBothMoveNowhere, RetainBothMoveToInserted, RetainBothMoveToRight}
+use Rattle.lang.specs.declared.operation.PostLigOperation.the-variants.{RetainRightMoveToInserted, RetainRightMoveToRight, RetainLeftMoveNowhere}
+use Rattle.lang.specs.declared.operation.PostLigOperation.the-variants.{RetainLeftMoveToInserted, RetainNeitherMoveToInserted}
 use Rattle.lang.specs.declared.operation.Operation.{Operation}
 use Rattle.lang.specs.declared.operation.Operation.the-variants.{Kern, KernAtIndex, Ligature, EntrypointRedirect}
 use Rattle.lang.specs.declared.instruction.NextInstruction.{NextInstruction}
@@ -25,7 +27,8 @@ use Rattle.lang.specs.Records.{count, field, nextOf, operationOf, instructionAt
 use Rattle.lang.specs.Checks.{programRefusal, recordRefusal, sizeRefusal, orElse, unless}
 use Rattle.lang.proofs.Every.{every-all}
 use Rattle.program_records.specs.RecordChains.{zeroRecord, recordAt, recordsRefusal}
-use Rattle.program_records.specs.Agreement.{nextNumber, opByteOf, markByte, kindNumber, operandNumber, flat, skipFits, operationFits, InRange, markFits, eachRecord, recordsOf}
+use Rattle.program_records.specs.Agreement.{nextNumber, opByteOf, markByte, kindNumber, operandNumber, flat, skipFits, operationFits, InRange, markFits}
+use Rattle.program_records.specs.Agreement.{eachRecord, recordsOf}
 
 -- ---- the numbers are in fours
 
@@ -175,7 +178,15 @@ module _ (xs : List Instruction) (h : eachRecord InRange xs) where
   is-instruction i l =
       let x = recordAt xs i in
       let r = each-at InRange xs h i l in
-      rw (field-flat xs i 0 l (omega arith), field-flat xs i 1 l (omega arith), field-flat xs i 2 l (omega arith), field-flat xs i 3 l (omega arith), next-fits (x .«next_instruction») (r .next), le-leb (x .«right_char» .0) 255 (omega (arith, r .right)), operand-fits (x .operation) (r .operation))
+      rw (
+        field-flat xs i 0 l (omega arith),
+        field-flat xs i 1 l (omega arith),
+        field-flat xs i 2 l (omega arith),
+        field-flat xs i 3 l (omega arith),
+        next-fits (x .«next_instruction») (r .next),
+        le-leb (x .«right_char» .0) 255 (omega (arith, r .right)),
+        operand-fits (x .operation) (r .operation),
+      )
 
   size-refusal : sizeRefusal (flat xs) ≡ recordsRefusal (length xs)
   size-refusal =
@@ -184,7 +195,8 @@ module _ (xs : List Instruction) (h : eachRecord InRange xs) where
 
   record-refusal : recordRefusal (flat xs) ≡ 0
   record-refusal =
-      let all : every (count (flat xs)) (isInstruction (flat xs)) ≡ true = every-all (count (flat xs)) (isInstruction (flat xs)) (λ i l. is-instruction i (omega (arith, l, count-flat xs))) in
+      let all : every (count (flat xs)) (isInstruction (flat xs))
+      ≡ true = every-all (count (flat xs)) (isInstruction (flat xs)) (λ i l. is-instruction i (omega (arith, l, count-flat xs))) in
       ap (unless 2) all
 
   pub flat-refusal : programRefusal (flat xs) ≡ recordsRefusal (length xs)
@@ -196,11 +208,14 @@ module _ (xs : List Instruction) (h : eachRecord InRange xs) where
   module _ (m : eachRecord (λ x. markFits (x .operation)) xs) where
     record-reads : (i : ℕ) → i < length xs → instructionAt (flat xs) i ≡ recordAt xs i
     record-reads i l =
-        let operation : operationOf (wordOf (field (flat xs) i 2)) (field (flat xs) i 3) ≡ recordAt xs i .operation = rw (field-flat xs i 2 l (omega arith), field-flat xs i 3 l (omega arith)) (operation-reads (recordAt xs i .operation) (each-at InRange xs h i l .operation) (each-at (λ x. markFits (x .operation)) xs m i l)) in
+        let operation : operationOf (wordOf (field (flat xs) i 2)) (field (flat xs) i 3)
+        ≡ recordAt xs i .operation = rw (field-flat xs i 2 l (omega arith), field-flat xs i 3 l (omega arith))
+        (operation-reads (recordAt xs i .operation) (each-at InRange xs h i l .operation) (each-at (λ x. markFits (x .operation)) xs m i l)) in
         rw (← flat-next i, ← flat-right i, operation)
 
     pub flat-reads : recordsOf (flat xs) ≡ xs
     flat-reads =
         let size = length-tabulate (count (flat xs)) (instructionAt (flat xs)) in
         ext-getD zeroRecord (recordsOf (flat xs)) xs (size ∙ count-flat xs)
-        (λ i l. getD-tabulate (count (flat xs)) (instructionAt (flat xs)) i zeroRecord (omega (arith, l, size)) ∙ record-reads i (omega (arith, l, size, count-flat xs)))
+        (λ i l. getD-tabulate (count (flat xs)) (instructionAt (flat xs)) i zeroRecord (omega (arith, l, size))
+        ∙ record-reads i (omega (arith, l, size, count-flat xs)))

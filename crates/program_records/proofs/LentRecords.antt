@@ -56,17 +56,27 @@ module _ {M : Type 1} (𝓤 : URA M) (H : Heap 𝓤) (A : Atoms 𝓤) (W : Given
   -- a callee takes the slice and an index. A `&` is Copy: what the slice owns is kept
   pub lends : (κ : Lft) (q : Share) (b o : ℕ) (γ : GName) (xs : List Instruction) (at : ℕ) → at < 2 ^ 64
       → ent 𝓤 (⋆ 𝓤 H A (‵ (flft κ q) ∷ ‵ (Own b o γ xs κ) ∷ []))
-      (sep 𝓤 (sep 𝓤 (sep 𝓤 (sep 𝓤 (A .lft κ q) (emp 𝓤)) (sem 𝓤 H A (owns (ShrSlice (named 0) κ T.the-row ∷ usize ∷ []) (slice b o γ xs, (at, tt)) (sliceV b o γ xs ∷ [], (vint w64 at ∷ [], tt))))) (emp 𝓤)) (sem 𝓤 H A (Own b o γ xs κ)))
+      (sep 𝓤
+      (sep 𝓤
+      (sep 𝓤 (sep 𝓤 (A .lft κ q) (emp 𝓤))
+      (sem 𝓤 H A (owns (ShrSlice (named 0) κ T.the-row ∷ usize ∷ []) (slice b o γ xs, (at, tt)) (sliceV b o γ xs ∷ [], (vint w64 at ∷ [], tt)))))
+      (emp 𝓤)) (sem 𝓤 H A (Own b o γ xs κ)))
   lends κ q b o γ xs at fits =
       qed W (‵ (flft κ q) ∷ ‵ (Own b o γ xs κ) ∷ []) ∵
-      nothing ! $ move ! (1 ∷ 0 ∷ []) $ join ! $ move ! (1 ∷ []) $ use1 W (‵ (Own b o γ xs κ) ⊛ ‵ (Own b o γ xs κ)) (shr-slice-copy 𝓤 H A W (named 0) κ T.the-row .twice (slice b o γ xs) (sliceV b o γ xs ∷ [])) $ split ! $
+      nothing ! $ move ! (1 ∷ 0 ∷ []) $ join ! $ move ! (1 ∷ []) $
+      use1 W (‵ (Own b o γ xs κ) ⊛ ‵ (Own b o γ xs κ)) (shr-slice-copy 𝓤 H A W (named 0) κ T.the-row .twice (slice b o γ xs) (sliceV b o γ xs ∷ [])) $
+      split ! $
       -- [what the slice owns; the same; the token]
-      nothing ! $ owned ! usize (Is usize) (uint-makes 𝓤 H A W w64) at _ (refl, fits) $ fjoin ! $ move ! (1 ∷ 0 ∷ []) $ fjoin ! $ move ! (2 ∷ 0 ∷ []) $ join ! $ nothing ! $ move ! (1 ∷ 0 ∷ []) $ join ! $ frame ! $ done !
+      nothing ! $ owned ! usize (Is usize) (uint-makes 𝓤 H A W w64) at _ (refl, fits) $ fjoin ! $ move ! (1 ∷ 0 ∷ []) $ fjoin ! $ move ! (2 ∷ 0 ∷ []) $ join ! $
+      nothing ! $ move ! (1 ∷ 0 ∷ []) $ join ! $ frame ! $ done !
 
   -- at exit the token and what the slice owns are had, beside parameters that own facts alone, and a result that does
-  pub returned : (κ : Lft) (q : Share) (b o : ℕ) (γ : GName) (xs : List Instruction) (R : RattleType) → Makes 𝓤 H A R (Is R) → (r : R .Denot) (u : Val) → Is R r (u ∷ [])
+  pub returned : (κ : Lft) (q : Share) (b o : ℕ) (γ : GName) (xs : List Instruction) (R : RattleType) → Makes 𝓤 H A R (Is R) → (r : R .Denot) (u : Val) →
+      Is R r (u ∷ [])
       → (Rs : List RattleType) → Makess 𝓤 H A Rs (Ises Rs) → (a : Denots Rs) (vss : Valss Rs) → Are Rs (Ises Rs) a vss
-      → ent 𝓤 (⋆ 𝓤 H A (‵ (flft κ q) ∷ ‵ (Own b o γ xs κ) ∷ [])) (sep 𝓤 (sep 𝓤 (A .lft κ q) (emp 𝓤)) (sep 𝓤 (sem 𝓤 H A (fsep (Own b o γ xs κ) (owns Rs a vss))) (sem 𝓤 H A (R .own r (u ∷ [])))))
+      →
+      ent 𝓤 (⋆ 𝓤 H A (‵ (flft κ q) ∷ ‵ (Own b o γ xs κ) ∷ []))
+      (sep 𝓤 (sep 𝓤 (A .lft κ q) (emp 𝓤)) (sep 𝓤 (sem 𝓤 H A (fsep (Own b o γ xs κ) (owns Rs a vss))) (sem 𝓤 H A (R .own r (u ∷ [])))))
   returned κ q b o γ xs R mk r u is Rs mks a vss are =
       qed W (‵ (flft κ q) ∷ ‵ (Own b o γ xs κ) ∷ []) ∵ nothing ! $ move ! (1 ∷ 0 ∷ []) $ join ! $ frame ! $
       use0 W (‵ (owns Rs a vss)) (owns-make 𝓤 H A Rs (Ises Rs) mks a vss are) $ move ! (1 ∷ 0 ∷ []) $ fjoin ! $ frame ! $ owned ! R (Is R) mk r _ is $ done !

@@ -37,7 +37,8 @@ goes-to n program at h = step-on n program at at _ (rw (lt-ltb at n h))
 
 module _ (n : ℕ) (program : Program) (right entry at : ℕ) where
   -- a search that goes on is inside, at a record that is not for the right character
-  on-by : (t u : Bool) → ltb at n ≡ t → eqb (program at .«right_char» .0) right ≡ u → cond t (not u) false ≡ true → (at < n) × (program at .«right_char» .0 ≡ right → ⊥)
+  on-by : (t u : Bool) → ltb at n ≡ t → eqb (program at .«right_char» .0) right ≡ u → cond t (not u) false ≡ true →
+      (at < n) × (program at .«right_char» .0 ≡ right → ⊥)
   on-by true false e f h = (ltb-true at n e, eqb-false (program at .«right_char» .0) right f)
   on-by true true e f h = absurd (let z : _≡_ {A = ℕ} 0 1 = cc in omega arith)
   on-by false u e f h = absurd (let z : _≡_ {A = ℕ} 0 1 = cc in omega arith)
@@ -46,20 +47,23 @@ module _ (n : ℕ) (program : Program) (right entry at : ℕ) where
   search-on h = on-by (ltb at n) (eqb (program at .«right_char» .0) right) refl refl h
 
   -- it goes on to where the rule is the entry's still
-  pub search-later : searchesOn n (program at) at right ≡ true → firstFor program right (chain n program at) ≡ ruleIndex n program entry right → firstFor program right (chain n program (onwardOf (stepAt n program at))) ≡ ruleIndex n program entry right
+  pub search-later : searchesOn n (program at) at right ≡ true → firstFor program right (chain n program at) ≡ ruleIndex n program entry right →
+      firstFor program right (chain n program (onwardOf (stepAt n program at))) ≡ ruleIndex n program entry right
   search-later h inv =
       let s = search-on h in
       rule-later n program right entry at at _ (goes-to n program at (s .0)) inv (s .1)
 
   -- one that stops has found the rule
-  stops-by : (t u : Bool) → ltb at n ≡ t → eqb (program at .«right_char» .0) right ≡ u → cond t (not u) false ≡ false → firstFor program right (chain n program at) ≡ ruleIndex n program entry right → ruleWhere n at ≡ found (ruleIndex n program entry right)
+  stops-by : (t u : Bool) → ltb at n ≡ t → eqb (program at .«right_char» .0) right ≡ u → cond t (not u) false ≡ false →
+      firstFor program right (chain n program at) ≡ ruleIndex n program entry right → ruleWhere n at ≡ found (ruleIndex n program entry right)
   stops-by true true e f h inv =
       let l = ltb-true at n e in
       rw e (rule-here n program right entry at at _ (goes-to n program at l) inv (eqb-true (program at .«right_char» .0) right f))
   stops-by true false e f h inv = absurd (let z : _≡_ {A = ℕ} 0 1 = cc in omega arith)
   stops-by false u e f h inv = rw e (rule-nowhere n program right entry at (chain-end n program at (ltb-false at n e)) inv)
 
-  pub search-stops : searchesOn n (program at) at right ≡ false → firstFor program right (chain n program at) ≡ ruleIndex n program entry right → ruleWhere n at ≡ found (ruleIndex n program entry right)
+  pub search-stops : searchesOn n (program at) at right ≡ false → firstFor program right (chain n program at) ≡ ruleIndex n program entry right →
+      ruleWhere n at ≡ found (ruleIndex n program entry right)
   search-stops h inv = stops-by (ltb at n) (eqb (program at .«right_char» .0) right) refl refl h inv
 
 -- ---- a walk into a list
@@ -144,7 +148,8 @@ module _ (n : ℕ) (program : Program) (entry : ℤ) (out₀ out : List ℕ) (wa
     walked-more = goes-by (stepAt n program (walk .at)) walked-on
 
 -- the end of a walk
-module _ (xs : List Instruction) (entry : ℤ) (out₀ out : List ℕ) (walk : ChainWalk) (h : Walked (length xs) (recordAt xs) entry out₀ out walk) (past : length xs ≤ walk .at) where
+module _ (xs : List Instruction) (entry : ℤ) (out₀ out : List ℕ) (walk : ChainWalk) (h : Walked (length xs) (recordAt xs) entry out₀ out walk)
+    (past : length xs ≤ walk .at) where
   abbrev n : ℕ
   n = length xs
 
@@ -175,10 +180,13 @@ module _ (xs : List Instruction) (entry : ℤ) (out₀ out : List ℕ) (walk : C
       count-is : walk .count ≡ length (Chain (wordOf entry))
       count-is = h .reached ∙ ap length done-is
 
-      list-by : (m : ℕ) → roomRefusal (length (Chain (wordOf entry))) (length out₀) ≡ m → out′ ≡ listOf m 0 (length out₀) (take (length (Chain (wordOf entry))) out) → out′ ≡ listOf m 0 (length out₀) (Chain (wordOf entry))
+      list-by : (m : ℕ) → roomRefusal (length (Chain (wordOf entry))) (length out₀) ≡ m →
+          out′ ≡ listOf m 0 (length out₀) (take (length (Chain (wordOf entry))) out) → out′ ≡ listOf m 0 (length out₀) (Chain (wordOf entry))
       list-by zero z g =
           let a = h .written (omega (arith, ap length done-is, room-fits (length (Chain (wordOf entry))) (length out₀) z)) in
-          let front : take (length (Chain (wordOf entry))) out ≡ Chain (wordOf entry) = rw (a .appended, done-is) (take-at (Chain (wordOf entry)) (drop (length (Chain (wordOf entry))) out₀) (length (Chain (wordOf entry))) refl) in
+          let front : take (length (Chain (wordOf entry))) out
+          ≡ Chain (wordOf entry) = rw (a .appended, done-is)
+          (take-at (Chain (wordOf entry)) (drop (length (Chain (wordOf entry))) out₀) (length (Chain (wordOf entry))) refl) in
           rw front at g
       list-by (suc m) z g = g
 
@@ -186,7 +194,9 @@ module _ (xs : List Instruction) (entry : ℤ) (out₀ out : List ℕ) (walk : C
       taken =
           record {
             answer = rw (refusal-whole (length (Chain (wordOf entry))) (length out₀), e) (rw (e, h .kept, count-is) at (f .answer));
-            list = rw (refusal-whole (length (Chain (wordOf entry))) (length out₀), e) (list-by (roomRefusal (length (Chain (wordOf entry))) (length out₀)) refl (rw (e, h .kept, count-is) at (f .list)));
+            list =
+                rw (refusal-whole (length (Chain (wordOf entry))) (length out₀), e)
+                (list-by (roomRefusal (length (Chain (wordOf entry))) (length out₀)) refl (rw (e, h .kept, count-is) at (f .list)));
           }
 
     ends-by : (m : ℕ) → earlyRefusal n entry ≡ m → WalksRecords xs entry out₀ r out′

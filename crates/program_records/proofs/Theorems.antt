@@ -47,7 +47,8 @@ module _ (s : List ℤ) where
 
 pub agrees : Agrees
 agrees s e =
-    alike s (recordsOf s) (length-tabulate (count s) (instructionAt s)) (λ i. ap (λ (x : Instruction). x .«next_instruction») (read s i)) (λ i. ap (λ (x : Instruction). x .«right_char» .0) (read s i)) (refused s e)
+    alike s (recordsOf s) (length-tabulate (count s) (instructionAt s)) (λ i. ap (λ (x : Instruction). x .«next_instruction») (read s i))
+    (λ i. ap (λ (x : Instruction). x .«right_char» .0) (read s i)) (refused s e)
 
 -- ---- from records to numbers
 
@@ -70,12 +71,16 @@ mark-bytes : (op c : ℕ) → markFits (fromBytes op c)
 unfolding fromBytes ligature
 mark-bytes op c =
     mark-cond (ltb op 128) (ligature op c) (KernAtIndex (256 * (op - 128) + c))
-    (mark-cond (isStandard op) (lig (retains (keepsLeft op) (keepsRight op) (advance op)) c false) (lig RetainNeitherMoveToInserted c true) (λ e. let z : _≡_ {A = ℕ} 0 1 = cc in absurd (omega arith)) (λ _. refl)) tt
+    (mark-cond (isStandard op) (lig (retains (keepsLeft op) (keepsRight op) (advance op)) c false) (lig RetainNeitherMoveToInserted c true)
+    (λ e. let z : _≡_ {A = ℕ} 0 1 = cc in absurd (omega arith)) (λ _. refl)) tt
 
 pub only-on-lig : OnlyOnLig
 only-on-lig s i =
     let kind = wordOf (field s i 2) in
     let w = wordOf (field s i 3) in
-    mark-cond (eqb kind 1) (KernAtIndex (w % 65536)) (cond (eqb kind 2) (fromBytes (w / 256 % 128) (w % 256)) (cond (eqb kind 3) (EntrypointRedirect (w % 65536) (eqb (w / 65536 % 2) 1)) (Kern (record { 0 = field s i 3 })))) tt
-    (mark-cond (eqb kind 2) (fromBytes (w / 256 % 128) (w % 256)) (cond (eqb kind 3) (EntrypointRedirect (w % 65536) (eqb (w / 65536 % 2) 1)) (Kern (record { 0 = field s i 3 }))) (mark-bytes (w / 256 % 128) (w % 256))
+    mark-cond (eqb kind 1) (KernAtIndex (w % 65536))
+    (cond (eqb kind 2) (fromBytes (w / 256 % 128) (w % 256))
+    (cond (eqb kind 3) (EntrypointRedirect (w % 65536) (eqb (w / 65536 % 2) 1)) (Kern (record { 0 = field s i 3 })))) tt
+    (mark-cond (eqb kind 2) (fromBytes (w / 256 % 128) (w % 256))
+    (cond (eqb kind 3) (EntrypointRedirect (w % 65536) (eqb (w / 65536 % 2) 1)) (Kern (record { 0 = field s i 3 }))) (mark-bytes (w / 256 % 128) (w % 256))
     (mark-cond (eqb kind 3) (EntrypointRedirect (w % 65536) (eqb (w / 65536 % 2) 1)) (Kern (record { 0 = field s i 3 })) tt tt))

@@ -1,5 +1,6 @@
-// Chains over a lent slice of instruction records, after `instructions_for_entrypoint` of ligkern/lang.rs (lines 667 to 676 and 1005 to 1026).
-// The four functions that take the slice stand here, and each leaves its work to a function of `steps`, which takes a record or numbers.
+// Chains over a lent slice of instruction records, after `instructions_for_entrypoint` of ligkern/lang.rs (lines 667 to
+// 676 and 1005 to 1026). The four functions that take the slice stand here, and each leaves its work to a function of
+// `steps`, which takes a record or numbers.
 ghost use mathlib.Core.Path.{_≡_};
 ghost use lib.ListN.{length};
 ghost use Rattle.program_chain.specs.Chains.{stepAt, ruleIndex, found};
@@ -23,14 +24,16 @@ fn record_at(instructions: &[Instruction], at: usize) -> Instruction
 
 // The instruction at index `at` of a walk, and where the walk goes on.
 pub fn next_instruction(instructions: &[Instruction], at: usize) -> Next
-    ensures { λ r. ⌜ r ≡ stepAt (length (now (instructions .entry))) (recordAt (now (instructions .entry))) at ⌝ }
+    ensures { λ r. ⌜ r ≡ stepAt (length (now (instructions .entry))) (recordAt (now (instructions .entry)))
+        at ⌝ }
 {
     steps::step(instructions.len(), record_at(instructions, at), at)
 }
 
 // The first instruction for a right character on the chain from an entry.
 pub fn rule_index(instructions: &[Instruction], entry: usize, right: u8) -> FoundRule
-    ensures { λ r. ⌜ r ≡ found (ruleIndex (length (now (instructions .entry))) (recordAt (now (instructions .entry))) entry right) ⌝ }
+    ensures { λ r. ⌜ r ≡ found
+        (ruleIndex (length (now (instructions .entry))) (recordAt (now (instructions .entry))) entry right) ⌝ }
 {
     let n = instructions.len();
     let mut at = entry;

@@ -1,9 +1,11 @@
-// The work of a walk over records, on a record or on numbers: what is asked of the slice itself is asked in the crate's root.
+// The work of a walk over records, on a record or on numbers: what is asked of the slice itself is asked in the crate's
+// root.
 ghost use mathlib.Core.Path.{_≡_};
 ghost use Prim.Native.Nat.{_<_, _^_};
 ghost use Rattle.program_chain.specs.Chains.{stepAt};
 ghost use Rattle.program_records.specs.RecordChains.{zeroRecord};
-ghost use Rattle.program_records.specs.WalkSteps.{searchesOn, onwardOf, ruleWhere, earlyRefusal, refusalBy, startOf, stepIndex, movedBy, putBy, FinishesWalk};
+ghost use Rattle.program_records.specs.WalkSteps.{searchesOn, onwardOf, ruleWhere, earlyRefusal, refusalBy};
+ghost use Rattle.program_records.specs.WalkSteps.{startOf, stepIndex, movedBy, putBy, FinishesWalk};
 use lang::Written;
 use lang::instruction::Instruction;
 use lang::instruction::NextInstruction;

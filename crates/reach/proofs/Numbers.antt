@@ -57,7 +57,8 @@ module _ (n : ℕ) (m : List ℕ) where
       go zero h = refl
       go (suc k) h = rw (lt-leb (i + 1 + suc k) n h)
 
-  pub skip-counted : (next : NextInstruction) (k i r : ℕ) → next ≡ Skip k → (k ≡ 0 → ⊥) → k < 256 → i + 1 + k ≤ n → r ≡ marksFrom m (i + 1) k → numberOf r ≡ adjustedSkip n m next i
+  pub skip-counted : (next : NextInstruction) (k i r : ℕ) → next ≡ Skip k → (k ≡ 0 → ⊥) → k < 256 → i + 1 + k ≤ n → r ≡ marksFrom m (i + 1) k →
+      numberOf r ≡ adjustedSkip n m next i
   skip-counted next k i r e z l h c = go k z l h c ∙ sym (ap (λ (x : NextInstruction). adjustedSkip n m x i) e)
     where
       go : (k : ℕ) → (k ≡ 0 → ⊥) → k < 256 → i + 1 + k ≤ n → r ≡ marksFrom m (i + 1) k → numberOf r ≡ adjustedSkip n m (Skip k) i
@@ -70,7 +71,8 @@ module _ (n : ℕ) (m : List ℕ) where
 pub skip-bare : (s : List ℤ) (m : List ℕ) (i : ℕ) → getD m i 0 ≡ 0 → negsuc 0 ≡ skipOf s m i
 skip-bare s m i e = rw (eq-eqb (getD m i 0) 0 e)
 
-pub skip-marked : (s : List ℤ) (m : List ℕ) (i v : ℕ) (x : Instruction) → (getD m i 0 ≡ 0 → ⊥) → length m ≡ count s → x ≡ instructionAt s i → numberOf v ≡ adjustedSkip (length m) m (x .«next_instruction») i → numberOf v ≡ skipOf s m i
+pub skip-marked : (s : List ℤ) (m : List ℕ) (i v : ℕ) (x : Instruction) → (getD m i 0 ≡ 0 → ⊥) → length m ≡ count s → x ≡ instructionAt s i →
+    numberOf v ≡ adjustedSkip (length m) m (x .«next_instruction») i → numberOf v ≡ skipOf s m i
 skip-marked s m i v x h l e g =
     rw (ne-eqb (getD m i 0) 0 h)
     (g
@@ -122,7 +124,8 @@ module _ (s : List ℤ) (m p : List ℕ) where
   skip-number i v e = e ∙ sym (number-odd (λ (k : ℕ). pos (stateOf m p k)) (λ (k : ℕ). skipOf s m k) i)
 
   -- two more numbers are written
-  pub written-more : (d₀ d d₁ d₂ : List ℤ) (i w v : ℕ) → Filling (reachNumber s m p) d₀ d (2 * i) → 2 * i + 1 < length d₀ → w ≡ stateOf m p i → numberOf v ≡ skipOf s m i → d₁ ≡ set d (2 * i) (numberOf w) → d₂ ≡ set d₁ (2 * i + 1) (numberOf v) → Filling (reachNumber s m p) d₀ d₂ (2 * (i + 1))
+  pub written-more : (d₀ d d₁ d₂ : List ℤ) (i w v : ℕ) → Filling (reachNumber s m p) d₀ d (2 * i) → 2 * i + 1 < length d₀ → w ≡ stateOf m p i →
+      numberOf v ≡ skipOf s m i → d₁ ≡ set d (2 * i) (numberOf w) → d₂ ≡ set d₁ (2 * i + 1) (numberOf v) → Filling (reachNumber s m p) d₀ d₂ (2 * (i + 1))
   written-more d₀ d d₁ d₂ i w v h l e f g k =
       let n : 2 * i + 1 + 1 ≡ 2 * (i + 1) = omega arith in
       rw n at (filling-put (filling-put h (omega arith) g (state-number i w e)) l k (skip-number i v f))

@@ -1,5 +1,6 @@
-// Reach: which instructions a font's entries lead to, and their skips counted over those alone (TFtoPL 75), after `reachable_iter` of ligkern/lang.rs
-// (lines 656 to 665, 955 to 1003). The marks are a byte an instruction, 1 where it is reached, in a local array of as many as a program can have.
+// Reach: which instructions a font's entries lead to, and their skips counted over those alone (TFtoPL 75), after
+// `reachable_iter` of ligkern/lang.rs (lines 656 to 665, 955 to 1003). The marks are a byte an instruction, 1 where it
+// is reached, in a local array of as many as a program can have.
 ghost use mathlib.Core.Path.{_≡_};
 ghost use mathlib.Core.List.{_++_};
 ghost use Prim.Native.Nat.{_+_, _*_, _<_, _≤_};
@@ -7,7 +8,8 @@ ghost use lib.ListN.{length, drop};
 ghost use Rattle.words.specs.Words.{numberOf};
 ghost use Rattle.words.specs.Lists.{tabulate};
 ghost use Rattle.lang.specs.Records.{count};
-ghost use Rattle.reach.specs.Reach.{marksFrom, adjustedSkip, stateOf, skipOf, reachNumber, reachRefusal, Reaches};
+ghost use Rattle.reach.specs.Reach.{marksFrom, adjustedSkip, stateOf, skipOf, reachNumber, reachRefusal};
+ghost use Rattle.reach.specs.Reach.{Reaches};
 use lang::Written;
 use lang::instruction::NextInstruction;
 use lang::instruction::instruction_at;
@@ -29,7 +31,8 @@ fn reach_refusal(
     passthrough: &[u8],
     room: usize,
 ) -> u32
-    ensures { λ r. ⌜ r ≡ reachRefusal (now (instructions .entry)) (now (entries .entry)) «left_entry» (now (passthrough .entry)) room ⌝ }
+    ensures { λ r. ⌜ r ≡ reachRefusal (now (instructions .entry)) (now (entries .entry)) «left_entry»
+        (now (passthrough .entry)) room ⌝ }
 {
     let program = program_refusal(instructions);
     if program != 0 {
@@ -113,8 +116,11 @@ fn skip_of(instructions: &[i32], marks: &[u8], i: usize) -> u32
 
 // Two numbers an instruction, at the front of the output.
 fn write_reach(instructions: &[i32], marks: &[u8], passthrough: &[u8], out: &mut [i32])
-    requires { ⌜ (length (now marks) ≡ count (now instructions)) × (2 * count (now instructions) ≤ length (now out)) ⌝ }
-    ensures { λ _. ⌜ now (out .exit) ≡ tabulate (2 * count (now (instructions .entry))) (reachNumber (now (instructions .entry)) (now (marks .entry)) (now (passthrough .entry))) ++ drop (2 * count (now (instructions .entry))) (now (out .entry)) ⌝ }
+    requires { ⌜ (length (now marks) ≡ count (now instructions))
+        × (2 * count (now instructions) ≤ length (now out)) ⌝ }
+    ensures { λ _. ⌜ now (out .exit) ≡ tabulate (2 * count (now (instructions .entry)))
+        (reachNumber (now (instructions .entry)) (now (marks .entry)) (now (passthrough .entry)))
+        ++ drop (2 * count (now (instructions .entry))) (now (out .entry)) ⌝ }
 {
     let mut i = 0;
     while i < marks.len() {
@@ -131,7 +137,8 @@ fn places() -> [u8; 32767]
     [0u8; 32767]
 }
 
-// Two numbers an instruction: its state (0 unreachable, 1 reachable, 2 passthrough) and its adjusted skip or -1. Answers the count of instructions.
+// Two numbers an instruction: its state (0 unreachable, 1 reachable, 2 passthrough) and its adjusted skip or -1.
+// Answers the count of instructions.
 pub fn reachable_iter(
     instructions: &[i32],
     entries: &[i32],
@@ -139,7 +146,8 @@ pub fn reachable_iter(
     passthrough: &[u8],
     out: &mut [i32],
 ) -> Written
-    ensures { λ r. ⌜ Reaches (now (instructions .entry)) (now (entries .entry)) «left_entry» (now (passthrough .entry)) (now (out .entry)) r (now (out .exit)) ⌝ }
+    ensures { λ r. ⌜ Reaches (now (instructions .entry)) (now (entries .entry)) «left_entry»
+        (now (passthrough .entry)) (now (out .entry)) r (now (out .exit)) ⌝ }
 {
     words::zero::zero_i32(out);
     let refusal = reach_refusal(instructions, entries, left_entry, passthrough, out.len());

@@ -24,7 +24,8 @@ pub marked-none : (n : ℕ) (es : List ℤ) (m : List ℕ) → m ≡ replicate n
 unfolding entriesMarked
 marked-none n es m e = e ∙ ap (λ (k : ℕ). replicate k 0) (sym (ap length e ∙ length-replicate n 0))
 
-pub marked-more : (n : ℕ) (es : List ℤ) (k w : ℕ) (m m′ : List ℕ) → m ≡ entriesMarked n es k → w ≡ wordOf (entryAt es k) → m′ ≡ set m w 1 → m′ ≡ entriesMarked n es (k + 1)
+pub marked-more : (n : ℕ) (es : List ℤ) (k w : ℕ) (m m′ : List ℕ) → m ≡ entriesMarked n es k → w ≡ wordOf (entryAt es k) → m′ ≡ set m w 1 →
+    m′ ≡ entriesMarked n es (k + 1)
 unfolding entriesMarked
 marked-more n es k w m m′ e f g = rw add-one (g ∙ rw (e, f))
 
@@ -33,7 +34,8 @@ unfolding entriesMarked
 length-entries n es zero = length-replicate n 0
 length-entries n es (suc k) = length-set (entriesMarked n es k) (wordOf (entryAt es k)) 1 ∙ length-entries n es k
 
-pub marked-all : (n n′ : ℕ) (es : List ℤ) (k : ℕ) (m : List ℕ) → m ≡ entriesMarked n es k → n ≡ n′ → k ≤ length es / 2 → length es / 2 ≤ k → m ≡ entriesMarked n′ es (length es / 2)
+pub marked-all : (n n′ : ℕ) (es : List ℤ) (k : ℕ) (m : List ℕ) → m ≡ entriesMarked n es k → n ≡ n′ → k ≤ length es / 2 → length es / 2 ≤ k →
+    m ≡ entriesMarked n′ es (length es / 2)
 marked-all n n′ es k m e f h l =
     let g : k ≡ length es / 2 = omega arith in
     e ∙ rw (f, g)
@@ -61,17 +63,20 @@ step-ends n program i r h e g =
     let z : _≡_ {A = ℕ} 0 1 = cc (step-at n program i h) in
     omega arith
 
-pub step-onward : (n : ℕ) (program : Program) (i j on : ℕ) (r : Next) → i < n → r ≡ stepAt n program i → r ≡ At j on → on ≡ onwardFrom n (program i .«next_instruction») i
+pub step-onward : (n : ℕ) (program : Program) (i j on : ℕ) (r : Next) → i < n → r ≡ stepAt n program i → r ≡ At j on →
+    on ≡ onwardFrom n (program i .«next_instruction») i
 step-onward n program i j on r h e g = cc (step-at n program i h)
 
 pub pass-bare : (s : List ℤ) (m : List ℕ) (i : ℕ) → getD m i 0 ≡ 0 → m ≡ onwardMarked s m i
 pass-bare s m i e = rw (eq-eqb (getD m i 0) 0 e)
 
-pub pass-marked : (s : List ℤ) (m m′ : List ℕ) (i on : ℕ) → (getD m i 0 ≡ 0 → ⊥) → on ≡ onwardFrom (count s) (instructionAt s i .«next_instruction») i → m′ ≡ set m on 1 → m′ ≡ onwardMarked s m i
+pub pass-marked : (s : List ℤ) (m m′ : List ℕ) (i on : ℕ) → (getD m i 0 ≡ 0 → ⊥) → on ≡ onwardFrom (count s) (instructionAt s i .«next_instruction») i →
+    m′ ≡ set m on 1 → m′ ≡ onwardMarked s m i
 pass-marked s m m′ i on h e g = rw (ne-eqb (getD m i 0) 0 h) (g ∙ ap (λ (k : ℕ). set m k 1) e)
 
 module _ (s es : List ℤ) (left : ℤ) where
-  pub pass-none : (m₀ m₁ m₂ : List ℕ) → length m₀ ≡ count s → m₁ ≡ entriesMarked (length m₀) es (length es / 2) → m₂ ≡ leftMarked (length m₁) left m₁ → m₂ ≡ marksAfter s es left 0
+  pub pass-none : (m₀ m₁ m₂ : List ℕ) → length m₀ ≡ count s → m₁ ≡ entriesMarked (length m₀) es (length es / 2) → m₂ ≡ leftMarked (length m₁) left m₁ →
+      m₂ ≡ marksAfter s es left 0
   unfolding marksAfter
   pass-none m₀ m₁ m₂ l e g =
       let a : m₁ ≡ entriesMarked (count s) es (length es / 2) = e ∙ ap (λ (n : ℕ). entriesMarked n es (length es / 2)) l in

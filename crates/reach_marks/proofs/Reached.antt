@@ -73,7 +73,9 @@ module _ (n : ℕ) (program : Program) where
   chain-has : (i : ℕ) → i < n → List·Memᴰ i (chain n program i)
   chain-has i h = rw (chain-step n program i h) (List·Memᴰ·head refl)
 
-  closed-by : (most i k : ℕ) → n ≤ i + suc most → (t : Bool) → ltb i n ≡ t → (List·Memᴰ k (chainFrom most n program (next i)) → List·Memᴰ (next k) (chainFrom most n program (next i))) → List·Memᴰ k (cond t (i ∷ chainFrom most n program (next i)) []) → next k < n → List·Memᴰ (next k) (cond t (i ∷ chainFrom most n program (next i)) [])
+  closed-by : (most i k : ℕ) → n ≤ i + suc most → (t : Bool) → ltb i n ≡ t →
+      (List·Memᴰ k (chainFrom most n program (next i)) → List·Memᴰ (next k) (chainFrom most n program (next i))) →
+      List·Memᴰ k (cond t (i ∷ chainFrom most n program (next i)) []) → next k < n → List·Memᴰ (next k) (cond t (i ∷ chainFrom most n program (next i)) [])
   closed-by most i k f false t r m h = absurd (List·Memᴰ·not-nil m)
   closed-by most i k f true t r (List·Memᴰ·tail m) h = List·Memᴰ·tail (r m)
   closed-by most i k f true t r (List·Memᴰ·head q) h =
@@ -105,7 +107,8 @@ module _ (s es : List ℤ) (left : ℤ) where
     is : i ≡ wordOf (entryAt es place)
     inside : i < count s
 
-  entered-by : (k i : ℕ) → ((i ≡ wordOf (entryAt es k)) × (i < length (entriesMarked (count s) es k))) ⊎ Marked (entriesMarked (count s) es k) i → (Marked (entriesMarked (count s) es k) i → Entered k i) → Entered (suc k) i
+  entered-by : (k i : ℕ) → ((i ≡ wordOf (entryAt es k)) × (i < length (entriesMarked (count s) es k))) ⊎ Marked (entriesMarked (count s) es k) i →
+      (Marked (entriesMarked (count s) es k) i → Entered k i) → Entered (suc k) i
   entered-by k i (inl e) r = record { place = k; before = omega arith; is = e .0; inside = omega (arith, e .1, length-entries (count s) es k) }
   entered-by k i (inr h) r = let d = r h in record { place = d .place; before = omega (arith, d .before); is = d .is; inside = d .inside }
 
@@ -115,7 +118,8 @@ module _ (s es : List ℤ) (left : ℤ) where
   entered-only (suc k) i h =
       entered-by k i (set-either (entriesMarked (count s) es k) (wordOf (entryAt es k)) i h) (entered-only k i)
 
-  marked-by : (k j : ℕ) → (j ≡ k) ⊎ (j < k) → wordOf (entryAt es j) < count s → (j < k → Marked (entriesMarked (count s) es k) (wordOf (entryAt es j))) → Marked (set (entriesMarked (count s) es k) (wordOf (entryAt es k)) 1) (wordOf (entryAt es j))
+  marked-by : (k j : ℕ) → (j ≡ k) ⊎ (j < k) → wordOf (entryAt es j) < count s → (j < k → Marked (entriesMarked (count s) es k) (wordOf (entryAt es j))) →
+      Marked (set (entriesMarked (count s) es k) (wordOf (entryAt es k)) 1) (wordOf (entryAt es j))
   marked-by k j (inl e) h r = rw e (set-marks (entriesMarked (count s) es k) (wordOf (entryAt es k)) (rw (length-entries (count s) es k) (rw e at h)))
   marked-by k j (inr l) h r = set-keeps (entriesMarked (count s) es k) (wordOf (entryAt es k)) (wordOf (entryAt es j)) (r l)
 
@@ -175,7 +179,8 @@ module _ (s es : List ℤ) (left : ℤ) where
       by true = h
       by false = set-keeps (marksAfter s es left k) (on k) i h
 
-  stays-by : (k l i : ℕ) → (k ≡ suc l) ⊎ (k < suc l) → Marked (marksAfter s es left k) i → (k ≤ l → Marked (marksAfter s es left l) i) → Marked (marksAfter s es left (suc l)) i
+  stays-by : (k l i : ℕ) → (k ≡ suc l) ⊎ (k < suc l) → Marked (marksAfter s es left k) i → (k ≤ l → Marked (marksAfter s es left l) i) →
+      Marked (marksAfter s es left (suc l)) i
   stays-by k l i (inl e) h r = rw e at h
   stays-by k l i (inr g) h r = stays-one l i (r (omega arith))
 
@@ -202,7 +207,8 @@ module _ (s es : List ℤ) (left : ℤ) where
   chained-on k i c e h =
       record { start = c .start; starts = c .starts; on = rw e (closed (count s) (instructionAt s) (count s) (c .start) k (omega arith) (c .on) (rw e at h)) }
 
-  only-by : (k i : ℕ) → ((i ≡ on k) × (i < length (marksAfter s es left k))) ⊎ Marked (marksAfter s es left k) i → (Marked (marksAfter s es left k) k) → ((j : ℕ) → Marked (marksAfter s es left k) j → OnChain s es left j) → OnChain s es left i
+  only-by : (k i : ℕ) → ((i ≡ on k) × (i < length (marksAfter s es left k))) ⊎ Marked (marksAfter s es left k) i → (Marked (marksAfter s es left k) k) →
+      ((j : ℕ) → Marked (marksAfter s es left k) j → OnChain s es left j) → OnChain s es left i
   only-by k i (inl e) m r = chained-on k i (r k m) (e .0) (rw (length-marks s es left k) at (e .1))
   only-by k i (inr h) m r = r i h
 
@@ -211,7 +217,8 @@ module _ (s es : List ℤ) (left : ℤ) where
   marked-only zero i h = chained i (first-only i h)
   marked-only (suc k) i h = by (marked-only k) (eqb (getD (marksAfter s es left k) k 0) 0) refl h
     where
-      by : ((j : ℕ) → Marked (marksAfter s es left k) j → OnChain s es left j) → (t : Bool) → eqb (getD (marksAfter s es left k) k 0) 0 ≡ t → Marked (cond t (marksAfter s es left k) (set (marksAfter s es left k) (on k) 1)) i → OnChain s es left i
+      by : ((j : ℕ) → Marked (marksAfter s es left k) j → OnChain s es left j) → (t : Bool) → eqb (getD (marksAfter s es left k) k 0) 0 ≡ t →
+          Marked (cond t (marksAfter s es left k) (set (marksAfter s es left k) (on k) 1)) i → OnChain s es left i
       by r true t m = r i m
       by r false t m = only-by k i (set-either (marksAfter s es left k) (on k) i m) (eqb-false (getD (marksAfter s es left k) k 0) 0 t) r
 
@@ -237,7 +244,8 @@ module _ (s es : List ℤ) (left : ℤ) where
   chain-all zero i k r m = absurd (List·Memᴰ·not-nil m)
   chain-all (suc most) i k r m = by (chain-all most (on i) k) (ltb i (count s)) refl m
     where
-      by : (InTime (on i) → List·Memᴰ k (chainFrom most (count s) (instructionAt s) (on i)) → Done k) → (t : Bool) → ltb i (count s) ≡ t → List·Memᴰ k (cond t (i ∷ chainFrom most (count s) (instructionAt s) (on i)) []) → Done k
+      by : (InTime (on i) → List·Memᴰ k (chainFrom most (count s) (instructionAt s) (on i)) → Done k) → (t : Bool) → ltb i (count s) ≡ t →
+          List·Memᴰ k (cond t (i ∷ chainFrom most (count s) (instructionAt s) (on i)) []) → Done k
       by g false t m′ = absurd (List·Memᴰ·not-nil m′)
       by g true t (List·Memᴰ·head q) = rw q (ltb-true i (count s) t, r (ltb-true i (count s) t))
       by g true t (List·Memᴰ·tail m′) = g (next-in-time i (ltb-true i (count s) t) r) m′

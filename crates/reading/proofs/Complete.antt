@@ -7,7 +7,9 @@ use mathlib.Core.List.{List, [], _∷_}
 use mathlib.Core.Option.{Option, none, some, Option·map, Option·some-ne-none}
 use Prim.Native.Nat.{ℕ, suc}
 use lib.ListN.{length}
-use Rattle.lang.specs.declared.operation.PostLigOperation.the-variants.{RetainBothMoveNowhere, RetainBothMoveToInserted, RetainBothMoveToRight, RetainRightMoveToInserted, RetainRightMoveToRight, RetainLeftMoveNowhere, RetainLeftMoveToInserted, RetainNeitherMoveToInserted}
+use Rattle.lang.specs.declared.operation.PostLigOperation.the-variants.{RetainBothMoveNowhere, RetainBothMoveToInserted, RetainBothMoveToRight}
+use Rattle.lang.specs.declared.operation.PostLigOperation.the-variants.{RetainRightMoveToInserted, RetainRightMoveToRight, RetainLeftMoveNowhere}
+use Rattle.lang.specs.declared.operation.PostLigOperation.the-variants.{RetainLeftMoveToInserted, RetainNeitherMoveToInserted}
 use Rattle.reading.specs.Items.{Left, Rule, free, kerned, lig, Rules, plain, Head, at, head, Out}
 use Rattle.reading.specs.Reading.{read, done, NeverEnds}
 use Rattle.reading.specs.Depth.{Res, Finished, Pair, compBy, raised, thenRight, waitsBoth, waitsBy}
@@ -30,7 +32,8 @@ map-none g none e = refl
 map-none g (some a) e = cc
 
 module _ (f : Finished) where
-  waits-both : (l : Left) (r c : ℕ) (o : Option Res) → f l c ≡ o → thenRight f r (Option·map (raised false true) o) ≡ none → f (waitsBoth l c r o .left) (waitsBoth l c r o .right) ≡ none
+  waits-both : (l : Left) (r c : ℕ) (o : Option Res) → f l c ≡ o → thenRight f r (Option·map (raised false true) o) ≡ none →
+      f (waitsBoth l c r o .left) (waitsBoth l c r o .right) ≡ none
   waits-both l r c none e h = e
   waits-both l r c (some p) e h = rw (← code-raised false true p) (map-none _ _ h)
 
@@ -52,9 +55,12 @@ module _ (rule : Rules) (ps : List Ruled) (c : Covers rule ps) where
   unfinished-waits p e = waits-by (finished rule ps) (rule (p .left) (p .right)) (p .left) (p .right) (once-more rule ps c (p .left) (p .right) ∙ e)
 
   pub unfinished-never : (l : Left) (r : ℕ) → finished rule ps l r ≡ none → NeverEnds rule l r
-  unfinished-never l r e = never rule (finished rule ps) (λ l r q e. (suc (length ps), e)) (λ p. finished rule ps (p .left) (p .right) ≡ none) (λ p s. let w = unfinished-waits p s in (w .for, w .waits, w .open-still)) (record { left = l; right = r }) e
+  unfinished-never l r e =
+      never rule (finished rule ps) (λ l r q e. (suc (length ps), e)) (λ p. finished rule ps (p .left) (p .right) ≡ none)
+      (λ p s. let w = unfinished-waits p s in (w .for, w .waits, w .open-still)) (record { left = l; right = r }) e
 
-  pub complete : (n : ℕ) (l : Left) (r : ℕ) {os : List Out} {u : Head} → read rule n (head l) (plain r ∷ []) ≡ done os u → (q : Res) × (finished rule ps l r ≡ some q) × (os ≡ q .outs) × (u ≡ at (q .last))
+  pub complete : (n : ℕ) (l : Left) (r : ℕ) {os : List Out} {u : Head} → read rule n (head l) (plain r ∷ []) ≡ done os u →
+      (q : Res) × (finished rule ps l r ≡ some q) × (os ≡ q .outs) × (u ≡ at (q .last))
   complete n l r {os} {u} e = go (finished rule ps l r) refl
     where
       go : (o : Option Res) → finished rule ps l r ≡ o → (q : Res) × (finished rule ps l r ≡ some q) × (os ≡ q .outs) × (u ≡ at (q .last))

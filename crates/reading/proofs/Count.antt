@@ -32,7 +32,8 @@ module _ {A : Type 0} (s t : A → Bool) where
   agree-cons e g y (inl i) = ap s i ∙ e ∙ ap t (sym i)
   agree-cons e g y (inr m) = g y m
 
-  less-cons : {x : A} {xs : List A} {m n : ℕ} → s x ≡ t x → (count s xs < count t xs → m < n) → (count s xs < count t xs) ⊎ ((y : A) → List·Memᴰ y xs → s y ≡ t y) → (m < n) ⊎ ((y : A) → List·Memᴰ y (x ∷ xs) → s y ≡ t y)
+  less-cons : {x : A} {xs : List A} {m n : ℕ} → s x ≡ t x → (count s xs < count t xs → m < n) →
+      (count s xs < count t xs) ⊎ ((y : A) → List·Memᴰ y xs → s y ≡ t y) → (m < n) ⊎ ((y : A) → List·Memᴰ y (x ∷ xs) → s y ≡ t y)
   less-cons e k (inl h) = inl (k h)
   less-cons e k (inr g) = inr (λ y m. agree-cons e g y (List·Memᴰ·cases-cons m))
 

@@ -4,7 +4,8 @@
 -- Assumes nothing.
 use mathlib.Core.Path.{_≡_, refl, sym, _∙_, ap}
 use mathlib.Core.Bool.{Bool, true, false, false≢true}
-use mathlib.Core.List.{List, [], _∷_, _++_, List·Memᴰ, List·Memᴰ·head, List·Memᴰ·tail, List·Memᴰ·cases-cons, List·Memᴰ·append-cases, List·Memᴰ·eq-of-singleton, List·Memᴰ·not-nil, Memᴰ·cast, Memᴰ·append-left, Memᴰ·append-right}
+use mathlib.Core.List.{List, [], _∷_, _++_, List·Memᴰ, List·Memᴰ·head, List·Memᴰ·tail, List·Memᴰ·cases-cons, List·Memᴰ·append-cases, List·Memᴰ·eq-of-singleton}
+use mathlib.Core.List.{List·Memᴰ·not-nil, Memᴰ·cast, Memᴰ·append-left, Memᴰ·append-right}
 use mathlib.Core.Logic.{_⊎_, inl, inr, ⊎-elim}
 use mathlib.Core.Option.{Option, none, some}
 use Prim.Native.Nat.{ℕ, zero, suc}
@@ -17,7 +18,8 @@ use Rattle.reading.specs.Cycles.{followed, Meets, OnCycle, OnCyclesApart
 use Rattle.reading.proofs.Right.{right}
 use Rattle.reading.proofs.Covers.{Covers}
 use Rattle.reading.proofs.Never.{not-both}
-use Rattle.reading.proofs.LoopList.{in-member, member-in, followed-last, Leads, StopsAt, earlier, again, Stops, stops-first, Open, us, all-open, open-on, within-us}
+use Rattle.reading.proofs.LoopList.{in-member, member-in, followed-last, Leads, StopsAt, earlier, again, Stops, stops-first, Open, us, all-open, open-on}
+use Rattle.reading.proofs.LoopList.{within-us}
 
 -- ---- following
 
@@ -86,7 +88,8 @@ module _ (next : Pair → Pair) (n : ℕ) where
   all-cycles [] met s q m = absurd (List·Memᴰ·not-nil m)
   all-cycles (v ∷ vs) met s q m =
       let t = s met v (List·Memᴰ·head refl) in
-      ⊎-elim (found-cycle next (t .leads) (t .how)) (all-cycles vs (walk next n met [] (v .pair) .own ++ met) (rest s) q) (List·Memᴰ·append-cases (walk next n met [] (v .pair) .found) m)
+      ⊎-elim (found-cycle next (t .leads) (t .how)) (all-cycles vs (walk next n met [] (v .pair) .own ++ met) (rest s) q)
+      (List·Memᴰ·append-cases (walk next n met [] (v .pair) .found) m)
 
   -- no walk finds a pair of an earlier one
   all-new : (vs : List Ruled) (met : List Pair) → Stop vs → (q : Pair) → List·Memᴰ q (walks next n met vs) → List·Memᴰ q met → ⊥
@@ -94,11 +97,14 @@ module _ (next : Pair → Pair) (n : ℕ) where
   all-new [] met s q m k = List·Memᴰ·not-nil m
   all-new (v ∷ vs) met s q m k =
       let w = walk next n met [] (v .pair) in
-      ⊎-elim (λ a. found-new next (s met v (List·Memᴰ·head refl) .how) a k) (λ a. all-new vs (w .own ++ met) (rest s) q a (Memᴰ·append-right (w .own) k)) (List·Memᴰ·append-cases (w .found) m)
+      ⊎-elim (λ a. found-new next (s met v (List·Memᴰ·head refl) .how) a k) (λ a. all-new vs (w .own ++ met) (rest s) q a (Memᴰ·append-right (w .own) k))
+      (List·Memᴰ·append-cases (w .found) m)
 
-  apart-by : {x : Pair} {met : List Pair} {w : Walked} {qs : List Pair} → StopsAt met w x → Closed next (w .own ++ met) → ((q : Pair) → List·Memᴰ q qs → List·Memᴰ q (w .own ++ met) → ⊥) → OnCyclesApart next qs → OnCyclesApart next (w .found ++ qs)
+  apart-by : {x : Pair} {met : List Pair} {w : Walked} {qs : List Pair} → StopsAt met w x → Closed next (w .own ++ met) →
+      ((q : Pair) → List·Memᴰ q qs → List·Memᴰ q (w .own ++ met) → ⊥) → OnCyclesApart next qs → OnCyclesApart next (w .found ++ qs)
   apart-by (earlier k i) c f a = rw i a
-  apart-by {x} {met} {w} {qs} (again j k i) c f a = rw i (one (λ q m t. f q m (Memᴰ·cast (sym (t .met)) (stays next c (t .times) x (Memᴰ·append-left met k)))) a)
+  apart-by {x} {met} {w} {qs} (again j k i) c f a =
+      rw i (one (λ q m t. f q m (Memᴰ·cast (sym (t .met)) (stays next c (t .times) x (Memᴰ·append-left met k)))) a)
 
   all-apart : (vs : List Ruled) (met : List Pair) → Stop vs → Closed next met → OnCyclesApart next (walks next n met vs)
   unfolding walks
@@ -113,7 +119,8 @@ module _ (next : Pair → Pair) (n : ℕ) where
   abbrev Listed : Pair → List Pair → Type 0
   Listed p qs = (q : Pair) × List·Memᴰ q qs × Meets next p q
 
-  listed-by : (qs : List Pair) {x p : Pair} {met : List Pair} {w : Walked} → StopsAt met w x → Leads next (w .own) x → Closed next met → OnCycle next p → (List·Memᴰ p met → ⊥) → List·Memᴰ p (w .own) → Listed p (w .found ++ qs)
+  listed-by : (qs : List Pair) {x p : Pair} {met : List Pair} {w : Walked} → StopsAt met w x → Leads next (w .own) x → Closed next met → OnCycle next p →
+      (List·Memᴰ p met → ⊥) → List·Memᴰ p (w .own) → Listed p (w .found ++ qs)
   listed-by qs {x} {p} (earlier k i) l c o f m =
       let t = l .to p m in
       let b = comes-round next o (suc (t .0)) in
@@ -123,7 +130,8 @@ module _ (next : Pair → Pair) (n : ℕ) where
       (x, rw i (List·Memᴰ·head refl), record { times = suc (t .0); met = t .1 })
 
   -- from a pair on a cycle that is walked from, and was met by no walk before, a listed pair is met
-  all-found : (vs : List Ruled) (met : List Pair) → Stop vs → Closed next met → (v : Ruled) → List·Memᴰ v vs → OnCycle next (v .pair) → (List·Memᴰ (v .pair) met → ⊥) → Listed (v .pair) (walks next n met vs)
+  all-found : (vs : List Ruled) (met : List Pair) → Stop vs → Closed next met → (v : Ruled) → List·Memᴰ v vs → OnCycle next (v .pair) →
+      (List·Memᴰ (v .pair) met → ⊥) → Listed (v .pair) (walks next n met vs)
   unfolding walks
   all-found [] met s c v m o f = absurd (List·Memᴰ·not-nil m)
   all-found (u ∷ vs) met s c v m o f = by (member (v .pair) (w .own)) refl (λ k g. all-found vs (w .own ++ met) (rest s) (closed-more next c t) v k o g)
@@ -134,7 +142,9 @@ module _ (next : Pair → Pair) (n : ℕ) where
       t : Stops next met [] (u .pair) w
       t = s met u (List·Memᴰ·head refl)
 
-      by : (b : Bool) → member (v .pair) (w .own) ≡ b → (List·Memᴰ v vs → (List·Memᴰ (v .pair) (w .own ++ met) → ⊥) → Listed (v .pair) (walks next n (w .own ++ met) vs)) → Listed (v .pair) (w .found ++ walks next n (w .own ++ met) vs)
+      by : (b : Bool) → member (v .pair) (w .own) ≡ b →
+          (List·Memᴰ v vs → (List·Memᴰ (v .pair) (w .own ++ met) → ⊥) → Listed (v .pair) (walks next n (w .own ++ met) vs)) →
+          Listed (v .pair) (w .found ++ walks next n (w .own ++ met) vs)
       by true i later = listed-by (walks next n (w .own ++ met) vs) (t .how) (t .leads) c o f (member-in (v .pair) (w .own) i)
       by false i later =
           let new : List·Memᴰ (v .pair) (w .own ++ met) → ⊥ = λ k. ⊎-elim (λ a. false≢true (sym i ∙ in-member a)) f (List·Memᴰ·append-cases (w .own) k) in
@@ -154,7 +164,9 @@ module _ (rule : Rules) (ps : List Ruled) (c : Covers rule ps) where
           absurd (not-both (h (t .0)) (t .1))
 
   all-stop : Stop (waits rule (finished rule ps)) (suc (length (us rule ps c))) (us rule ps c)
-  all-stop met v m = stops-first (Open (finished rule ps)) (waits rule (finished rule ps)) (open-on rule ps c) (us rule ps c) (within-us rule ps c) met (v .pair) (all-open rule ps c v m)
+  all-stop met v m =
+      stops-first (Open (finished rule ps)) (waits rule (finished rule ps)) (open-on rule ps c) (us rule ps c) (within-us rule ps c) met (v .pair)
+      (all-open rule ps c v m)
 
   pub one-per-cycle : OnePerCycle rule ps
   unfolding loopList

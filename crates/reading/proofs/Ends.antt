@@ -7,7 +7,9 @@ use mathlib.Core.Option.{some}
 use Prim.Native.Nat.{ℕ, zero, suc, _+_, _≤_}
 use native.Mathlib.Nat.{add-comm}
 use native.Mathlib.Omega.{arith}
-use Rattle.lang.specs.declared.operation.PostLigOperation.the-variants.{RetainBothMoveNowhere, RetainBothMoveToInserted, RetainBothMoveToRight, RetainRightMoveToInserted, RetainRightMoveToRight, RetainLeftMoveNowhere, RetainLeftMoveToInserted, RetainNeitherMoveToInserted}
+use Rattle.lang.specs.declared.operation.PostLigOperation.the-variants.{RetainBothMoveNowhere, RetainBothMoveToInserted, RetainBothMoveToRight}
+use Rattle.lang.specs.declared.operation.PostLigOperation.the-variants.{RetainRightMoveToInserted, RetainRightMoveToRight, RetainLeftMoveNowhere}
+use Rattle.lang.specs.declared.operation.PostLigOperation.the-variants.{RetainLeftMoveToInserted, RetainNeitherMoveToInserted}
 use Rattle.reading.specs.Items.{Left, chr, Rule, free, kerned, lig, Rules, Item, code, inserted, Head, at, key, head, Out, fin}
 use Rattle.reading.specs.Reading.{act, read, done, push}
 use Rattle.reading.specs.Depth.{Res, comp, compBy, before, raised}
@@ -32,7 +34,8 @@ pub record Split (rule : Rules) (n : ℕ) (x : Head) (ys zs : List Item) (os : L
 split-none : (rule : Rules) (n : ℕ) (x : Head) (zs : List Item) {os : List Out} {u : Head} → read rule n x zs ≡ done os u → Split rule n x [] zs os u
 unfolding read
 split-none rule n x zs {os} {u} e =
-    record { first = zero; second = n; outs₁ = []; outs₂ = os; between = x; first≤ = omega arith; second≤ = omega arith; ends₁ = refl; ends₂ = e; outs-are = refl }
+    record
+    { first = zero; second = n; outs₁ = []; outs₂ = os; between = x; first≤ = omega arith; second≤ = omega arith; ends₁ = refl; ends₂ = e; outs-are = refl }
 
 -- one more step before the first part
 split-more : (rule : Rules) (n : ℕ) (x : Head) (y : Item) (ys zs : List Item) {os ps : List Out} {u : Head} →
@@ -82,7 +85,8 @@ both-depth rule x c y n {v} e p q =
     let a : v ≡ at (raised (headFlag x) true (p .1) .last) = one-end rule n (f .0) x (inserted c ∷ []) e (f .1) .1 in
     let k : key v ≡ chr (code (raised false true (p .1) .last)) = rw (a, code-raised (headFlag x) true (p .1), code-raised false true (p .1)) in
     let p′ : comp rule (p .0 + q .0) (key x) c ≡ some (p .1) = deeper rule (p .0) (q .0) (key x) c (p .2) in
-    let q′ : comp rule (p .0 + q .0) (chr (code (raised false true (p .1) .last))) (code y) ≡ some (q .1) = rw (← k, add-comm (p .0) (q .0)) (deeper rule (q .0) (p .0) (key v) (code y) (q .2)) in
+    let q′ : comp rule (p .0 + q .0) (chr (code (raised false true (p .1) .last))) (code y)
+    ≡ some (q .1) = rw (← k, add-comm (p .0) (q .0)) (deeper rule (q .0) (p .0) (key v) (code y) (q .2)) in
     (p .0 + q .0, before (raised false true (p .1) .outs) (raised true false (q .1)), rw (p′, q′))
 
 -- one rule, over the pairs that ended before
@@ -105,9 +109,11 @@ depth-by rule (lig RetainLeftMoveNowhere c) k x y w e =
     (p .0, raised false true (p .1), rw (p .2))
 depth-by rule (lig RetainBothMoveNowhere c) k x y w e =
     let s = splits rule k x (inserted c ∷ []) (y ∷ []) e in
-    both-depth rule x c y (s .first) (s .ends₁) (w .has (s .first) (s .first≤) x (inserted c) (s .ends₁)) (w .has (s .second) (s .second≤) (s .between) y (s .ends₂))
+    both-depth rule x c y (s .first) (s .ends₁) (w .has (s .first) (s .first≤) x (inserted c) (s .ends₁))
+    (w .has (s .second) (s .second≤) (s .between) y (s .ends₂))
 
-within : (rule : Rules) (n : ℕ) (j : ℕ) → j ≤ n → (x : Head) (y : Item) {os : List Out} {u : Head} → read rule j x (y ∷ []) ≡ done os u → HasDepth rule (key x) (code y)
+within : (rule : Rules) (n : ℕ) (j : ℕ) → j ≤ n → (x : Head) (y : Item) {os : List Out} {u : Head} → read rule j x (y ∷ []) ≡ done os u →
+    HasDepth rule (key x) (code y)
 unfolding read comp
 within rule zero zero h x y e = absurd (not-more e)
 within rule zero (suc j) h x y e = absurd (omega arith)
@@ -120,5 +126,6 @@ within rule (suc n) (suc j) h x y e =
     (suc (q .0), q .1, q .2)
 
 -- A reading that ends has a depth.
-pub ends-depth : (rule : Rules) (n : ℕ) (x : Head) (y : Item) {os : List Out} {u : Head} → read rule n x (y ∷ []) ≡ done os u → (d : ℕ) × (q : Res) × (comp rule d (key x) (code y) ≡ some q)
+pub ends-depth : (rule : Rules) (n : ℕ) (x : Head) (y : Item) {os : List Out} {u : Head} → read rule n x (y ∷ []) ≡ done os u →
+    (d : ℕ) × (q : Res) × (comp rule d (key x) (code y) ≡ some q)
 ends-depth rule n x y e = within rule n n (omega arith) x y e

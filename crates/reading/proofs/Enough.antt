@@ -69,17 +69,23 @@ module _ (rule : Rules) where
     abbrev SameAt : ℕ → Type 0
     SameAt d = (p : Ruled) → List·Memᴰ p ps → hasFinished (comp rule d) p ≡ hasFinished (comp rule (suc d)) p
 
-    same-everywhere : (d : ℕ) → SameAt (suc d) → (l : Left) (r : ℕ) → (rule l r ≡ free) ⊎ (rule l r ≡ free → ⊥) → comp rule (suc d) l r ≡ comp rule (suc (suc d)) l r
+    same-everywhere : (d : ℕ) → SameAt (suc d) → (l : Left) (r : ℕ) → (rule l r ≡ free) ⊎ (rule l r ≡ free → ⊥) →
+        comp rule (suc d) l r ≡ comp rule (suc (suc d)) l r
     same-everywhere d same l r (inl e) = free-same d l r e
-    same-everywhere d same l r (inr ruled) = same-results (comp rule (suc d) l r) (comp rule (suc (suc d)) l r) (one-more (suc d) l r) (same _ (c .covers l r ruled .1))
+    same-everywhere d same l r (inr ruled) =
+        same-results (comp rule (suc d) l r) (comp rule (suc (suc d)) l r) (one-more (suc d) l r) (same _ (c .covers l r ruled .1))
 
     -- where d pairs have finished, one more finishes at the next depth, or nothing more will
-    more-finish : (d : ℕ) → d ≤ finishedAt (suc d) → (finishedAt (suc d) < finishedAt (suc (suc d))) ⊎ SameAt (suc d) → (suc d ≤ finishedAt (suc (suc d))) ⊎ Settled (suc d)
+    more-finish : (d : ℕ) → d ≤ finishedAt (suc d) → (finishedAt (suc d) < finishedAt (suc (suc d))) ⊎ SameAt (suc d) →
+        (suc d ≤ finishedAt (suc (suc d))) ⊎ Settled (suc d)
     more-finish d h (inl k) = inl (omega arith)
     more-finish d h (inr same) = inr (fun-ext (λ l. fun-ext (λ r. same-everywhere d same l r (rule-or-none (rule l r)))))
 
     further : (d : ℕ) → (d ≤ finishedAt (suc d)) ⊎ Settled (suc d) → (suc d ≤ finishedAt (suc (suc d))) ⊎ Settled (suc d)
-    further d (inl h) = more-finish d h (grown (hasFinished (comp rule (suc d))) (hasFinished (comp rule (suc (suc d)))) (λ p. still-finished _ _ (one-more (suc d) (p .pair .left) (p .pair .right))) ps .less)
+    further d (inl h) =
+        more-finish d h
+        (grown (hasFinished (comp rule (suc d))) (hasFinished (comp rule (suc (suc d))))
+        (λ p. still-finished _ _ (one-more (suc d) (p .pair .left) (p .pair .right))) ps .less)
     further d (inr e) = inr e
 
     reaches : (d : ℕ) → (d ≤ finishedAt (suc d)) ⊎ Settled (suc d)

@@ -66,7 +66,8 @@ raised-right : (b : Bool) (q : Res) → record { outs = raised true false q .out
 raised-right b q = sym (raise-left-none (raised true false q .outs) (raise b (raised true false q .last))) ∙ raised-raised false b true false q
 
 -- flags put into what comes before a ligature, and into that
-pub raised-before : (a b : Bool) (os : List Out) (x : Item) (q : Res) → raised a b (before os (raised true false q)) ≡ before (raiseLeft a os x .outs) (raised true b q)
+pub raised-before : (a b : Bool) (os : List Out) (x : Item) (q : Res) →
+    raised a b (before os (raised true false q)) ≡ before (raiseLeft a os x .outs) (raised true b q)
 unfolding raiseLeft
 raised-before a b [] x q = raised-raised a b true false q
 raised-before a b (glyph y ∷ os) x q = ap (before (glyph (raise a y) ∷ os)) (raised-right b q)

@@ -6,7 +6,9 @@ use mathlib.Core.List.{List, [], _∷_, _++_, append-nil}
 use mathlib.Core.Option.{some, map-eq-some-iff, Option·some-injective, Option·none-ne-some}
 use Prim.Native.Nat.{ℕ, zero, suc}
 use lib.Dec.{T, eqb, eqb-refl}
-use Rattle.lang.specs.declared.operation.PostLigOperation.the-variants.{RetainBothMoveNowhere, RetainBothMoveToInserted, RetainBothMoveToRight, RetainRightMoveToInserted, RetainRightMoveToRight, RetainLeftMoveNowhere, RetainLeftMoveToInserted, RetainNeitherMoveToInserted}
+use Rattle.lang.specs.declared.operation.PostLigOperation.the-variants.{RetainBothMoveNowhere, RetainBothMoveToInserted, RetainBothMoveToRight}
+use Rattle.lang.specs.declared.operation.PostLigOperation.the-variants.{RetainRightMoveToInserted, RetainRightMoveToRight, RetainLeftMoveNowhere}
+use Rattle.lang.specs.declared.operation.PostLigOperation.the-variants.{RetainLeftMoveToInserted, RetainNeitherMoveToInserted}
 use Rattle.reading.specs.Items.{Left, bnd, chr, Rule, free, kerned, lig, Rules, Item, item, code, plain, inserted, head, Out, glyph, kern, fin}
 use Rattle.reading.specs.Depth.{Res, Finished, raise, before, raiseLeft, raised, compBy, comp}
 use Rattle.reading.specs.Form.{lastForm, noPlain, isLeft, lastTakes, opsForm, formed}
@@ -106,13 +108,15 @@ last-left r a (kern k ∷ os) x h = last-left r a os x h
 -- ---- the entry
 
 -- a pair (k, r) whose left is a ligature has the form of any left's
-left-formed : (k : Left) (r : ℕ) (q : Res) → T (formed k r q) → T (lastForm r (raised true false q .last)) × ((l : Left) → T (opsForm l (raised true false q .outs) (raised true false q .last)))
+left-formed : (k : Left) (r : ℕ) (q : Res) → T (formed k r q) →
+    T (lastForm r (raised true false q .last)) × ((l : Left) → T (opsForm l (raised true false q .outs) (raised true false q .last)))
 left-formed k r q h =
     let b = both-hold (lastForm r (q .last)) (opsForm k (q .outs) (q .last)) h in
     (last-left r true (q .outs) (q .last) (b .0), λ l. left-form l k (q .outs) (q .last) (b .1))
 
 -- a pair (l, c) whose right is a ligature has the form of any right's
-right-formed : (l : Left) (c r : ℕ) (q : Res) → T (formed l c q) → T (lastForm r (raised false true q .last)) × T (opsForm l (raised false true q .outs) (raised false true q .last))
+right-formed : (l : Left) (c r : ℕ) (q : Res) → T (formed l c q) →
+    T (lastForm r (raised false true q .last)) × T (opsForm l (raised false true q .outs) (raised false true q .last))
 right-formed l c r q h =
     let b = both-hold (lastForm c (q .last)) (opsForm l (q .outs) (q .last)) h in
     rw raise-left-none (ligature-last r (q .last), right-form l (q .outs) (q .last) (b .1))
@@ -121,14 +125,18 @@ right-formed l c r q h =
 by-parts : (l : Left) (r : ℕ) (p : Res) {q : Res} → some p ≡ some q → T (lastForm r (p .last)) → T (opsForm l (p .outs) (p .last)) → T (formed l r q)
 by-parts l r p {q} e s t = subst (λ z. T (formed l r z)) (Option·some-injective p q e) (hold-both (lastForm r (p .last)) (opsForm l (p .outs) (p .last)) s t)
 
-form-by : (R : Rule) (f : Finished) → ((l : Left) (r : ℕ) (q : Res) → f l r ≡ some q → T (formed l r q)) → (l : Left) (r : ℕ) {q : Res} → compBy R f l r ≡ some q → T (formed l r q)
+form-by : (R : Rule) (f : Finished) → ((l : Left) (r : ℕ) (q : Res) → f l r ≡ some q → T (formed l r q)) → (l : Left) (r : ℕ) {q : Res} →
+    compBy R f l r ≡ some q → T (formed l r q)
 unfolding noPlain opsForm
 form-by free f h l r e = by-parts l r (record { outs = fin (head l); last = plain r }) e (eqb-refl r) (fin-alone l (plain r))
-form-by (kerned k) f h l r e = by-parts l r (record { outs = fin (head l) ++ (kern k ∷ []); last = plain r }) e (eqb-refl r) (fin-form l (kern k ∷ []) (plain r) tt)
+form-by (kerned k) f h l r e =
+    by-parts l r (record { outs = fin (head l) ++ (kern k ∷ []); last = plain r }) e (eqb-refl r) (fin-form l (kern k ∷ []) (plain r) tt)
 form-by (lig RetainNeitherMoveToInserted c) f h l r e = by-parts l r (record { outs = []; last = inserted c }) e tt (takes-ligature l c)
 form-by (lig RetainLeftMoveToInserted c) f h l r e = by-parts l r (record { outs = fin (head l); last = inserted c }) e tt (fin-alone l (inserted c))
 form-by (lig RetainRightMoveToRight c) f h l r e = by-parts l r (record { outs = glyph (inserted c) ∷ []; last = plain r }) e (eqb-refl r) tt
-form-by (lig RetainBothMoveToRight c) f h l r e = by-parts l r (record { outs = fin (head l) ++ (glyph (inserted c) ∷ []); last = plain r }) e (eqb-refl r) (fin-form l (glyph (inserted c) ∷ []) (plain r) tt)
+form-by (lig RetainBothMoveToRight c) f h l r e =
+    by-parts l r (record { outs = fin (head l) ++ (glyph (inserted c) ∷ []); last = plain r }) e (eqb-refl r)
+    (fin-form l (glyph (inserted c) ∷ []) (plain r) tt)
 form-by (lig RetainRightMoveToInserted c) f h l r e =
     let m = map-eq-some-iff (raised true false) (f (chr c) r) .0 e in
     let p = raised true false (m .0) in

@@ -3,7 +3,8 @@
 -- Assumes nothing.
 use mathlib.Core.Path.{_≡_, refl, sym, _∙_, ap}
 use mathlib.Core.Bool.{Bool, true, false, cond, false≢true}
-use mathlib.Core.List.{List, [], _∷_, _++_, List·Memᴰ, List·Memᴰ·head, List·Memᴰ·tail, List·Memᴰ·cases-cons, List·Memᴰ·append-cases, List·Memᴰ·eq-of-singleton, List·Memᴰ·not-nil, Memᴰ·append-left, Memᴰ·append-right, cons-ne-nil}
+use mathlib.Core.List.{List, [], _∷_, _++_, List·Memᴰ, List·Memᴰ·head, List·Memᴰ·tail, List·Memᴰ·cases-cons, List·Memᴰ·append-cases, List·Memᴰ·eq-of-singleton}
+use mathlib.Core.List.{List·Memᴰ·not-nil, Memᴰ·append-left, Memᴰ·append-right, cons-ne-nil}
 use mathlib.Core.Logic.{_↔_, _⊎_, inl, inr, ⊎-elim}
 use mathlib.Core.Option.{Option, none, some, Option·none-ne-some}
 use Prim.Native.Nat.{ℕ, zero, suc, _+_, _<_}
@@ -14,7 +15,8 @@ use borrow.Author.Tests.{eqb-true}
 use Rattle.reading.specs.Items.{Left, bnd, chr, Rules, at}
 use Rattle.reading.specs.Reading.{NeverEnds, Ends}
 use Rattle.reading.specs.Depth.{Res, Finished, Pair}
-use Rattle.reading.specs.Loops.{Ruled, sameLeft, samePair, member, walkedBefore, insert, ordered, isFinished, unfinished, waits, Walked, walk, walks, finished, loopList}
+use Rattle.reading.specs.Loops.{Ruled, sameLeft, samePair, member, walkedBefore, insert, ordered, isFinished, unfinished, waits, Walked, walk, walks}
+use Rattle.reading.specs.Loops.{finished, loopList}
 use Rattle.reading.specs.Cycles.{followed}
 use Rattle.reading.proofs.Right.{right}
 use Rattle.reading.proofs.Count.{count, count-all, grown}
@@ -69,7 +71,8 @@ pair-same p q e =
     of-parts : {l m : Left} {r s : ℕ} → l ≡ m → r ≡ s → _≡_ {A = Pair} (record { left = l; right = r }) (record { left = m; right = s })
     of-parts a b = cc
 
-in-by : (p q : Pair) (ps : List Pair) (b : Bool) → samePair p q ≡ b → (member p ps ≡ true → List·Memᴰ p ps) → cond b true (member p ps) ≡ true → List·Memᴰ p (q ∷ ps)
+in-by : (p q : Pair) (ps : List Pair) (b : Bool) → samePair p q ≡ b → (member p ps ≡ true → List·Memᴰ p ps) → cond b true (member p ps) ≡ true →
+    List·Memᴰ p (q ∷ ps)
 in-by p q ps true i k e = List·Memᴰ·head (pair-same p q i)
 in-by p q ps false i k e = List·Memᴰ·tail (k e)
 
@@ -126,7 +129,9 @@ module _ (next : Pair → Pair) where
       to q (inl e) = (0, once q ∙ ap next e)
       to q (inr m) = (suc (l .to q m .0), followed-last (suc (l .to q m .0)) q ∙ ap next (l .to q m .1))
 
-  stops-by : (a b : Bool) {met own : List Pair} {p : Pair} {on : Walked} → member p met ≡ a → member p own ≡ b → Leads next own p → (b ≡ false → Stops next met (p ∷ own) (next p) on) → Stops next met own p (cond a (record { own = own; found = [] }) (cond b (record { own = own; found = p ∷ [] }) on))
+  stops-by : (a b : Bool) {met own : List Pair} {p : Pair} {on : Walked} → member p met ≡ a → member p own ≡ b → Leads next own p →
+      (b ≡ false → Stops next met (p ∷ own) (next p) on) →
+      Stops next met own p (cond a (record { own = own; found = [] }) (cond b (record { own = own; found = p ∷ [] }) on))
   stops-by true b {met} {own} {p} {on} i j l g =
       let m = member-in p met i in
       record { last = p; leads = l; keeps = λ q k. k; from = Memᴰ·append-right own m; how = earlier m refl }
@@ -135,13 +140,20 @@ module _ (next : Pair → Pair) where
       record { last = p; leads = l; keeps = λ q k. k; from = Memᴰ·append-left met m; how = again (λ k. false≢true (sym i ∙ in-member k)) m refl }
   stops-by false false {met} {own} {p} {on} i j l g =
       let t = g refl in
-      record { last = t .last; leads = t .leads; keeps = λ q k. t .keeps q (List·Memᴰ·tail k); from = Memᴰ·append-left met (t .keeps p (List·Memᴰ·head refl)); how = t .how }
+      record {
+        last = t .last;
+        leads = t .leads;
+        keeps = λ q k. t .keeps q (List·Memᴰ·tail k);
+        from = Memᴰ·append-left met (t .keeps p (List·Memᴰ·head refl));
+        how = t .how;
+      }
 
 -- ---- walks that stay in a set of pairs
 
 module _ (P : Pair → Type 0) (next : Pair → Pair) (onward : (p : Pair) → P p → P (next p)) where
   -- what a walk finds is in the set
-  found-by : (a b : Bool) (own : List Pair) (on : Walked) (p : Pair) → P p → ((q : Pair) → List·Memᴰ q (on .found) → P q) → (q : Pair) → List·Memᴰ q (cond a (record { own = own; found = [] }) (cond b (record { own = own; found = p ∷ [] }) on) .found) → P q
+  found-by : (a b : Bool) (own : List Pair) (on : Walked) (p : Pair) → P p → ((q : Pair) → List·Memᴰ q (on .found) → P q) → (q : Pair) →
+      List·Memᴰ q (cond a (record { own = own; found = [] }) (cond b (record { own = own; found = p ∷ [] }) on) .found) → P q
   found-by true b own on p s g q m = absurd (List·Memᴰ·not-nil m)
   found-by false true own on p s g q m = rw (List·Memᴰ·eq-of-singleton m) s
   found-by false false own on p s g q m = g q m
@@ -149,7 +161,8 @@ module _ (P : Pair → Type 0) (next : Pair → Pair) (onward : (p : Pair) → P
   found-in : (n : ℕ) (met own : List Pair) (p : Pair) → P p → (q : Pair) → List·Memᴰ q (walk next n met own p .found) → P q
   unfolding walk
   found-in zero met own p s q m = absurd (List·Memᴰ·not-nil m)
-  found-in (suc n) met own p s q m = found-by (member p met) (member p own) own (walk next n met (p ∷ own) (next p)) p s (found-in n met (p ∷ own) (next p) (onward p s)) q m
+  found-in (suc n) met own p s q m =
+      found-by (member p met) (member p own) own (walk next n met (p ∷ own) (next p)) p s (found-in n met (p ∷ own) (next p) (onward p s)) q m
 
   walks-in : (n : ℕ) (met : List Pair) (us : List Ruled) → ((u : Ruled) → List·Memᴰ u us → P (u .pair)) → (q : Pair) → List·Memᴰ q (walks next n met us) → P q
   unfolding walks
@@ -168,22 +181,27 @@ module _ (P : Pair → Type 0) (next : Pair → Pair) (onward : (p : Pair) → P
     counts : (own : List Pair) (p : Pair) → P p → member p own ≡ false → count (metBy own) us < count (metBy (p ∷ own)) us
     counts own p s e = go (grown (metBy own) (metBy (p ∷ own)) (λ u. member-more (u .pair) p own) us .less)
       where
-        go : (count (metBy own) us < count (metBy (p ∷ own)) us) ⊎ ((u : Ruled) → List·Memᴰ u us → metBy own u ≡ metBy (p ∷ own) u) → count (metBy own) us < count (metBy (p ∷ own)) us
+        go : (count (metBy own) us < count (metBy (p ∷ own)) us) ⊎ ((u : Ruled) → List·Memᴰ u us → metBy own u ≡ metBy (p ∷ own) u) →
+            count (metBy own) us < count (metBy (p ∷ own)) us
         go (inl h) = h
         go (inr same) = absurd (false≢true (sym e ∙ same _ (within p s .1) ∙ member-own p own))
 
     -- a walk longer than the list stops
-    stops : (n : ℕ) (met own : List Pair) (p : Pair) → P p → length us < n + count (metBy own) us → Leads next own p → Stops next met own p (walk next n met own p)
+    stops : (n : ℕ) (met own : List Pair) (p : Pair) → P p → length us < n + count (metBy own) us → Leads next own p →
+        Stops next met own p (walk next n met own p)
     unfolding walk
     stops zero met own p s h l = absurd (omega (arith, count-all (metBy own) us))
-    stops (suc n) met own p s h l = stops-by next (member p met) (member p own) refl refl l (λ i. stops n met (p ∷ own) (next p) (onward p s) (omega (arith, counts own p s i)) (leads-on next l))
+    stops (suc n) met own p s h l =
+        stops-by next (member p met) (member p own) refl refl l
+        (λ i. stops n met (p ∷ own) (next p) (onward p s) (omega (arith, counts own p s i)) (leads-on next l))
 
     -- from its first pair, with a step for each pair of the list and one more
     pub stops-first : (met : List Pair) (p : Pair) → P p → Stops next met [] p (walk next (suc (length us)) met [] p)
     stops-first met p s = stops (suc (length us)) met [] p s (omega arith) (leads-none next p)
 
   -- where the set is not empty and all of it is in the list, the first walk finds a pair
-  some-found : (us : List Ruled) → ((u : Ruled) → List·Memᴰ u us → P (u .pair)) → ((p : Pair) → P p → (i : ℕ) × List·Memᴰ (record { pair = p; index = i }) us) → (p : Pair) → P p → walks next (suc (length us)) [] us ≡ [] → ⊥
+  some-found : (us : List Ruled) → ((u : Ruled) → List·Memᴰ u us → P (u .pair)) → ((p : Pair) → P p → (i : ℕ) × List·Memᴰ (record { pair = p; index = i }) us) →
+      (p : Pair) → P p → walks next (suc (length us)) [] us ≡ [] → ⊥
   unfolding walks
   some-found [] g within p s e = List·Memᴰ·not-nil (within p s .1)
   some-found (u ∷ us) g within p s e = nowhere (none-found _ _ e) (stops-first (u ∷ us) within [] (u .pair) (g u (List·Memᴰ·head refl)) .how)
@@ -246,7 +264,8 @@ module _ (f : Finished) where
   abbrev pub Open : Pair → Type 0
   Open p = f (p .left) (p .right) ≡ none
 
-  keeps-by : (v p : Ruled) {ps us : List Ruled} (o : Option Res) → f (p .pair .left) (p .pair .right) ≡ o → Open (v .pair) → (List·Memᴰ v ps → List·Memᴰ v us) → (v ≡ p) ⊎ List·Memᴰ v ps → List·Memᴰ v (cond (isFinished o) us (p ∷ us))
+  keeps-by : (v p : Ruled) {ps us : List Ruled} (o : Option Res) → f (p .pair .left) (p .pair .right) ≡ o → Open (v .pair) → (List·Memᴰ v ps → List·Memᴰ v us) →
+      (v ≡ p) ⊎ List·Memᴰ v ps → List·Memᴰ v (cond (isFinished o) us (p ∷ us))
   keeps-by v p none i s k (inl e) = List·Memᴰ·head e
   keeps-by v p none i s k (inr m) = List·Memᴰ·tail (k m)
   keeps-by v p (some q) i s k (inl e) = let z : _≡_ {A = ℕ} 0 1 = cc in absurd (omega arith)
@@ -257,7 +276,8 @@ module _ (f : Finished) where
   unfinished-keeps v [] s m = m
   unfinished-keeps v (p ∷ ps) s m = keeps-by v p (f (p .pair .left) (p .pair .right)) refl s (unfinished-keeps v ps s) (List·Memᴰ·cases-cons m)
 
-  only-by : (v p : Ruled) {us : List Ruled} (o : Option Res) → f (p .pair .left) (p .pair .right) ≡ o → (List·Memᴰ v us → Open (v .pair)) → List·Memᴰ v (cond (isFinished o) us (p ∷ us)) → Open (v .pair)
+  only-by : (v p : Ruled) {us : List Ruled} (o : Option Res) → f (p .pair .left) (p .pair .right) ≡ o → (List·Memᴰ v us → Open (v .pair)) →
+      List·Memᴰ v (cond (isFinished o) us (p ∷ us)) → Open (v .pair)
   only-by v p none i k m = ⊎-elim (λ e. rw e i) k (List·Memᴰ·cases-cons m)
   only-by v p (some q) i k m = k m
 

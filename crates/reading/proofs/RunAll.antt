@@ -8,7 +8,8 @@ use Prim.Native.Nat.{ℕ, zero, suc}
 use Rattle.reading.specs.Items.{Item, item, inserted, Head, edge, at, Out, glyph}
 use Rattle.reading.specs.Reading.{remains}
 use Rattle.reading.specs.Depth.{Finished}
-use Rattle.reading.specs.Run.{PlainNext, left, final, stop, Run, PlainAnswer, lookUp, plainAfterRight, given, stepFrom, step, begin, plainAnswers, inOrder}
+use Rattle.reading.specs.Run.{PlainNext, left, final, stop, Run, PlainAnswer, lookUp, plainAfterRight, given, stepFrom, step, begin, plainAnswers}
+use Rattle.reading.specs.Run.{inOrder}
 
 -- the word's end: what the last left gives with the right item, where there is one
 abbrev pub endGives : Finished → Option ℕ → Head → List Out
@@ -35,7 +36,8 @@ abbrev Begins : Finished → Option ℕ → List Out → PlainAnswer → Type 0
 Begins table right os a = (m : ℕ) → inOrder (suc m) os ≡ a .gives ∷ inOrder m (gives table right (a .run))
 
 -- a step after the right item was looked up
-after-right : (table : Finished) (right : Option ℕ) (r : ℕ) (os : List Out) (x : Item) → Begins table right (os ++ remains (some r) (at x)) (given os (plainAfterRight x) [])
+after-right : (table : Finished) (right : Option ℕ) (r : ℕ) (os : List Out) (x : Item) →
+    Begins table right (os ++ remains (some r) (at x)) (given os (plainAfterRight x) [])
 unfolding inOrder
 after-right table right r [] (item true c) m = refl
 after-right table right r [] (item false c) m = refl
@@ -64,5 +66,6 @@ answers-give table right zero s = refl
 answers-give table right (suc m) s = rw (answers-give table right m (step table right s .run)) (sym (one-step table right (s .rest) (s .ops) (s .next) m))
 
 -- Every run ends, over any table.
-pub run-ends : (table : Finished) (b : Bool) (word : List ℕ) (right : Option ℕ) → (os : List Out) × ((m : ℕ) → plainAnswers table right m (begin b word) ≡ inOrder m os)
+pub run-ends : (table : Finished) (b : Bool) (word : List ℕ) (right : Option ℕ) →
+    (os : List Out) × ((m : ℕ) → plainAnswers table right m (begin b word) ≡ inOrder m os)
 run-ends table b word right = (gives table right (begin b word), λ m. answers-give table right m (begin b word))

@@ -32,7 +32,8 @@ abbrev text : List ℕ → Option ℕ → List Item
 text ys right = map plain ys ++ rightItems right
 
 -- a word's reading ended where that of its text did
-closed : (right : Option ℕ) (r : Read) {os : List Out} → close right r ≡ ended os → (ps : List Out) × (u : Head) × (r ≡ done ps u) × (ps ++ remains right u ≡ os)
+closed : (right : Option ℕ) (r : Read) {os : List Out} → close right r ≡ ended os →
+    (ps : List Out) × (u : Head) × (r ≡ done ps u) × (ps ++ remains right u ≡ os)
 closed right (done ps u) e = (ps, u, refl, cc)
 closed right more e = let z : _≡_ {A = ℕ} 0 1 = cc in absurd (omega arith)
 
@@ -48,7 +49,8 @@ module _ (rule : Rules) (table : Finished) (h : Holds rule table) where
   no-rule (lig o c) l r i e d = absurd (missing l r e d (λ f. let z : _≡_ {A = ℕ} 0 1 = cc in omega arith))
 
   -- What is looked up is what the pair's reading gives, where it ends.
-  look-read : (t : Option Res) (x : Head) (y : ℕ) → table (key x) y ≡ t → HasDepth rule (key x) y → (n : ℕ) × (read rule n x (plain y ∷ []) ≡ done (entryOr t x y .outs) (at (entryOr t x y .last)))
+  look-read : (t : Option Res) (x : Head) (y : ℕ) → table (key x) y ≡ t → HasDepth rule (key x) y →
+      (n : ℕ) × (read rule n x (plain y ∷ []) ≡ done (entryOr t x y .outs) (at (entryOr t x y .last)))
   look-read none x y e d = (suc zero, free-read rule x y (no-rule (rule (key x) y) (key x) y refl e d))
   look-read (some q) x y e d = let s = h .sound (key x) y q e in flags rule (s .0) x (plain y) (s .1)
 
@@ -62,7 +64,8 @@ module _ (rule : Rules) (table : Finished) (h : Holds rule table) where
       (s .second, s .outs₂, (rw (o .1) at (s .ends₂)), rw (← (o .0)) (s .outs-are))
 
   -- the last left, with the right item where there is one
-  end-right : (n : ℕ) (x : Item) (right : Option ℕ) {os : List Out} {u : Head} → read rule n (at x) (rightItems right) ≡ done os u → os ++ remains right u ≡ endGives table right (at x)
+  end-right : (n : ℕ) (x : Item) (right : Option ℕ) {os : List Out} {u : Head} → read rule n (at x) (rightItems right) ≡ done os u →
+      os ++ remains right u ≡ endGives table right (at x)
   end-right n x none e = let o = nothing-read rule n (at x) e in rw (o .0, o .1)
   end-right n x (some r) e =
       let t = turn n (at x) r [] e in
@@ -71,7 +74,8 @@ module _ (rule : Rules) (table : Finished) (h : Holds rule table) where
 
   -- a turn, over what its reading goes on with
   turn-right : (n : ℕ) (x : Head) (y : ℕ) (ys : List ℕ) (right : Option ℕ) {os : List Out} {u : Head} → read rule n x (text (y ∷ ys) right) ≡ done os u →
-      ((m : ℕ) (ps : List Out) → read rule m (at (lookUp table x y .last)) (text ys right) ≡ done ps u → ps ++ remains right u ≡ leftGives table right ys (at (lookUp table x y .last))) →
+      ((m : ℕ) (ps : List Out) → read rule m (at (lookUp table x y .last)) (text ys right) ≡ done ps u →
+      ps ++ remains right u ≡ leftGives table right ys (at (lookUp table x y .last))) →
       os ++ remains right u ≡ leftGives table right (y ∷ ys) x
   unfolding leftGives
   turn-right n x y ys right e f =
@@ -79,13 +83,15 @@ module _ (rule : Rules) (table : Finished) (h : Holds rule table) where
       rw (t .3, append-assoc, f (t .0) (t .1) (t .2))
 
   -- what the reading gives from an item on, the run gives
-  item-right : (n : ℕ) (x : Item) (ys : List ℕ) (right : Option ℕ) {os : List Out} {u : Head} → read rule n (at x) (text ys right) ≡ done os u → os ++ remains right u ≡ leftGives table right ys (at x)
+  item-right : (n : ℕ) (x : Item) (ys : List ℕ) (right : Option ℕ) {os : List Out} {u : Head} → read rule n (at x) (text ys right) ≡ done os u →
+      os ++ remains right u ≡ leftGives table right ys (at x)
   unfolding leftGives
   item-right n x [] right e = end-right n x right e
   item-right n x (y ∷ ys) right e = turn-right n (at x) y ys right e (λ m ps. item-right m (lookUp table (at x) y .last) ys right)
 
   -- what a word's reading gives, its run gives
-  word-gives : (n : ℕ) (b : Bool) (word : List ℕ) (right : Option ℕ) {os : List Out} → reading rule n b word right ≡ ended os → gives table right (begin b word) ≡ os
+  word-gives : (n : ℕ) (b : Bool) (word : List ℕ) (right : Option ℕ) {os : List Out} → reading rule n b word right ≡ ended os →
+      gives table right (begin b word) ≡ os
   unfolding reading leftGives
   word-gives n true [] right e = cc
   word-gives n true (c ∷ cs) right e =
@@ -97,11 +103,13 @@ module _ (rule : Rules) (table : Finished) (h : Holds rule table) where
       sym (item-right n (plain c) cs right (r .2)) ∙ r .3
 
   -- Whatever the reading of a word gives once it ends, the run gives, one item a step, and then the end for ever.
-  pub run-right : (n : ℕ) (b : Bool) (word : List ℕ) (right : Option ℕ) {os : List Out} → reading rule n b word right ≡ ended os → (m : ℕ) → plainAnswers table right m (begin b word) ≡ inOrder m os
+  pub run-right : (n : ℕ) (b : Bool) (word : List ℕ) (right : Option ℕ) {os : List Out} → reading rule n b word right ≡ ended os → (m : ℕ) →
+      plainAnswers table right m (begin b word) ≡ inOrder m os
   run-right n b word right e m = rw (← (word-gives n b word right e)) (answers-give table right m (begin b word))
 
 -- where every pair ends, so does every text
-list-ends : (rule : Rules) → ((l : Left) (r : ℕ) → Ends rule l r) → (x : Head) (ys : List Item) → (n : ℕ) × (os : List Out) × (u : Head) × (read rule n x ys ≡ done os u)
+list-ends : (rule : Rules) → ((l : Left) (r : ℕ) → Ends rule l r) → (x : Head) (ys : List Item) →
+    (n : ℕ) × (os : List Out) × (u : Head) × (read rule n x ys ≡ done os u)
 list-ends rule e x [] = (zero, [], x, read-none rule zero x)
 list-ends rule e x (y ∷ ys) =
     let p = e (key x) (code y) in
@@ -111,14 +119,16 @@ list-ends rule e x (y ∷ ys) =
     (f .0 + t .0, _, t .2, in-sequence rule (f .0) (t .0) x (y ∷ []) ys (f .1) (t .3))
 
 -- Where every pair ends, every word's reading ends.
-pub word-ends : (rule : Rules) → ((l : Left) (r : ℕ) → Ends rule l r) → (b : Bool) (word : List ℕ) (right : Option ℕ) → (n : ℕ) × (os : List Out) × (reading rule n b word right ≡ ended os)
+pub word-ends : (rule : Rules) → ((l : Left) (r : ℕ) → Ends rule l r) → (b : Bool) (word : List ℕ) (right : Option ℕ) →
+    (n : ℕ) × (os : List Out) × (reading rule n b word right ≡ ended os)
 unfolding reading
 word-ends rule e b [] right = (zero, [], refl)
 word-ends rule e true (c ∷ cs) right = let t = list-ends rule e edge (text (c ∷ cs) right) in (t .0, t .1 ++ remains right (t .2), ap (close right) (t .3))
 word-ends rule e false (c ∷ cs) right = let t = list-ends rule e (at (plain c)) (text cs right) in (t .0, t .1 ++ remains right (t .2), ap (close right) (t .3))
 
 -- Where every pair ends, every word's reading ends and its run gives what it gives.
-pub ends-answers : (rule : Rules) (table : Finished) → Holds rule table → ((l : Left) (r : ℕ) → Ends rule l r) → (b : Bool) (word : List ℕ) (right : Option ℕ) → (os : List Out) × ((n : ℕ) × (reading rule n b word right ≡ ended os)) × ((m : ℕ) → plainAnswers table right m (begin b word) ≡ inOrder m os)
+pub ends-answers : (rule : Rules) (table : Finished) → Holds rule table → ((l : Left) (r : ℕ) → Ends rule l r) → (b : Bool) (word : List ℕ) (right : Option ℕ) →
+    (os : List Out) × ((n : ℕ) × (reading rule n b word right ≡ ended os)) × ((m : ℕ) → plainAnswers table right m (begin b word) ≡ inOrder m os)
 ends-answers rule table h e b word right =
     let w = word-ends rule e b word right in
     (w .1, (w .0, w .2), run-right rule table h (w .0) b word right (w .2))

@@ -7,7 +7,9 @@ use Prim.Native.Nat.{ℕ, zero, suc, _+_}
 use native.Mathlib.Nat.{suc-add, add-comm}
 use native.Mathlib.Numerals.{add-one}
 use native.Mathlib.Omega.{arith}
-use Rattle.lang.specs.declared.operation.PostLigOperation.the-variants.{RetainBothMoveNowhere, RetainBothMoveToInserted, RetainBothMoveToRight, RetainRightMoveToInserted, RetainRightMoveToRight, RetainLeftMoveNowhere, RetainLeftMoveToInserted, RetainNeitherMoveToInserted}
+use Rattle.lang.specs.declared.operation.PostLigOperation.the-variants.{RetainBothMoveNowhere, RetainBothMoveToInserted, RetainBothMoveToRight}
+use Rattle.lang.specs.declared.operation.PostLigOperation.the-variants.{RetainRightMoveToInserted, RetainRightMoveToRight, RetainLeftMoveNowhere}
+use Rattle.lang.specs.declared.operation.PostLigOperation.the-variants.{RetainLeftMoveToInserted, RetainNeitherMoveToInserted}
 use Rattle.reading.specs.Items.{Left, bnd, chr, Rule, free, kerned, lig, Rules, Item, item, code, plain, inserted, Head, edge, at, key, head, Out}
 use Rattle.reading.specs.Reading.{Act, act, Read, done, more, push, read}
 
@@ -40,21 +42,25 @@ nothing-right rule zero x = refl
 nothing-right rule (suc n) x = refl
 
 -- a reading that has ended, after its first turn
-pub turn-done : (rule : Rules) (n : ℕ) (x : Head) (y : Item) (ys : List Item) {os : List Out} {u : Head} → read rule (suc n) x (y ∷ ys) ≡ done os u → (qs : List Out) × (read rule n (turn rule x y .left) (turn rule x y .back ++ ys) ≡ done qs u) × (os ≡ turn rule x y .outs ++ qs)
+pub turn-done : (rule : Rules) (n : ℕ) (x : Head) (y : Item) (ys : List Item) {os : List Out} {u : Head} → read rule (suc n) x (y ∷ ys) ≡ done os u →
+    (qs : List Out) × (read rule n (turn rule x y .left) (turn rule x y .back ++ ys) ≡ done qs u) × (os ≡ turn rule x y .outs ++ qs)
 unfolding read
 turn-done rule n x y ys e = push-done (turn rule x y .outs) (read rule n (turn rule x y .left) (turn rule x y .back ++ ys)) e
 
 -- and with its first turn
-pub done-turn : (rule : Rules) (n : ℕ) (x : Head) (y : Item) (ys : List Item) {qs : List Out} {u : Head} → read rule n (turn rule x y .left) (turn rule x y .back ++ ys) ≡ done qs u → read rule (suc n) x (y ∷ ys) ≡ done (turn rule x y .outs ++ qs) u
+pub done-turn : (rule : Rules) (n : ℕ) (x : Head) (y : Item) (ys : List Item) {qs : List Out} {u : Head} →
+    read rule n (turn rule x y .left) (turn rule x y .back ++ ys) ≡ done qs u → read rule (suc n) x (y ∷ ys) ≡ done (turn rule x y .outs ++ qs) u
 unfolding read
 done-turn rule n x y ys e = ap (push (turn rule x y .outs)) e
 
 -- a reading that has not ended, with its first turn
-pub more-turn : (rule : Rules) (n : ℕ) (x : Head) (y : Item) (ys : List Item) → read rule n (turn rule x y .left) (turn rule x y .back ++ ys) ≡ more → read rule (suc n) x (y ∷ ys) ≡ more
+pub more-turn : (rule : Rules) (n : ℕ) (x : Head) (y : Item) (ys : List Item) → read rule n (turn rule x y .left) (turn rule x y .back ++ ys) ≡ more →
+    read rule (suc n) x (y ∷ ys) ≡ more
 unfolding read
 more-turn rule n x y ys e = ap (push (turn rule x y .outs)) e
 
-pub turn-more : (rule : Rules) (n : ℕ) (x : Head) (y : Item) (ys : List Item) → read rule (suc n) x (y ∷ ys) ≡ more → read rule n (turn rule x y .left) (turn rule x y .back ++ ys) ≡ more
+pub turn-more : (rule : Rules) (n : ℕ) (x : Head) (y : Item) (ys : List Item) → read rule (suc n) x (y ∷ ys) ≡ more →
+    read rule n (turn rule x y .left) (turn rule x y .back ++ ys) ≡ more
 unfolding read
 turn-more rule n x y ys e = push-more (turn rule x y .outs) (read rule n (turn rule x y .left) (turn rule x y .back ++ ys)) e
 
@@ -69,7 +75,8 @@ longer rule (suc m) k x (y ∷ ys) {os} {u} e =
     let t = turn-done rule m x y ys e in
     rw (suc-add, t .2) (done-turn rule (m + k) x y ys (longer rule m k (turn rule x y .left) (turn rule x y .back ++ ys) (t .1)))
 
-pub one-end : (rule : Rules) (m n : ℕ) (x : Head) (ys : List Item) {os ps : List Out} {u v : Head} → read rule m x ys ≡ done os u → read rule n x ys ≡ done ps v → (os ≡ ps) × (u ≡ v)
+pub one-end : (rule : Rules) (m n : ℕ) (x : Head) (ys : List Item) {os ps : List Out} {u v : Head} → read rule m x ys ≡ done os u →
+    read rule n x ys ≡ done ps v → (os ≡ ps) × (u ≡ v)
 one-end rule m n x ys {os} {ps} {u} {v} e f =
     let a : read rule (m + n) x ys ≡ done os u = longer rule m n x ys e in
     let b : read rule (m + n) x ys ≡ done ps v = rw add-comm (longer rule n m x ys f) in
@@ -78,13 +85,15 @@ one-end rule m n x ys {os} {ps} {u} {v} e f =
 -- ---- readings in sequence
 
 -- where nothing is right of the cursor, a reading of what follows is the whole
-onwards : (rule : Rules) (k n : ℕ) (x : Head) (zs : List Item) {os ps : List Out} {u v : Head} → done [] x ≡ done os u → read rule n u zs ≡ done ps v → read rule (k + n) x zs ≡ done (os ++ ps) v
+onwards : (rule : Rules) (k n : ℕ) (x : Head) (zs : List Item) {os ps : List Out} {u v : Head} → done [] x ≡ done os u → read rule n u zs ≡ done ps v →
+    read rule (k + n) x zs ≡ done (os ++ ps) v
 onwards rule k n x zs {os} {ps} {u} {v} e f =
     let o : [] ≡ os = cc in
     let h : x ≡ u = cc in
     rw (← o, h, add-comm k n) (longer rule n k u zs f)
 
-pub in-sequence : (rule : Rules) (m n : ℕ) (x : Head) (ys zs : List Item) {os ps : List Out} {u v : Head} → read rule m x ys ≡ done os u → read rule n u zs ≡ done ps v → read rule (m + n) x (ys ++ zs) ≡ done (os ++ ps) v
+pub in-sequence : (rule : Rules) (m n : ℕ) (x : Head) (ys zs : List Item) {os ps : List Out} {u v : Head} → read rule m x ys ≡ done os u →
+    read rule n u zs ≡ done ps v → read rule (m + n) x (ys ++ zs) ≡ done (os ++ ps) v
 unfolding read
 in-sequence rule zero n x [] zs e f = onwards rule zero n x zs e f
 in-sequence rule zero n x (y ∷ ys) zs e f = absurd (more-not-done e)
@@ -112,7 +121,8 @@ one-less rule n x ys h = go (read rule n x ys) refl
     go more e = refl
 
 -- what comes after a part that ends goes on for at least as long as it does by itself
-pub follows-within : (rule : Rules) (m n : ℕ) (x : Head) (ys zs : List Item) {os : List Out} {u : Head} → read rule m x ys ≡ done os u → read rule n u zs ≡ more → read rule n x (ys ++ zs) ≡ more
+pub follows-within : (rule : Rules) (m n : ℕ) (x : Head) (ys zs : List Item) {os : List Out} {u : Head} → read rule m x ys ≡ done os u →
+    read rule n u zs ≡ more → read rule n x (ys ++ zs) ≡ more
 unfolding read
 follows-within rule zero n x [] zs {os} {u} e h =
     let i : x ≡ u = cc in
@@ -124,12 +134,14 @@ follows-within rule (suc m) n x [] zs {os} {u} e h =
 follows-within rule (suc m) zero x (y ∷ ys) zs e h = refl
 follows-within rule (suc m) (suc n) x (y ∷ ys) zs {os} {u} e h =
     let t = turn-done rule m x y ys e in
-    more-turn rule n x y (ys ++ zs) (rw append-assoc at (follows-within rule m n (turn rule x y .left) (turn rule x y .back ++ ys) zs (t .1) (one-less rule n u zs h)))
+    more-turn rule n x y (ys ++ zs)
+    (rw append-assoc at (follows-within rule m n (turn rule x y .left) (turn rule x y .back ++ ys) zs (t .1) (one-less rule n u zs h)))
 
 pub begins : (rule : Rules) (x : Head) (ys zs : List Item) → ((n : ℕ) → read rule n x ys ≡ more) → (n : ℕ) → read rule n x (ys ++ zs) ≡ more
 begins rule x ys zs e n = begins-within rule n x ys zs (e n)
 
-pub follows : (rule : Rules) (m : ℕ) (x : Head) (ys zs : List Item) {os : List Out} {u : Head} → read rule m x ys ≡ done os u → ((n : ℕ) → read rule n u zs ≡ more) → (n : ℕ) → read rule n x (ys ++ zs) ≡ more
+pub follows : (rule : Rules) (m : ℕ) (x : Head) (ys zs : List Item) {os : List Out} {u : Head} → read rule m x ys ≡ done os u →
+    ((n : ℕ) → read rule n u zs ≡ more) → (n : ℕ) → read rule n x (ys ++ zs) ≡ more
 follows rule m x ys zs e f n = follows-within rule m n x ys zs e (f n)
 
 -- ---- what remains
@@ -150,7 +162,8 @@ end-inserted : (r c : ℕ) (x : Head) (ys : List Item) → OnlyPlain r (endOf x 
 end-inserted r c x [] h = tt
 end-inserted r c x (y ∷ ys) h = h
 
-end-by : (R : Rule) (r : ℕ) (x : Head) (y : Item) (ys : List Item) → OnlyPlain r (endOf (at y) ys) → OnlyPlain r (endOf (act R x y .left) (act R x y .back ++ ys))
+end-by : (R : Rule) (r : ℕ) (x : Head) (y : Item) (ys : List Item) → OnlyPlain r (endOf (at y) ys) →
+    OnlyPlain r (endOf (act R x y .left) (act R x y .back ++ ys))
 end-by free r x y ys h = h
 end-by (kerned k) r x y ys h = h
 end-by (lig RetainNeitherMoveToInserted c) r x y ys h = end-inserted r c (at y) ys h
@@ -163,7 +176,8 @@ end-by (lig RetainBothMoveToInserted c) r x y ys h = h
 end-by (lig RetainBothMoveToRight c) r x y ys h = h
 
 -- so that holds after a reading where it held before
-pub end-kept : (rule : Rules) (n : ℕ) (r : ℕ) (x : Head) (ys : List Item) {os : List Out} {u : Head} → read rule n x ys ≡ done os u → OnlyPlain r (endOf x ys) → OnlyPlain r u
+pub end-kept : (rule : Rules) (n : ℕ) (r : ℕ) (x : Head) (ys : List Item) {os : List Out} {u : Head} → read rule n x ys ≡ done os u → OnlyPlain r (endOf x ys) →
+    OnlyPlain r u
 unfolding read
 end-kept rule zero r x [] {os} {u} e h = let s : x ≡ u = cc in rw s at h
 end-kept rule zero r x (y ∷ ys) e h = absurd (more-not-done e)
@@ -175,5 +189,6 @@ ends-in : (x : Head) (ys : List Item) (y : Item) → endOf x (ys ++ (y ∷ [])) 
 ends-in x [] y = refl
 ends-in x (z ∷ ys) y = ends-in (at z) ys y
 
-pub last-plain : (rule : Rules) (n : ℕ) (x : Head) (ys : List Item) (r : ℕ) {os : List Out} {c : ℕ} → read rule n x (ys ++ (plain r ∷ [])) ≡ done os (at (item false c)) → c ≡ r
+pub last-plain : (rule : Rules) (n : ℕ) (x : Head) (ys : List Item) (r : ℕ) {os : List Out} {c : ℕ} →
+    read rule n x (ys ++ (plain r ∷ [])) ≡ done os (at (item false c)) → c ≡ r
 last-plain rule n x ys r e = end-kept rule n r x (ys ++ (plain r ∷ [])) e (rw ends-in refl)

@@ -34,17 +34,20 @@ use Rattle.reading.proofs.RunRight
 pub longer : (rule : Rules) (m k : ℕ) (x : Head) (ys : List Item) {os : List Out} {u : Head} → read rule m x ys ≡ done os u → read rule (m + k) x ys ≡ done os u
 longer rule m k x ys e = Steps.longer rule m k x ys e
 
-pub one-end : (rule : Rules) (m n : ℕ) (x : Head) (ys : List Item) {os ps : List Out} {u v : Head} → read rule m x ys ≡ done os u → read rule n x ys ≡ done ps v → (os ≡ ps) × (u ≡ v)
+pub one-end : (rule : Rules) (m n : ℕ) (x : Head) (ys : List Item) {os ps : List Out} {u v : Head} → read rule m x ys ≡ done os u →
+    read rule n x ys ≡ done ps v → (os ≡ ps) × (u ≡ v)
 one-end rule m n x ys e f = Steps.one-end rule m n x ys e f
 
 -- Locality: what follows in the text does not touch the reading of what comes before.
-pub in-sequence : (rule : Rules) (m n : ℕ) (x : Head) (ys zs : List Item) {os ps : List Out} {u v : Head} → read rule m x ys ≡ done os u → read rule n u zs ≡ done ps v → read rule (m + n) x (ys ++ zs) ≡ done (os ++ ps) v
+pub in-sequence : (rule : Rules) (m n : ℕ) (x : Head) (ys zs : List Item) {os ps : List Out} {u v : Head} → read rule m x ys ≡ done os u →
+    read rule n u zs ≡ done ps v → read rule (m + n) x (ys ++ zs) ≡ done (os ++ ps) v
 in-sequence rule m n x ys zs e f = Steps.in-sequence rule m n x ys zs e f
 
 pub begins : (rule : Rules) (x : Head) (ys zs : List Item) → ((n : ℕ) → read rule n x ys ≡ more) → (n : ℕ) → read rule n x (ys ++ zs) ≡ more
 begins rule x ys zs e n = Steps.begins rule x ys zs e n
 
-pub follows : (rule : Rules) (m : ℕ) (x : Head) (ys zs : List Item) {os : List Out} {u : Head} → read rule m x ys ≡ done os u → ((n : ℕ) → read rule n u zs ≡ more) → (n : ℕ) → read rule n x (ys ++ zs) ≡ more
+pub follows : (rule : Rules) (m : ℕ) (x : Head) (ys zs : List Item) {os : List Out} {u : Head} → read rule m x ys ≡ done os u →
+    ((n : ℕ) → read rule n u zs ≡ more) → (n : ℕ) → read rule n x (ys ++ zs) ≡ more
 follows rule m x ys zs e f n = Steps.follows rule m x ys zs e f n
 
 -- ---- the pair by depth
@@ -54,29 +57,36 @@ pub deeper : (rule : Rules) (d k : ℕ) (l : Left) (r : ℕ) {q : Res} → comp 
 deeper rule d k l r e = Right.deeper rule d k l r e
 
 -- Flags only follow codes: items that are ligatures are read as the characters of their codes, with the flags put into the result.
-pub flags : (rule : Rules) (d : ℕ) (x : Head) (y : Item) {q : Res} → comp rule d (key x) (code y) ≡ some q → (n : ℕ) × (read rule n x (y ∷ []) ≡ done (raised (headFlag x) (flag y) q .outs) (at (raised (headFlag x) (flag y) q .last)))
+pub flags : (rule : Rules) (d : ℕ) (x : Head) (y : Item) {q : Res} → comp rule d (key x) (code y) ≡ some q →
+    (n : ℕ) × (read rule n x (y ∷ []) ≡ done (raised (headFlag x) (flag y) q .outs) (at (raised (headFlag x) (flag y) q .last)))
 flags rule d x y e = Right.flags rule d x y e
 
 -- A pair that finishes at some depth is read to its end, with those ops and that last.
-pub right : (rule : Rules) (d : ℕ) (l : Left) (r : ℕ) {q : Res} → comp rule d l r ≡ some q → (n : ℕ) × (read rule n (head l) (plain r ∷ []) ≡ done (q .outs) (at (q .last)))
+pub right : (rule : Rules) (d : ℕ) (l : Left) (r : ℕ) {q : Res} → comp rule d l r ≡ some q →
+    (n : ℕ) × (read rule n (head l) (plain r ∷ []) ≡ done (q .outs) (at (q .last)))
 right rule d l r e = Right.right rule d l r e
 
 -- A reading that ends has a depth.
-pub ends-depth : (rule : Rules) (n : ℕ) (x : Head) (y : Item) {os : List Out} {u : Head} → read rule n x (y ∷ []) ≡ done os u → (d : ℕ) × (q : Res) × (comp rule d (key x) (code y) ≡ some q)
+pub ends-depth : (rule : Rules) (n : ℕ) (x : Head) (y : Item) {os : List Out} {u : Head} → read rule n x (y ∷ []) ≡ done os u →
+    (d : ℕ) × (q : Res) × (comp rule d (key x) (code y) ≡ some q)
 ends-depth rule n x y e = Ends.ends-depth rule n x y e
 
 -- One more than the number of pairs with a rule is depth enough.
-pub depth-enough : (rule : Rules) (ps : List Ruled) → Covers rule ps → (d : ℕ) (l : Left) (r : ℕ) {q : Res} → comp rule d l r ≡ some q → finished rule ps l r ≡ some q
+pub depth-enough : (rule : Rules) (ps : List Ruled) → Covers rule ps → (d : ℕ) (l : Left) (r : ℕ) {q : Res} → comp rule d l r ≡ some q →
+    finished rule ps l r ≡ some q
 depth-enough rule ps c d l r e = Enough.depth-enough rule ps c d l r e
 
 -- A reading that ends has a depth, at most that, and gives that pair's ops and last.
-pub complete : (rule : Rules) (ps : List Ruled) → Covers rule ps → (n : ℕ) (l : Left) (r : ℕ) {os : List Out} {u : Head} → read rule n (head l) (plain r ∷ []) ≡ done os u → (q : Res) × (finished rule ps l r ≡ some q) × (os ≡ q .outs) × (u ≡ at (q .last))
+pub complete : (rule : Rules) (ps : List Ruled) → Covers rule ps → (n : ℕ) (l : Left) (r : ℕ) {os : List Out} {u : Head} →
+    read rule n (head l) (plain r ∷ []) ≡ done os u → (q : Res) × (finished rule ps l r ≡ some q) × (os ≡ q .outs) × (u ≡ at (q .last))
 complete rule ps c n l r e = Complete.complete rule ps c n l r e
 
 -- ---- loops
 
 -- A set of pairs that is closed under waiting never ends.
-pub never : (rule : Rules) (f : Finished) → ((l : Left) (r : ℕ) (q : Res) → f l r ≡ some q → (d : ℕ) × (comp rule d l r ≡ some q)) → (S : Pair → Type 0) → ((p : Pair) → S p → (q : Pair) × (waitsBy (rule (p .left) (p .right)) f (p .left) (p .right) ≡ some q) × S q) → (p : Pair) → S p → NeverEnds rule (p .left) (p .right)
+pub never : (rule : Rules) (f : Finished) → ((l : Left) (r : ℕ) (q : Res) → f l r ≡ some q → (d : ℕ) × (comp rule d l r ≡ some q)) → (S : Pair → Type 0) →
+    ((p : Pair) → S p → (q : Pair) × (waitsBy (rule (p .left) (p .right)) f (p .left) (p .right) ≡ some q) × S q) → (p : Pair) → S p →
+    NeverEnds rule (p .left) (p .right)
 never rule f sound S closed p s = Never.never rule f sound S closed p s
 
 -- Every pair ends, or some pair never ends, and which is the case is decided by the finished pairs.
@@ -100,23 +110,29 @@ one-per-cycle rule ps c = Cycles.one-per-cycle rule ps c
 -- ---- runs
 
 -- Whatever the reading of a word gives once it ends, the run gives, one item a step, and then the end for ever. Loops or not.
-pub run-right : (rule : Rules) (table : Finished) → Holds rule table → (n : ℕ) (b : Bool) (word : List ℕ) (right : Option ℕ) {os : List Out} → reading rule n b word right ≡ ended os → (m : ℕ) → plainAnswers table right m (begin b word) ≡ inOrder m os
+pub run-right : (rule : Rules) (table : Finished) → Holds rule table → (n : ℕ) (b : Bool) (word : List ℕ) (right : Option ℕ) {os : List Out} →
+    reading rule n b word right ≡ ended os → (m : ℕ) → plainAnswers table right m (begin b word) ≡ inOrder m os
 run-right rule table h n b word right e m = RunRight.run-right rule table h n b word right e m
 
 -- Every run ends, over any table.
-pub run-ends : (table : Finished) (b : Bool) (word : List ℕ) (right : Option ℕ) → (os : List Out) × ((m : ℕ) → plainAnswers table right m (begin b word) ≡ inOrder m os)
+pub run-ends : (table : Finished) (b : Bool) (word : List ℕ) (right : Option ℕ) →
+    (os : List Out) × ((m : ℕ) → plainAnswers table right m (begin b word) ≡ inOrder m os)
 run-ends table b word right = RunAll.run-ends table b word right
 
 -- Where every pair ends, every word's reading ends.
-pub word-ends : (rule : Rules) → ((l : Left) (r : ℕ) → Ends rule l r) → (b : Bool) (word : List ℕ) (right : Option ℕ) → (n : ℕ) × (os : List Out) × (reading rule n b word right ≡ ended os)
+pub word-ends : (rule : Rules) → ((l : Left) (r : ℕ) → Ends rule l r) → (b : Bool) (word : List ℕ) (right : Option ℕ) →
+    (n : ℕ) × (os : List Out) × (reading rule n b word right ≡ ended os)
 word-ends rule e b word right = RunRight.word-ends rule e b word right
 
 -- With a right item, what remains of a reading and is no ligature is that item, as it came.
-pub last-plain : (rule : Rules) (n : ℕ) (x : Head) (ys : List Item) (r : ℕ) {os : List Out} {c : ℕ} → read rule n x (ys ++ (plain r ∷ [])) ≡ done os (at (item false c)) → c ≡ r
+pub last-plain : (rule : Rules) (n : ℕ) (x : Head) (ys : List Item) (r : ℕ) {os : List Out} {c : ℕ} →
+    read rule n x (ys ++ (plain r ∷ [])) ≡ done os (at (item false c)) → c ≡ r
 last-plain rule n x ys r e = Steps.last-plain rule n x ys r e
 
 -- Demand 3 over an abstract rule.
-pub all-answers : (rule : Rules) (ps : List Ruled) (table : Finished) → Covers rule ps → Holds rule table → loopList rule ps ≡ [] → (b : Bool) (word : List ℕ) (right : Option ℕ) → (os : List Out) × ((n : ℕ) × (reading rule n b word right ≡ ended os)) × ((m : ℕ) → plainAnswers table right m (begin b word) ≡ inOrder m os)
+pub all-answers : (rule : Rules) (ps : List Ruled) (table : Finished) → Covers rule ps → Holds rule table → loopList rule ps ≡ [] →
+    (b : Bool) (word : List ℕ) (right : Option ℕ) →
+    (os : List Out) × ((n : ℕ) × (reading rule n b word right ≡ ended os)) × ((m : ℕ) → plainAnswers table right m (begin b word) ≡ inOrder m os)
 all-answers rule ps table c h e b word right = RunRight.ends-answers rule table h (loops-none rule ps c .0 e) b word right
 
 -- ---- the form of the table

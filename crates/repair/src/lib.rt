@@ -1,6 +1,7 @@
-// Repair, after `validate_and_fix` of ligkern/lang.rs (lines 691 to 818): TFtoPL 66 to 77 and 88 to 95. The passes are crate `mending`'s; here are the refusals 1 to
-// 4 before them and 15 after them. The repaired program stands in a local array until it is known that the lists which were lent are long enough, since 12,
-// which is of the repaired program, comes before 15.
+// Repair, after `validate_and_fix` of ligkern/lang.rs (lines 691 to 818): TFtoPL 66 to 77 and 88 to 95. The passes are
+// crate `mending`'s; here are the refusals 1 to 4 before them and 15 after them. The repaired program stands in a local
+// array until it is known that the lists which were lent are long enough, since 12, which is of the repaired program,
+// comes before 15.
 ghost use mathlib.Core.Path.{_≡_};
 ghost use mathlib.Core.List.{List};
 ghost use Prim.Native.Nat.{ℕ, _≤_};
@@ -25,7 +26,8 @@ use words::zero::zero_u32;
 
 // 4 of the boundary character, the left entry or the replacement.
 fn edge_refusal(boundary: i32, left_entry: i32, replacement: i32) -> u32
-    ensures { λ r. ⌜ r ≡ orElse (absentRefusal 255 boundary) (orElse (absentRefusal 65535 «left_entry») (unless 4 (leb (wordOf replacement) 255))) ⌝ }
+    ensures { λ r. ⌜ r ≡ orElse (absentRefusal 255 boundary)
+        (orElse (absentRefusal 65535 «left_entry») (unless 4 (leb (wordOf replacement) 255))) ⌝ }
 {
     let at_boundary = absent_refusal(255, boundary);
     if at_boundary != 0 {
@@ -44,7 +46,8 @@ fn edge_refusal(boundary: i32, left_entry: i32, replacement: i32) -> u32
 
 // 1 to 3, and 4 of the entries.
 fn lists_refusal(instructions: &[i32], kerns: &[i32], entries: &[i32]) -> u32
-    ensures { λ r. ⌜ r ≡ orElse (programRefusal (now (instructions .entry))) (orElse (kernsRefusal (now (kerns .entry))) (entriesRefusal 255 (now (entries .entry)))) ⌝ }
+    ensures { λ r. ⌜ r ≡ orElse (programRefusal (now (instructions .entry)))
+        (orElse (kernsRefusal (now (kerns .entry))) (entriesRefusal 255 (now (entries .entry)))) ⌝ }
 {
     let program = program_refusal(instructions);
     if program != 0 {
@@ -67,7 +70,10 @@ fn damaged_refusal(
     replacement: i32,
     passthrough: &[u8],
 ) -> u32
-    ensures { λ r. ⌜ ((existing : List ℕ) → r ≡ damagedRefusal (damagedOf (now (instructions .entry)) (now (kerns .entry)) (now (entries .entry)) boundary «left_entry» replacement existing (now (passthrough .entry)))) ⌝ }
+    ensures { λ r. ⌜ ((existing : List ℕ) →
+        r ≡ damagedRefusal
+        (damagedOf (now (instructions .entry)) (now (kerns .entry)) (now (entries .entry)) boundary
+        «left_entry» replacement existing (now (passthrough .entry)))) ⌝ }
 {
     let lists = lists_refusal(instructions, kerns, entries);
     if lists != 0 {
@@ -139,7 +145,8 @@ fn places() -> [u8; 32767]
     [0u8; 32767]
 }
 
-// The repaired program and its passthrough are copied to lists that are zero, where these and the warnings' list are long enough. 15, with the warnings zeroed.
+// The repaired program and its passthrough are copied to lists that are zero, where these and the warnings' list are
+// long enough. 15, with the warnings zeroed.
 fn finish(
     left: i32,
     count: usize,
@@ -149,7 +156,11 @@ fn finish(
     through: &mut [u8],
     warnings: &mut [i32],
 ) -> Validated
-    ensures { λ r. ⌜ Finishes left count (now (program .entry)) (now (passed .entry)) (now (fixed .entry)) (now (through .entry)) (now (warnings .entry)) (fitsRefusal (length (now (program .entry))) (length (now (passed .entry))) count (length (now (fixed .entry))) (length (now (through .entry))) (length (now (warnings .entry)))) r (now (fixed .exit)) (now (through .exit)) (now (warnings .exit)) ⌝ }
+    ensures { λ r. ⌜ Finishes left count (now (program .entry)) (now (passed .entry)) (now (fixed .entry))
+        (now (through .entry)) (now (warnings .entry))
+        (fitsRefusal (length (now (program .entry))) (length (now (passed .entry))) count
+        (length (now (fixed .entry))) (length (now (through .entry))) (length (now (warnings .entry)))) r
+        (now (fixed .exit)) (now (through .exit)) (now (warnings .exit)) ⌝ }
 {
     let number = fits_refusal(
         program.len(),
@@ -168,8 +179,9 @@ fn finish(
     Validated::Fixed(left, count)
 }
 
-// Repairs a font: what is wrong is warned of and, but for entries, redirects and loops, put right. Answers the repaired left entry and how many warnings there are,
-// four numbers each. Work is left zero, and so is every list on a refusal: 1 to 4, then 12 (of the repaired program), then 15.
+// Repairs a font: what is wrong is warned of and, but for entries, redirects and loops, put right. Answers the repaired
+// left entry and how many warnings there are, four numbers each. Work is left zero, and so is every list on a refusal:
+// 1 to 4, then 12 (of the repaired program), then 15.
 pub fn validate_and_fix(
     instructions: &[i32],
     kerns: &[i32],
@@ -184,7 +196,11 @@ pub fn validate_and_fix(
     warnings: &mut [i32],
     work: &mut [u32],
 ) -> Validated
-    ensures { λ r. ⌜ Repairs (damagedOf (now (instructions .entry)) (now (kerns .entry)) (now (entries .entry)) boundary «left_entry» replacement (now (existing .entry)) (now (passthrough .entry))) (now (fixed .entry)) (now (through .entry)) (now (warnings .entry)) (now (work .entry)) r (now (fixed .exit)) (now (through .exit)) (now (warnings .exit)) (now (work .exit)) ⌝ }
+    ensures { λ r. ⌜ Repairs
+        (damagedOf (now (instructions .entry)) (now (kerns .entry)) (now (entries .entry)) boundary
+        «left_entry» replacement (now (existing .entry)) (now (passthrough .entry))) (now (fixed .entry))
+        (now (through .entry)) (now (warnings .entry)) (now (work .entry)) r (now (fixed .exit))
+        (now (through .exit)) (now (warnings .exit)) (now (work .exit)) ⌝ }
 {
     zero_i32(fixed);
     zero_u8(through);

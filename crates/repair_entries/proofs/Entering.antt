@@ -48,7 +48,8 @@ module _ (s : List ℤ) (c e : ℕ) where
   pub not-placed : (u : List ℤ) (n x : ℕ) → x ≡ entryRefusal s e → (x ≡ 0 → ⊥) → Placed u n (entryNumbers s c e) u n
   not-placed u n x i h = rw (← i, ne-eqb x 0 h) (placed-none u n)
 
-  pub placed : (u u₁ u₂ : List ℤ) (n x t : ℕ) → x ≡ entryRefusal s e → x ≡ 0 → t ≡ standsFor s e → u₁ ≡ set u (2 * n) (numberOf c) → u₂ ≡ set u₁ (2 * n + 1) (numberOf t) → Placed u n (entryNumbers s c e) u₂ (n + 1)
+  pub placed : (u u₁ u₂ : List ℤ) (n x t : ℕ) → x ≡ entryRefusal s e → x ≡ 0 → t ≡ standsFor s e → u₁ ≡ set u (2 * n) (numberOf c) →
+      u₂ ≡ set u₁ (2 * n + 1) (numberOf t) → Placed u n (entryNumbers s c e) u₂ (n + 1)
   placed u u₁ u₂ n x t i h k f g =
       rw (← i, eq-eqb x 0 h)
       record {
@@ -66,20 +67,25 @@ module _ (s : List ℤ) (c e : ℕ) where
 -- ---- the entries unpacked
 
 module _ (d : Damaged) (few : count (d .instructions) ≤ 32767) (k c : ℕ) (cs : Word (charAt (d .entries) k) c) where
-  numbers-are : entryNumbers (d .instructions) c (packedEntryOf d k) ≡ cond (unpacks d k) (charAt (d .entries) k ∷ pos (standsFor (d .instructions) (packedEntryOf d k)) ∷ []) []
+  numbers-are : entryNumbers (d .instructions) c (packedEntryOf d k)
+      ≡ cond (unpacks d k) (charAt (d .entries) k ∷ pos (standsFor (d .instructions) (packedEntryOf d k)) ∷ []) []
   numbers-are = go (unpacks d k) refl
     where
-      go : (t : Bool) → unpacks d k ≡ t → cond t (numberOf c ∷ numberOf (standsFor (d .instructions) (packedEntryOf d k)) ∷ []) [] ≡ cond t (charAt (d .entries) k ∷ pos (standsFor (d .instructions) (packedEntryOf d k)) ∷ []) []
+      go : (t : Bool) → unpacks d k ≡ t →
+          cond t (numberOf c ∷ numberOf (standsFor (d .instructions) (packedEntryOf d k)) ∷ []) []
+          ≡ cond t (charAt (d .entries) k ∷ pos (standsFor (d .instructions) (packedEntryOf d k)) ∷ []) []
       go true h =
           let l = stands-below (d .instructions) (packedEntryOf d k) (eqb-true (entryRefusal (d .instructions) (packedEntryOf d k)) 0 h) in
           rw (number-is cs, number-pos (standsFor (d .instructions) (packedEntryOf d k)) (omega arith))
       go false h = refl
 
-  upto-more : (u u₁ u₂ : List ℤ) (n r : ℕ) → Placed u 0 (unpackedUpto d k) u₁ n → Placed u₁ n (entryNumbers (d .instructions) c (packedEntryOf d k)) u₂ r → Placed u 0 (unpackedUpto d (k + 1)) u₂ r
+  upto-more : (u u₁ u₂ : List ℤ) (n r : ℕ) → Placed u 0 (unpackedUpto d k) u₁ n → Placed u₁ n (entryNumbers (d .instructions) c (packedEntryOf d k)) u₂ r →
+      Placed u 0 (unpackedUpto d (k + 1)) u₂ r
   unfolding unpackedUpto
   upto-more u u₁ u₂ n r a b =
       rw (add-one k)
-      (placed-append u 0 (unpackedUpto d k) u₁ n (cond (unpacks d k) (charAt (d .entries) k ∷ pos (standsFor (d .instructions) (packedEntryOf d k)) ∷ []) []) u₂ r a (rw numbers-are at b))
+      (placed-append u 0 (unpackedUpto d k) u₁ n (cond (unpacks d k) (charAt (d .entries) k ∷ pos (standsFor (d .instructions) (packedEntryOf d k)) ∷ []) [])
+      u₂ r a (rw numbers-are at b))
 
 pub unpacked-none : (d : Damaged) (u : List ℤ) → Placed u 0 (unpackedUpto d 0) u 0
 unfolding unpackedUpto
@@ -91,7 +97,8 @@ module _ (p t : List ℕ) where
   pub bits-none : t ≡ sets t 0 (passthroughBits p 0)
   bits-none = stored-none t (λ i. cond (eqb (getD p i 0) 0) 0 1)
 
-  pub bits-more : (i bit : ℕ) {t₁ t₂ : List ℕ} → t₁ ≡ sets t 0 (passthroughBits p i) → bit ≡ cond (eqb (getD p i 0) 0) 0 1 → t₂ ≡ set t₁ i bit → t₂ ≡ sets t 0 (passthroughBits p (i + 1))
+  pub bits-more : (i bit : ℕ) {t₁ t₂ : List ℕ} → t₁ ≡ sets t 0 (passthroughBits p i) → bit ≡ cond (eqb (getD p i 0) 0) 0 1 → t₂ ≡ set t₁ i bit →
+      t₂ ≡ sets t 0 (passthroughBits p (i + 1))
   bits-more i bit e f g = g ∙ rw (e, f) (stored-more t (λ i. cond (eqb (getD p i 0) 0) 0 1) i)
 
   pub bits-all : (i n : ℕ) {t₁ : List ℕ} → i ≤ n → n ≤ i → t₁ ≡ sets t 0 (passthroughBits p i) → t₁ ≡ sets t 0 (passthroughBits p n)
@@ -147,7 +154,8 @@ module _ (d : Damaged) (t : List ℕ) where
   unfolding redirectsAt
   passed-start =
       ap (λ (m : List ℕ). sets t 0 m)
-      (tabulate-ext (count (d .instructions)) (λ i. cond (eqb (getD (d .passthrough) i 0) 0) 0 1) (λ i. cond (passedUpto d 0 i) 1 0) (λ i h. came-so (eqb (getD (d .passthrough) i 0) 0)))
+      (tabulate-ext (count (d .instructions)) (λ i. cond (eqb (getD (d .passthrough) i 0) 0) 0 1) (λ i. cond (passedUpto d 0 i) 1 0)
+      (λ i h. came-so (eqb (getD (d .passthrough) i 0) 0)))
 
   module _ (k : ℕ) where
     abbrev now-at : ℕ → ℕ
@@ -159,11 +167,13 @@ module _ (d : Damaged) (t : List ℕ) where
     abbrev is-so : Bool
     is-so = isKind 3 (d .instructions) (packedEntryOf d k)
 
-    step : (b : Bool) → both (unpacks d k) is-so ≡ b → cond b (set (sets t 0 (passthroughUpto d k)) (packedEntryOf d k) 1) (sets t 0 (passthroughUpto d k)) ≡ sets t 0 (passthroughUpto d (suc k))
+    step : (b : Bool) → both (unpacks d k) is-so ≡ b →
+        cond b (set (sets t 0 (passthroughUpto d k)) (packedEntryOf d k) 1) (sets t 0 (passthroughUpto d k)) ≡ sets t 0 (passthroughUpto d (suc k))
     unfolding redirectsAt
     step true h =
         stored-set t (count (d .instructions)) now-at (packedEntryOf d k) 1
-        (followed-below (d .instructions) (packedEntryOf d k) (eqb-true (entryRefusal (d .instructions) (packedEntryOf d k)) 0 (both-left (unpacks d k) is-so h)))
+        (followed-below (d .instructions) (packedEntryOf d k)
+        (eqb-true (entryRefusal (d .instructions) (packedEntryOf d k)) 0 (both-left (unpacks d k) is-so h)))
         ∙ ap (λ (m : List ℕ). sets t 0 m)
         (tabulate-ext (count (d .instructions)) (λ i. cond (eqb (packedEntryOf d k) i) 1 (now-at i)) then-at
         (λ i l. one-passed (unpacks d k) is-so (eqb (packedEntryOf d k) i) (eqb (getD (d .passthrough) i 0) 0) (redirectsAt d i k) h))
@@ -172,7 +182,8 @@ module _ (d : Damaged) (t : List ℕ) where
         (tabulate-ext (count (d .instructions)) now-at then-at
         (λ i l. none-passed (unpacks d k) is-so (eqb (packedEntryOf d k) i) (eqb (getD (d .passthrough) i 0) 0) (redirectsAt d i k) h))
 
-    passed-step : (t₁ t₂ : List ℕ) → t₁ ≡ sets t 0 (passthroughUpto d k) → t₂ ≡ redirectPassed (d .instructions) (packedEntryOf d k) t₁ → t₂ ≡ sets t 0 (passthroughUpto d (k + 1))
+    passed-step : (t₁ t₂ : List ℕ) → t₁ ≡ sets t 0 (passthroughUpto d k) → t₂ ≡ redirectPassed (d .instructions) (packedEntryOf d k) t₁ →
+        t₂ ≡ sets t 0 (passthroughUpto d (k + 1))
     passed-step t₁ t₂ a b = rw (add-one k) (b ∙ rw a (step (both (unpacks d k) is-so) refl))
 
 -- ---- the warnings
@@ -181,7 +192,12 @@ few-warned : (d : Damaged) (k : ℕ) → length (entryWarnings d k) ≤ 4 * k
 unfolding entryWarnings
 few-warned d zero = omega arith
 few-warned d (suc k) =
-    omega (arith, few-warned d k, four (unpacks d k), length-append (entryWarnings d k) (warnIf (not (unpacks d k)) (warning 2 (charAt (d .entries) k) (pos 0) (pos 0))))
+    omega (
+      arith,
+      few-warned d k,
+      four (unpacks d k),
+      length-append (entryWarnings d k) (warnIf (not (unpacks d k)) (warning 2 (charAt (d .entries) k) (pos 0) (pos 0))),
+    )
   where
     four : (t : Bool) → length (warnIf (not t) (warning 2 (charAt (d .entries) k) (pos 0) (pos 0))) ≤ 4
     four true = omega arith
@@ -191,12 +207,16 @@ pub warned-none : (d : Damaged) (w : List ℤ) (n : ℕ) → Pushed w n (entryWa
 unfolding entryWarnings
 warned-none d w n = pushed-none w n
 
-warned-step : (d : Damaged) (k c : ℕ) → Word (charAt (d .entries) k) c → (w w₁ w₂ : List ℤ) (n m r : ℕ) → n ≤ 1 → k < 256 → Pushed w n (entryWarnings d k) w₁ m → Pushed w₁ m (warnIf (both (not (unpacks d k)) (ltb m 4294967296)) (warning 2 (numberOf c) (numberOf 0) (numberOf 0))) w₂ r → Pushed w n (entryWarnings d (k + 1)) w₂ r
+warned-step : (d : Damaged) (k c : ℕ) → Word (charAt (d .entries) k) c → (w w₁ w₂ : List ℤ) (n m r : ℕ) → n ≤ 1 → k < 256 →
+    Pushed w n (entryWarnings d k) w₁ m →
+    Pushed w₁ m (warnIf (both (not (unpacks d k)) (ltb m 4294967296)) (warning 2 (numberOf c) (numberOf 0) (numberOf 0))) w₂ r →
+    Pushed w n (entryWarnings d (k + 1)) w₂ r
 unfolding entryWarnings
 warned-step d k c cs w w₁ w₂ n m r h l a b =
     rw (add-one k)
     (pushed-append w n (entryWarnings d k) w₁ m (warnIf (not (unpacks d k)) (warning 2 (charAt (d .entries) k) (pos 0) (pos 0))) w₂ r a
-    (rw (number-is cs) at (pushed-if w₁ m (not (unpacks d k)) (warning 2 (numberOf c) (numberOf 0) (numberOf 0)) w₂ r (omega (arith, a .count, few-warned d k)) b)))
+    (rw (number-is cs) at
+    (pushed-if w₁ m (not (unpacks d k)) (warning 2 (numberOf c) (numberOf 0) (numberOf 0)) w₂ r (omega (arith, a .count, few-warned d k)) b)))
 
 pub warned-all : (d : Damaged) (k n : ℕ) → k ≤ n → n ≤ k → {w w₁ : List ℤ} {m r : ℕ} → Pushed w m (entryWarnings d k) w₁ r → Pushed w m (entryWarnings d n) w₁ r
 warned-all d k n h l p = let e : k ≡ n = omega arith in rw e at p
@@ -213,17 +233,22 @@ module _ {z : ℤ} {w : ℕ} (n : ℕ) (zs : Word z w) where
 -- ---- of the font that is lent
 
 module _ (d : Damaged) (s es : List ℤ) (l : Lends d s es) where
-  pub unpacked-more : count s ≤ 32767 → (k c e : ℕ) → Word (charAt es k) c → e ≡ wordOf (entryAt es k) → (u u₁ u₂ : List ℤ) (n r : ℕ) → Placed u 0 (unpackedUpto d k) u₁ n → Placed u₁ n (entryNumbers s c e) u₂ r → Placed u 0 (unpackedUpto d (k + 1)) u₂ r
+  pub unpacked-more : count s ≤ 32767 → (k c e : ℕ) → Word (charAt es k) c → e ≡ wordOf (entryAt es k) → (u u₁ u₂ : List ℤ) (n r : ℕ) →
+      Placed u 0 (unpackedUpto d k) u₁ n → Placed u₁ n (entryNumbers s c e) u₂ r → Placed u 0 (unpackedUpto d (k + 1)) u₂ r
   unpacked-more few k c e cs i u u₁ u₂ n r a b =
       upto-more d (rw (← l .instructions) at few) k c (rw (← l .entries) at cs) u u₁ u₂ n r a (rw (i, ← l .instructions, ← l .entries) at b)
 
   pub passed-none : (p t : List ℕ) → d .passthrough ≡ p → {t₁ : List ℕ} → t₁ ≡ sets t 0 (passthroughBits p (count s)) → t₁ ≡ sets t 0 (passthroughUpto d 0)
   passed-none p t ps a = rw (← ps, ← l .instructions) at a ∙ passed-start d t
 
-  pub passed-more : (t : List ℕ) (k e : ℕ) → e ≡ wordOf (entryAt es k) → {t₁ t₂ : List ℕ} → t₁ ≡ sets t 0 (passthroughUpto d k) → t₂ ≡ redirectPassed s e t₁ → t₂ ≡ sets t 0 (passthroughUpto d (k + 1))
+  pub passed-more : (t : List ℕ) (k e : ℕ) → e ≡ wordOf (entryAt es k) → {t₁ t₂ : List ℕ} → t₁ ≡ sets t 0 (passthroughUpto d k) → t₂ ≡ redirectPassed s e t₁ →
+      t₂ ≡ sets t 0 (passthroughUpto d (k + 1))
   passed-more t k e i {t₁} {t₂} a b = passed-step d t k t₁ t₂ a (rw (i, ← l .instructions, ← l .entries) at b)
 
-  pub warned-more : (k c e x : ℕ) → Word (charAt es k) c → e ≡ wordOf (entryAt es k) → x ≡ entryRefusal s e → (w w₁ w₂ : List ℤ) (n m r : ℕ) → n ≤ 1 → k < 256 → Pushed w n (entryWarnings d k) w₁ m → Pushed w₁ m (warnIf (both (not (eqb x 0)) (ltb m 4294967296)) (warning 2 (numberOf c) (numberOf 0) (numberOf 0))) w₂ r → Pushed w n (entryWarnings d (k + 1)) w₂ r
+  pub warned-more : (k c e x : ℕ) → Word (charAt es k) c → e ≡ wordOf (entryAt es k) → x ≡ entryRefusal s e → (w w₁ w₂ : List ℤ) (n m r : ℕ) → n ≤ 1 → k < 256 →
+      Pushed w n (entryWarnings d k) w₁ m →
+      Pushed w₁ m (warnIf (both (not (eqb x 0)) (ltb m 4294967296)) (warning 2 (numberOf c) (numberOf 0) (numberOf 0))) w₂ r →
+      Pushed w n (entryWarnings d (k + 1)) w₂ r
   warned-more k c e x cs i xs w w₁ w₂ n m r h b a q =
       warned-step d k c (rw (← l .entries) at cs) w w₁ w₂ n m r h b a (rw (xs, i, ← l .instructions, ← l .entries) at q)
 
@@ -234,31 +259,38 @@ module _ (d : Damaged) (s es : List ℤ) (l : Lends d s es) where
     pub unpacked-all : (u u₁ : List ℤ) (n : ℕ) → Placed u 0 (unpackedUpto d k) u₁ n → Placed u 0 (unpackedEntries d) u₁ n
     unpacked-all u u₁ n p = rw (whole k h m) at p
 
-  pub passed-all : (t : List ℕ) (k : ℕ) → k ≤ length es / 2 → length es / 2 ≤ k → {t₁ : List ℕ} → t₁ ≡ sets t 0 (passthroughUpto d k) → t₁ ≡ sets t 0 (repairedPassthrough d)
+  pub passed-all : (t : List ℕ) (k : ℕ) → k ≤ length es / 2 → length es / 2 ≤ k → {t₁ : List ℕ} → t₁ ≡ sets t 0 (passthroughUpto d k) →
+      t₁ ≡ sets t 0 (repairedPassthrough d)
   passed-all t k h m a = a ∙ ap (λ (j : ℕ). sets t 0 (passthroughUpto d j)) (whole k h m)
 
   -- all passes, one after the other
-  module _ {z : ℤ} {p : List ℕ} (ls : d .left ≡ z) (ps : d .passthrough ≡ p) (few : count (d .instructions) ≤ 32767) (many : length (d .entries) / 2 ≤ 256) where
-    left-pushed : {b : Bool} → b ≡ both (nonNeg z) (leb (count s) (wordOf z)) → (w w₁ : List ℤ) (i : ℕ) → Pushed w 0 (warnIf (both b (ltb 0 4294967296)) (warning 1 (numberOf 0) (numberOf 0) (numberOf 0))) w₁ i → Pushed w 0 (leftWarning d) w₁ i
-    left-pushed {b} bs w w₁ i a =
-        rw (bs, ← ls, ← l .instructions) at (pushed-if w 0 b (warning 1 (numberOf 0) (numberOf 0) (numberOf 0)) w₁ i (omega arith) a)
+  module _ {z : ℤ} {p : List ℕ} (ls : d .left ≡ z) (ps : d .passthrough ≡ p) (few : count (d .instructions) ≤ 32767) (many : length (d .entries) / 2 ≤ 256)
+    where
+      left-pushed : {b : Bool} → b ≡ both (nonNeg z) (leb (count s) (wordOf z)) → (w w₁ : List ℤ) (i : ℕ) →
+          Pushed w 0 (warnIf (both b (ltb 0 4294967296)) (warning 1 (numberOf 0) (numberOf 0) (numberOf 0))) w₁ i → Pushed w 0 (leftWarning d) w₁ i
+      left-pushed {b} bs w w₁ i a =
+          rw (bs, ← ls, ← l .instructions) at (pushed-if w 0 b (warning 1 (numberOf 0) (numberOf 0) (numberOf 0)) w₁ i (omega arith) a)
 
-    one-left : (w w₁ : List ℤ) (i : ℕ) → Pushed w 0 (leftWarning d) w₁ i → i ≤ 1
-    one-left w w₁ i a = omega (arith, a .count, four (leftGoes d))
-      where
-        four : (t : Bool) → length (warnIf t (warning 1 (pos 0) (pos 0) (pos 0))) ≤ 4
-        four true = omega arith
-        four false = omega arith
+      one-left : (w w₁ : List ℤ) (i : ℕ) → Pushed w 0 (leftWarning d) w₁ i → i ≤ 1
+      one-left w w₁ i a = omega (arith, a .count, four (leftGoes d))
+        where
+          four : (t : Bool) → length (warnIf t (warning 1 (pos 0) (pos 0) (pos 0))) ≤ 4
+          four true = omega arith
+          four false = omega arith
 
-    pub enters : {u u′ : List ℤ} {n : ℕ} → (count s ≤ 32767 → Placed u 0 (unpackedEntries d) u′ n) → {t t₁ t₂ : List ℕ} → t₁ ≡ sets t 0 (passthroughBits p (count s)) → ((t : List ℕ) → t₁ ≡ sets t 0 (passthroughUpto d 0) → t₂ ≡ sets t 0 (repairedPassthrough d)) → {b : Bool} → b ≡ both (nonNeg z) (leb (count s) (wordOf z)) → {w w₁ w₂ : List ℤ} {i m : ℕ} → Pushed w 0 (warnIf (both b (ltb 0 4294967296)) (warning 1 (numberOf 0) (numberOf 0) (numberOf 0))) w₁ i → (i ≤ 1 → length es / 2 ≤ 256 → Pushed w₁ i (entryWarnings d (length es / 2)) w₂ m) → Enters d u t w (record { entries = n; warnings = m }) u′ t₂ w₂
-    enters placed {t} e passed bs {w} {w₁} {w₂} {i} {m} a warned =
-        let u = placed (rw (l .instructions) at few) in
-        let o = left-pushed bs w w₁ i a in
-        record {
-          entries = omega (arith, u .count);
-          list = u .list;
-          passthrough = passed t (passed-none p t ps e);
-          warned =
-              pushed-append w 0 (leftWarning d) w₁ i (entryWarnings d (length (d .entries) / 2)) w₂ m o
-              (rw (← l .entries) at (warned (one-left w w₁ i o) (rw (l .entries) at many)));
-        }
+      pub enters : {u u′ : List ℤ} {n : ℕ} → (count s ≤ 32767 → Placed u 0 (unpackedEntries d) u′ n) → {t t₁ t₂ : List ℕ} →
+          t₁ ≡ sets t 0 (passthroughBits p (count s)) → ((t : List ℕ) → t₁ ≡ sets t 0 (passthroughUpto d 0) → t₂ ≡ sets t 0 (repairedPassthrough d)) →
+          {b : Bool} → b ≡ both (nonNeg z) (leb (count s) (wordOf z)) → {w w₁ w₂ : List ℤ} {i m : ℕ} →
+          Pushed w 0 (warnIf (both b (ltb 0 4294967296)) (warning 1 (numberOf 0) (numberOf 0) (numberOf 0))) w₁ i →
+          (i ≤ 1 → length es / 2 ≤ 256 → Pushed w₁ i (entryWarnings d (length es / 2)) w₂ m) → Enters d u t w (record { entries = n; warnings = m }) u′ t₂ w₂
+      enters placed {t} e passed bs {w} {w₁} {w₂} {i} {m} a warned =
+          let u = placed (rw (l .instructions) at few) in
+          let o = left-pushed bs w w₁ i a in
+          record {
+            entries = omega (arith, u .count);
+            list = u .list;
+            passthrough = passed t (passed-none p t ps e);
+            warned =
+                pushed-append w 0 (leftWarning d) w₁ i (entryWarnings d (length (d .entries) / 2)) w₂ m o
+                (rw (← l .entries) at (warned (one-left w w₁ i o) (rw (l .entries) at many)));
+          }

@@ -64,7 +64,8 @@ module _ {A : Type 0} where
           rw (ne-eqb e i h)
           (getD-set-other (tabulate n f) e i v v (λ k. h (sym k)) ∙ getD-tabulate n f i v l)
 
-  pub stored-set : (l : List A) (n : ℕ) (f : ℕ → A) (e : ℕ) (v : A) → e < n → set (sets l 0 (tabulate n f)) e v ≡ sets l 0 (tabulate n (λ i. cond (eqb e i) v (f i)))
+  pub stored-set : (l : List A) (n : ℕ) (f : ℕ → A) (e : ℕ) (v : A) → e < n →
+      set (sets l 0 (tabulate n f)) e v ≡ sets l 0 (tabulate n (λ i. cond (eqb e i) v (f i)))
   stored-set l n f e v h =
       ap (λ (j : ℕ). set (sets l 0 (tabulate n f)) j v) (omega arith)
       ∙ set-among (tabulate n f) l 0 e v (omega (arith, length-tabulate n f))

@@ -1,5 +1,6 @@
-// TFtoPL 67 and 69: the entries of a font that is repaired, after the first part of `validate_and_fix` of ligkern/lang.rs (lines 702 to 720). An entry that does not
-// unpack goes, with a warning; a redirect by which one unpacks is passed over.
+// TFtoPL 67 and 69: the entries of a font that is repaired, after the first part of `validate_and_fix` of
+// ligkern/lang.rs (lines 702 to 720). An entry that does not unpack goes, with a warning; a redirect by which one
+// unpacks is passed over.
 ghost use mathlib.Core.Path.{_≡_};
 ghost use mathlib.Core.List.{List};
 ghost use Prim.Native.Nat.{ℕ, _/_, _<_, _≤_};
@@ -13,17 +14,20 @@ ghost use Rattle.lang.specs.Records.{count};
 ghost use Rattle.repairs.specs.Damaged.{Damaged, unpackedEntries, repairedPassthrough};
 ghost use Rattle.repairs.specs.Warnings.{entryWarnings};
 ghost use Rattle.repairs.specs.Pushed.{Pushed};
-ghost use Rattle.repair_entries.specs.Entering.{Lends, Placed, entryNumbers, passthroughBits, redirectPassed, passthroughUpto, Enters};
+ghost use Rattle.repair_entries.specs.Entering.{Lends, Placed, entryNumbers, passthroughBits, redirectPassed};
+ghost use Rattle.repair_entries.specs.Entering.{passthroughUpto, Enters};
 use entry_targets::entry_refusal;
 use entry_targets::is_redirect;
 use entry_targets::stands_for;
 use repair_warnings::push_if;
 use repairs::Entered;
 
-// One entry after n others, where it unpacks, from the bits of its character and of the packed entry. Answers how many there are then.
+// One entry after n others, where it unpacks, from the bits of its character and of the packed entry. Answers how many
+// there are then.
 fn put_entry(instructions: &[i32], c: u32, entry: u32, unpacked: &mut [i32], n: usize) -> usize
     requires { ⌜ n < 9223372036854775807 ⌝ }
-    ensures { λ r. ⌜ Placed (now (unpacked .entry)) n (entryNumbers (now (instructions .entry)) c entry) (now (unpacked .exit)) r ⌝ }
+    ensures { λ r. ⌜ Placed (now (unpacked .entry)) n (entryNumbers (now (instructions .entry)) c entry)
+        (now (unpacked .exit)) r ⌝ }
 {
     if entry_refusal(instructions, entry as usize) != 0 {
         return n;
@@ -39,7 +43,9 @@ fn put_entry(instructions: &[i32], c: u32, entry: u32, unpacked: &mut [i32], n: 
 
 // The entries that unpack, unpacked. Answers how many they are.
 fn put_entries(instructions: &[i32], entries: &[i32], unpacked: &mut [i32]) -> usize
-    ensures { λ r. ⌜ ((d : Damaged) → Lends d (now (instructions .entry)) (now (entries .entry)) → count (now (instructions .entry)) ≤ 32767 → Placed (now (unpacked .entry)) 0 (unpackedEntries d) (now (unpacked .exit)) r) ⌝ }
+    ensures { λ r. ⌜ ((d : Damaged) → Lends d (now (instructions .entry)) (now (entries .entry)) →
+        count (now (instructions .entry)) ≤ 32767 →
+        Placed (now (unpacked .entry)) 0 (unpackedEntries d) (now (unpacked .exit)) r) ⌝ }
 {
     let mut n = 0;
     let mut k = 0;
@@ -54,7 +60,8 @@ fn put_entries(instructions: &[i32], entries: &[i32], unpacked: &mut [i32]) -> u
 
 // Passthrough of n instructions, as 0 and 1.
 fn put_passthrough(passthrough: &[u8], n: usize, through: &mut [u8])
-    ensures { λ _. ⌜ now (through .exit) ≡ sets (now (through .entry)) 0 (passthroughBits (now (passthrough .entry)) n) ⌝ }
+    ensures { λ _. ⌜ now (through .exit) ≡ sets (now (through .entry)) 0
+        (passthroughBits (now (passthrough .entry)) n) ⌝ }
 {
     let mut i = 0;
     while i < n {
@@ -69,7 +76,8 @@ fn put_passthrough(passthrough: &[u8], n: usize, through: &mut [u8])
 
 // A redirect by which an entry unpacks is passed over.
 fn pass_redirect(instructions: &[i32], entry: usize, through: &mut [u8])
-    ensures { λ _. ⌜ now (through .exit) ≡ redirectPassed (now (instructions .entry)) entry (now (through .entry)) ⌝ }
+    ensures { λ _. ⌜ now (through .exit) ≡ redirectPassed (now (instructions .entry)) entry
+        (now (through .entry)) ⌝ }
 {
     if entry_refusal(instructions, entry) != 0 {
         return;
@@ -81,7 +89,9 @@ fn pass_redirect(instructions: &[i32], entry: usize, through: &mut [u8])
 
 // The same of every entry.
 fn pass_redirects(instructions: &[i32], entries: &[i32], through: &mut [u8])
-    ensures { λ _. ⌜ ((d : Damaged) → Lends d (now (instructions .entry)) (now (entries .entry)) → (t : List ℕ) → now (through .entry) ≡ sets t 0 (passthroughUpto d 0) → now (through .exit) ≡ sets t 0 (repairedPassthrough d)) ⌝ }
+    ensures { λ _. ⌜ ((d : Damaged) → Lends d (now (instructions .entry)) (now (entries .entry)) →
+        (t : List ℕ) → now (through .entry) ≡ sets t 0 (passthroughUpto d 0) →
+        now (through .exit) ≡ sets t 0 (repairedPassthrough d)) ⌝ }
 {
     let mut k = 0;
     while k < entries.len() / 2 {
@@ -93,7 +103,8 @@ fn pass_redirects(instructions: &[i32], entries: &[i32], through: &mut [u8])
 
 // TFtoPL 69: the left entry is past the end.
 fn left_goes(instructions: &[i32], left_entry: i32) -> bool
-    ensures { λ r. ⌜ r ≡ both (nonNeg «left_entry») (leb (count (now (instructions .entry))) (wordOf «left_entry»)) ⌝ }
+    ensures { λ r. ⌜ r ≡ both (nonNeg «left_entry»)
+        (leb (count (now (instructions .entry))) (wordOf «left_entry»)) ⌝ }
 {
     let entry = words::word_of(left_entry);
     if 2147483648 <= entry {
@@ -104,7 +115,10 @@ fn left_goes(instructions: &[i32], left_entry: i32) -> bool
 
 // After n warnings, one for each entry that does not unpack. Answers how many there are then.
 fn warn_entries(instructions: &[i32], entries: &[i32], warnings: &mut [i32], n: usize) -> usize
-    ensures { λ r. ⌜ ((d : Damaged) → Lends d (now (instructions .entry)) (now (entries .entry)) → n ≤ 1 → length (now (entries .entry)) / 2 ≤ 256 → Pushed (now (warnings .entry)) n (entryWarnings d (length (now (entries .entry)) / 2)) (now (warnings .exit)) r) ⌝ }
+    ensures { λ r. ⌜ ((d : Damaged) → Lends d (now (instructions .entry)) (now (entries .entry)) →
+        n ≤ 1 → length (now (entries .entry)) / 2 ≤ 256 →
+        Pushed (now (warnings .entry)) n (entryWarnings d (length (now (entries .entry)) / 2))
+        (now (warnings .exit)) r) ⌝ }
 {
     let mut count = n;
     let mut k = 0;
@@ -118,8 +132,8 @@ fn warn_entries(instructions: &[i32], entries: &[i32], warnings: &mut [i32], n: 
     count
 }
 
-// The entries that unpack, unpacked; passthrough, as 0 and 1, set at the redirects by which one does; and the warnings of the left entry (1) and of the entries that do
-// not (2).
+// The entries that unpack, unpacked; passthrough, as 0 and 1, set at the redirects by which one does; and the warnings
+// of the left entry (1) and of the entries that do not (2).
 pub fn unpack_entries(
     instructions: &[i32],
     entries: &[i32],
@@ -129,7 +143,12 @@ pub fn unpack_entries(
     through: &mut [u8],
     warnings: &mut [i32],
 ) -> Entered
-    ensures { λ r. ⌜ ((d : Damaged) → d .instructions ≡ now (instructions .entry) → d .entries ≡ now (entries .entry) → d .left ≡ «left_entry» → d .passthrough ≡ now (passthrough .entry) → count (d .instructions) ≤ 32767 → length (d .entries) / 2 ≤ 256 → Enters d (now (unpacked .entry)) (now (through .entry)) (now (warnings .entry)) r (now (unpacked .exit)) (now (through .exit)) (now (warnings .exit))) ⌝ }
+    ensures { λ r. ⌜ ((d : Damaged) → d .instructions ≡ now (instructions .entry) →
+        d .entries ≡ now (entries .entry) → d .left ≡ «left_entry» →
+        d .passthrough ≡ now (passthrough .entry) → count (d .instructions) ≤ 32767 →
+        length (d .entries) / 2 ≤ 256 →
+        Enters d (now (unpacked .entry)) (now (through .entry)) (now (warnings .entry)) r (now (unpacked .exit))
+        (now (through .exit)) (now (warnings .exit))) ⌝ }
 {
     let n = put_entries(instructions, entries, unpacked);
     put_passthrough(passthrough, instructions.len() / 4, through);

@@ -122,5 +122,9 @@ module _ (s : List ℤ) (existing : List ℕ) (i : ℕ) {kind : ℕ} (ks : kind 
 -- ---- all of them
 
 module _ (s kerns : List ℤ) (boundary : ℤ) (existing marks through : List ℕ) (i : ℕ) where
-  pub faults-are : {w : ℕ} → Word boundary w → {skip redirect right kern product tag : Bool} → skip ≡ skipPastEnd s marks i → redirect ≡ redirectPastEnd s marks through i → right ≡ rightMissing s (numberOf w) existing i → kern ≡ kernPastList s kerns i → product ≡ productMissing s existing i → tag ≡ tagInvalid s i → (n : ℕ) → _≡_ {A = Faults} (record { skip = skip; redirect = redirect; right = right; kern = kern; product = product; tag = tag }) (faultsOf (programBy s kerns boundary n existing marks through) i)
+  pub faults-are : {w : ℕ} → Word boundary w → {skip redirect right kern product tag : Bool} → skip ≡ skipPastEnd s marks i →
+      redirect ≡ redirectPastEnd s marks through i → right ≡ rightMissing s (numberOf w) existing i → kern ≡ kernPastList s kerns i →
+      product ≡ productMissing s existing i → tag ≡ tagInvalid s i → (n : ℕ) →
+      _≡_ {A = Faults} (record { skip = skip; redirect = redirect; right = right; kern = kern; product = product; tag = tag })
+      (faultsOf (programBy s kerns boundary n existing marks through) i)
   faults-are ws es fs gs hs ks ls n = rw (es, fs, gs ∙ ap (λ (b : ℤ). rightMissing s b existing i) (number-is ws), hs, ks, ls)

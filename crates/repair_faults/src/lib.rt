@@ -1,4 +1,5 @@
-// What is wrong with a step of a program, after `validate_and_fix` of ligkern/lang.rs (lines 722 to 806); TFtoPL 70 to 77. Nothing is repaired here: crate `fixes` does.
+// What is wrong with a step of a program, after `validate_and_fix` of ligkern/lang.rs (lines 722 to 806); TFtoPL 70 to
+// 77. Nothing is repaired here: crate `fixes` does.
 ghost use mathlib.Core.Path.{_≡_};
 ghost use Prim.Native.Nat.{ℕ};
 ghost use lib.ListN.{getD};
@@ -6,7 +7,8 @@ ghost use Rattle.words.specs.Words.{numberOf};
 ghost use Rattle.lang.specs.Operations.{isStandard};
 ghost use Rattle.repairs.specs.Damaged.{programBy};
 ghost use Rattle.repairs.specs.Repaired.{faultsOf};
-ghost use Rattle.repair_faults.specs.Tests.{existsIn, isEdge, skipPastEnd, redirectPastEnd, rightMissing, kernPastList, productMissing, tagInvalid};
+ghost use Rattle.repair_faults.specs.Tests.{existsIn, isEdge, skipPastEnd, redirectPastEnd, rightMissing};
+ghost use Rattle.repair_faults.specs.Tests.{kernPastList, productMissing, tagInvalid};
 use lang::instruction::field_at;
 use repairs::Faults;
 
@@ -52,7 +54,8 @@ fn skip_goes(instructions: &[i32], marks: &[u8], i: usize) -> bool
 
 // Step i is a redirect whose target is past the end, unless it is unreachable and passed over.
 fn redirect_warns(instructions: &[i32], marks: &[u8], passthrough: &[u8], i: usize) -> bool
-    ensures { λ r. ⌜ r ≡ redirectPastEnd (now (instructions .entry)) (now (marks .entry)) (now (passthrough .entry)) i ⌝ }
+    ensures { λ r. ⌜ r ≡ redirectPastEnd (now (instructions .entry)) (now (marks .entry))
+        (now (passthrough .entry)) i ⌝ }
 {
     if field_at(instructions, i, 2) != 3 {
         return false;
@@ -79,7 +82,8 @@ fn is_boundary(boundary: u32, right: u32) -> bool
 
 // Step i is for a right character that neither exists nor is the boundary character, which is lent as its 32 bits.
 fn right_goes(instructions: &[i32], boundary: u32, existing: &[u64; 4], i: usize) -> bool
-    ensures { λ r. ⌜ r ≡ rightMissing (now (instructions .entry)) (numberOf boundary) (now (existing .entry)) i ⌝ }
+    ensures { λ r. ⌜ r ≡ rightMissing (now (instructions .entry)) (numberOf boundary) (now (existing .entry))
+        i ⌝ }
 {
     if field_at(instructions, i, 2) == 3 {
         return false;
@@ -131,7 +135,10 @@ pub fn faults(
     passthrough: &[u8],
     i: usize,
 ) -> Faults
-    ensures { λ r. ⌜ ((n : ℕ) → r ≡ faultsOf (programBy (now (instructions .entry)) (now (kerns .entry)) boundary n (now (existing .entry)) (now (marks .entry)) (now (passthrough .entry))) i) ⌝ }
+    ensures { λ r. ⌜ ((n : ℕ) →
+        r ≡ faultsOf
+        (programBy (now (instructions .entry)) (now (kerns .entry)) boundary n (now (existing .entry))
+        (now (marks .entry)) (now (passthrough .entry))) i) ⌝ }
 {
     let edge = words::word_of(boundary);
     Faults {

@@ -28,7 +28,8 @@ pub none-yet : (w : List ℤ) (n : ℕ) → PushedUpTo 0 w n [] w n
 none-yet w n = record { pushed = pushed-none w n; most = omega arith }
 
 -- some, and then others
-pub and-then : {j k : ℕ} {w : List ℤ} {n : ℕ} {xs w₁ : List ℤ} {m : ℕ} {ys w₂ : List ℤ} {r : ℕ} → PushedUpTo j w n xs w₁ m → PushedUpTo k w₁ m ys w₂ r → PushedUpTo (j + k) w n (xs ++ ys) w₂ r
+pub and-then : {j k : ℕ} {w : List ℤ} {n : ℕ} {xs w₁ : List ℤ} {m : ℕ} {ys w₂ : List ℤ} {r : ℕ} → PushedUpTo j w n xs w₁ m → PushedUpTo k w₁ m ys w₂ r →
+    PushedUpTo (j + k) w n (xs ++ ys) w₂ r
 and-then {w = w} {n} {xs} {w₁} {m} {ys} {w₂} {r} a b =
     record { pushed = pushed-append w n xs w₁ m ys w₂ r (a .pushed) (b .pushed); most = omega (arith, a .most, b .most) }
 
@@ -41,37 +42,52 @@ one-long false kind at old new = omega arith
 abbrev Pushes : List ℤ → ℕ → Bool → ℕ → ℕ → ℕ → ℕ → List ℤ → ℕ → Type 0
 Pushes w n t kind a b d w′ r = Pushed w n (warnIf (both t (ltb n 4294967296)) (warning kind (numberOf a) (numberOf b) (numberOf d))) w′ r
 
-one-pushed : (t : Bool) (a b d : ℕ) {w : List ℤ} {n k : ℕ} {w′ : List ℤ} {r kind : ℕ} {at old new : ℤ} → n < 4294967296 → k ≡ kind → numberOf a ≡ at → numberOf b ≡ old → numberOf d ≡ new → Pushes w n t k a b d w′ r → PushedUpTo 1 w n (warnIf t (warning kind at old new)) w′ r
+one-pushed : (t : Bool) (a b d : ℕ) {w : List ℤ} {n k : ℕ} {w′ : List ℤ} {r kind : ℕ} {at old new : ℤ} → n < 4294967296 → k ≡ kind → numberOf a ≡ at →
+    numberOf b ≡ old → numberOf d ≡ new → Pushes w n t k a b d w′ r → PushedUpTo 1 w n (warnIf t (warning kind at old new)) w′ r
 one-pushed t a b d {w} {n} {k} {w′} {r} {kind} {at} {old} {new} h i e f g p =
-    let q : Pushed w n (warnIf t (warning kind at old new)) w′ r = rw (i, e, f, g) at (pushed-if w n t (warning k (numberOf a) (numberOf b) (numberOf d)) w′ r h p) in
+    let q : Pushed w n (warnIf t (warning kind at old new)) w′ r = rw (i, e, f, g) at
+    (pushed-if w n t (warning k (numberOf a) (numberOf b) (numberOf d)) w′ r h p) in
     record { pushed = q; most = omega (arith, q .count, one-long t kind at old new) }
 
 -- ---- of one step
 
 -- the warning of its skip
-pub skip-pushed : (p : DamagedProgram) (i : ℕ) {f : Faults} {w : List ℤ} {n : ℕ} {w′ : List ℤ} {r : ℕ} → f ≡ faultsOf p i → i < 32767 → n < 4294967296 → Pushes w n (f .skip) 3 i 0 0 w′ r → PushedUpTo 1 w n (warnIf (skipGoes p i) (warning 3 (pos i) (pos 0) (pos 0))) w′ r
+pub skip-pushed : (p : DamagedProgram) (i : ℕ) {f : Faults} {w : List ℤ} {n : ℕ} {w′ : List ℤ} {r : ℕ} → f ≡ faultsOf p i → i < 32767 → n < 4294967296 →
+    Pushes w n (f .skip) 3 i 0 0 w′ r → PushedUpTo 1 w n (warnIf (skipGoes p i) (warning 3 (pos i) (pos 0) (pos 0))) w′ r
 skip-pushed p i {f} {w} {n} {w′} {r} e h l q =
-    let o : PushedUpTo 1 w n (warnIf (f .skip) (warning 3 (pos i) (pos 0) (pos 0))) w′ r = one-pushed (f .skip) i 0 0 l refl (number-pos i (omega arith)) refl refl q in
+    let o : PushedUpTo 1 w n (warnIf (f .skip) (warning 3 (pos i) (pos 0) (pos 0))) w′ r = one-pushed (f .skip) i 0 0 l refl (number-pos i (omega arith)) refl
+    refl q in
     subst (λ (t : Bool). PushedUpTo 1 w n (warnIf t (warning 3 (pos i) (pos 0) (pos 0))) w′ r) (ap (λ (g : Faults). g .skip) e) o
 
 -- the others, in their order
-module _ (s : List ℤ) (replacement : ℕ) (f : Faults) (i : ℕ) (small : replacement < 256) (within : i < 32767) {kind right operand : ℕ} (ks : kind ≡ cond (isKind 2 s i) 4 5) (rs : Word (field s i 1) right) (os : operand ≡ wordOf (field s i 3)) where
-  pub step-pushed : {w w₁ w₂ w₃ w₄ w₅ : List ℤ} {n n₁ n₂ n₃ n₄ n₅ : ℕ} → n < 1048576 → Pushes w n (f .redirect) 9 i 0 0 w₁ n₁ → Pushes w₁ n₁ (f .right) kind i right replacement w₂ n₂ → Pushes w₂ n₂ (f .kern) 7 i 0 0 w₃ n₃ → Pushes w₃ n₃ (f .product) 6 i (operand % 256) replacement w₄ n₄ → Pushes w₄ n₄ (f .tag) 8 i 0 0 w₅ n₅ → PushedUpTo 5 w n (warningsBy s replacement f i) w₅ n₅
+module _ (s : List ℤ) (replacement : ℕ) (f : Faults) (i : ℕ) (small : replacement < 256) (within : i < 32767) {kind right operand : ℕ}
+    (ks : kind ≡ cond (isKind 2 s i) 4 5) (rs : Word (field s i 1) right) (os : operand ≡ wordOf (field s i 3)) where
+  pub step-pushed : {w w₁ w₂ w₃ w₄ w₅ : List ℤ} {n n₁ n₂ n₃ n₄ n₅ : ℕ} → n < 1048576 → Pushes w n (f .redirect) 9 i 0 0 w₁ n₁ →
+      Pushes w₁ n₁ (f .right) kind i right replacement w₂ n₂ → Pushes w₂ n₂ (f .kern) 7 i 0 0 w₃ n₃ →
+      Pushes w₃ n₃ (f .product) 6 i (operand % 256) replacement w₄ n₄ → Pushes w₄ n₄ (f .tag) 8 i 0 0 w₅ n₅ →
+      PushedUpTo 5 w n (warningsBy s replacement f i) w₅ n₅
   step-pushed {w} {w₁} {w₂} {w₃} {w₄} {w₅} {n} {n₁} {n₂} {n₃} {n₄} {n₅} h a b c d e =
       let at : numberOf i ≡ pos i = number-pos i (omega arith) in
       let new : numberOf replacement ≡ pos replacement = number-pos replacement (omega arith) in
-      let inserted : numberOf (operand % 256) ≡ pos (wordOf (field s i 3) % 256) = number-pos (operand % 256) (omega arith) ∙ ap (λ (o : ℕ). pos (o % 256)) os in
-      let p₁ : PushedUpTo 1 w n (warnIf (f .redirect) (warning 9 (pos i) (pos 0) (pos 0))) w₁ n₁ = one-pushed (f .redirect) i 0 0 (omega arith) refl at refl refl a in
-      let p₂ : PushedUpTo 1 w₁ n₁ (warnIf (f .right) (warning (cond (isKind 2 s i) 4 5) (pos i) (field s i 1) (pos replacement))) w₂ n₂ = one-pushed (f .right) i right replacement (omega (arith, p₁ .most)) ks at (number-is rs) new b in
-      let p₃ : PushedUpTo 1 w₂ n₂ (warnIf (f .kern) (warning 7 (pos i) (pos 0) (pos 0))) w₃ n₃ = one-pushed (f .kern) i 0 0 (omega (arith, p₁ .most, p₂ .most)) refl at refl refl c in
-      let p₄ : PushedUpTo 1 w₃ n₃ (warnIf (f .product) (warning 6 (pos i) (pos (wordOf (field s i 3) % 256)) (pos replacement))) w₄ n₄ = one-pushed (f .product) i (operand % 256) replacement (omega (arith, p₁ .most, p₂ .most, p₃ .most)) refl at inserted new d in
-      let p₅ : PushedUpTo 1 w₄ n₄ (warnIf (f .tag) (warning 8 (pos i) (pos 0) (pos 0))) w₅ n₅ = one-pushed (f .tag) i 0 0 (omega (arith, p₁ .most, p₂ .most, p₃ .most, p₄ .most)) refl at refl refl e in
+      let inserted : numberOf (operand % 256)
+      ≡ pos (wordOf (field s i 3) % 256) = number-pos (operand % 256) (omega arith) ∙ ap (λ (o : ℕ). pos (o % 256)) os in
+      let p₁ : PushedUpTo 1 w n (warnIf (f .redirect) (warning 9 (pos i) (pos 0) (pos 0))) w₁ n₁ = one-pushed (f .redirect) i 0 0 (omega arith) refl at refl
+      refl a in
+      let p₂ : PushedUpTo 1 w₁ n₁ (warnIf (f .right) (warning (cond (isKind 2 s i) 4 5) (pos i) (field s i 1) (pos replacement))) w₂ n₂ = one-pushed (f .right)
+      i right replacement (omega (arith, p₁ .most)) ks at (number-is rs) new b in
+      let p₃ : PushedUpTo 1 w₂ n₂ (warnIf (f .kern) (warning 7 (pos i) (pos 0) (pos 0))) w₃ n₃ = one-pushed (f .kern) i 0 0 (omega (arith, p₁ .most, p₂ .most))
+      refl at refl refl c in
+      let p₄ : PushedUpTo 1 w₃ n₃ (warnIf (f .product) (warning 6 (pos i) (pos (wordOf (field s i 3) % 256)) (pos replacement))) w₄ n₄ = one-pushed (f .product)
+      i (operand % 256) replacement (omega (arith, p₁ .most, p₂ .most, p₃ .most)) refl at inserted new d in
+      let p₅ : PushedUpTo 1 w₄ n₄ (warnIf (f .tag) (warning 8 (pos i) (pos 0) (pos 0))) w₅ n₅ = one-pushed (f .tag) i 0 0
+      (omega (arith, p₁ .most, p₂ .most, p₃ .most, p₄ .most)) refl at refl refl e in
       and-then (and-then (and-then (and-then p₁ p₂) p₃) p₄) p₅
 
 -- ---- of the first k steps
 
 -- one step more
-one-more : {i j k : ℕ} {w : List ℤ} {n : ℕ} {xs w₁ : List ℤ} {m : ℕ} {ys w₂ : List ℤ} {r : ℕ} {zs : List ℤ} → zs ≡ xs ++ ys → k ≡ i + j → PushedUpTo i w n xs w₁ m → PushedUpTo j w₁ m ys w₂ r → PushedUpTo k w n zs w₂ r
+one-more : {i j k : ℕ} {w : List ℤ} {n : ℕ} {xs w₁ : List ℤ} {m : ℕ} {ys w₂ : List ℤ} {r : ℕ} {zs : List ℤ} → zs ≡ xs ++ ys → k ≡ i + j →
+    PushedUpTo i w n xs w₁ m → PushedUpTo j w₁ m ys w₂ r → PushedUpTo k w n zs w₂ r
 one-more e f a b = rw (e, f) (and-then a b)
 
 module _ (p : DamagedProgram) where
@@ -79,7 +95,8 @@ module _ (p : DamagedProgram) where
   unfolding skipWarnings
   skips-none w n = none-yet w n
 
-  pub skips-more : (k : ℕ) {w : List ℤ} {n : ℕ} {w₁ : List ℤ} {m : ℕ} {w₂ : List ℤ} {r : ℕ} → PushedUpTo k w n (skipWarnings p k) w₁ m → PushedUpTo 1 w₁ m (warnIf (skipGoes p k) (warning 3 (pos k) (pos 0) (pos 0))) w₂ r → PushedUpTo (k + 1) w n (skipWarnings p (k + 1)) w₂ r
+  pub skips-more : (k : ℕ) {w : List ℤ} {n : ℕ} {w₁ : List ℤ} {m : ℕ} {w₂ : List ℤ} {r : ℕ} → PushedUpTo k w n (skipWarnings p k) w₁ m →
+      PushedUpTo 1 w₁ m (warnIf (skipGoes p k) (warning 3 (pos k) (pos 0) (pos 0))) w₂ r → PushedUpTo (k + 1) w n (skipWarnings p (k + 1)) w₂ r
   unfolding skipWarnings
   skips-more k a b = one-more (ap (λ (j : ℕ). skipWarnings p j) (add-one k)) refl a b
 
@@ -87,7 +104,8 @@ module _ (p : DamagedProgram) where
   unfolding stepsWarnings
   steps-none w n = none-yet w n
 
-  pub steps-more : (k : ℕ) {w : List ℤ} {n : ℕ} {w₁ : List ℤ} {m : ℕ} {w₂ : List ℤ} {r : ℕ} → PushedUpTo (5 * k) w n (stepsWarnings p k) w₁ m → PushedUpTo 5 w₁ m (stepWarnings p k) w₂ r → PushedUpTo (5 * (k + 1)) w n (stepsWarnings p (k + 1)) w₂ r
+  pub steps-more : (k : ℕ) {w : List ℤ} {n : ℕ} {w₁ : List ℤ} {m : ℕ} {w₂ : List ℤ} {r : ℕ} → PushedUpTo (5 * k) w n (stepsWarnings p k) w₁ m →
+      PushedUpTo 5 w₁ m (stepWarnings p k) w₂ r → PushedUpTo (5 * (k + 1)) w n (stepsWarnings p (k + 1)) w₂ r
   unfolding stepsWarnings
   steps-more k a b =
       let e : 5 * (k + 1) ≡ 5 * k + 5 = omega arith in

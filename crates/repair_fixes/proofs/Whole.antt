@@ -26,7 +26,10 @@ module _ (p : DamagedProgram) where
   pub fixes-none : (n : ℕ) (fixed warnings : List ℤ) → FixesUpto p 0 n fixed warnings n fixed warnings
   fixes-none n fixed warnings = record { instructions = λ e. written-none p fixed; warned = steps-none p warnings n }
 
-  pub fixes-more : (k : ℕ) {n m : ℕ} {fixed warnings f₁ f₂ w₁ w₂ : List ℤ} {r : ℕ} {f : Faults} → k < count (p .instructions) → f ≡ faultsOf p k → FixesUpto p k n fixed warnings m f₁ w₁ → PushedUpTo 5 w₁ m (warningsBy (p .instructions) (p .replacement) f k) w₂ r → (isInstruction (p .instructions) k ≡ true → f₂ ≡ sets f₁ (4 * k) (fixedStepBy (p .instructions) (p .replacement) f k)) → FixesUpto p (k + 1) n fixed warnings r f₂ w₂
+  pub fixes-more : (k : ℕ) {n m : ℕ} {fixed warnings f₁ f₂ w₁ w₂ : List ℤ} {r : ℕ} {f : Faults} → k < count (p .instructions) → f ≡ faultsOf p k →
+      FixesUpto p k n fixed warnings m f₁ w₁ → PushedUpTo 5 w₁ m (warningsBy (p .instructions) (p .replacement) f k) w₂ r →
+      (isInstruction (p .instructions) k ≡ true → f₂ ≡ sets f₁ (4 * k) (fixedStepBy (p .instructions) (p .replacement) f k)) →
+      FixesUpto p (k + 1) n fixed warnings r f₂ w₂
   fixes-more k {n} {m} {fixed} {warnings} {f₁} {f₂} {w₁} {w₂} {r} {f} h e a b c =
       record {
         instructions =
@@ -42,7 +45,10 @@ module _ (s kerns : List ℤ) (boundary : ℤ) (replacement : ℕ) (existing mar
   abbrev lent : ℤ → DamagedProgram
   lent b = programBy s kerns b replacement existing marks through
 
-  pub fixes-whole : {k n m : ℕ} {fixed warnings w₁ : List ℤ} {r : ℕ} {fixed′ warnings′ : List ℤ} → PushedUpTo k warnings n (skipWarnings (lent (numberOf (wordOf boundary))) (count s)) w₁ m → FixesUpto (lent (numberOf (wordOf boundary))) (count s) m fixed w₁ r fixed′ warnings′ → programRefusal s ≡ 0 → Fixes (lent boundary) n fixed warnings r fixed′ warnings′
+  pub fixes-whole : {k n m : ℕ} {fixed warnings w₁ : List ℤ} {r : ℕ} {fixed′ warnings′ : List ℤ} →
+      PushedUpTo k warnings n (skipWarnings (lent (numberOf (wordOf boundary))) (count s)) w₁ m →
+      FixesUpto (lent (numberOf (wordOf boundary))) (count s) m fixed w₁ r fixed′ warnings′ → programRefusal s ≡ 0 →
+      Fixes (lent boundary) n fixed warnings r fixed′ warnings′
   fixes-whole {n = n} {fixed = fixed} {warnings} {r = r} {fixed′} {warnings′} a b e =
       subst (λ (z : ℤ). Fixes (lent z) n fixed warnings r fixed′ warnings′) (number-word boundary fits)
       (record { instructions = b .instructions e; warned = and-then a (b .warned) .pushed })

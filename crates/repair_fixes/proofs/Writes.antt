@@ -44,7 +44,8 @@ module _ (s : List ℤ) (replacement : ℕ) (f : Faults) (i : ℕ) {kind operand
   pub operand-other : (kind ≡ 2 → ⊥) → {r : ℕ} → r ≡ cond (f .kern) 0 operand → numberOf r ≡ operandBy s replacement f i
   operand-other h e = rw (← ks, ne-eqb kind 2 h) (picked (f .kern) 0 operand refl (number-is os) e)
 
-  pub operand-ligature : kind ≡ 2 → replacement < 256 → {a b : ℕ} → a ≡ cond (f .tag) 0 (operand / 256) → b ≡ cond (f .product) replacement (operand % 256) → isInstruction s i ≡ true → numberOf (256 * a + b) ≡ operandBy s replacement f i
+  pub operand-ligature : kind ≡ 2 → replacement < 256 → {a b : ℕ} → a ≡ cond (f .tag) 0 (operand / 256) → b ≡ cond (f .product) replacement (operand % 256) →
+      isInstruction s i ≡ true → numberOf (256 * a + b) ≡ operandBy s replacement f i
   operand-ligature h l {a} {b} es fs t =
       let o : operand ≤ 32767 = rw (os .is) (operand-small s i ks h t) in
       let p : a ≤ 127 = picked-most (f .tag) 0 (operand / 256) 127 es (omega arith) (omega arith) in
@@ -58,7 +59,8 @@ module _ (p : DamagedProgram) where
   unfolding repairedUpto
   written-none l = refl
 
-  pub written-more : (k : ℕ) (l l₁ l₂ : List ℤ) → l₁ ≡ sets l 0 (repairedUpto p k) → l₂ ≡ sets l₁ (4 * k) (repairedStep p k) → l₂ ≡ sets l 0 (repairedUpto p (k + 1))
+  pub written-more : (k : ℕ) (l l₁ l₂ : List ℤ) → l₁ ≡ sets l 0 (repairedUpto p k) → l₂ ≡ sets l₁ (4 * k) (repairedStep p k) →
+      l₂ ≡ sets l 0 (repairedUpto p (k + 1))
   unfolding repairedUpto
   written-more k l l₁ l₂ e f =
       let n : 0 + length (repairedUpto p k) ≡ 4 * k = omega (arith, length-upto p k) in

@@ -1,5 +1,5 @@
-// The pass of repair over the steps of a program, after `validate_and_fix` of ligkern/lang.rs (lines 722 to 806); TFtoPL 70 to 77. Crate `faults` says what is wrong
-// with a step; here it is warned of and repaired.
+// The pass of repair over the steps of a program, after `validate_and_fix` of ligkern/lang.rs (lines 722 to 806);
+// TFtoPL 70 to 77. Crate `faults` says what is wrong with a step; here it is warned of and repaired.
 ghost use mathlib.Core.Path.{_≡_};
 ghost use mathlib.Core.Bool.{true, cond};
 ghost use Prim.Native.Nat.{ℕ, _*_, _<_, _≤_};
@@ -44,7 +44,8 @@ fn warn_step(
     n: usize,
 ) -> usize
     requires { ⌜ (replacement < 256) × (i < 32767) × (n < 1048576) ⌝ }
-    ensures { λ r. ⌜ PushedUpTo 5 (now (warnings .entry)) n (warningsBy (now (instructions .entry)) replacement f i) (now (warnings .exit)) r ⌝ }
+    ensures { λ r. ⌜ PushedUpTo 5 (now (warnings .entry)) n
+        (warningsBy (now (instructions .entry)) replacement f i) (now (warnings .exit)) r ⌝ }
 {
     let at = i as u32;
     let right = field_at(instructions, i, 1);
@@ -60,7 +61,8 @@ fn warn_step(
 // The operand of step i repaired, as its 32 bits.
 fn repaired_operand(instructions: &[i32], replacement: u32, f: Faults, i: usize) -> u32
     requires { ⌜ replacement < 256 ⌝ }
-    ensures { λ r. ⌜ (isInstruction (now (instructions .entry)) i ≡ true → numberOf r ≡ operandBy (now (instructions .entry)) replacement f i) ⌝ }
+    ensures { λ r. ⌜ (isInstruction (now (instructions .entry)) i ≡ true →
+        numberOf r ≡ operandBy (now (instructions .entry)) replacement f i) ⌝ }
 {
     let operand = field_at(instructions, i, 3);
     if field_at(instructions, i, 2) != 2 {
@@ -72,7 +74,9 @@ fn repaired_operand(instructions: &[i32], replacement: u32, f: Faults, i: usize)
 // The four numbers of step i repaired, at its place.
 fn write_step(instructions: &[i32], replacement: u32, f: Faults, i: usize, fixed: &mut [i32])
     requires { ⌜ (replacement < 256) × (i < 32767) ⌝ }
-    ensures { λ _. ⌜ (isInstruction (now (instructions .entry)) i ≡ true → now (fixed .exit) ≡ sets (now (fixed .entry)) (4 * i) (fixedStepBy (now (instructions .entry)) replacement f i)) ⌝ }
+    ensures { λ _. ⌜ (isInstruction (now (instructions .entry)) i ≡ true →
+        now (fixed .exit) ≡ sets (now (fixed .entry)) (4 * i)
+        (fixedStepBy (now (instructions .entry)) replacement f i)) ⌝ }
 {
     let next = pick(f.skip, 4294967295, field_at(instructions, i, 0));
     let right = pick(f.right, replacement, field_at(instructions, i, 1));
@@ -96,7 +100,12 @@ fn warn_skips(
     n: usize,
 ) -> usize
     requires { ⌜ (count (now instructions) ≤ 32767) × (n < 524288) ⌝ }
-    ensures { λ r. ⌜ ((m : ℕ) → PushedUpTo (count (now (instructions .entry))) (now (warnings .entry)) n (skipWarnings (programBy (now (instructions .entry)) (now (kerns .entry)) boundary m (now (existing .entry)) (now (marks .entry)) (now (passthrough .entry))) (count (now (instructions .entry)))) (now (warnings .exit)) r) ⌝ }
+    ensures { λ r. ⌜ ((m : ℕ) →
+        PushedUpTo (count (now (instructions .entry))) (now (warnings .entry)) n
+        (skipWarnings
+        (programBy (now (instructions .entry)) (now (kerns .entry)) boundary m (now (existing .entry))
+        (now (marks .entry)) (now (passthrough .entry))) (count (now (instructions .entry))))
+        (now (warnings .exit)) r) ⌝ }
 {
     let mut at = n;
     let mut i = 0;
@@ -130,7 +139,10 @@ fn fix_steps(
     n: usize,
 ) -> usize
     requires { ⌜ (count (now instructions) ≤ 32767) × (replacement < 256) × (n < 524288) ⌝ }
-    ensures { λ r. ⌜ FixesUpto (programBy (now (instructions .entry)) (now (kerns .entry)) boundary replacement (now (existing .entry)) (now (marks .entry)) (now (passthrough .entry))) (count (now (instructions .entry))) n (now (fixed .entry)) (now (warnings .entry)) r (now (fixed .exit)) (now (warnings .exit)) ⌝ }
+    ensures { λ r. ⌜ FixesUpto
+        (programBy (now (instructions .entry)) (now (kerns .entry)) boundary replacement (now (existing .entry))
+        (now (marks .entry)) (now (passthrough .entry))) (count (now (instructions .entry))) n
+        (now (fixed .entry)) (now (warnings .entry)) r (now (fixed .exit)) (now (warnings .exit)) ⌝ }
 {
     let mut at = n;
     let mut i = 0;
@@ -151,8 +163,8 @@ fn fix_steps(
     at
 }
 
-// The repaired steps, and after n warnings those of skips (3), then those of steps (4 to 9), in order. Nothing is done to a program of more than 32,767 steps, for a
-// replacement that is no character, and after 65,536 warnings.
+// The repaired steps, and after n warnings those of skips (3), then those of steps (4 to 9), in order. Nothing is done
+// to a program of more than 32,767 steps, for a replacement that is no character, and after 65,536 warnings.
 pub fn fix_program(
     instructions: &[i32],
     kerns: &[i32],
@@ -165,7 +177,11 @@ pub fn fix_program(
     warnings: &mut [i32],
     n: usize,
 ) -> usize
-    ensures { λ r. ⌜ (programRefusal (now (instructions .entry)) ≡ 0 → replacement < 256 → n < 65536 → Fixes (programBy (now (instructions .entry)) (now (kerns .entry)) boundary replacement (now (existing .entry)) (now (marks .entry)) (now (passthrough .entry))) n (now (fixed .entry)) (now (warnings .entry)) r (now (fixed .exit)) (now (warnings .exit))) ⌝ }
+    ensures { λ r. ⌜ (programRefusal (now (instructions .entry)) ≡ 0 → replacement < 256 → n < 65536 →
+        Fixes
+        (programBy (now (instructions .entry)) (now (kerns .entry)) boundary replacement
+        (now (existing .entry)) (now (marks .entry)) (now (passthrough .entry))) n (now (fixed .entry))
+        (now (warnings .entry)) r (now (fixed .exit)) (now (warnings .exit))) ⌝ }
 {
     if 32767 < instructions.len() / 4 {
         return n;

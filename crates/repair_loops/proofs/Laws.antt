@@ -60,22 +60,31 @@ pub counted : (w : List ℕ) (d₀ d : List ℤ) (n i count : ℕ) → Pushed d�
 counted w d₀ d n i count s = omega (arith, s .count, loop-count (tabulate i (listedPair w)), length-tabulate i (listedPair w))
 
 -- the pair of row k, which is listed i-th: its left number t, its right number y
-pub one-more : (w : List ℕ) (r : ℕ) (d₀ d d₁ : List ℤ) (n i k t y count count₁ : ℕ) → Listing r w → i < r → r ≤ 65792 → n < 2147483648 → k ≡ at w i 8 → t ≡ at w k 0 → y ≡ at w k 1 →
+pub one-more : (w : List ℕ) (r : ℕ) (d₀ d d₁ : List ℤ) (n i k t y count count₁ : ℕ) → Listing r w → i < r → r ≤ 65792 → n < 2147483648 → k ≡ at w i 8 →
+    t ≡ at w k 0 → y ≡ at w k 1 →
     Pushed d₀ n (loopWarnings (tabulate i (listedPair w))) d count →
     Pushed d count (warnIf (both true (ltb count 4294967296)) (warning 10 (numberOf ((t + 4294967295) % 4294967296)) (numberOf y) (numberOf 0))) d₁ count₁ →
     Pushed d₀ n (loopWarnings (tabulate (i + 1) (listedPair w))) d₁ count₁
 unfolding tabulate
 one-more w r d₀ d d₁ n i k t y count count₁ l h few small a b e s p =
-    let left : numberOf ((t + 4294967295) % 4294967296) ≡ leftNumber (leftOf (at w (at w i 8) 0)) = left-word t (left-small w r i k t l h a b) ∙ ap (λ (z : ℕ). leftNumber (leftOf z)) (b ∙ ap (λ (z : ℕ). at w z 0) a) in
-    let right : numberOf y ≡ pos (at w (at w i 8) 1) = ap numberOf (e ∙ ap (λ (z : ℕ). at w z 1) a) ∙ number-pos (at w (at w i 8) 1) (omega (arith, l .right i h)) in
-    let q = pushed-if d count true (warning 10 (numberOf ((t + 4294967295) % 4294967296)) (numberOf y) (numberOf 0)) d₁ count₁ (omega (arith, counted w d₀ d n i count s)) p in
-    let both-said : warning 10 (numberOf ((t + 4294967295) % 4294967296)) (numberOf y) (numberOf 0) ≡ warning 10 (leftNumber (listedPair w i .left)) (pos (listedPair w i .right)) (pos 0) = (λ j. warning 10 (left j) (right j) (pos 0)) in
+    let left : numberOf ((t + 4294967295) % 4294967296)
+    ≡ leftNumber (leftOf (at w (at w i 8) 0)) = left-word t (left-small w r i k t l h a b)
+    ∙ ap (λ (z : ℕ). leftNumber (leftOf z)) (b ∙ ap (λ (z : ℕ). at w z 0) a) in
+    let right : numberOf y ≡ pos (at w (at w i 8) 1) = ap numberOf (e ∙ ap (λ (z : ℕ). at w z 1) a)
+    ∙ number-pos (at w (at w i 8) 1) (omega (arith, l .right i h)) in
+    let q = pushed-if d count true (warning 10 (numberOf ((t + 4294967295) % 4294967296)) (numberOf y) (numberOf 0)) d₁ count₁
+    (omega (arith, counted w d₀ d n i count s)) p in
+    let both-said : warning 10 (numberOf ((t + 4294967295) % 4294967296)) (numberOf y) (numberOf 0)
+    ≡ warning 10 (leftNumber (listedPair w i .left)) (pos (listedPair w i .right)) (pos 0) = (λ j. warning 10 (left j) (right j) (pos 0)) in
     let x = subst (λ (ws : List ℤ). Pushed d count ws d₁ count₁) both-said q in
     let whole = pushed-append d₀ n (loopWarnings (tabulate i (listedPair w))) d count _ d₁ count₁ s x in
-    let done : loopWarnings (tabulate i (listedPair w)) ++ warning 10 (leftNumber (listedPair w i .left)) (pos (listedPair w i .right)) (pos 0) ≡ loopWarnings (tabulate (i + 1) (listedPair w)) = sym (last-warning (tabulate i (listedPair w)) (listedPair w i)) ∙ ap (λ (z : ℕ). loopWarnings (tabulate z (listedPair w))) (let o : suc i ≡ i + 1 = omega arith in o) in
+    let done : loopWarnings (tabulate i (listedPair w)) ++ warning 10 (leftNumber (listedPair w i .left)) (pos (listedPair w i .right)) (pos 0)
+    ≡ loopWarnings (tabulate (i + 1) (listedPair w)) = sym (last-warning (tabulate i (listedPair w)) (listedPair w i))
+    ∙ ap (λ (z : ℕ). loopWarnings (tabulate z (listedPair w))) (let o : suc i ≡ i + 1 = omega arith in o) in
     subst (λ (ws : List ℤ). Pushed d₀ n ws d₁ count₁) done whole
 
-pub all-listed : (w : List ℕ) (r i : ℕ) (d₀ d : List ℤ) (n count : ℕ) → i ≤ r → r ≤ i → Pushed d₀ n (loopWarnings (tabulate i (listedPair w))) d count → Pushed d₀ n (loopWarnings (tabulate r (listedPair w))) d count
+pub all-listed : (w : List ℕ) (r i : ℕ) (d₀ d : List ℤ) (n count : ℕ) → i ≤ r → r ≤ i → Pushed d₀ n (loopWarnings (tabulate i (listedPair w))) d count →
+    Pushed d₀ n (loopWarnings (tabulate r (listedPair w))) d count
 all-listed w r i d₀ d n count h l s =
     let a : i ≡ r = omega arith in
     subst (λ (z : ℕ). Pushed d₀ n (loopWarnings (tabulate z (listedPair w))) d count) a s
@@ -100,12 +109,16 @@ module _ (f : Font) (n : ℕ) (d : List ℤ) (w w₁ : List ℕ) where
     pub few : r ≤ 65792
     few = omega (arith, p .4 .few, p .4 .encoded .ascending .few)
 
-    pub listed : (d₁ : List ℤ) (w₂ : List ℕ) (t : ℕ) → Pushed d n (loopWarnings (tabulate r (listedPair w₁))) d₁ t → w₂ ≡ replicate (length w₁) 0 → WarnsLoops f n d w (Count t) d₁ w₂
+    pub listed : (d₁ : List ℤ) (w₂ : List ℕ) (t : ℕ) → Pushed d n (loopWarnings (tabulate r (listedPair w₁))) d₁ t → w₂ ≡ replicate (length w₁) 0 →
+        WarnsLoops f n d w (Count t) d₁ w₂
     listed d₁ w₂ t s z =
         let e : prepareRefusal f (length w / 16) ≡ 0 = ap (prepareRefusal f) (sym (min-self (length w / 16))) ∙ p .0 in
-        let c : t ≡ n + length (loopsOfFont f) = counted w₁ d d₁ n r t s ∙ ap (λ (x : ℕ). n + x) (sym (length-tabulate r (listedPair w₁)) ∙ ap length (p .4 .loops-are)) in
+        let c : t ≡ n + length (loopsOfFont f) = counted w₁ d d₁ n r t s
+        ∙ ap (λ (x : ℕ). n + x) (sym (length-tabulate r (listedPair w₁)) ∙ ap length (p .4 .loops-are)) in
         record {
           answer = ap (λ (x : ℕ). replyOf 0 (pos x ∷ [])) c ∙ taken-reply _ e;
-          warned = s .list ∙ ap (λ (ps : List Pair). sets d (4 * n) (loopWarnings ps)) (p .4 .loops-are) ∙ ap (λ (x : ℕ). sets d (4 * n) (unlessRefused x (loopWarnings (loopsOfFont f)))) (sym e);
+          warned =
+              s .list ∙ ap (λ (ps : List Pair). sets d (4 * n) (loopWarnings ps)) (p .4 .loops-are)
+              ∙ ap (λ (x : ℕ). sets d (4 * n) (unlessRefused x (loopWarnings (loopsOfFont f)))) (sym e);
           cleared = z ∙ ap (λ (x : ℕ). replicate x 0) (p .1);
         }

@@ -1,5 +1,6 @@
-// The warnings of loops, the last of repair, after the end of `validate_and_fix` of ligkern/lang.rs (lines 804 to 818): the loops of the repaired font, which
-// compiling's own search finds. TFtoPL 88 to 95. The true design size is not needed for that; ten times `FixWord::ONE` stands in for it.
+// The warnings of loops, the last of repair, after the end of `validate_and_fix` of ligkern/lang.rs (lines 804 to 818):
+// the loops of the repaired font, which compiling's own search finds. TFtoPL 88 to 95. The true design size is not
+// needed for that; ten times `FixWord::ONE` stands in for it.
 ghost use Prim.Native.Nat.{_<_, _≤_};
 ghost use lib.IntN.{ℤ, pos};
 ghost use Rattle.words.specs.Lists.{tabulate};
@@ -20,7 +21,10 @@ use words::zero::zero_u32;
 // One warning for each of the r rows that are listed, after n others.
 fn warn_rows(work: &[u32], r: usize, warnings: &mut [i32], n: usize) -> usize
     requires { ⌜ (r ≤ 65792) × Listing r (now work) ⌝ }
-    ensures { λ t. ⌜ (n < 2147483648 → Pushed (now (warnings .entry)) n (loopWarnings (tabulate r (λ i. pairAt (now (work .entry)) (at (now (work .entry)) i 8)))) (now (warnings .exit)) t) ⌝ }
+    ensures { λ t. ⌜ (n < 2147483648 →
+        Pushed (now (warnings .entry)) n
+        (loopWarnings (tabulate r (λ i. pairAt (now (work .entry)) (at (now (work .entry)) i 8))))
+        (now (warnings .exit)) t) ⌝ }
 {
     let mut count = n;
     for i in 0..r {
@@ -32,7 +36,8 @@ fn warn_rows(work: &[u32], r: usize, warnings: &mut [i32], n: usize) -> usize
     count
 }
 
-// After n warnings, one for each loop of a font. Answers how many there are then; 1 and 12 as compiling answers them. Work is left zero.
+// After n warnings, one for each loop of a font. Answers how many there are then; 1 and 12 as compiling answers them.
+// Work is left zero.
 pub fn warn_loops(
     instructions: &[i32],
     kerns: &[i32],
@@ -42,7 +47,11 @@ pub fn warn_loops(
     n: usize,
     work: &mut [u32],
 ) -> Written
-    ensures { λ r. ⌜ ((b : ℤ) → n < 2147483648 → WarnsLoops (fontOf (now (instructions .entry)) (now (kerns .entry)) (now (entries .entry)) b «left_entry» (pos 10485760)) n (now (warnings .entry)) (now (work .entry)) r (now (warnings .exit)) (now (work .exit))) ⌝ }
+    ensures { λ r. ⌜ ((b : ℤ) → n < 2147483648 →
+        WarnsLoops
+        (fontOf (now (instructions .entry)) (now (kerns .entry)) (now (entries .entry)) b «left_entry»
+        (pos 10485760)) n (now (warnings .entry)) (now (work .entry)) r (now (warnings .exit))
+        (now (work .exit))) ⌝ }
 {
     let room = work.len() / 16;
     let dummy_design_size = FixWord::ONE.0 * 10;

@@ -73,7 +73,8 @@ pub data HandedOn (left : ℤ) (r : Written) (v : Validated) : Type 0 where
 
 -- ---- after the entries: `unpacked` has 512 places, `through` one for each instruction
 
-module _ (d : Damaged) (few : length (d .entries) / 2 ≤ 256) (unpacked unpacked₁ : List ℤ) (through through₁ : List ℕ) (w w₁ : List ℤ) (e : Entered) (long : length unpacked ≡ 512) (g : Enters d unpacked through w e unpacked₁ through₁ w₁) where
+module _ (d : Damaged) (few : length (d .entries) / 2 ≤ 256) (unpacked unpacked₁ : List ℤ) (through through₁ : List ℕ) (w w₁ : List ℤ) (e : Entered)
+    (long : length unpacked ≡ 512) (g : Enters d unpacked through w e unpacked₁ through₁ w₁) where
   pub entries-within : 2 * e .entries ≤ length unpacked₁
   entries-within = omega (arith, g .entries, unpacked-fits d few, ap length (g .list), length-sets unpacked 0 (unpackedEntries d))
 
@@ -81,7 +82,9 @@ module _ (d : Damaged) (few : length (d .entries) / 2 ≤ 256) (unpacked unpacke
   entries-few = omega (arith, g .entries, unpacked-fits d few)
 
   pub entries-are : take (2 * e .entries) unpacked₁ ≡ unpackedEntries d
-  entries-are = ap (take (2 * e .entries)) (g .list) ∙ front-is (unpackedEntries d) unpacked (2 * e .entries) (sym (g .entries)) (omega (arith, g .entries, unpacked-fits d few))
+  entries-are =
+      ap (take (2 * e .entries)) (g .list)
+      ∙ front-is (unpackedEntries d) unpacked (2 * e .entries) (sym (g .entries)) (omega (arith, g .entries, unpacked-fits d few))
 
   pub passthrough-is : length through ≡ count (d .instructions) → through₁ ≡ repairedPassthrough d
   passthrough-is places = g .passthrough ∙ sets-all (repairedPassthrough d) through (length-passthrough d ∙ sym places)
@@ -97,19 +100,23 @@ left-fits false z f = f
 pub left-handed : (d : Damaged) (z : ℤ) → SFits w32 (d .left) → z ≡ repairedLeft d → numberOf (wordOf z) ≡ repairedLeft d
 left-handed d z f x = ap (λ (z : ℤ). numberOf (wordOf z)) x ∙ number-word (repairedLeft d) (left-fits (leftGoes d) (d .left) f)
 
-pub left-is : (d : Damaged) (s : List ℤ) (left left′ r : ℤ) → d .instructions ≡ s → d .left ≡ left → SFits w32 left → left′ ≡ left → r ≡ cond (both (nonNeg left′) (leb (count s) (wordOf left′))) (negsuc 0) left′ → numberOf (wordOf r) ≡ repairedLeft d
+pub left-is : (d : Damaged) (s : List ℤ) (left left′ r : ℤ) → d .instructions ≡ s → d .left ≡ left → SFits w32 left → left′ ≡ left →
+    r ≡ cond (both (nonNeg left′) (leb (count s) (wordOf left′))) (negsuc 0) left′ → numberOf (wordOf r) ≡ repairedLeft d
 left-is d s left left′ r a b f e g =
     left-handed d r (subst (SFits w32) (sym b) f)
     (g ∙ (λ i. cond (both (nonNeg ((e ∙ sym b) i)) (leb (count (sym a i)) (wordOf ((e ∙ sym b) i)))) (negsuc 0) ((e ∙ sym b) i)))
 
 -- the marks, by the test of their length
-pub marked : (d : Damaged) (s es : List ℤ) (left : ℤ) (m m₁ o : List ℕ) → d .instructions ≡ s → es ≡ unpackedEntries d → left ≡ repairedLeft d → length m ≡ count s → m₁ ≡ cond (eqb (length m) (count s)) (reachable s es left) o → m₁ ≡ reachable (d .instructions) (unpackedEntries d) (repairedLeft d)
-marked d s es left m m₁ o a b c l e = e ∙ ap (λ (t : Bool). cond t (reachable s es left) o) (eq-eqb (length m) (count s) l) ∙ (λ i. reachable (sym a i) (b i) (c i))
+pub marked : (d : Damaged) (s es : List ℤ) (left : ℤ) (m m₁ o : List ℕ) → d .instructions ≡ s → es ≡ unpackedEntries d → left ≡ repairedLeft d →
+    length m ≡ count s → m₁ ≡ cond (eqb (length m) (count s)) (reachable s es left) o → m₁ ≡ reachable (d .instructions) (unpackedEntries d) (repairedLeft d)
+marked d s es left m m₁ o a b c l e =
+    e ∙ ap (λ (t : Bool). cond t (reachable s es left) o) (eq-eqb (length m) (count s) l) ∙ (λ i. reachable (sym a i) (b i) (c i))
 
 module _ (d : Damaged) (ok : damagedRefusal d ≡ 0) where
   -- ---- after the steps: `program` has four places for each instruction
 
-  module _ (program program₁ : List ℤ) (w w₁ w₂ : List ℤ) (n c : ℕ) (places : length program ≡ 4 * count (d .instructions)) (before : Pushed w 0 (leftWarning d ++ entryWarnings d (length (d .entries) / 2)) w₁ n) (g : Fixes (programOf d) n program w₁ c program₁ w₂) where
+  module _ (program program₁ : List ℤ) (w w₁ w₂ : List ℤ) (n c : ℕ) (places : length program ≡ 4 * count (d .instructions))
+      (before : Pushed w 0 (leftWarning d ++ entryWarnings d (length (d .entries) / 2)) w₁ n) (g : Fixes (programOf d) n program w₁ c program₁ w₂) where
     pub instructions-are : program₁ ≡ repairedInstructions d
     instructions-are = g .instructions ∙ sets-all (repairedInstructions d) program (length-upto (programOf d) (count (d .instructions)) ∙ sym places)
 
@@ -130,15 +137,20 @@ module _ (d : Damaged) (ok : damagedRefusal d ≡ 0) where
       let h : count (repairedInstructions d) ≤ 32767 = omega (arith, same-count d, size d ok) in
       ap (λ (t : Bool). orElse (cond t 0 1) (repairedPairsRefusal d (length work))) (le-leb (count (repairedInstructions d)) 32767 h)
 
-  module _ (w w₁ w₂ : List ℤ) (c : ℕ) (before : Pushed w 0 (repairWarnings d) w₁ c) (work work₁ : List ℕ) (r : Written) (g : WarnsLoops (repairedFont d) c w₁ work r w₂ work₁) where
+  module _ (w w₁ w₂ : List ℤ) (c : ℕ) (before : Pushed w 0 (repairWarnings d) w₁ c) (work work₁ : List ℕ) (r : Written)
+      (g : WarnsLoops (repairedFont d) c w₁ work r w₂ work₁) where
     counted : c + length (loopsOfFont (repairedFont d)) ≡ length (warningsOf d) / 4
-    counted = omega (arith, before .count, length-append (repairWarnings d) (loopWarnings (loopsOfFont (repairedFont d))), loop-count (loopsOfFont (repairedFont d)))
+    counted =
+        omega (arith, before .count, length-append (repairWarnings d) (loopWarnings (loopsOfFont (repairedFont d))), loop-count (loopsOfFont (repairedFont d)))
 
     -- as it is answered
     said : writtenReply r ≡ replyOf (repairedPairsRefusal d (length work)) (pos (length (warningsOf d) / 4) ∷ [])
-    said = g .answer ∙ ap (λ (k : ℕ). replyOf k (pos (c + length (loopsOfFont (repairedFont d))) ∷ [])) (search-refusal work) ∙ ap (λ (m : ℕ). replyOf (repairedPairsRefusal d (length work)) (pos m ∷ [])) counted
+    said =
+        g .answer ∙ ap (λ (k : ℕ). replyOf k (pos (c + length (loopsOfFont (repairedFont d))) ∷ [])) (search-refusal work)
+        ∙ ap (λ (m : ℕ). replyOf (repairedPairsRefusal d (length work)) (pos m ∷ [])) counted
 
-    replied : (v : Validated) (left : ℤ) → HandedOn left r v → left ≡ repairedLeft d → validatedReply v ≡ replyOf (repairedPairsRefusal d (length work)) (repairedLeft d ∷ pos (length (warningsOf d) / 4) ∷ [])
+    replied : (v : Validated) (left : ℤ) → HandedOn left r v → left ≡ repairedLeft d →
+        validatedReply v ≡ replyOf (repairedPairsRefusal d (length work)) (repairedLeft d ∷ pos (length (warningsOf d) / 4) ∷ [])
     replied v left (refuses k a b) e =
         let x = refused-by (repairedPairsRefusal d (length work)) k _ _ (sym (ap writtenReply a) ∙ said) in
         ap validatedReply b ∙ refused-reply _ (x .0) (x .1)
@@ -146,7 +158,8 @@ module _ (d : Damaged) (ok : damagedRefusal d ≡ 0) where
         let x = taken-by (repairedPairsRefusal d (length work)) t _ (sym (ap writtenReply a) ∙ said) in
         ap validatedReply b ∙ (λ i. replyOf 0 (e i ∷ pos (x .1 i) ∷ [])) ∙ taken-reply _ (x .0)
 
-    pub mended : (v : Validated) (left : ℤ) (program : List ℤ) (through : List ℕ) → HandedOn left r v → left ≡ repairedLeft d → program ≡ repairedInstructions d → through ≡ repairedPassthrough d → Mends d w work v program through w₂ work₁
+    pub mended : (v : Validated) (left : ℤ) (program : List ℤ) (through : List ℕ) → HandedOn left r v → left ≡ repairedLeft d →
+        program ≡ repairedInstructions d → through ≡ repairedPassthrough d → Mends d w work v program through w₂ work₁
     mended v left program through a l p q =
         record {
           answer = replied v left a l;
@@ -163,14 +176,21 @@ module _ (d : Damaged) (ok : damagedRefusal d ≡ 0) where
 
 -- ---- what a pass leaves, of the font as it was lent
 
-pub steps-are : (d : Damaged) (boundary : ℤ) (replacement n c : ℕ) (marks through : List ℕ) (fixed w fixed₁ w₁ : List ℤ) → boundary ≡ d .boundary → replacement ≡ d .replacement → marks ≡ reachable (d .instructions) (unpackedEntries d) (repairedLeft d) → through ≡ repairedPassthrough d → Fixes (programBy (d .instructions) (d .kerns) boundary replacement (d .existing) marks through) n fixed w c fixed₁ w₁ → Fixes (programOf d) n fixed w c fixed₁ w₁
+pub steps-are : (d : Damaged) (boundary : ℤ) (replacement n c : ℕ) (marks through : List ℕ) (fixed w fixed₁ w₁ : List ℤ) → boundary ≡ d .boundary →
+    replacement ≡ d .replacement → marks ≡ reachable (d .instructions) (unpackedEntries d) (repairedLeft d) → through ≡ repairedPassthrough d →
+    Fixes (programBy (d .instructions) (d .kerns) boundary replacement (d .existing) marks through) n fixed w c fixed₁ w₁ →
+    Fixes (programOf d) n fixed w c fixed₁ w₁
 steps-are d boundary replacement n c marks through fixed w fixed₁ w₁ x y z t g =
-    let p : programBy (d .instructions) (d .kerns) boundary replacement (d .existing) marks through ≡ programOf d = (λ i. programBy (d .instructions) (d .kerns) (x i) (y i) (d .existing) (z i) (t i)) in
+    let p : programBy (d .instructions) (d .kerns) boundary replacement (d .existing) marks through
+    ≡ programOf d = (λ i. programBy (d .instructions) (d .kerns) (x i) (y i) (d .existing) (z i) (t i)) in
     subst (λ (q : DamagedProgram). Fixes q n fixed w c fixed₁ w₁) p g
 
-pub loops-are : (d : Damaged) (s es : List ℤ) (left : ℤ) (n : ℕ) (w w₁ : List ℤ) (work work₁ : List ℕ) (r : Written) → s ≡ repairedInstructions d → es ≡ unpackedEntries d → left ≡ repairedLeft d → WarnsLoops (fontOf s (d .kerns) es (d .boundary) left (pos 10485760)) n w work r w₁ work₁ → WarnsLoops (repairedFont d) n w work r w₁ work₁
+pub loops-are : (d : Damaged) (s es : List ℤ) (left : ℤ) (n : ℕ) (w w₁ : List ℤ) (work work₁ : List ℕ) (r : Written) → s ≡ repairedInstructions d →
+    es ≡ unpackedEntries d → left ≡ repairedLeft d → WarnsLoops (fontOf s (d .kerns) es (d .boundary) left (pos 10485760)) n w work r w₁ work₁ →
+    WarnsLoops (repairedFont d) n w work r w₁ work₁
 loops-are d s es left n w w₁ work work₁ r x y z g =
-    let p : fontOf s (d .kerns) es (d .boundary) left (pos 10485760) ≡ repairedFont d = (λ i. fontOf (x i) (d .kerns) (y i) (d .boundary) (z i) (pos 10485760)) in
+    let p : fontOf s (d .kerns) es (d .boundary) left (pos 10485760)
+    ≡ repairedFont d = (λ i. fontOf (x i) (d .kerns) (y i) (d .boundary) (z i) (pos 10485760)) in
     subst (λ (f : Font). WarnsLoops f n w work r w₁ work₁) p g
 
 -- what `lists_fit` tells

@@ -55,12 +55,24 @@ left-few d = warn-few (leftGoes d) 1 (pos 0) (pos 0) (pos 0)
 entry-few : (d : Damaged) (k : ℕ) → length (entryWarnings d k) ≤ 4 * k
 unfolding entryWarnings
 entry-few d zero = omega arith
-entry-few d (suc k) = omega (arith, length-append (entryWarnings d k) (warnIf (not (unpacks d k)) (warning 2 (charAt (d .entries) k) (pos 0) (pos 0))), entry-few d k, warn-few (not (unpacks d k)) 2 (charAt (d .entries) k) (pos 0) (pos 0))
+entry-few d (suc k) =
+    omega (
+      arith,
+      length-append (entryWarnings d k) (warnIf (not (unpacks d k)) (warning 2 (charAt (d .entries) k) (pos 0) (pos 0))),
+      entry-few d k,
+      warn-few (not (unpacks d k)) 2 (charAt (d .entries) k) (pos 0) (pos 0),
+    )
 
 skip-few : (p : DamagedProgram) (k : ℕ) → length (skipWarnings p k) ≤ 4 * k
 unfolding skipWarnings
 skip-few p zero = omega arith
-skip-few p (suc k) = omega (arith, length-append (skipWarnings p k) (warnIf (skipGoes p k) (warning 3 (pos k) (pos 0) (pos 0))), skip-few p k, warn-few (skipGoes p k) 3 (pos k) (pos 0) (pos 0))
+skip-few p (suc k) =
+    omega (
+      arith,
+      length-append (skipWarnings p k) (warnIf (skipGoes p k) (warning 3 (pos k) (pos 0) (pos 0))),
+      skip-few p k,
+      warn-few (skipGoes p k) 3 (pos k) (pos 0) (pos 0),
+    )
 
 step-few : (p : DamagedProgram) (i : ℕ) → length (stepWarnings p i) ≤ 20
 step-few p i =
@@ -69,7 +81,18 @@ step-few p i =
     let c = warnIf (kernGoes p i) (warning 7 (pos i) (pos 0) (pos 0)) in
     let e = warnIf (productGoes p i) (warning 6 (pos i) (pos (insertedBy p i)) (pos (p .replacement))) in
     let f = warnIf (tagGoes p i) (warning 8 (pos i) (pos 0) (pos 0)) in
-    omega (arith, length-append (a ++ b ++ c ++ e) f, length-append (a ++ b ++ c) e, length-append (a ++ b) c, length-append a b, warn-few (redirectWarns p i) 9 (pos i) (pos 0) (pos 0), warn-few (rightGoes p i) (cond (isLigature p i) 4 5) (pos i) (field (p .instructions) i 1) (pos (p .replacement)), warn-few (kernGoes p i) 7 (pos i) (pos 0) (pos 0), warn-few (productGoes p i) 6 (pos i) (pos (insertedBy p i)) (pos (p .replacement)), warn-few (tagGoes p i) 8 (pos i) (pos 0) (pos 0))
+    omega (
+      arith,
+      length-append (a ++ b ++ c ++ e) f,
+      length-append (a ++ b ++ c) e,
+      length-append (a ++ b) c,
+      length-append a b,
+      warn-few (redirectWarns p i) 9 (pos i) (pos 0) (pos 0),
+      warn-few (rightGoes p i) (cond (isLigature p i) 4 5) (pos i) (field (p .instructions) i 1) (pos (p .replacement)),
+      warn-few (kernGoes p i) 7 (pos i) (pos 0) (pos 0),
+      warn-few (productGoes p i) 6 (pos i) (pos (insertedBy p i)) (pos (p .replacement)),
+      warn-few (tagGoes p i) 8 (pos i) (pos 0) (pos 0),
+    )
 
 steps-few : (p : DamagedProgram) (k : ℕ) → length (stepsWarnings p k) ≤ 20 * k
 unfolding stepsWarnings
@@ -94,7 +117,9 @@ module _ (d : Damaged) (ok : damagedRefusal d ≡ 0) where
   pub size : count (d .instructions) ≤ 32767
   size = program-size (d .instructions) program-taken
 
-  after-kerns : orElse (entriesRefusal 255 (d .entries)) (orElse (absentRefusal 255 (d .boundary)) (orElse (absentRefusal 65535 (d .left)) (orElse (unless 4 (leb (d .replacement) 255)) (passthroughRefusal (d .passthrough) (d .instructions))))) ≡ 0
+  after-kerns : orElse (entriesRefusal 255 (d .entries))
+      (orElse (absentRefusal 255 (d .boundary))
+      (orElse (absentRefusal 65535 (d .left)) (orElse (unless 4 (leb (d .replacement) 255)) (passthroughRefusal (d .passthrough) (d .instructions))))) ≡ 0
   after-kerns = orElse-none (kernsRefusal (d .kerns)) _ (orElse-none (programRefusal (d .instructions)) _ ok .1) .1
 
   pub few-entries : length (d .entries) / 2 ≤ 256
@@ -102,11 +127,19 @@ module _ (d : Damaged) (ok : damagedRefusal d ≡ 0) where
 
   pub small : d .replacement < 256
   small =
-      let r = orElse-none (absentRefusal 65535 (d .left)) _ (orElse-none (absentRefusal 255 (d .boundary)) _ (orElse-none (entriesRefusal 255 (d .entries)) _ after-kerns .1) .1) .1 in
+      let r = orElse-none (absentRefusal 65535 (d .left)) _
+      (orElse-none (absentRefusal 255 (d .boundary)) _ (orElse-none (entriesRefusal 255 (d .entries)) _ after-kerns .1) .1) .1 in
       omega (arith, leb-true (d .replacement) 255 (unless-none 3 (leb (d .replacement) 255) (orElse-none (unless 4 (leb (d .replacement) 255)) _ r .0)))
 
   pub stepped-few : (p : DamagedProgram) → length (skipWarnings p (count (d .instructions)) ++ stepsWarnings p (count (d .instructions))) ≤ 786408
-  stepped-few p = omega (arith, length-append (skipWarnings p (count (d .instructions))) (stepsWarnings p (count (d .instructions))), skip-few p (count (d .instructions)), steps-few p (count (d .instructions)), size)
+  stepped-few p =
+      omega (
+        arith,
+        length-append (skipWarnings p (count (d .instructions))) (stepsWarnings p (count (d .instructions))),
+        skip-few p (count (d .instructions)),
+        steps-few p (count (d .instructions)),
+        size,
+      )
 
 pub length-passthrough : (d : Damaged) → length (repairedPassthrough d) ≡ count (d .instructions)
 length-passthrough d = length-tabulate (count (d .instructions)) (λ i. cond (passedOver d i) 1 0)

@@ -1,5 +1,6 @@
-// The passes of repair one after the other, after `validate_and_fix` of ligkern/lang.rs (lines 691 to 818): the entries (TFtoPL 67 and 69), what is reachable (68 to
-// 70), the steps (70 to 77) and the loops (88 to 95). Each pass is a crate of its own.
+// The passes of repair one after the other, after `validate_and_fix` of ligkern/lang.rs (lines 691 to 818): the entries
+// (TFtoPL 67 and 69), what is reachable (68 to 70), the steps (70 to 77) and the loops (88 to 95). Each pass is a crate
+// of its own.
 ghost use mathlib.Core.Path.{_≡_};
 ghost use mathlib.Core.Bool.{cond};
 ghost use Prim.Native.Nat.{_*_, _/_, _≤_};
@@ -25,7 +26,8 @@ use repairs::Validated;
 
 // The left entry of n instructions, or -1 where it is past the end.
 fn repaired_left(n: usize, left_entry: i32) -> i32
-    ensures { λ r. ⌜ r ≡ cond (both (nonNeg «left_entry») (leb n (wordOf «left_entry»))) (negsuc 0) «left_entry» ⌝ }
+    ensures { λ r. ⌜ r ≡ cond (both (nonNeg «left_entry») (leb n (wordOf «left_entry»))) (negsuc 0)
+        «left_entry» ⌝ }
 {
     let entry = words::word_of(left_entry);
     if 2147483648 <= entry {
@@ -40,7 +42,8 @@ fn repaired_left(n: usize, left_entry: i32) -> i32
 
 // At most 32,767 instructions and 256 entries, and lists of four numbers and of one for each instruction.
 fn lists_fit(n: usize, entries: usize, program: usize, through: usize) -> bool
-    ensures { λ r. ⌜ r ≡ both (leb n 32767) (both (leb entries 256) (both (eqb program (4 * n)) (eqb through n))) ⌝ }
+    ensures { λ r. ⌜ r ≡ both (leb n 32767)
+        (both (leb entries 256) (both (eqb program (4 * n)) (eqb through n))) ⌝ }
 {
     if 32767 < n {
         return false;
@@ -79,8 +82,15 @@ fn enter(
     through: &mut [u8],
     warnings: &mut [i32],
 ) -> Entered
-    requires { ⌜ (count (now instructions) ≤ 32767) × (length (now entries) / 2 ≤ 256) × (length (now unpacked) ≡ 512) × (length (now marks) ≡ count (now instructions)) × (length (now through) ≡ count (now instructions)) ⌝ }
-    ensures { λ r. ⌜ ((d : Damaged) → EntersFrom d (now (instructions .entry)) (now (entries .entry)) «left_entry» (now (passthrough .entry)) → Enters d (now (unpacked .entry)) (now (through .entry)) (now (warnings .entry)) r (now (unpacked .exit)) (now (through .exit)) (now (warnings .exit)) × (now (marks .exit) ≡ reachable (d .instructions) (unpackedEntries d) (repairedLeft d))) ⌝ }
+    requires { ⌜ (count (now instructions) ≤ 32767) × (length (now entries) / 2 ≤ 256)
+        × (length (now unpacked) ≡ 512) × (length (now marks) ≡ count (now instructions))
+        × (length (now through) ≡ count (now instructions)) ⌝ }
+    ensures { λ r. ⌜ ((d : Damaged) →
+        EntersFrom d (now (instructions .entry)) (now (entries .entry)) «left_entry» (now (passthrough .entry))
+        →
+        Enters d (now (unpacked .entry)) (now (through .entry)) (now (warnings .entry)) r (now (unpacked .exit))
+        (now (through .exit)) (now (warnings .exit))
+        × (now (marks .exit) ≡ reachable (d .instructions) (unpackedEntries d) (repairedLeft d))) ⌝ }
 {
     let entered = unpack_entries(
         instructions,
@@ -96,9 +106,10 @@ fn enter(
     entered
 }
 
-// The repaired program and its passthrough, in lists of just their length, and the warnings as far as their list goes. Answers the repaired left entry
-// and how many warnings there are; 12, where the loops of the repaired program can't be looked for. That is of a font that is not refused; work is left zero. 15 of over 32,767 instructions or
-// 256 entries, and where the first two lists have another length; then nothing is done.
+// The repaired program and its passthrough, in lists of just their length, and the warnings as far as their list goes.
+// Answers the repaired left entry and how many warnings there are; 12, where the loops of the repaired program can't be
+// looked for. That is of a font that is not refused; work is left zero. 15 of over 32,767 instructions or 256 entries,
+// and where the first two lists have another length; then nothing is done.
 pub fn mend(
     instructions: &[i32],
     kerns: &[i32],
@@ -113,7 +124,16 @@ pub fn mend(
     warnings: &mut [i32],
     work: &mut [u32],
 ) -> Validated
-    ensures { λ r. ⌜ (damagedRefusal (damagedOf (now (instructions .entry)) (now (kerns .entry)) (now (entries .entry)) boundary «left_entry» replacement (now (existing .entry)) (now (passthrough .entry))) ≡ 0 → length (now (program .entry)) ≡ 4 * count (now (instructions .entry)) → length (now (through .entry)) ≡ count (now (instructions .entry)) → Mends (damagedOf (now (instructions .entry)) (now (kerns .entry)) (now (entries .entry)) boundary «left_entry» replacement (now (existing .entry)) (now (passthrough .entry))) (now (warnings .entry)) (now (work .entry)) r (now (program .exit)) (now (through .exit)) (now (warnings .exit)) (now (work .exit))) ⌝ }
+    ensures { λ r. ⌜ (damagedRefusal
+        (damagedOf (now (instructions .entry)) (now (kerns .entry)) (now (entries .entry)) boundary
+        «left_entry» replacement (now (existing .entry)) (now (passthrough .entry))) ≡ 0 →
+        length (now (program .entry)) ≡ 4 * count (now (instructions .entry)) →
+        length (now (through .entry)) ≡ count (now (instructions .entry)) →
+        Mends
+        (damagedOf (now (instructions .entry)) (now (kerns .entry)) (now (entries .entry)) boundary
+        «left_entry» replacement (now (existing .entry)) (now (passthrough .entry)))
+        (now (warnings .entry)) (now (work .entry)) r (now (program .exit)) (now (through .exit))
+        (now (warnings .exit)) (now (work .exit))) ⌝ }
 {
     let n = instructions.len() / 4;
     if !lists_fit(n, entries.len() / 2, program.len(), through.len()) {

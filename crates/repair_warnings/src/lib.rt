@@ -5,8 +5,8 @@ ghost use Rattle.lang.specs.Every.{both};
 ghost use Rattle.repairs.specs.Warnings.{warning, warnIf};
 ghost use Rattle.repairs.specs.Pushed.{Pushed};
 
-// Where the test holds, one warning more after n others: its kind, and three numbers by their 32 bits. What passes the end of the list is left off. Answers how
-// many warnings there are then; a count of 2^32 stays.
+// Where the test holds, one warning more after n others: its kind, and three numbers by their 32 bits. What passes the
+// end of the list is left off. Answers how many warnings there are then; a count of 2^32 stays.
 pub fn push_if(
     test: bool,
     warnings: &mut [i32],
@@ -16,7 +16,9 @@ pub fn push_if(
     old: u32,
     new: u32,
 ) -> usize
-    ensures { λ r. ⌜ Pushed (now (warnings .entry)) n (warnIf (both test (ltb n 4294967296)) (warning kind (numberOf at) (numberOf old) (numberOf new))) (now (warnings .exit)) r ⌝ }
+    ensures { λ r. ⌜ Pushed (now (warnings .entry)) n
+        (warnIf (both test (ltb n 4294967296)) (warning kind (numberOf at) (numberOf old) (numberOf new)))
+        (now (warnings .exit)) r ⌝ }
 {
     if !test {
         return n;

@@ -47,16 +47,19 @@ bytes-kept : (z : ℤ) → within 32767 z ≡ true → pos (256 * (wordOf z / 25
 bytes-kept (pos m) t = let e : 256 * (m / 256) + m % 256 ≡ m = omega arith in rw e
 bytes-kept (negsuc m) t = absurd (let z : _≡_ {A = ℕ} 0 1 = cc in omega arith)
 
-operand-kept : (lig tag product kern : Bool) (r : ℕ) (z : ℤ) → tag ≡ false → product ≡ false → kern ≡ false → (lig ≡ true → within 32767 z ≡ true) → cond lig (pos (256 * cond tag 0 (wordOf z / 256) + cond product r (wordOf z % 256))) (cond kern (pos 0) z) ≡ z
+operand-kept : (lig tag product kern : Bool) (r : ℕ) (z : ℤ) → tag ≡ false → product ≡ false → kern ≡ false → (lig ≡ true → within 32767 z ≡ true) →
+    cond lig (pos (256 * cond tag 0 (wordOf z / 256) + cond product r (wordOf z % 256))) (cond kern (pos 0) z) ≡ z
 operand-kept true tag product kern r z e f g h = rw (e, f) (bytes-kept z (h refl))
 operand-kept false tag product kern r z e f g h = rw g
 
-step-kept : (d : Damaged) (i : ℕ) → isInstruction (d .instructions) i ≡ true → skipGoes (programOf d) i ≡ false → StepSound d i → (j : ℕ) → j < 4 → getD (repairedStep (programOf d) i) j (pos 0) ≡ field (d .instructions) i j
+step-kept : (d : Damaged) (i : ℕ) → isInstruction (d .instructions) i ≡ true → skipGoes (programOf d) i ≡ false → StepSound d i → (j : ℕ) → j < 4 →
+    getD (repairedStep (programOf d) i) j (pos 0) ≡ field (d .instructions) i j
 step-kept d i t e g zero h = cond-false (skipGoes (programOf d) i) (negsuc 0) (field (d .instructions) i 0) e
 step-kept d i t e g (suc zero) h = cond-false (rightGoes (programOf d) i) (pos (d .replacement)) (field (d .instructions) i 1) (g .right)
 step-kept d i t e g (suc (suc zero)) h = cond-false (kernGoes (programOf d) i) (pos 0) (field (d .instructions) i 2) (g .kern-index)
 step-kept d i t e g (suc (suc (suc zero))) h =
-    operand-kept (isLigature (programOf d) i) (tagGoes (programOf d) i) (productGoes (programOf d) i) (kernGoes (programOf d) i) (d .replacement) (field (d .instructions) i 3) (g .tag)
+    operand-kept (isLigature (programOf d) i) (tagGoes (programOf d) i) (productGoes (programOf d) i) (kernGoes (programOf d) i) (d .replacement)
+    (field (d .instructions) i 3) (g .tag)
     (g .product) (g .kern-index)
     (ligature-fits (wordOf (field (d .instructions) i 2)) (field (d .instructions) i 3) (operand-fits (d .instructions) i t))
 step-kept d i t e g (suc (suc (suc (suc j)))) h = absurd (omega arith)

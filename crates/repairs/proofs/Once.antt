@@ -17,13 +17,15 @@ use Rattle.lang.specs.Records.{count, field}
 use Rattle.lang.specs.Checks.{programRefusal}
 use Rattle.lang.proofs.Every.{both-left, both-false}
 use Rattle.repairs.specs.Damaged.{Damaged, programOf}
-use Rattle.repairs.specs.Repaired.{exists, isReachable, skipGoes, repairedNext, isRedirect, isLigature, isBoundary, rightGoes, repairedRight, kernGoes, opByteAt, insertedBy, productGoes, tagGoes, repairedKind, repairedOperand, repairedInstructions}
+use Rattle.repairs.specs.Repaired.{exists, isReachable, skipGoes, repairedNext, isRedirect, isLigature, isBoundary, rightGoes, repairedRight, kernGoes}
+use Rattle.repairs.specs.Repaired.{opByteAt, insertedBy, productGoes, tagGoes, repairedKind, repairedOperand, repairedInstructions}
 use Rattle.repairs.specs.Purpose.{again}
 use Rattle.repairs.proofs.Steps.{same-count, field-repaired}
 use Rattle.repairs.proofs.SameReach.{same-kind, same-redirect, same-reachable}
 
 -- a kern index that is within the list stays so, and a kern of zero is none
-kern-by : (k m : ℕ) (y a z : ℤ) (t : Bool) → k ≡ wordOf y → both (eqb k 1) (leb m (wordOf z)) ≡ t → both (eqb (wordOf (cond t (pos 0) y)) 1) (leb m (wordOf (cond (eqb k 2) a (cond t (pos 0) z)))) ≡ false
+kern-by : (k m : ℕ) (y a z : ℤ) (t : Bool) → k ≡ wordOf y → both (eqb k 1) (leb m (wordOf z)) ≡ t →
+    both (eqb (wordOf (cond t (pos 0) y)) 1) (leb m (wordOf (cond (eqb k 2) a (cond t (pos 0) z)))) ≡ false
 kern-by k m y a z true e h = refl
 kern-by k m y a z false e h = ap (λ (n : ℕ). both (eqb n 1) (leb m (wordOf (cond (eqb k 2) a z)))) (sym e) ∙ go (eqb k 1) refl
   where
@@ -63,7 +65,9 @@ module _ (d : Damaged) (i : ℕ) (within : i < count (d .instructions)) where
       ∙ ap (λ (z : ℤ). both (isReachable (programOf d) i) (both (nonNeg z) (leb (count s) (i + 1 + wordOf z)))) next-again
       ∙ by (skipGoes (programOf d) i) refl
     where
-      by : (t : Bool) → skipGoes (programOf d) i ≡ t → both (isReachable (programOf d) i) (both (nonNeg (cond t (negsuc 0) (field s i 0))) (leb (count s) (i + 1 + wordOf (cond t (negsuc 0) (field s i 0))))) ≡ false
+      by : (t : Bool) → skipGoes (programOf d) i ≡ t →
+          both (isReachable (programOf d) i)
+          (both (nonNeg (cond t (negsuc 0) (field s i 0))) (leb (count s) (i + 1 + wordOf (cond t (negsuc 0) (field s i 0))))) ≡ false
       by true e = both-false (isReachable (programOf d) i)
       by false e = e
 
@@ -82,7 +86,8 @@ module _ (d : Damaged) (i : ℕ) (within : i < count (d .instructions)) where
   right-asked : rightGoes (programOf (again d)) i ≡ asked (cond (rightGoes (programOf d) i) (pos (d .replacement)) (field s i 1))
   unfolding asked
   right-asked =
-      ap (λ (r : Bool). both (not r) (both (not (exists (programOf d) (wordOf (field s′ i 1)))) (not (isBoundary (programOf d) (field s′ i 1))))) (same-redirect d i)
+      ap (λ (r : Bool). both (not r) (both (not (exists (programOf d) (wordOf (field s′ i 1)))) (not (isBoundary (programOf d) (field s′ i 1)))))
+      (same-redirect d i)
       ∙ ap (λ (z : ℤ). both (not (isRedirect (programOf d) i)) (both (not (exists (programOf d) (wordOf z))) (not (isBoundary (programOf d) z)))) right-again
 
   pub right-sound : exists (programOf d) (d .replacement) ≡ true → rightGoes (programOf (again d)) i ≡ false
@@ -95,13 +100,16 @@ module _ (d : Damaged) (i : ℕ) (within : i < count (d .instructions)) where
           ∙ both-false (not (isRedirect (programOf d) i))
       by false e = e
 
-  pub right-back : exists (programOf d) (d .replacement) ≡ false → rightGoes (programOf (again d)) i ≡ both (rightGoes (programOf d) i) (not (isBoundary (programOf d) (pos (d .replacement))))
+  pub right-back : exists (programOf d) (d .replacement) ≡ false →
+      rightGoes (programOf (again d)) i ≡ both (rightGoes (programOf d) i) (not (isBoundary (programOf d) (pos (d .replacement))))
   unfolding asked
   right-back none = right-asked ∙ by (rightGoes (programOf d) i) refl
     where
-      by : (t : Bool) → rightGoes (programOf d) i ≡ t → asked (cond t (pos (d .replacement)) (field s i 1)) ≡ both t (not (isBoundary (programOf d) (pos (d .replacement))))
+      by : (t : Bool) → rightGoes (programOf d) i ≡ t →
+          asked (cond t (pos (d .replacement)) (field s i 1)) ≡ both t (not (isBoundary (programOf d) (pos (d .replacement))))
       by true e =
-          ap (λ (u : Bool). both u (both (not (exists (programOf d) (d .replacement))) (not (isBoundary (programOf d) (pos (d .replacement)))))) (both-left (not (isRedirect (programOf d) i)) _ e)
+          ap (λ (u : Bool). both u (both (not (exists (programOf d) (d .replacement))) (not (isBoundary (programOf d) (pos (d .replacement))))))
+          (both-left (not (isRedirect (programOf d) i)) _ e)
           ∙ ap (λ (u : Bool). both (not u) (not (isBoundary (programOf d) (pos (d .replacement))))) none
       by false e = e
 
@@ -121,7 +129,8 @@ module _ (d : Damaged) (i : ℕ) (within : i < count (d .instructions)) where
   ligature-by f true n z = refl
   ligature-by f false n z = refl
 
-  ligature-again : (f : ℕ → Bool) → both (isLigature (programOf (again d)) i) (f (wordOf (field s′ i 3))) ≡ both (isLigature (programOf d) i) (f (256 * byte + inserted))
+  ligature-again : (f : ℕ → Bool) →
+      both (isLigature (programOf (again d)) i) (f (wordOf (field s′ i 3))) ≡ both (isLigature (programOf d) i) (f (256 * byte + inserted))
   ligature-again f =
       ap (λ (t : Bool). both t (f (wordOf (field s′ i 3)))) same-ligature
       ∙ ap (λ (z : ℤ). both (isLigature (programOf d) i) (f (wordOf z))) operand-again
@@ -141,14 +150,16 @@ module _ (d : Damaged) (i : ℕ) (within : i < count (d .instructions)) where
     pub product-sound : exists (programOf d) (d .replacement) ≡ true → productGoes (programOf (again d)) i ≡ false
     product-sound exist = product-again ∙ by (productGoes (programOf d) i) refl
       where
-        by : (t : Bool) → productGoes (programOf d) i ≡ t → both (isLigature (programOf d) i) (not (exists (programOf d) (cond t (d .replacement) (insertedBy (programOf d) i)))) ≡ false
+        by : (t : Bool) → productGoes (programOf d) i ≡ t →
+            both (isLigature (programOf d) i) (not (exists (programOf d) (cond t (d .replacement) (insertedBy (programOf d) i)))) ≡ false
         by true e = ap (λ (u : Bool). both (isLigature (programOf d) i) (not u)) exist ∙ both-false (isLigature (programOf d) i)
         by false e = e
 
     pub product-back : exists (programOf d) (d .replacement) ≡ false → productGoes (programOf (again d)) i ≡ productGoes (programOf d) i
     product-back none = product-again ∙ by (productGoes (programOf d) i) refl
       where
-        by : (t : Bool) → productGoes (programOf d) i ≡ t → both (isLigature (programOf d) i) (not (exists (programOf d) (cond t (d .replacement) (insertedBy (programOf d) i)))) ≡ productGoes (programOf d) i
+        by : (t : Bool) → productGoes (programOf d) i ≡ t →
+            both (isLigature (programOf d) i) (not (exists (programOf d) (cond t (d .replacement) (insertedBy (programOf d) i)))) ≡ productGoes (programOf d) i
         by true e =
             ap (λ (u : Bool). both (isLigature (programOf d) i) (not u)) none
             ∙ ap (λ (u : Bool). both u true) (both-left (isLigature (programOf d) i) _ e) ∙ sym e

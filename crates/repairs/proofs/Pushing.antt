@@ -22,12 +22,14 @@ use Rattle.repairs.specs.Warnings.{warning, warnIf, leftWarning, entryWa
 use Rattle.repairs.specs.Pushed.{Pushed}
 
 -- stores after others, which end where they begin
-pub sets-after : {A : Type 0} (xs ys l : List A) (i j : ℕ) {l₁ l₂ : List A} → l₁ ≡ sets l i xs → j ≡ i + length xs → l₂ ≡ sets l₁ j ys → l₂ ≡ sets l i (xs ++ ys)
+pub sets-after : {A : Type 0} (xs ys l : List A) (i j : ℕ) {l₁ l₂ : List A} → l₁ ≡ sets l i xs → j ≡ i + length xs → l₂ ≡ sets l₁ j ys →
+    l₂ ≡ sets l i (xs ++ ys)
 sets-after {A} xs ys l i j e f g =
     g ∙ ap (λ (m : List A). sets m j ys) e ∙ ap (λ (k : ℕ). sets (sets l i xs) k ys) f ∙ sym (sets-append xs ys l i)
 
 -- four stores, one after the other
-pub four-written : (i : ℕ) (l : List ℤ) {l₁ l₂ l₃ l₄ : List ℤ} {a b c d x y z v : ℤ} → a ≡ x → b ≡ y → c ≡ z → d ≡ v → l₁ ≡ set l (4 * i) a → l₂ ≡ set l₁ (4 * i + 1) b → l₃ ≡ set l₂ (4 * i + 2) c → l₄ ≡ set l₃ (4 * i + 3) d → l₄ ≡ sets l (4 * i) (x ∷ y ∷ z ∷ v ∷ [])
+pub four-written : (i : ℕ) (l : List ℤ) {l₁ l₂ l₃ l₄ : List ℤ} {a b c d x y z v : ℤ} → a ≡ x → b ≡ y → c ≡ z → d ≡ v → l₁ ≡ set l (4 * i) a →
+    l₂ ≡ set l₁ (4 * i + 1) b → l₃ ≡ set l₂ (4 * i + 2) c → l₄ ≡ set l₃ (4 * i + 3) d → l₄ ≡ sets l (4 * i) (x ∷ y ∷ z ∷ v ∷ [])
 four-written i l p q r t e₁ e₂ e₃ e₄ =
     let one : 4 * i + 1 ≡ suc (4 * i) = omega arith in
     let two : 4 * i + 2 ≡ suc (suc (4 * i)) = omega arith in
@@ -37,7 +39,8 @@ four-written i l p q r t e₁ e₂ e₃ e₄ =
 pub pushed-none : (w : List ℤ) (n : ℕ) → Pushed w n [] w n
 pushed-none w n = record { count = omega arith; list = refl }
 
-pub pushed-append : (w : List ℤ) (n : ℕ) (xs w₁ : List ℤ) (m : ℕ) (ys w₂ : List ℤ) (r : ℕ) → Pushed w n xs w₁ m → Pushed w₁ m ys w₂ r → Pushed w n (xs ++ ys) w₂ r
+pub pushed-append : (w : List ℤ) (n : ℕ) (xs w₁ : List ℤ) (m : ℕ) (ys w₂ : List ℤ) (r : ℕ) → Pushed w n xs w₁ m → Pushed w₁ m ys w₂ r →
+    Pushed w n (xs ++ ys) w₂ r
 pushed-append w n xs w₁ m ys w₂ r a b =
     record {
       count = omega (arith, a .count, b .count, length-append xs ys);
@@ -52,7 +55,8 @@ pub below-full : (t : Bool) (n : ℕ) → n < 4294967296 → both t (ltb n 42949
 below-full true n h = lt-ltb n 4294967296 h
 below-full false n h = refl
 
-pub pushed-if : (w : List ℤ) (n : ℕ) (t : Bool) (ws w′ : List ℤ) (r : ℕ) → n < 4294967296 → Pushed w n (warnIf (both t (ltb n 4294967296)) ws) w′ r → Pushed w n (warnIf t ws) w′ r
+pub pushed-if : (w : List ℤ) (n : ℕ) (t : Bool) (ws w′ : List ℤ) (r : ℕ) → n < 4294967296 → Pushed w n (warnIf (both t (ltb n 4294967296)) ws) w′ r →
+    Pushed w n (warnIf t ws) w′ r
 pushed-if w n t ws w′ r h p = rw (below-full t n h) at p
 
 -- four numbers a loop
@@ -73,12 +77,16 @@ four-warn false kind at old new = refl
 four-entries : (d : Damaged) (k : ℕ) → length (entryWarnings d k) % 4 ≡ 0
 unfolding entryWarnings
 four-entries d zero = refl
-four-entries d (suc k) = four-append (entryWarnings d k) (warnIf (not (unpacks d k)) (warning 2 (charAt (d .entries) k) (pos 0) (pos 0))) (four-entries d k) (four-warn (not (unpacks d k)) 2 (charAt (d .entries) k) (pos 0) (pos 0))
+four-entries d (suc k) =
+    four-append (entryWarnings d k) (warnIf (not (unpacks d k)) (warning 2 (charAt (d .entries) k) (pos 0) (pos 0))) (four-entries d k)
+    (four-warn (not (unpacks d k)) 2 (charAt (d .entries) k) (pos 0) (pos 0))
 
 four-skips : (p : DamagedProgram) (k : ℕ) → length (skipWarnings p k) % 4 ≡ 0
 unfolding skipWarnings
 four-skips p zero = refl
-four-skips p (suc k) = four-append (skipWarnings p k) (warnIf (skipGoes p k) (warning 3 (pos k) (pos 0) (pos 0))) (four-skips p k) (four-warn (skipGoes p k) 3 (pos k) (pos 0) (pos 0))
+four-skips p (suc k) =
+    four-append (skipWarnings p k) (warnIf (skipGoes p k) (warning 3 (pos k) (pos 0) (pos 0))) (four-skips p k)
+    (four-warn (skipGoes p k) 3 (pos k) (pos 0) (pos 0))
 
 four-step : (p : DamagedProgram) (i : ℕ) → length (stepWarnings p i) % 4 ≡ 0
 four-step p i =
@@ -90,7 +98,8 @@ four-step p i =
     four-append (a ++ b ++ c ++ e) f
     (four-append (a ++ b ++ c) e
     (four-append (a ++ b) c
-    (four-append a b (four-warn (redirectWarns p i) 9 (pos i) (pos 0) (pos 0)) (four-warn (rightGoes p i) (cond (isLigature p i) 4 5) (pos i) (field (p .instructions) i 1) (pos (p .replacement))))
+    (four-append a b (four-warn (redirectWarns p i) 9 (pos i) (pos 0) (pos 0))
+    (four-warn (rightGoes p i) (cond (isLigature p i) 4 5) (pos i) (field (p .instructions) i 1) (pos (p .replacement))))
     (four-warn (kernGoes p i) 7 (pos i) (pos 0) (pos 0)))
     (four-warn (productGoes p i) 6 (pos i) (pos (insertedBy p i)) (pos (p .replacement))))
     (four-warn (tagGoes p i) 8 (pos i) (pos 0) (pos 0))
@@ -110,6 +119,7 @@ fours d =
     let o = loopWarnings (loopsOfFont (repairedFont d)) in
     four-append (l ++ e ++ s ++ t) o
     (four-append (l ++ e ++ s) t
-    (four-append (l ++ e) s (four-append l e (four-warn (leftGoes d) 1 (pos 0) (pos 0) (pos 0)) (four-entries d (length (d .entries) / 2))) (four-skips (programOf d) n))
+    (four-append (l ++ e) s (four-append l e (four-warn (leftGoes d) 1 (pos 0) (pos 0) (pos 0)) (four-entries d (length (d .entries) / 2)))
+    (four-skips (programOf d) n))
     (four-steps (programOf d) n))
     (omega (arith, loop-count (loopsOfFont (repairedFont d))))

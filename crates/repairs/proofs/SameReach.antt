@@ -1,6 +1,5 @@
--- What is reachable is the same in the repaired program: redirects and their targets are as they were, so that the same entries unpack to the same places; and a
--- skip is taken away only where it passed the end, so that the same instructions are marked.
--- Assumes nothing.
+-- What is reachable is the same in the repaired program: redirects and their targets are as they were, so that the same entries unpack to the same places; and
+-- a skip is taken away only where it passed the end, so that the same instructions are marked. Assumes nothing.
 use mathlib.Core.Path.{_≡_, refl, sym, ap, _∙_}
 use mathlib.Core.Bool.{Bool, true, false, cond}
 use mathlib.Core.List.{List, [], _∷_, _++_}
@@ -54,7 +53,8 @@ past-end : (n i : ℕ) (z : ℤ) → absentOr 255 z ≡ true → nonNeg z ≡ tr
 past-end n i (pos w) f p h = omega (arith, leb-true w 255 f)
 past-end n i (negsuc w) f p h = omega arith
 
-onward-by : (n i : ℕ) (z : ℤ) (m : List ℕ) (r t : Bool) → length m ≡ n → absentOr 255 z ≡ true → both r (both (nonNeg z) (leb n (i + 1 + wordOf z))) ≡ t → set m (onwardFrom n (nextOf (cond t (negsuc 0) z)) i) 1 ≡ set m (onwardFrom n (nextOf z) i) 1
+onward-by : (n i : ℕ) (z : ℤ) (m : List ℕ) (r t : Bool) → length m ≡ n → absentOr 255 z ≡ true → both r (both (nonNeg z) (leb n (i + 1 + wordOf z))) ≡ t →
+    set m (onwardFrom n (nextOf (cond t (negsuc 0) z)) i) 1 ≡ set m (onwardFrom n (nextOf z) i) 1
 onward-by n i z m r true l f e =
     let past = leb n (i + 1 + wordOf z) in
     let b = both-right r (both (nonNeg z) past) e in
@@ -137,7 +137,8 @@ module _ (d : Damaged) where
   -- ---- marks
 
   module _ (taken : programRefusal s ≡ 0) where
-    same-onward : (i : ℕ) (m : List ℕ) → i < count s → length m ≡ count s → set m (onwardFrom (count s′) (nextOf (field s′ i 0)) i) 1 ≡ set m (onwardFrom (count s) (nextOf (field s i 0)) i) 1
+    same-onward : (i : ℕ) (m : List ℕ) → i < count s → length m ≡ count s →
+        set m (onwardFrom (count s′) (nextOf (field s′ i 0)) i) 1 ≡ set m (onwardFrom (count s) (nextOf (field s i 0)) i) 1
     same-onward i m h l =
         ap (λ (n : ℕ). set m (onwardFrom n (nextOf (field s′ i 0)) i) 1) (same-count d)
         ∙ ap (λ (z : ℤ). set m (onwardFrom (count s) (nextOf z) i) 1) (field-repaired d i 0 h (omega arith))

@@ -35,6 +35,7 @@ same-count d = omega (arith, length-upto (programOf d) (count (d .instructions))
 pub field-below : (s : List ℤ) (i j : ℕ) → i < count s → field s i j ≡ getD s (4 * i + j) (pos 0)
 field-below s i j h = rw (lt-ltb i (count s) h)
 
-pub field-repaired : (d : Damaged) (i j : ℕ) → i < count (d .instructions) → j < 4 → field (repairedInstructions d) i j ≡ getD (repairedStep (programOf d) i) j (pos 0)
+pub field-repaired : (d : Damaged) (i j : ℕ) → i < count (d .instructions) → j < 4 →
+    field (repairedInstructions d) i j ≡ getD (repairedStep (programOf d) i) j (pos 0)
 field-repaired d i j h l =
     field-below (repairedInstructions d) i j (omega (arith, same-count d)) ∙ step-number (programOf d) (count (d .instructions)) i j h l

@@ -49,7 +49,9 @@ step-none d i e =
     let p = append-none (at ++ right ++ kern) product (t .0) in
     let k = append-none (at ++ right) kern (p .0) in
     record {
-      right = warn-none (rightGoes (programOf d) i) (cond (isLigature (programOf d) i) 4 5) (pos i) (field s i 1) (pos (d .replacement)) (append-none at right (k .0) .1);
+      right =
+          warn-none (rightGoes (programOf d) i) (cond (isLigature (programOf d) i) 4 5) (pos i) (field s i 1) (pos (d .replacement))
+          (append-none at right (k .0) .1);
       kern-index = warn-none (kernGoes (programOf d) i) 7 (pos i) (pos 0) (pos 0) (k .1);
       product = warn-none (productGoes (programOf d) i) 6 (pos i) (pos (insertedBy (programOf d) i)) (pos (d .replacement)) (p .1);
       tag = warn-none (tagGoes (programOf d) i) 8 (pos i) (pos 0) (pos 0) (t .1);

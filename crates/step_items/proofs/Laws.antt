@@ -14,7 +14,8 @@ use Rattle.captions.specs.declared.Answer.{Answer}
 use Rattle.captions.specs.declared.Answer.the-variants.{Char, Ligature, Kern}
 use Rattle.captions.specs.declared.Step.{Step}
 use Rattle.captions.specs.Tables.{opCount, opKind, opValue, opHolds, opFits}
-use Rattle.captions.specs.Steps.{refused, taken, takesBoundary, settled, giveItem, giveCharacter, giveLigature, afterOp, isNone, endsWord, giveOp, opsFit, readOp}
+use Rattle.captions.specs.Steps.{refused, taken, takesBoundary, settled, giveItem, giveCharacter, giveLigature, afterOp, isNone, endsWord, giveOp, opsFit}
+use Rattle.captions.specs.Steps.{readOp}
 
 -- ---- giving an item
 
@@ -27,7 +28,8 @@ item-given a n s h = rw (le-leb (s .given + n) (s .read) h)
 pub character-plain : (c : ℕ) (s : State) → s .pending ≡ 0 → giveCharacter c s ≡ giveItem (Char c (s .given)) 1 s
 character-plain c s h = rw (eq-eqb (s .pending) 0 h)
 
-pub character-pending : (c : ℕ) (s : State) → (s .pending ≡ 0 → ⊥) → giveCharacter c s ≡ giveItem (Ligature c (s .given) (s .pending) (s .«pending_boundary») false) (s .pending) s
+pub character-pending : (c : ℕ) (s : State) → (s .pending ≡ 0 → ⊥) →
+    giveCharacter c s ≡ giveItem (Ligature c (s .given) (s .pending) (s .«pending_boundary») false) (s .pending) s
 character-pending c s h = rw (ne-eqb (s .pending) 0 h)
 
 pub ligature-refused : (c : ℕ) (right : Bool) (s : State) → s .read < taken s → giveLigature c right s ≡ refused 7 s

@@ -1,7 +1,8 @@
 // Giving an item: a character, or a ligature with its original.
 ghost use mathlib.Core.Path.{_≡_};
 ghost use Prim.Native.Nat.{_+_, _≤_};
-ghost use Rattle.captions.specs.Steps.{refused, leftLetters, leftBoundary, takesBoundary, settled, giveItem, giveCharacter, giveLigature};
+ghost use Rattle.captions.specs.Steps.{refused, leftLetters, leftBoundary, takesBoundary, settled, giveItem};
+ghost use Rattle.captions.specs.Steps.{giveCharacter, giveLigature};
 use captions::Answer;
 use captions::Consumes;
 use captions::State;

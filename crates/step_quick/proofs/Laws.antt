@@ -75,5 +75,7 @@ module _ (ops : List ℤ) (word : List ℕ) (s : State) where
 
 -- a letter to be read is there
 pub letter-there : (word : List ℕ) (s : State) → hasLetter word s ≡ true → (s .read < length word) × (s .given < s .read)
-letter-there word s h =
-    (ltb-true (s .read) (length word) (both-left (ltb (s .read) (length word)) (ltb (s .given) (s .read)) h), ltb-true (s .given) (s .read) (both-right (ltb (s .read) (length word)) (ltb (s .given) (s .read)) h))
+letter-there word s h = (
+  ltb-true (s .read) (length word) (both-left (ltb (s .read) (length word)) (ltb (s .given) (s .read)) h),
+  ltb-true (s .given) (s .read) (both-right (ltb (s .read) (length word)) (ltb (s .given) (s .read)) h),
+)

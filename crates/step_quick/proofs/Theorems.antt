@@ -26,10 +26,12 @@ use Rattle.captions.specs.declared.Step.{Step}
 use Rattle.captions.specs.declared.Turned.{Turned}
 use Rattle.captions.specs.declared.Turned.the-variants.{Gives, Goes}
 use Rattle.captions.specs.Tables.{pairCount, opCount, number, opKind, opValue, keyBy, find, firstOp, countOf, lastCode, lastFlag, opHolds, recordFits}
-use Rattle.captions.specs.Steps.{refused, afterOp, afterRight, settled, giveCharacter, opsFit, readOp, withNext, enteredAt, entryReads, turnBy, rightItem, turn, goesOn, byNext, runOn, opsPlaced, nextFits, placed, ranFrom, stepRefusal, handBack, steppedBy, stepOf}
+use Rattle.captions.specs.Steps.{refused, afterOp, afterRight, settled, giveCharacter, opsFit, readOp, withNext, enteredAt, entryReads, turnBy, rightItem, turn}
+use Rattle.captions.specs.Steps.{goesOn, byNext, runOn, opsPlaced, nextFits, placed, ranFrom, stepRefusal, handBack, steppedBy, stepOf}
 use Rattle.captions.proofs.Finding.{find-inside}
 use Rattle.step_items.proofs.Laws.{item-given, character-plain, op-character, op-kern, op-fit}
-use Rattle.step_quick.specs.Quick.{plainCode, nextLetter, isCalm, isPlain, hasLetter, isQuick, quickLeft, isKern, placeOr, foundPlace, firstPlain, isEntered, isReady, givenPlain, givenFirst, quickStep, givenKern}
+use Rattle.step_quick.specs.Quick.{plainCode, nextLetter, isCalm, isPlain, hasLetter, isQuick, quickLeft, isKern, placeOr, foundPlace, firstPlain}
+use Rattle.step_quick.specs.Quick.{isEntered, isReady, givenPlain, givenFirst, quickStep, givenKern}
 use Rattle.step_quick.specs.Purpose.{QuickPasses, QuickEnters, QuickSteps, QuickKerns}
 
 no : {A : Type 0} → _≡_ {A = Bool} false true → A
@@ -111,10 +113,12 @@ module _ (pairs ops : List ℤ) (boundary : ℤ) (word : List ℕ) (options : Ru
   abbrev look : NextLeft → State → Turned
   look = turn pairs ops (rightItem boundary (options .«right_boundary_override»)) word
 
-  stepped : Calm ops boundary word options s → (t : Step) → runOn ops look (suc (length word - s .read)) s ≡ t → stepOf pairs ops boundary word options s ≡ handBack s (t .state) (t .answer)
+  stepped : Calm ops boundary word options s → (t : Step) → runOn ops look (suc (length word - s .read)) s ≡ t →
+      stepOf pairs ops boundary word options s ≡ handBack s (t .state) (t .answer)
   stepped h t e =
       ap (λ (n : ℕ). steppedBy n s (ranFrom pairs ops (rightItem boundary (options .«right_boundary_override»)) word s)) (h .taken)
-      ∙ ap (λ (u : Step). handBack s (u .state) (u .answer)) (ap (λ (b : Bool). cond b (runOn ops look (suc (length word - s .read)) s) (refused 7 s)) (h .inside) ∙ e)
+      ∙ ap (λ (u : Step). handBack s (u .state) (u .answer))
+      (ap (λ (b : Bool). cond b (runOn ops look (suc (length word - s .read)) s) (refused 7 s)) (h .inside) ∙ e)
 
   -- an op is given
   run-op : (n : ℕ) (u : State) → (u .ops ≡ 0 → ⊥) → runOn ops look n u ≡ readOp ops u
@@ -136,7 +140,8 @@ module _ (pairs ops : List ℤ) (boundary : ℤ) (word : List ℕ) (options : Ru
   looks : Quick ops boundary word options s → look (next.Char c) s ≡ turnBy pairs ops (next.Char c) true y s (find pairs (keyBy (suc c) y))
   looks q = rw (lt-ltb (s .read) (length word) (q .there), q .letter)
 
-  run-look : Quick ops boundary word options s → (n : ℕ) (o : Option ℕ) → find pairs (keyBy (suc c) y) ≡ o → runOn ops look (suc n) s ≡ goesOn (runOn ops look n) (turnBy pairs ops (next.Char c) true y s o)
+  run-look : Quick ops boundary word options s → (n : ℕ) (o : Option ℕ) → find pairs (keyBy (suc c) y) ≡ o →
+      runOn ops look (suc n) s ≡ goesOn (runOn ops look n) (turnBy pairs ops (next.Char c) true y s o)
   run-look q n o e =
       run-next n (q .none)
       ∙ ap (byNext look (runOn ops look n) s) (q .calm .is)
@@ -152,8 +157,21 @@ module _ (pairs ops : List ℤ) (boundary : ℤ) (word : List ℕ) (options : Ru
       let u = withNext (next.Char y) (suc (s .read)) s in
       let g : s .given + 1 ≡ suc (s .given) = omega arith in
       let w : s .given + 1 ≤ suc (s .read) = omega (arith, q .waits) in
-      stepped (q .calm) (record { answer = Char c (s .given); state = settled 1 u }) (run-look q (length word - s .read) none e ∙ gives c u (q .calm .nothing) w)
-      ∙ (λ i. record { answer = Char c (s .given); state = record { «next_left» = next.Char y; op = s .op; ops = q .none i; read = suc (s .read); given = g i; pending = 0; «pending_boundary» = false; «consumes_left» = consumes.Nothing } })
+      stepped (q .calm) (record { answer = Char c (s .given); state = settled 1 u })
+      (run-look q (length word - s .read) none e ∙ gives c u (q .calm .nothing) w)
+      ∙ (λ i. record {
+        answer = Char c (s .given);
+        state = record {
+          «next_left» = next.Char y;
+          op = s .op;
+          ops = q .none i;
+          read = suc (s .read);
+          given = g i;
+          pending = 0;
+          «pending_boundary» = false;
+          «consumes_left» = consumes.Nothing;
+        };
+      })
 
   -- ---- an entry whose first op is a character
 
@@ -186,8 +204,10 @@ module _ (pairs ops : List ℤ) (boundary : ℤ) (word : List ℕ) (options : Ru
         (both-right (within 1 (number pairs k 3)) _ (both-right (within 255 (number pairs k 2)) _ fits)))
 
     -- the op that is given and the one after it can be read
-    read-by : (a b t : Bool) → leb 2 count ≡ t → both a (cond t b true) ≡ true → both (both (ltb first (opCount ops)) a) (cond t (both (ltb (suc first) (opCount ops)) b) true) ≡ true
-    read-by true true true l h = rw (lt-ltb first (opCount ops) (omega (arith, some-ops, among)), lt-ltb (suc first) (opCount ops) (omega (arith, leb-true 2 count l, among)))
+    read-by : (a b t : Bool) → leb 2 count ≡ t → both a (cond t b true) ≡ true →
+        both (both (ltb first (opCount ops)) a) (cond t (both (ltb (suc first) (opCount ops)) b) true) ≡ true
+    read-by true true true l h =
+        rw (lt-ltb first (opCount ops) (omega (arith, some-ops, among)), lt-ltb (suc first) (opCount ops) (omega (arith, leb-true 2 count l, among)))
     read-by true false true l h = no h
     read-by true b false l h = rw (lt-ltb first (opCount ops) (omega (arith, some-ops, among)))
     read-by false b t l h = no h
@@ -198,7 +218,8 @@ module _ (pairs ops : List ℤ) (boundary : ℤ) (word : List ℕ) (options : Ru
     abbrev u : State
     u = enteredAt pairs (next.Char c) true s k
 
-    pub enters : isQuick ops boundary word options s ≡ true → find pairs (keyBy (suc c) y) ≡ some k → stepOf pairs ops boundary word options s ≡ givenFirst pairs ops k s
+    pub enters : isQuick ops boundary word options s ≡ true → find pairs (keyBy (suc c) y) ≡ some k →
+        stepOf pairs ops boundary word options s ≡ givenFirst pairs ops k s
     enters h f =
         let q = quick-is ops boundary word options s h in
         let n = length word - s .read in
@@ -212,20 +233,35 @@ module _ (pairs ops : List ℤ) (boundary : ℤ) (word : List ℕ) (options : Ru
         ∙ op-fit ops u (read-by (opHolds ops first) (opHolds ops (suc first)) (leb 2 count) refl holds)
         ∙ op-character ops u kind
         ∙ gives v (afterOp u) (q .calm .nothing) w)
-        ∙ (λ i. record { answer = Char v (s .given); state = record { «next_left» = afterRight true (item (lastFlag pairs k) (lastCode pairs k)); op = suc first; ops = count - 1; read = suc (s .read); given = g i; pending = 0; «pending_boundary» = false; «consumes_left» = consumes.Nothing } })
+        ∙ (λ i. record {
+          answer = Char v (s .given);
+          state = record {
+            «next_left» = afterRight true (item (lastFlag pairs k) (lastCode pairs k));
+            op = suc first;
+            ops = count - 1;
+            read = suc (s .read);
+            given = g i;
+            pending = 0;
+            «pending_boundary» = false;
+            «consumes_left» = consumes.Nothing;
+          };
+        })
 
   -- ---- by the place that was found
 
   has-letter : Quick ops boundary word options s → hasLetter word s ≡ true
   has-letter q = rw (lt-ltb (s .read) (length word) (q .there), lt-ltb (s .given) (s .read) (q .waits))
 
-  steps-by : (o : Option ℕ) → isQuick ops boundary word options s ≡ true → find pairs (keyBy (suc c) y) ≡ o → isReady pairs ops (placeOr (pairCount pairs) o) ≡ true → stepOf pairs ops boundary word options s ≡ quickStep pairs ops word (placeOr (pairCount pairs) o) s
+  steps-by : (o : Option ℕ) → isQuick ops boundary word options s ≡ true → find pairs (keyBy (suc c) y) ≡ o →
+      isReady pairs ops (placeOr (pairCount pairs) o) ≡ true →
+      stepOf pairs ops boundary word options s ≡ quickStep pairs ops word (placeOr (pairCount pairs) o) s
   steps-by none h f r = rw (has-letter (quick-is ops boundary word options s h), le-ltb (pairCount pairs) (pairCount pairs) (omega arith)) (passes h f)
   steps-by (some k) h f r =
       let i = lt-ltb k (pairCount pairs) (find-inside pairs (keyBy (suc c) y) k f .0) in
       rw (has-letter (quick-is ops boundary word options s h), i) (enters k (rw i at r) h f)
 
-  pub steps : (k : ℕ) → isQuick ops boundary word options s ≡ true → k ≡ foundPlace pairs (suc c) y → isReady pairs ops k ≡ true → stepOf pairs ops boundary word options s ≡ quickStep pairs ops word k s
+  pub steps : (k : ℕ) → isQuick ops boundary word options s ≡ true → k ≡ foundPlace pairs (suc c) y → isReady pairs ops k ≡ true →
+      stepOf pairs ops boundary word options s ≡ quickStep pairs ops word k s
   steps k h e r = steps-by (find pairs (keyBy (suc c) y)) h refl (rw e at r) ∙ ap (λ (j : ℕ). quickStep pairs ops word j s) (sym e)
 
   -- ---- a last kern

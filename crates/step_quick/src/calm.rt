@@ -1,4 +1,5 @@
-// What is asked of a state and of the call before anything is looked up: what a step refuses, that nothing is pending, and that a character is next.
+// What is asked of a state and of the call before anything is looked up: what a step refuses, that nothing is pending,
+// and that a character is next.
 ghost use mathlib.Core.Path.{_≡_};
 ghost use lib.Dec.{eqb};
 ghost use Rattle.captions.specs.Steps.{opsPlaced, stepRefusal};

@@ -1,4 +1,5 @@
-// A quick state: no op is to be given, and a character stands left of a letter. Its character, its letter, and its left.
+// A quick state: no op is to be given, and a character stands left of a letter. Its character, its letter, and its
+// left.
 ghost use mathlib.Core.Path.{_≡_};
 ghost use Rattle.step_quick.specs.Quick.{plainCode, hasLetter, isQuick, quickLeft};
 use crate::calm::is_plain;

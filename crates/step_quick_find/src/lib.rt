@@ -1,5 +1,6 @@
-// The place of a pair, by the bisection of crate table_find: the left is compared first, and the right only where it decides. What is read is read in bounds.
-// `found_place` is the definition of the same name in specs/Quick.antt of crate step_quick.
+// The place of a pair, by the bisection of crate table_find: the left is compared first, and the right only where it
+// decides. What is read is read in bounds. `found_place` is the definition of the same name in specs/Quick.antt of
+// crate step_quick.
 ghost use mathlib.Core.Path.{_≡_};
 ghost use Prim.Native.Nat.{_+_, _*_, _<_};
 ghost use lib.Dec.{ltb};
@@ -27,8 +28,8 @@ fn left_in(pairs: &[i32], k: usize) -> u32
     std::num::wrapping_add_u32(word_in(pairs, 6 * k), 1)
 }
 
-// Pair k, which is there, comes before a left and a right. That its right is a word is learnt by reading it, which compiling leaves out; it is compared only
-// where the left does not decide.
+// Pair k, which is there, comes before a left and a right. That its right is a word is learnt by reading it, which
+// compiling leaves out; it is compared only where the left does not decide.
 fn comes_before(pairs: &[i32], k: usize, left: u32, right: u32) -> bool
     requires { ⌜ k < pairCount (now pairs) ⌝ }
     ensures { λ r. ⌜ r ≡ ltb (keyAt (now (pairs .entry)) k) (keyBy left right) ⌝ }
@@ -61,7 +62,8 @@ fn place_for(pairs: &[i32], left: u32, right: u32) -> usize
     lo
 }
 
-// The place of the pair of a left (0 the boundary, else 1 + character) and a right character; the number of pairs where there is none.
+// The place of the pair of a left (0 the boundary, else 1 + character) and a right character; the number of pairs where
+// there is none.
 pub fn found_place(pairs: &[i32], left: u32, right: u32) -> usize
     ensures { λ r. ⌜ r ≡ foundPlace (now (pairs .entry)) left right ⌝ }
 {

@@ -1,5 +1,6 @@
-// What a quick state gives: the first op of an entry, where it is a character, or the character as it stands where there is no entry. What is read is read in
-// bounds. `is_ready` and `quick_step` are the definitions of the same names in specs/Quick.antt of crate step_quick.
+// What a quick state gives: the first op of an entry, where it is a character, or the character as it stands where
+// there is no entry. What is read is read in bounds. `is_ready` and `quick_step` are the definitions of the same names
+// in specs/Quick.antt of crate step_quick.
 ghost use mathlib.Core.Path.{_≡_};
 ghost use mathlib.Core.Bool.{true};
 ghost use Prim.Native.Nat.{_-_, _+_, _*_, _≤_, _<_};
@@ -10,7 +11,8 @@ ghost use Rattle.reading.specs.Items.{item};
 ghost use Rattle.captions.specs.Tables.{pairCount, opCount, number, opHolds};
 ghost use Rattle.captions.specs.Steps.{afterRight};
 ghost use Rattle.table_numbers.specs.Parts.{lastFits};
-ghost use Rattle.step_quick.specs.Quick.{hasLetter, firstPlain, isEntered, isReady, movedOn, givenPlain, givenFirst, quickStep};
+ghost use Rattle.step_quick.specs.Quick.{hasLetter, firstPlain, isEntered, isReady, movedOn, givenPlain, givenFirst};
+ghost use Rattle.step_quick.specs.Quick.{quickStep};
 use captions::Answer;
 use captions::Consumes;
 use captions::NextLeft;

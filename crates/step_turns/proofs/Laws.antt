@@ -22,7 +22,9 @@ use Rattle.captions.specs.declared.Turned.the-variants.{Gives, Goes}
 use Rattle.captions.specs.declared.Found.the-variants.{At, Nothing}
 use Rattle.captions.specs.Tables.{number, keyBy, find, foundAt, recordFits}
 use Rattle.captions.specs.Replies.{nextCode}
-use Rattle.captions.specs.Steps.{refused, ended, giveCharacter, isCharacter, leftLetters, withPending, longer, opsPlaced, gathered, leftPlaceOf, afterRight, readOn, withNext, giveLeft, enteredAt, swallows, entryReads, turnBy, turnWith, orBoundary, turnAtEnd, turnAtLetter, turn, nextFits, placed}
+use Rattle.captions.specs.Steps.{refused, ended, giveCharacter, isCharacter, leftLetters, withPending, longer, opsPlaced, gathered, leftPlaceOf, afterRight}
+use Rattle.captions.specs.Steps.{readOn, withNext, giveLeft, enteredAt, swallows, entryReads, turnBy, turnWith, orBoundary, turnAtEnd, turnAtLetter, turn}
+use Rattle.captions.specs.Steps.{nextFits, placed}
 use Rattle.step_turns.specs.Turns.{turnNext, lefts}
 
 no : {A : Type 0} → _≡_ {A = Bool} false true → A

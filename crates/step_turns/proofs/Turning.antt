@@ -22,7 +22,8 @@ use Rattle.captions.specs.declared.Step.{Step}
 use Rattle.captions.specs.declared.Turned.{Turned}
 use Rattle.captions.specs.declared.Turned.the-variants.{Gives, Goes}
 use Rattle.captions.specs.Tables.{opCount, number, keyBy, find, firstOp, countOf, lastCode, lastFlag, recordFits}
-use Rattle.captions.specs.Steps.{refused, readOp, gathered, leftPlaceOf, afterRight, readOn, giveLeft, enteredAt, entryReads, turnBy, turnWith, turnAtEnd, turnAtLetter, turn, goesOn, byNext, stepBy, runOn, nextFits, opsPlaced, placed}
+use Rattle.captions.specs.Steps.{refused, readOp, gathered, leftPlaceOf, afterRight, readOn, giveLeft, enteredAt, entryReads, turnBy, turnWith, turnAtEnd}
+use Rattle.captions.specs.Steps.{turnAtLetter, turn, goesOn, byNext, stepBy, runOn, nextFits, opsPlaced, placed}
 use Rattle.step_turns.specs.Turns.{lefts, turnsLeft, turnNext, turnOnce, Within}
 use Rattle.step_turns.proofs.Laws.{letters-few}
 
@@ -79,7 +80,13 @@ module _ (pairs ops : List ℤ) (g t : State) where
   entered-goes x letter k true e h =
       let r = both-left (recordFits pairs ops k) _ e in
       subst (λ (u : State). Reached (opCount ops) letter g u) (goes-is h)
-      (record { read = refl; pending = refl; ops = fits-ops k r; next = after-fits letter (item (lastFlag pairs k) (lastCode pairs k)) (fits-code k r); left = after-left letter (item (lastFlag pairs k) (lastCode pairs k)) })
+      (record {
+        read = refl;
+        pending = refl;
+        ops = fits-ops k r;
+        next = after-fits letter (item (lastFlag pairs k) (lastCode pairs k)) (fits-code k r);
+        left = after-left letter (item (lastFlag pairs k) (lastCode pairs k));
+      })
   entered-goes x letter k false e h = absurd (never h)
 
   with-goes : (x : NextLeft) (letter : Bool) (y : ℕ) → (letter ≡ true → y ≤ 255) → g .op + g .ops ≤ opCount ops → (o : Option ℕ) →
@@ -92,9 +99,11 @@ module _ (pairs ops : List ℤ) (g t : State) where
   end-goes : (x : NextLeft) (o : Option ℕ) → g .op + g .ops ≤ opCount ops → turnAtEnd pairs ops o x g ≡ Goes t → Reached (opCount ops) false g t
   end-goes next.Boundary o p h = absurd (never h)
   end-goes (next.Char c) none p h = absurd (never h)
-  end-goes (next.Char c) (some r) p h = with-goes (next.Char c) false r (λ e. absurd (let z : _≡_ {A = ℕ} 0 1 = cc in omega arith)) p (find pairs (keyBy (suc c) r)) h
+  end-goes (next.Char c) (some r) p h =
+      with-goes (next.Char c) false r (λ e. absurd (let z : _≡_ {A = ℕ} 0 1 = cc in omega arith)) p (find pairs (keyBy (suc c) r)) h
   end-goes (next.Lig c) none p h = absurd (never h)
-  end-goes (next.Lig c) (some r) p h = with-goes (next.Lig c) false r (λ e. absurd (let z : _≡_ {A = ℕ} 0 1 = cc in omega arith)) p (find pairs (keyBy (suc c) r)) h
+  end-goes (next.Lig c) (some r) p h =
+      with-goes (next.Lig c) false r (λ e. absurd (let z : _≡_ {A = ℕ} 0 1 = cc in omega arith)) p (find pairs (keyBy (suc c) r)) h
   end-goes (next.FinalLig c) o p h = absurd (never h)
   end-goes next.None o p h = absurd (never h)
 
@@ -125,15 +134,34 @@ gathered-is next.None s = record { read = refl; pending = omega arith; ops = ref
 module _ (n m : ℕ) (s g t : State) (w : Within n m s) (q : Gathered s g) (l : lefts (s .«next_left») ≡ 1) where
   moved-letter : s .read < n → Reached m true g t → Moved n m s t
   moved-letter h r =
-      record { inside = record { short = w .short; read = omega (arith, r .read, q .read); pending = omega (arith, w .pending, r .read, r .pending, r .left, q .read, q .pending); ops = r .ops; next = r .next }; less = omega (arith, r .read, r .left, q .read) }
+      record {
+        inside = record {
+          short = w .short;
+          read = omega (arith, r .read, q .read);
+          pending = omega (arith, w .pending, r .read, r .pending, r .left, q .read, q .pending);
+          ops = r .ops;
+          next = r .next;
+        };
+        less = omega (arith, r .read, r .left, q .read);
+      }
 
   moved-end : n ≤ s .read → Reached m false g t → Moved n m s t
   moved-end h r =
-      record { inside = record { short = w .short; read = omega (arith, w .read, r .read, q .read); pending = omega (arith, w .pending, r .read, r .pending, r .left, q .read, q .pending); ops = r .ops; next = r .next }; less = omega (arith, r .read, r .left, q .read) }
+      record {
+        inside = record {
+          short = w .short;
+          read = omega (arith, w .read, r .read, q .read);
+          pending = omega (arith, w .pending, r .read, r .pending, r .left, q .read, q .pending);
+          ops = r .ops;
+          next = r .next;
+        };
+        less = omega (arith, r .read, r .left, q .read);
+      }
 
 module _ (pairs ops : List ℤ) (o : Option ℕ) (word : List ℕ) (s t : State) (w : Within (length word) (opCount ops) s) where
   turn-goes : (x : NextLeft) → lefts (s .«next_left») ≡ 1 → (b : Bool) → ltb (s .read) (length word) ≡ b →
-      cond b (turnAtLetter pairs ops x (getD word (s .read) 0) (gathered x s)) (turnAtEnd pairs ops o x (gathered x s)) ≡ Goes t → Moved (length word) (opCount ops) s t
+      cond b (turnAtLetter pairs ops x (getD word (s .read) 0) (gathered x s)) (turnAtEnd pairs ops o x (gathered x s)) ≡ Goes t →
+      Moved (length word) (opCount ops) s t
   turn-goes x l true e h =
       let q = gathered-is x s in
       moved-letter (length word) (opCount ops) s (gathered x s) t w q l (ltb-true (s .read) (length word) e)
@@ -227,4 +255,11 @@ module _ (ops : List ℤ) (word : List ℕ) (s : State) where
       let h3 = both-right (leb (s .pending) (s .read)) _ h2 in
       let r = leb-true (s .read) (length word) (both-left (leb (s .read) (length word)) _ h) in
       let p = leb-true (s .pending) (s .read) (both-left (leb (s .pending) (s .read)) _ h2) in
-      record { short = l; read = r; pending = omega (arith, r, p, left-few (s .«next_left»)); ops = leb-true (s .op + s .ops) (opCount ops) (both-right (leb (opCount ops) 2147483647) (leb (s .op + s .ops) (opCount ops)) (both-left (opsPlaced ops s) (nextFits (s .«next_left»)) h3)); next = both-right (opsPlaced ops s) (nextFits (s .«next_left»)) h3 }
+      record {
+        short = l;
+        read = r;
+        pending = omega (arith, r, p, left-few (s .«next_left»));
+        ops = leb-true (s .op + s .ops) (opCount ops)
+            (both-right (leb (opCount ops) 2147483647) (leb (s .op + s .ops) (opCount ops)) (both-left (opsPlaced ops s) (nextFits (s .«next_left»)) h3));
+        next = both-right (opsPlaced ops s) (nextFits (s .«next_left»)) h3;
+      }

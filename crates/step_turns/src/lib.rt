@@ -1,5 +1,5 @@
-// The turns of a step, after `RunIter::next` of ligkern/mod.rs, whose call of itself is here a turn of the loop. Each function is the definition of the
-// same name in captions/specs/Steps.antt, or in specs/Turns.antt.
+// The turns of a step, after `RunIter::next` of ligkern/mod.rs, whose call of itself is here a turn of the loop. Each
+// function is the definition of the same name in captions/specs/Steps.antt, or in specs/Turns.antt.
 //   check  that the state points inside
 //   left   the left of a pair        turn   looking a left up
 ghost use mathlib.Core.Path.{_≡_};
@@ -55,7 +55,9 @@ fn give_last(c: u32, s: State) -> Turned
 // No ops are to be given: a last ligature is given as it stands, and a left is looked up.
 fn turn_next(pairs: &[i32], ops: &[i32], right: u32, word: &[u32], s: State) -> Turned
     requires { ⌜ Within (length (now word)) (opCount (now ops)) s ⌝ }
-    ensures { λ r. ⌜ r ≡ turnNext (turn (now (pairs .entry)) (now (ops .entry)) (orBoundary (numberOf right)) (now (word .entry))) s (s .«next_left») ⌝ }
+    ensures { λ r. ⌜ r ≡ turnNext
+        (turn (now (pairs .entry)) (now (ops .entry)) (orBoundary (numberOf right)) (now (word .entry))) s
+        (s .«next_left») ⌝ }
 {
     let next = s.next_left;
     match next {
@@ -68,7 +70,8 @@ fn turn_next(pairs: &[i32], ops: &[i32], right: u32, word: &[u32], s: State) -> 
 // One turn of the loop.
 fn turn_once(pairs: &[i32], ops: &[i32], right: u32, word: &[u32], s: State) -> Turned
     requires { ⌜ Within (length (now word)) (opCount (now ops)) s ⌝ }
-    ensures { λ r. ⌜ r ≡ turnOnce (now (ops .entry)) (turn (now (pairs .entry)) (now (ops .entry)) (orBoundary (numberOf right)) (now (word .entry))) s ⌝ }
+    ensures { λ r. ⌜ r ≡ turnOnce (now (ops .entry))
+        (turn (now (pairs .entry)) (now (ops .entry)) (orBoundary (numberOf right)) (now (word .entry))) s ⌝ }
 {
     if s.ops == 0 {
         turn_next(pairs, ops, right, word, s)
@@ -81,7 +84,9 @@ fn turn_once(pairs: &[i32], ops: &[i32], right: u32, word: &[u32], s: State) -> 
 // Turns until one answers: one letter a turn, and a turn for the right item.
 fn run_on(pairs: &[i32], ops: &[i32], right: u32, word: &[u32], s: State) -> Step
     requires { ⌜ Within (length (now word)) (opCount (now ops)) s ⌝ }
-    ensures { λ r. ⌜ r ≡ runOn (now (ops .entry)) (turn (now (pairs .entry)) (now (ops .entry)) (orBoundary (numberOf right)) (now (word .entry))) (suc (length (now (word .entry)) - s .read)) s ⌝ }
+    ensures { λ r. ⌜ r ≡ runOn (now (ops .entry))
+        (turn (now (pairs .entry)) (now (ops .entry)) (orBoundary (numberOf right)) (now (word .entry)))
+        (suc (length (now (word .entry)) - s .read)) s ⌝ }
 {
     let mut t = s;
     loop {
@@ -98,7 +103,8 @@ fn run_on(pairs: &[i32], ops: &[i32], right: u32, word: &[u32], s: State) -> Ste
 
 // The step from a state that points inside; 7 where it does not.
 pub fn run(pairs: &[i32], ops: &[i32], right: u32, word: &[u32], s: State) -> Step
-    ensures { λ r. ⌜ r ≡ ranFrom (now (pairs .entry)) (now (ops .entry)) (orBoundary (numberOf right)) (now (word .entry)) s ⌝ }
+    ensures { λ r. ⌜ r ≡ ranFrom (now (pairs .entry)) (now (ops .entry)) (orBoundary (numberOf right))
+        (now (word .entry)) s ⌝ }
 {
     if placed(ops, word, s) {
         return run_on(pairs, ops, right, word, s);

@@ -4,7 +4,8 @@ ghost use mathlib.Core.Bool.{true, cond};
 ghost use Prim.Native.Nat.{_<_};
 ghost use Rattle.words.specs.Words.{numberOf};
 ghost use Rattle.reading.specs.Items.{plain};
-ghost use Rattle.captions.specs.Steps.{refused, ended, afterRight, readOn, withNext, giveLeft, enteredAt, swallows, entryReads, turnWith, orBoundary, turnAtEnd, turnAtLetter, turn, nextFits};
+ghost use Rattle.captions.specs.Steps.{refused, ended, afterRight, readOn, withNext, giveLeft, enteredAt, swallows};
+ghost use Rattle.captions.specs.Steps.{entryReads, turnWith, orBoundary, turnAtEnd, turnAtLetter, turn, nextFits};
 use super::left::after_right;
 use super::left::gathered;
 use super::left::give_left;
@@ -94,7 +95,8 @@ fn swallows(pairs: &[i32], x: NextLeft, k: usize) -> bool
 // A pair with entry k.
 fn turn_entered(pairs: &[i32], ops: &[i32], x: NextLeft, letter: bool, s: State, k: usize) -> Turned
     requires { ⌜ s .read < 9223372036854775808 ⌝ }
-    ensures { λ r. ⌜ r ≡ cond (entryReads (now (pairs .entry)) (now (ops .entry)) x k) (Turned.Goes (enteredAt (now (pairs .entry)) x letter s k)) (Turned.Gives (refused 7 s)) ⌝ }
+    ensures { λ r. ⌜ r ≡ cond (entryReads (now (pairs .entry)) (now (ops .entry)) x k)
+        (Turned.Goes (enteredAt (now (pairs .entry)) x letter s k)) (Turned.Gives (refused 7 s)) ⌝ }
 {
     if !record_fits(pairs, ops, k) {
         return refuses(7, s);
@@ -155,7 +157,8 @@ pub(crate) fn turn(
     s: State,
 ) -> Turned
     requires { ⌜ (nextFits x ≡ true) × (s .read < 9223372036854775808) × (s .pending < 9223372036854775808) ⌝ }
-    ensures { λ r. ⌜ r ≡ turn (now (pairs .entry)) (now (ops .entry)) (orBoundary (numberOf right)) (now (word .entry)) x s ⌝ }
+    ensures { λ r. ⌜ r ≡ turn (now (pairs .entry)) (now (ops .entry)) (orBoundary (numberOf right))
+        (now (word .entry)) x s ⌝ }
 {
     let after = gathered(x, s);
     let read = s.read;

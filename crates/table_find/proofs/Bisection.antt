@@ -32,7 +32,8 @@ module _ (pairs : List ℤ) (w : ℕ) where
   lower n lo hi h k = rw (lt-ltb lo hi h, le-ltb (keyAt pairs (half lo hi)) w k)
 
   -- two numbers of halvings, each enough
-  enough-by : (n m lo hi : ℕ) (s t : Bool) → ltb lo hi ≡ s → ltb (keyAt pairs (half lo hi)) w ≡ t → hi - lo ≤ suc n → hi - lo ≤ suc m → ((l h : ℕ) → h - l ≤ n → h - l ≤ m → bisect pairs w n l h ≡ bisect pairs w m l h) → bisect pairs w (suc n) lo hi ≡ bisect pairs w (suc m) lo hi
+  enough-by : (n m lo hi : ℕ) (s t : Bool) → ltb lo hi ≡ s → ltb (keyAt pairs (half lo hi)) w ≡ t → hi - lo ≤ suc n → hi - lo ≤ suc m →
+      ((l h : ℕ) → h - l ≤ n → h - l ≤ m → bisect pairs w n l h ≡ bisect pairs w m l h) → bisect pairs w (suc n) lo hi ≡ bisect pairs w (suc m) lo hi
   enough-by n m lo hi true true a b h k f =
       let l = ltb-true lo hi a in
       let q = ltb-true (keyAt pairs (half lo hi)) w b in
@@ -65,11 +66,19 @@ module _ (pairs : List ℤ) (w : ℕ) where
   module _ (lo hi : ℕ) (s : Searching pairs w lo hi) where
     pub searching-up : lo < hi → keyAt pairs (half lo hi) < w → Searching pairs w (half lo hi + 1) hi
     searching-up h k =
-        record { order = omega arith; within = s .within; goes = λ n l. bisect-enough pairs w n hi (half lo hi + 1) hi l (omega arith) ∙ sym (upper pairs w hi lo hi h k) ∙ s .goes (suc hi) (omega arith) }
+        record {
+          order = omega arith;
+          within = s .within;
+          goes = λ n l. bisect-enough pairs w n hi (half lo hi + 1) hi l (omega arith) ∙ sym (upper pairs w hi lo hi h k) ∙ s .goes (suc hi) (omega arith);
+        }
 
     pub searching-down : lo < hi → w ≤ keyAt pairs (half lo hi) → Searching pairs w lo (half lo hi)
     searching-down h k =
-        record { order = omega arith; within = omega (arith, s .within); goes = λ n l. bisect-enough pairs w n hi lo (half lo hi) l (omega arith) ∙ sym (lower pairs w hi lo hi h k) ∙ s .goes (suc hi) (omega arith) }
+        record {
+          order = omega arith;
+          within = omega (arith, s .within);
+          goes = λ n l. bisect-enough pairs w n hi lo (half lo hi) l (omega arith) ∙ sym (lower pairs w hi lo hi h k) ∙ s .goes (suc hi) (omega arith);
+        }
 
     place : hi ≤ lo → placeFor pairs w ≡ lo
     place h = sym (s .goes 0 (omega arith)) ∙ ended pairs w 0 lo hi h

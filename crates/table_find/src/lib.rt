@@ -1,4 +1,5 @@
-// A pair of a lent table, whatever it holds, found by bisection: a left's place, a pair's key in the order of pairs, and the search.
+// A pair of a lent table, whatever it holds, found by bisection: a left's place, a pair's key in the order of pairs,
+// and the search.
 ghost use mathlib.Core.Path.{_≡_};
 ghost use Prim.Native.Nat.{_+_, _%_};
 ghost use Rattle.captions.specs.Tables.{keyBy, keyAt, foundAt};

@@ -9,5 +9,6 @@ use Rattle.words.specs.Words.{Word}
 use Rattle.captions.specs.Tables.{opCount, number, recordFits}
 use Rattle.table_form_pass.proofs.Entries.{record-end}
 
-pub entry-end : (pairs ops : List ℤ) (k : ℕ) {start count : ℕ} → recordFits pairs ops k ≡ true → Word (number pairs k 4) start → Word (number pairs k 5) count → start + count ≤ opCount ops
+pub entry-end : (pairs ops : List ℤ) (k : ℕ) {start count : ℕ} → recordFits pairs ops k ≡ true → Word (number pairs k 4) start → Word (number pairs k 5) count →
+    start + count ≤ opCount ops
 entry-end pairs ops k t q r = omega (arith, record-end pairs ops k t, q .is, r .is)

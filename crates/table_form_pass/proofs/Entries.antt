@@ -20,4 +20,5 @@ module _ (pairs ops : List ℤ) (k : ℕ) (t : recordFits pairs ops k ≡ true) 
   record-last = both-left (lastFits pairs k) (leb (firstOp pairs k + countOf pairs k) (opCount ops)) parts
 
   pub record-end : firstOp pairs k + countOf pairs k ≤ opCount ops
-  record-end = leb-true (firstOp pairs k + countOf pairs k) (opCount ops) (both-right (lastFits pairs k) (leb (firstOp pairs k + countOf pairs k) (opCount ops)) parts)
+  record-end =
+      leb-true (firstOp pairs k + countOf pairs k) (opCount ops) (both-right (lastFits pairs k) (leb (firstOp pairs k + countOf pairs k) (opCount ops)) parts)

@@ -37,7 +37,8 @@ takes-char w f c l h = rw (left-char w l h)
 plain-left : (left value : ℕ) → left < 2 ^ 32 → both (leb value 255) (isLeft (leftBy left) value) ≡ both (leb left 255) (eqb value left)
 plain-left left value l = go (eqb left 4294967295) refl (eqb value left) refl
   where
-    go : (t : Bool) → eqb left 4294967295 ≡ t → (u : Bool) → eqb value left ≡ u → both (leb value 255) (isLeft (leftBy left) value) ≡ both (leb left 255) (eqb value left)
+    go : (t : Bool) → eqb left 4294967295 ≡ t → (u : Bool) → eqb value left ≡ u →
+        both (leb value 255) (isLeft (leftBy left) value) ≡ both (leb left 255) (eqb value left)
     go true e u f =
         let n : left ≡ 4294967295 = eqb-true left 4294967295 e in
         rw (left-none left n, lt-leb left 255 (omega arith)) (both-false (leb value 255))
@@ -151,7 +152,8 @@ module _ (ops : List ℤ) (i end : ℕ) where
       pass-later = rw (one-more, add-one i) (later-by ops i (end - suc i) x p q (eqb kind 2) refl)
 
 -- two ops, a plain character and a kern
-pub pass-two : (ops : List ℤ) (i end : ℕ) → end - i ≡ 2 → {kind value next : ℕ} → Word (opKind ops i) kind → Word (opValue ops i) value → Word (opKind ops (i + 1)) next → kind ≡ 0 → next ≡ 2 →
+pub pass-two : (ops : List ℤ) (i end : ℕ) → end - i ≡ 2 → {kind value next : ℕ} → Word (opKind ops i) kind → Word (opValue ops i) value →
+    Word (opKind ops (i + 1)) next → kind ≡ 0 → next ≡ 2 →
     (x : Item) (left : ℕ) → left < 2 ^ 32 → opPasses left 0 value ≡ opsPass ops (leftBy left) x i (end - i)
 pass-two ops i end d {value = value} p q k e f x left l =
     let t : opsPass ops bnd x (i + 1) (end - (i + 1)) ≡ true =

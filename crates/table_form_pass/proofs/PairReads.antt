@@ -25,7 +25,8 @@ use Rattle.table_form_pass.specs.Parts.{opsPass, OpsPass, leftBy, codesF
 pub number-read : (pairs : List ℤ) (p i j : ℕ) {w : ℕ} → p % 6 ≡ 0 → i ≡ p + j → Word (getD pairs i (pos 0)) w → Word (number pairs (p / 6) j) w
 number-read pairs p i j h e q = let d : 6 * (p / 6) + j ≡ i = omega arith in rw d q
 
-pub key-read : (pairs : List ℤ) (k : ℕ) {left right place : ℕ} → Word (number pairs k 0) left → Word (number pairs k 1) right → place ≡ (left + 1) % 4294967296 → 4294967296 * place + right ≡ keyAt pairs k
+pub key-read : (pairs : List ℤ) (k : ℕ) {left right place : ℕ} → Word (number pairs k 0) left → Word (number pairs k 1) right →
+    place ≡ (left + 1) % 4294967296 → 4294967296 * place + right ≡ keyAt pairs k
 key-read pairs k l r e = rw (e, l .is, r .is)
 
 -- ---- left, right and last, test by test
@@ -68,7 +69,8 @@ module _ (left right code flag : ℕ) (f : left < 2 ^ 32) where
         last-other n m = rw (is-left, le-leb right 255 h, ne-eqb flag 1 m, ne-eqb code right n, both-false (leb flag 1)) (sym (both-false (leb code 255)))
 
 -- of the numbers that were read
-pub codes-read : (pairs : List ℤ) (k : ℕ) {left right code flag : ℕ} → Word (number pairs k 0) left → Word (number pairs k 1) right → Word (number pairs k 2) code → Word (number pairs k 3) flag →
+pub codes-read : (pairs : List ℤ) (k : ℕ) {left right code flag : ℕ} → Word (number pairs k 0) left → Word (number pairs k 1) right →
+    Word (number pairs k 2) code → Word (number pairs k 3) flag →
     codesForm left right code flag ≡ both (absentOr 255 (number pairs k 0)) (both (within 255 (number pairs k 1)) (lastFits pairs k))
 codes-read pairs k l r c f =
     rw (
@@ -99,7 +101,8 @@ module _ (pairs ops : List ℤ) (k at : ℕ) where
   codes-part : both (both A (both W (lastFits pairs k))) R ≡ pairPasses pairs ops k at
   codes-part = rw (both-assoc A (both W (lastFits pairs k)) R, both-assoc W (lastFits pairs k) R)
 
-  module _ {left right code flag : ℕ} (l : Word (number pairs k 0) left) (r : Word (number pairs k 1) right) (c : Word (number pairs k 2) code) (f : Word (number pairs k 3) flag) where
+  module _ {left right code flag : ℕ} (l : Word (number pairs k 0) left) (r : Word (number pairs k 1) right) (c : Word (number pairs k 2) code)
+      (f : Word (number pairs k 3) flag) where
     pub pair-codes : codesForm left right code flag ≡ false → false ≡ pairPasses pairs ops k at
     pair-codes e = rw (sym (codes-read pairs k l r c f) ∙ e) at codes-part
 

@@ -18,7 +18,8 @@ use Rattle.lang.proofs.Records.{within-bound}
 use Rattle.reading.specs.Items.{Left, Item, item}
 use Rattle.reading.specs.Form.{lastForm, opsForm, formed}
 use Rattle.fonts.specs.Fonts.{leftOf}
-use Rattle.captions.specs.Tables.{pairCount, opCount, number, leftPlace, keyAt, firstOp, countOf, lastCode, lastFlag, opsFrom, entryOfPair, opHolds, opFits, recordFits}
+use Rattle.captions.specs.Tables.{pairCount, opCount, number, leftPlace, keyAt, firstOp, countOf, lastCode, lastFlag, opsFrom, entryOfPair, opHolds, opFits}
+use Rattle.captions.specs.Tables.{recordFits}
 use Rattle.captions.specs.Form.{opsEnd, comesAfter, keyForm, pairForm}
 use Rattle.table_numbers.specs.Parts.{lastFits}
 use Rattle.table_numbers.proofs.Records.{record-by}
@@ -61,7 +62,8 @@ module _ (pairs ops : List ℤ) (k : ℕ) where
       go : (f : Bool) → lastFlag pairs k ≡ f → lastForm (wordOf (number pairs k 1)) (item f (lastCode pairs k)) ≡ true
       go true e = refl
       go false e =
-          let v = both-right (within 255 (number pairs k 2)) (both (within 1 (number pairs k 3)) (cond (lastFlag pairs k) true (eqb (lastCode pairs k) (wordOf (number pairs k 1))))) u in
+          let v = both-right (within 255 (number pairs k 2))
+          (both (within 1 (number pairs k 3)) (cond (lastFlag pairs k) true (eqb (lastCode pairs k) (wordOf (number pairs k 1))))) u in
           rw e at (both-right (within 1 (number pairs k 3)) (cond (lastFlag pairs k) true (eqb (lastCode pairs k) (wordOf (number pairs k 1)))) v)
 
   -- what a pair that passes has, part by part
@@ -125,7 +127,8 @@ module _ (pairs ops : List ℤ) (k : ℕ) where
       -- it is of the form, where it comes after the pair before it
       pub passes-form : Passes at → comesAfter pairs k ≡ true → pairForm pairs ops k ≡ true
       passes-form s a =
-          let r : recordFits pairs ops k ≡ true = sym (record-by pairs ops k) ∙ rw (s .last, s .begins, le-leb (at + countOf pairs k) (opCount ops) (s .ends)) in
+          let r : recordFits pairs ops k ≡ true = sym (record-by pairs ops k)
+          ∙ rw (s .last, s .begins, le-leb (at + countOf pairs k) (opCount ops) (s .ends)) in
           let f : formed L (wordOf (number pairs k 1)) (entryOfPair pairs ops k) ≡ true = rw (last-form (s .last), s .begins) (s .form) in
           rw (s .left, s .right, a, r, eq-eqb (firstOp pairs k) (opsEnd pairs k) (s .begins ∙ e), f)
 
@@ -171,7 +174,8 @@ module _ (pairs ops : List ℤ) where
       record { here = refl; inside = omega arith; bound = refl; pairs-form = every-none (pairForm pairs ops); ops-fit = every-none (opFits ops) }
 
   module _ {k least at : ℕ} (s : Passed pairs ops k least at) where
-    pub passed-more : {key count : ℕ} → key ≡ keyAt pairs k → least ≤ key → pairPasses pairs ops k at ≡ true → Word (number pairs k 5) count → Passed pairs ops (k + 1) (key + 1) (at + count)
+    pub passed-more : {key count : ℕ} → key ≡ keyAt pairs k → least ≤ key → pairPasses pairs ops k at ≡ true → Word (number pairs k 5) count →
+        Passed pairs ops (k + 1) (key + 1) (at + count)
     passed-more {key} {count} e h t w =
         let p = passes pairs ops k at t in
         let a : comesAfter pairs k ≡ true = after-least pairs k (omega (arith, s .bound)) in
@@ -194,7 +198,8 @@ module _ (pairs ops : List ℤ) where
 
     next-fits : contentForm pairs ops ≡ true → every (opCount ops) (opFits ops) ≡ true
     next-fits t =
-        both-left (every (opCount ops) (opFits ops)) (both (every (pairCount pairs) (pairForm pairs ops)) (eqb (opsEnd pairs (pairCount pairs)) (opCount ops))) t
+        both-left (every (opCount ops) (opFits ops)) (both (every (pairCount pairs) (pairForm pairs ops)) (eqb (opsEnd pairs (pairCount pairs)) (opCount ops)))
+        t
 
     -- a pair that does not come after the one before it
     pub passed-key : k < pairCount pairs → keyAt pairs k < least → contentForm pairs ops ≡ false

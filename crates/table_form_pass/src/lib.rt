@@ -1,6 +1,6 @@
-// The form of a pair table, tested in one pass: document 01, last paragraph before the marked readings. Each pair is tested against the key
-// of the pair before it and the place where the ops of that pair end. So every op is tested once, with the pair that it is of: the ops of the
-// pairs are all the ops, one pair's after the other's.
+// The form of a pair table, tested in one pass: document 01, last paragraph before the marked readings. Each pair is
+// tested against the key of the pair before it and the place where the ops of that pair end. So every op is tested
+// once, with the pair that it is of: the ops of the pairs are all the ops, one pair's after the other's.
 ghost use mathlib.Core.Path.{_≡_};
 ghost use Prim.Native.Nat.{_+_, _/_, _%_, _<_, _≤_};
 ghost use lib.ListN.{length};
@@ -13,7 +13,8 @@ use table_find::left_place;
 
 mod pair_ops;
 
-// Left and right in range, the last with a code and a flag, and an unflagged last equal to the right; all by their 32 bits.
+// Left and right in range, the last with a code and a flag, and an unflagged last equal to the right; all by their 32
+// bits.
 fn codes_form(left: u32, right: u32, code: u32, flag: u32) -> bool
     ensures { λ r. ⌜ r ≡ codesForm left right code flag ⌝ }
 {
@@ -38,7 +39,8 @@ fn key_in(pairs: &[i32], p: usize) -> u64
     4294967296 * place + (word_in(pairs, p + 1) as u64)
 }
 
-// The pair at number p is of the form but for the order, if the ops of the pair before it end at op at; and its ops fit.
+// The pair at number p is of the form but for the order, if the ops of the pair before it end at op at; and its ops
+// fit.
 fn pair_passes(pairs: &[i32], ops: &[i32], p: usize, at: usize) -> bool
     requires { ⌜ (p + 5 < length (now pairs)) × (p % 6 ≡ 0) ⌝ }
     requires { ⌜ at ≤ opCount (now ops) ⌝ }
@@ -59,7 +61,8 @@ fn pair_passes(pairs: &[i32], ops: &[i32], p: usize, at: usize) -> bool
     ops_pass(ops, left, flag, at, end)
 }
 
-// Every op fits, every pair is of the form, and no op is left over. A pair's key is at least the number after that of the pair before it.
+// Every op fits, every pair is of the form, and no op is left over. A pair's key is at least the number after that of
+// the pair before it.
 fn pairs_form(pairs: &[i32], ops: &[i32]) -> bool
     requires { ⌜ length (now pairs) % 6 ≡ 0 ⌝ }
     ensures { λ r. ⌜ r ≡ contentForm (now (pairs .entry)) (now (ops .entry)) ⌝ }

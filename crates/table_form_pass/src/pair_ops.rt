@@ -1,5 +1,5 @@
-// The ops of one pair: what every op must hold, and the form that they have with the pair's left and last. Lefts, kinds and values are
-// given by their 32 bits.
+// The ops of one pair: what every op must hold, and the form that they have with the pair's left and last. Lefts, kinds
+// and values are given by their 32 bits.
 ghost use mathlib.Core.Path.{_≡_};
 ghost use Prim.Native.Nat.{_<_, _≤_};
 ghost use lib.ListN.{length, getD};
@@ -32,7 +32,8 @@ fn op_passes(left: u32, kind: u32, value: u32) -> bool
     kind == 1 && value <= 255
 }
 
-// Ops after a pair's first character are kerns and ligatures: they are those of the left boundary, which no character equals.
+// Ops after a pair's first character are kerns and ligatures: they are those of the left boundary, which no character
+// equals.
 fn later_pass(ops: &[i32], start: usize, end: usize) -> bool
     requires { ⌜ end ≤ opCount (now ops) ⌝ }
     ensures { λ r. ⌜ LaterPass (now (ops .entry)) start end r ⌝ }
@@ -47,7 +48,8 @@ fn later_pass(ops: &[i32], start: usize, end: usize) -> bool
     true
 }
 
-// The ops of a pair: kerns, its first character, and those after it. Where there is no character, a left character needs a flagged last.
+// The ops of a pair: kerns, its first character, and those after it. Where there is no character, a left character
+// needs a flagged last.
 fn all_pass(ops: &[i32], left: u32, flag: u32, start: usize, end: usize) -> bool
     requires { ⌜ end ≤ opCount (now ops) ⌝ }
     ensures { λ r. ⌜ OpsPass (now (ops .entry)) (leftBy left) (eqb flag 1) start end r ⌝ }

@@ -54,7 +54,8 @@ module _ (code flag right : ℤ) (v w u : ℕ) (p : Word code v) where
 
 pub record-by : (pairs ops : List ℤ) (k : ℕ) → both (lastFits pairs k) (leb (firstOp pairs k + countOf pairs k) (opCount ops)) ≡ recordFits pairs ops k
 record-by pairs ops k =
-    go (within 255 (number pairs k 2)) (within 1 (number pairs k 3)) (cond (lastFlag pairs k) true (eqb (lastCode pairs k) (wordOf (number pairs k 1)))) (leb (firstOp pairs k + countOf pairs k) (opCount ops))
+    go (within 255 (number pairs k 2)) (within 1 (number pairs k 3)) (cond (lastFlag pairs k) true (eqb (lastCode pairs k) (wordOf (number pairs k 1))))
+    (leb (firstOp pairs k + countOf pairs k) (opCount ops))
   where
     go : (a b c d : Bool) → both (both a (both b c)) d ≡ both a (both b (both c d))
     go a b c d = rw (both-assoc a (both b c) d, both-assoc b c d)
@@ -63,5 +64,6 @@ module _ (pairs ops : List ℤ) (k : ℕ) where
   pub record-last : lastFits pairs k ≡ false → false ≡ recordFits pairs ops k
   record-last e = rw e at (record-by pairs ops k)
 
-  pub record-ops : {first count : ℕ} → lastFits pairs k ≡ true → Word (number pairs k 4) first → Word (number pairs k 5) count → leb (first + count) (opCount ops) ≡ recordFits pairs ops k
+  pub record-ops : {first count : ℕ} → lastFits pairs k ≡ true → Word (number pairs k 4) first → Word (number pairs k 5) count →
+      leb (first + count) (opCount ops) ≡ recordFits pairs ops k
   record-ops e p q = rw (p .is, q .is) (rw e at (record-by pairs ops k))

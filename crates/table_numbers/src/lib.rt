@@ -1,4 +1,5 @@
-// The pair table and the ops as they are lent, whatever they hold: one number as its 32 bits, and what fits. A pair is found by crate table_find.
+// The pair table and the ops as they are lent, whatever they hold: one number as its 32 bits, and what fits. A pair is
+// found by crate table_find.
 ghost use mathlib.Core.Path.{_≡_};
 ghost use Rattle.words.specs.Words.{Word};
 ghost use Rattle.captions.specs.Tables.{number, opKind, opValue, opFits, recordFits};

@@ -23,7 +23,8 @@ pub(crate) fn keys_refusal(pairs: &[i32], room: usize) -> u32
 
 pub(crate) fn write_keys(pairs: &[i32], out: &mut [i32])
     requires { ⌜ 2 * pairCount (now pairs) ≤ length (now out) ⌝ }
-    ensures { λ _. ⌜ now (out .exit) ≡ keysOf (now (pairs .entry)) ++ drop (2 * pairCount (now (pairs .entry))) (now (out .entry)) ⌝ }
+    ensures { λ _. ⌜ now (out .exit) ≡ keysOf (now (pairs .entry))
+        ++ drop (2 * pairCount (now (pairs .entry))) (now (out .entry)) ⌝ }
 {
     let n = 2 * (pairs.len() / 6);
     let mut j = 0;

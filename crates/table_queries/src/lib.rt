@@ -1,12 +1,14 @@
-// What else a host asks of a run, of a table or of a word: after `is_separation_point`, `has_replacement` and `all_pairs_with_replacements` of
-// ligkern/mod.rs, and the original of an item as a part of the caller's word. The table's seven-bit test is crate table_seven_bit.
+// What else a host asks of a run, of a table or of a word: after `is_separation_point`, `has_replacement` and
+// `all_pairs_with_replacements` of ligkern/mod.rs, and the original of an item as a part of the caller's word. The
+// table's seven-bit test is crate table_seven_bit.
 //   keys  the left and the right of every pair
 ghost use mathlib.Core.Path.{_≡_};
 ghost use Rattle.captions.specs.Tables.{keyBy};
 ghost use Rattle.captions.specs.Tables as tables;
 ghost use Rattle.captions.specs.Replies.{toldReply};
 ghost use Rattle.captions.specs.Steps.{rightItem};
-ghost use Rattle.captions.specs.Queries.{notLigature, isSeparationPoint, originalOf, isFound, hasEntry, hasRefusal, hasReply, ListsPairs};
+ghost use Rattle.captions.specs.Queries.{notLigature, isSeparationPoint, originalOf, isFound, hasEntry, hasRefusal};
+ghost use Rattle.captions.specs.Queries.{hasReply, ListsPairs};
 
 mod keys;
 

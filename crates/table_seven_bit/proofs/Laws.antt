@@ -22,10 +22,15 @@ use Rattle.captions.specs.Queries.{opIsSevenBit, becomesSevenBit, pairIsSafe}
 pub table-fits : (pairs ops : List ℤ) (k : ℕ) → tableRefusal pairs ops ≡ 0 → k < pairCount pairs → recordFits pairs ops k ≡ true
 table-fits pairs ops k e h =
     let t = unless-none 6 (tableForm pairs ops) e in
-    let a = both-right (sizesForm pairs ops) (both (every (opCount ops) (opFits ops)) (both (every (pairCount pairs) (pairForm pairs ops)) (eqb (opsEnd pairs (pairCount pairs)) (opCount ops)))) t in
-    let b = both-right (every (opCount ops) (opFits ops)) (both (every (pairCount pairs) (pairForm pairs ops)) (eqb (opsEnd pairs (pairCount pairs)) (opCount ops))) a in
-    let f = every-at (pairCount pairs) k (pairForm pairs ops) (both-left (every (pairCount pairs) (pairForm pairs ops)) (eqb (opsEnd pairs (pairCount pairs)) (opCount ops)) b) h in
-    fits (keyForm pairs k) (recordFits pairs ops k) (both (eqb (firstOp pairs k) (opsEnd pairs k)) (formed (leftOf (leftPlace (number pairs k 0))) (wordOf (number pairs k 1)) (entryOfPair pairs ops k))) f
+    let a = both-right (sizesForm pairs ops)
+    (both (every (opCount ops) (opFits ops)) (both (every (pairCount pairs) (pairForm pairs ops)) (eqb (opsEnd pairs (pairCount pairs)) (opCount ops)))) t
+    in
+    let b = both-right (every (opCount ops) (opFits ops))
+    (both (every (pairCount pairs) (pairForm pairs ops)) (eqb (opsEnd pairs (pairCount pairs)) (opCount ops))) a in
+    let f = every-at (pairCount pairs) k (pairForm pairs ops)
+    (both-left (every (pairCount pairs) (pairForm pairs ops)) (eqb (opsEnd pairs (pairCount pairs)) (opCount ops)) b) h in
+    fits (keyForm pairs k) (recordFits pairs ops k)
+    (both (eqb (firstOp pairs k) (opsEnd pairs k)) (formed (leftOf (leftPlace (number pairs k 0))) (wordOf (number pairs k 1)) (entryOfPair pairs ops k))) f
   where
     fits : (x y z : Bool) → both x (both y z) ≡ true → y ≡ true
     fits true true z e = refl
@@ -41,7 +46,8 @@ pub seven-code : (ops : List ℤ) (i : ℕ) {v w : ℕ} → Word (opKind ops i) 
 seven-code ops i p h q = rw (ne-eqb (wordOf (opKind ops i)) 2 (λ e. h (p .is ∙ e)), q .is)
 
 module _ (pairs ops : List ℤ) (k : ℕ) where
-  pub becomes-by : {first count : ℕ} {t : Bool} → Word (number pairs k 4) first → Word (number pairs k 5) count → t ≡ every count (λ i. opIsSevenBit ops (first + i)) → becomesSevenBit pairs ops k ≡ both t (ltb (lastCode pairs k) 128)
+  pub becomes-by : {first count : ℕ} {t : Bool} → Word (number pairs k 4) first → Word (number pairs k 5) count →
+      t ≡ every count (λ i. opIsSevenBit ops (first + i)) → becomesSevenBit pairs ops k ≡ both t (ltb (lastCode pairs k) 128)
   becomes-by p q e = rw (e, p .is, q .is)
 
   module _ {w place : ℕ} (p : Word (number pairs k 0) w) (e : place ≡ (w + 1) % 4294967296) where

@@ -1,5 +1,5 @@
-// The table's seven-bit test, after `CompiledProgram::is_seven_bit_safe` of ligkern/mod.rs: what any pair of seven-bit characters becomes is of seven-bit
-// characters, in a table that is of the form.
+// The table's seven-bit test, after `CompiledProgram::is_seven_bit_safe` of ligkern/mod.rs: what any pair of seven-bit
+// characters becomes is of seven-bit characters, in a table that is of the form.
 ghost use mathlib.Core.Path.{_≡_};
 ghost use mathlib.Core.Bool.{true};
 ghost use Prim.Native.Nat.{_+_, _<_, _≤_};
@@ -73,7 +73,8 @@ fn pair_is_safe(pairs: &[i32], ops: &[i32], k: usize) -> bool
 // The same of every pair.
 fn all_are_safe(pairs: &[i32], ops: &[i32]) -> bool
     requires { ⌜ tableRefusal (now pairs) (now ops) ≡ 0 ⌝ }
-    ensures { λ r. ⌜ r ≡ every (pairCount (now (pairs .entry))) (pairIsSafe (now (pairs .entry)) (now (ops .entry))) ⌝ }
+    ensures { λ r. ⌜ r ≡ every (pairCount (now (pairs .entry)))
+        (pairIsSafe (now (pairs .entry)) (now (ops .entry))) ⌝ }
 {
     let mut k = 0;
     while k < pairs.len() / 6 {

@@ -5,7 +5,8 @@ use lang::operation::lig_kern_operation_from_bytes;
 use test_requests::answer::put_count;
 use test_requests::answer::put_one;
 
-// The operand of a ligature whose op byte is not standard has byte 4: the Rust no longer knows the one it was made from.
+// The operand of a ligature whose op byte is not standard has byte 4: the Rust no longer knows the one it was made
+// from.
 fn ligature_operand(operand: u32) -> u32 {
     match lig_kern_operation_from_bytes((operand / 256 % 128) as u8, (operand % 256) as u8) {
         Operation::Ligature {

@@ -1,5 +1,5 @@
-// The answers of the port to requests that write a program anew, with the letters of tools/oracle: K, J and P. A request has at most 16,384 numbers, so a
-// program at most 4,096 instructions.
+// The answers of the port to requests that write a program anew, with the letters of tools/oracle: K, J and P. A
+// request has at most 16,384 numbers, so a program at most 4,096 instructions.
 ghost use mathlib.Core.Path.{_≡_};
 ghost use lib.ListN.{length};
 ghost use Rattle.test_requests.specs.Answers.{CountWithin};
@@ -96,7 +96,8 @@ fn answer_by(letter: u8, font: &[i32], out: &mut [i32]) -> Written {
     }
 }
 
-// The numbers of the answer to a request, or the number of its refusal: 15 where the list is too short, 16 for another letter.
+// The numbers of the answer to a request, or the number of its refusal: 15 where the list is too short, 16 for another
+// letter.
 pub fn answer(letter: u8, font: &[i32], out: &mut [i32]) -> Written
     ensures { λ r. ⌜ CountWithin r (length (now (out .exit))) ⌝ }
 {

@@ -1,5 +1,5 @@
-// A font repaired, and the answer of the port to the request X of tools/oracle. A request has at most 16,384 numbers, so a program at most 4,096 instructions; there is
-// room for 4,096 warnings, and for 1,024 pairs with a rule.
+// A font repaired, and the answer of the port to the request X of tools/oracle. A request has at most 16,384 numbers,
+// so a program at most 4,096 instructions; there is room for 4,096 warnings, and for 1,024 pairs with a rule.
 ghost use mathlib.Core.Path.{_≡_};
 ghost use lib.ListN.{length};
 ghost use Rattle.test_requests.specs.Answers.{CountWithin};

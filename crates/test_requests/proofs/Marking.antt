@@ -30,11 +30,13 @@ pub marked-all : {s : List ℤ} {m₀ m : List ℕ} {k : ℕ} → Marked s m₀ 
 marked-all {s} {m₀} {m} {k} h l = let e : length s ≡ k = omega (arith, h .up) in rw e (h .is)
 
 -- a place that goes on from where it was, and stays within the list
-pub kept-on : {at : ℕ} {d₀ d d′ : List ℤ} {next r : ℕ} → Kept at d₀ d next → length d′ ≡ length d → (next ≤ r) × (next ≤ length d → r ≤ length d′) → Kept at d₀ d′ r
+pub kept-on : {at : ℕ} {d₀ d d′ : List ℤ} {next r : ℕ} → Kept at d₀ d next → length d′ ≡ length d → (next ≤ r) × (next ≤ length d → r ≤ length d′) →
+    Kept at d₀ d′ r
 kept-on {at} {d₀} {d} {d′} {next} {r} k s o = record { on = omega (arith, k .on, o .0); within = λ h. o .1 (k .within h); same-length = s ∙ k .same-length }
 
 -- a count, what follows it, and the count again
-pub kept-set : {d₀ d₁ d₂ d₃ : List ℤ} {at w from to w′ r : ℕ} → Put d₀ at w from d₁ → length d₂ ≡ length d₁ → (from ≤ to) × (from ≤ length d₁ → to ≤ length d₂) → Put d₂ at w′ r d₃ → at ≤ length d₀ → (at ≤ to) × (to ≤ length d₃)
+pub kept-set : {d₀ d₁ d₂ d₃ : List ℤ} {at w from to w′ r : ℕ} → Put d₀ at w from d₁ → length d₂ ≡ length d₁ →
+    (from ≤ to) × (from ≤ length d₁ → to ≤ length d₂) → Put d₂ at w′ r d₃ → at ≤ length d₀ → (at ≤ to) × (to ≤ length d₃)
 kept-set {d₀} {d₁} {d₂} {d₃} {at} {w} {from} {to} {w′} {r} p s o q h =
     let k = kept-on {d′ = d₂} (kept-more (kept-none at d₀) p) s o in
     let z = kept-more (kept-none at d₂) q .same-length in

@@ -1,4 +1,5 @@
-// The numbers of a request: lists, each its length and then its items, and the font at the end. All is total: a part that does not fit is empty.
+// The numbers of a request: lists, each its length and then its items, and the font at the end. All is total: a part
+// that does not fit is empty.
 ghost use mathlib.Core.Path.{_≡_};
 ghost use Prim.Native.Nat.{_-_};
 ghost use lib.ListN.{length, take};
@@ -76,7 +77,8 @@ pub fn entries_of(font: &[i32]) -> &[i32]
     items(font, after(font, after(font, 0, 4), 1), 2)
 }
 
-// The place that k numbers are left from. The last two numbers of a font are its boundary character, at 2 from the end, and its left-boundary entry.
+// The place that k numbers are left from. The last two numbers of a font are its boundary character, at 2 from the end,
+// and its left-boundary entry.
 pub fn from_end(numbers: &[i32], k: usize) -> usize
     ensures { λ r. ⌜ r ≡ length (now (numbers .entry)) - k ⌝ }
 {

@@ -1,4 +1,5 @@
-// A set of indices: a request and an answer list them, the port has a byte for each instruction, which is not 0 where the index is of the set.
+// A set of indices: a request and an answer list them, the port has a byte for each instruction, which is not 0 where
+// the index is of the set.
 ghost use mathlib.Core.Path.{_≡_};
 ghost use Prim.Native.Nat.{_≤_};
 ghost use lib.ListN.{length};
@@ -7,7 +8,8 @@ use crate::answer::put_count;
 
 // The byte of each listed index becomes 1.
 pub fn mark(listed: &[i32], marks: &mut [u8])
-    ensures { λ _. ⌜ now (marks .exit) ≡ marked (length (now (listed .entry))) (now (listed .entry)) (now (marks .entry)) ⌝ }
+    ensures { λ _. ⌜ now (marks .exit) ≡ marked (length (now (listed .entry))) (now (listed .entry))
+        (now (marks .entry)) ⌝ }
 {
     let mut i = 0;
     while i < listed.len() {

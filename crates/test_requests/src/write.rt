@@ -1,5 +1,5 @@
-// An answer as a line: its letter, and its numbers in decimal; `panic` and a number where the Rust panics, `?` and a number where the port
-// refuses what the Rust answers.
+// An answer as a line: its letter, and its numbers in decimal; `panic` and a number where the Rust panics, `?` and a
+// number where the port refuses what the Rust answers.
 ghost use Prim.Native.Nat.{_≤_};
 ghost use lib.ListN.{length};
 use lang::Written;

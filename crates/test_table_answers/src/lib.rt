@@ -16,8 +16,8 @@ fn answer_by(letter: u8, numbers: &[i32], pairs: &[i32], ops: &[i32], out: &mut 
     }
 }
 
-// The numbers of the answer to a request, whose font has these pairs and ops, or the number of its refusal: 15 where the list is too short, 16 for another
-// letter.
+// The numbers of the answer to a request, whose font has these pairs and ops, or the number of its refusal: 15 where
+// the list is too short, 16 for another letter.
 pub fn answer(letter: u8, numbers: &[i32], pairs: &[i32], ops: &[i32], out: &mut [i32]) -> Written
     ensures { λ r. ⌜ CountWithin r (length (now (out .exit))) ⌝ }
 {

@@ -47,7 +47,8 @@ fn put_safe(out: &mut [i32], keys: &[i32], safe: Told) -> Written {
     }
 }
 
-// The pairs that were listed, and whether the table is seven-bit safe; 7 where a listed pair is said to have no replacement.
+// The pairs that were listed, and whether the table is seven-bit safe; 7 where a listed pair is said to have no
+// replacement.
 fn put_replaced(
     out: &mut [i32],
     listed: Written,

@@ -22,8 +22,8 @@ fn low(n: usize) -> u32 {
     (n % 4294967296) as u32
 }
 
-// The six numbers of an answer: kind, value, start, length, and two flags. Kind 3 is the end, and kind 4 a refusal, whose number is the value. The
-// length of a ligature is that of the original that the word hands back.
+// The six numbers of an answer: kind, value, start, length, and two flags. Kind 3 is the end, and kind 4 a refusal,
+// whose number is the value. The length of a ligature is that of the original that the word hands back.
 fn item_of(word: &[u32], answer: Answer) -> [u32; 6] {
     match answer {
         Answer::Char(c, start) => [0, c, low(start), 1, 0, 0],

@@ -53,15 +53,21 @@ module _ (xs : List Instruction) where
     pub array-fits : Holds (hasTy (tyArray T′.mir 6) arrayV) × WT arrayV
     array-fits = array-typed T.the-row (LL.lawful T.the-type T′.the-laws 𝓤 H A W .typed) 6 xs _ is .0
 
-    pub lends-six : ent 𝓤 (sem 𝓤 H A (Cell l)) (H .⇛ (ex 𝓤 (λ (ν : ℕ). ex 𝓤 (λ (γ : GName). sep 𝓤 (sep 𝓤 (A .lft (ν ∷ []) fullShare) (sem 𝓤 H A (Own l 0 γ xs (ν ∷ [])))) (sem 𝓤 H A (Loan l ν))))))
+    pub lends-six : ent 𝓤 (sem 𝓤 H A (Cell l))
+        (H .⇛ (ex 𝓤 (λ (ν : ℕ). ex 𝓤 (λ (γ : GName). sep 𝓤 (sep 𝓤 (A .lft (ν ∷ []) fullShare) (sem 𝓤 H A (Own l 0 γ xs (ν ∷ [])))) (sem 𝓤 H A (Loan l ν))))))
     lends-six =
         let e = is .1 .0 .1 in
-        qed W (‵ (Cell l) ∷ []) ∵ updating ! $ owned ! six (Is six) (array-makes 𝓤 H A W T.the-row (LL.makes T.the-type T′.the-plain 𝓤 H A) 6) xs _ is $ lft-new ! tt (λ ν. move ! (2 ∷ 1 ∷ []) $
-        use2 W (later (some (λ (γ : GName). ‵ (Own l 0 γ xs (ν ∷ [])) ⊛ ‵ (Loan l ν)))) (lent.lends-array T.the-row (ν ∷ []) l xs 𝓤 H A W 6 e tt (subst (Room T.the-row) (sym e) (omega arith, omega arith)) (named 0) arrayV) $ await ! tt $ pick ! (λ γ. split ! $ at-once ! $
+        qed W (‵ (Cell l) ∷ []) ∵ updating ! $ owned ! six (Is six) (array-makes 𝓤 H A W T.the-row (LL.makes T.the-type T′.the-plain 𝓤 H A) 6) xs _ is $
+        lft-new ! tt (λ ν. move ! (2 ∷ 1 ∷ []) $
+        use2 W (later (some (λ (γ : GName). ‵ (Own l 0 γ xs (ν ∷ [])) ⊛ ‵ (Loan l ν))))
+        (lent.lends-array T.the-row (ν ∷ []) l xs 𝓤 H A W 6 e tt (subst (Room T.the-row) (sym e) (omega arith, omega arith)) (named 0) arrayV) $
+        await ! tt $ pick ! (λ γ. split ! $ at-once ! $
         show ! (λ (μ : ℕ). ex 𝓤 (λ (δ : GName). sep 𝓤 (sep 𝓤 (A .lft (μ ∷ []) fullShare) (sem 𝓤 H A (Own l 0 δ xs (μ ∷ [])))) (sem 𝓤 H A (Loan l μ)))) ν $
-        show ! (λ (δ : GName). sep 𝓤 (sep 𝓤 (A .lft (ν ∷ []) fullShare) (sem 𝓤 H A (Own l 0 δ xs (ν ∷ [])))) (sem 𝓤 H A (Loan l ν))) γ $ move ! (2 ∷ 0 ∷ []) $ join ! $ done !))
+        show ! (λ (δ : GName). sep 𝓤 (sep 𝓤 (A .lft (ν ∷ []) fullShare) (sem 𝓤 H A (Own l 0 δ xs (ν ∷ [])))) (sem 𝓤 H A (Loan l ν))) γ $ move ! (2 ∷ 0 ∷ []) $
+        join ! $ done !))
 
     pub takes-six : (ν : ℕ) → ent 𝓤 (sep 𝓤 (A .lft (ν ∷ []) fullShare) (sem 𝓤 H A (Loan l ν))) (H .⇛ (sem 𝓤 H A (Cell l)))
     takes-six ν =
         qed W (‵ (flft (ν ∷ []) fullShare) ∷ ‵ (Loan l ν) ∷ []) ∵ updating ! $ lft-end ! tt $
-        use2 W (later (‵ (Cell l))) (lent.takes-array T.the-row (ν ∷ []) l xs 𝓤 H A W 6 (is .1 .0 .1) machine (T′.lowers .val-is)) $ await ! tt $ at-once ! $ done !
+        use2 W (later (‵ (Cell l))) (lent.takes-array T.the-row (ν ∷ []) l xs 𝓤 H A W 6 (is .1 .0 .1) machine (T′.lowers .val-is)) $ await ! tt $ at-once ! $
+        done !

@@ -1,4 +1,5 @@
-// A word in the font, set by a reader that keeps it and by steps. The font has 8 pairs with a rule, 11 ops and no loop, and the lists have room for 16 of each.
+// A word in the font, set by a reader that keeps it and by steps. The font has 8 pairs with a rule, 11 ops and no loop,
+// and the lists have room for 16 of each.
 ghost use mathlib.Core.Path.{_≡_};
 ghost use lib.ListN.{length};
 use crate::font;

@@ -1,5 +1,5 @@
-// The chain of f, and the rules of two right characters on it: f, and x, for which the font has an instruction that this chain skips. Over records and over
-// numbers.
+// The chain of f, and the rules of two right characters on it: f, and x, for which the font has an instruction that
+// this chain skips. Over records and over numbers.
 ghost use mathlib.Core.Path.{_≡_};
 ghost use lib.ListN.{length};
 ghost use Rattle.program_chain.specs.Chains.{ruleIndex, found};

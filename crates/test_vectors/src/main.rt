@@ -1,7 +1,8 @@
-// Answers the requests of tools/oracle with this port. Standard input is a list of requests, one a line, and `stdout` beside this crate's source
-// holds the Rust's answers to the same list, with which the gate compares what is written here. Where the Rust panics, and the port
-// refuses, both write `panic` and the number of the refusal, which the oracle tells from the Rust's own panic. The last line alone has no
-// answer of the Rust's: a pair of 2^102 ops, which the Rust would write out one by one and the port refuses at once with 14.
+// Answers the requests of tools/oracle with this port. Standard input is a list of requests, one a line, and `stdout`
+// beside this crate's source holds the Rust's answers to the same list, with which the gate compares what is written
+// here. Where the Rust panics, and the port refuses, both write `panic` and the number of the refusal, which the oracle
+// tells from the Rust's own panic. The last line alone has no answer of the Rust's: a pair of 2^102 ops, which the Rust
+// would write out one by one and the port refuses at once with 14.
 ghost use mathlib.Core.Path.{_≡_};
 ghost use lib.ListN.{length};
 use lang::Written;

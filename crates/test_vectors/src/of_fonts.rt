@@ -1,4 +1,5 @@
-// The answers about a font as a whole, which is compiled first: C, W and A. The lists have room for 1,024 pairs, 1,024 ops and 1,024 loops.
+// The answers about a font as a whole, which is compiled first: C, W and A. The lists have room for 1,024 pairs, 1,024
+// ops and 1,024 loops.
 ghost use mathlib.Core.Path.{_≡_};
 ghost use lib.ListN.{length};
 use fonts::Compiled;

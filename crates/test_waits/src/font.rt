@@ -1,7 +1,8 @@
-// The font: every pair of two characters has a rule, and all 65,536 wait for each other in one chain. For an even left the right goes up to 255 (op 2, which
-// inserts the next right) and then the left goes on (op 1, at the right 255); for an odd left the right goes down to 0, and then the left goes on. Left
-// 255 goes on to left 0, so that the chain is closed, until `open` ends it.
-// The instructions, 766: one of its own for each even left, the 255 that the even lefts share, and the same for the odd lefts.
+// The font: every pair of two characters has a rule, and all 65,536 wait for each other in one chain. For an even left
+// the right goes up to 255 (op 2, which inserts the next right) and then the left goes on (op 1, at the right 255); for
+// an odd left the right goes down to 0, and then the left goes on. Left 255 goes on to left 0, so that the chain is
+// closed, until `open` ends it. The instructions, 766: one of its own for each even left, the 255 that the even lefts
+// share, and the same for the odd lefts.
 ghost use Prim.Native.Nat.{_≤_};
 
 // Instruction i, a ligature.
@@ -14,7 +15,8 @@ fn put_ligature(list: &mut [i32], i: usize, next: u32, right: u32, operand: u32)
     words::put_word(list, 4 * i + 3, operand);
 }
 
-// The own instructions of 128 lefts, of which the first goes on to left `onward`: op 1, each followed by the shared ones.
+// The own instructions of 128 lefts, of which the first goes on to left `onward`: op 1, each followed by the shared
+// ones.
 fn put_own(list: &mut [i32], from: usize, right: u32, onward: u32)
     requires { ⌜ (from ≤ 383) × (onward ≤ 2) ⌝ }
 {

@@ -1,5 +1,6 @@
-// A font of 65,536 pairs in one chain of waits, compiled; and the same chain closed to a cycle. A line for each: how many pairs, ops and loops there are.
-// It is what compiling is timed on (docs/PROOFS.md): the search goes as deep as a font of characters allows.
+// A font of 65,536 pairs in one chain of waits, compiled; and the same chain closed to a cycle. A line for each: how
+// many pairs, ops and loops there are. It is what compiling is timed on (docs/PROOFS.md): the search goes as deep as a
+// font of characters allows.
 ghost use mathlib.Core.Path.{_≡_};
 ghost use lib.ListN.{length};
 use compile::compile;

@@ -22,7 +22,8 @@ use Rattle.lang.specs.Answers.{Reply, replyOf, listOf}
 use Rattle.lang.proofs.Every.{both-left}
 use Rattle.lang.proofs.Refusals.{orElse-none, unless-none}
 use Rattle.fonts.specs.Fonts.{Font, fontOf, pairsOf}
-use Rattle.fonts.specs.Compiled.{fontRefusal, pairsRefusal, kernRefusal, opsRefusal, loopsRefusal, tablesRefusal, compileRefusal, fontTable, fontOps, totalOps, loopsOfFont, allScale}
+use Rattle.fonts.specs.Compiled.{fontRefusal, pairsRefusal, kernRefusal, opsRefusal, loopsRefusal, tablesRefusal, compileRefusal, fontTable, fontOps, totalOps}
+use Rattle.fonts.specs.Compiled.{loopsOfFont, allScale}
 use Rattle.captions.specs.Form.{tableForm, tableRefusal}
 use Rattle.captions.specs.Begin.{freshState, edgesRefusal, lettersRefusal, wordRefusal, beginRefusal}
 use Rattle.word_set.specs.Setting.{itemsFrom, afterBegin}
@@ -33,12 +34,14 @@ use Rattle.columns.specs.declared.TextRead.the-variants as text
 use Rattle.columns.specs.Texts.{Text, readText, orAbsent, fontOfText}
 use Rattle.columns.specs.Scanned.{lettersOf, lengthOfWord, headNumbers, textRefusal, saidBy, textHeads, ReadsText}
 use Rattle.columns.specs.Replying.{replyRefusal}
-use Rattle.columns.specs.Ligcols.{columnRoom, columnOptions, columnItems, columnBytes, lower, columnNumber, wordOfText, numberOfText, bytesOfText, lengthOr, AnswersText}
+use Rattle.columns.specs.Ligcols.{columnRoom, columnOptions, columnItems, columnBytes, lower, columnNumber, wordOfText, numberOfText, bytesOfText, lengthOr}
+use Rattle.columns.specs.Ligcols.{AnswersText}
 use Rattle.text_font_reply.specs.Answering.{AnswersBytes}
 use Rattle.text_answer.specs.Letters.{lettersIn}
 use Rattle.text_font_reply.proofs.Laws.{lower-few, front, room-known, count-known, refused-known}
 
-pub answers-as : {m m′ : ℕ} {bytes bytes′ reply reply′ : List ℕ} {r : Written} → m ≡ m′ → bytes ≡ bytes′ → AnswersBytes m bytes reply r reply′ → AnswersBytes m′ bytes′ reply r reply′
+pub answers-as : {m m′ : ℕ} {bytes bytes′ reply reply′ : List ℕ} {r : Written} → m ≡ m′ → bytes ≡ bytes′ → AnswersBytes m bytes reply r reply′ →
+    AnswersBytes m′ bytes′ reply r reply′
 answers-as {m} {m′} {bytes} {bytes′} {reply} {reply′} {r} p q a =
     subst (λ (k : ℕ). AnswersBytes k bytes′ reply r reply′) p (subst (λ (bs : List ℕ). AnswersBytes m bs reply r reply′) q a)
 
@@ -89,17 +92,21 @@ module _ {bytes : List ℕ} {h : TextHeads} {is ks es : List ℤ} {ws : List ℕ
   said-by : (o : Option Text) → readText bytes ≡ o → Said bytes h is ks es ws
   said-by none e =
       absurd
-      (let z : _≡_ {A = ℕ} 0 16 = ap (λ (r : Reply). r .number) (a .answer ∙ ap (λ (o : Option Text). replyOf (textRefusal o) (textHeads (saidBy o))) e) in omega arith)
+      (let z : _≡_ {A = ℕ} 0 16 = ap (λ (r : Reply). r .number) (a .answer ∙ ap (λ (o : Option Text). replyOf (textRefusal o) (textHeads (saidBy o))) e) in
+      omega arith)
   said-by (some t) e =
-      let v : headNumbers h ≡ textHeads t = ap (λ (r : Reply). r .values) (a .answer ∙ ap (λ (o : Option Text). replyOf (textRefusal o) (textHeads (saidBy o))) e) in
+      let v : headNumbers h ≡ textHeads t = ap (λ (r : Reply). r .values)
+      (a .answer ∙ ap (λ (o : Option Text). replyOf (textRefusal o) (textHeads (saidBy o))) e) in
       let i : h .instructions ≡ length (t .instructions) = cc in
       let k : h .kerns ≡ length (t .kerns) = cc in
       let n : h .entries ≡ length (t .entries) = cc in
       let w : h .letters ≡ lengthOfWord (t .word) = cc in
-      let pi : is ≡ listOf 0 (pos 0) 2048 (t .instructions) = a .instructions ∙ ap (λ (o : Option Text). listOf (textRefusal o) (pos 0) 2048 (saidBy o .instructions)) e in
+      let pi : is ≡ listOf 0 (pos 0) 2048 (t .instructions) = a .instructions
+      ∙ ap (λ (o : Option Text). listOf (textRefusal o) (pos 0) 2048 (saidBy o .instructions)) e in
       let pk : ks ≡ listOf 0 (pos 0) 512 (t .kerns) = a .kerns ∙ ap (λ (o : Option Text). listOf (textRefusal o) (pos 0) 512 (saidBy o .kerns)) e in
       let pe : es ≡ listOf 0 (pos 0) 5040 (t .entries) = a .entries ∙ ap (λ (o : Option Text). listOf (textRefusal o) (pos 0) 5040 (saidBy o .entries)) e in
-      let pw : ws ≡ listOf 0 0 64 (map wordOf (lettersOf (t .word))) = a .word ∙ ap (λ (o : Option Text). listOf (textRefusal o) 0 64 (map wordOf (lettersOf (saidBy o .word)))) e in
+      let pw : ws ≡ listOf 0 0 64 (map wordOf (lettersOf (t .word))) = a .word
+      ∙ ap (λ (o : Option Text). listOf (textRefusal o) 0 64 (map wordOf (lettersOf (saidBy o .word)))) e in
       let nw : length (map wordOf (lettersOf (t .word))) ≡ lettersIn (h .letters) = letters-long (t .word) ∙ ap lettersIn (sym w) in
       record {
         said = t;
@@ -123,13 +130,18 @@ module _ {bytes : List ℕ} {h : TextHeads} {is ks es : List ℤ} {ws : List ℕ
 
 -- the answer for what was said is that for the text
 pub said-answer : {bytes : List ℕ} {h : TextHeads} {is ks es : List ℤ} {ws : List ℕ} (s : Said bytes h is ks es ws) {reply reply′ : List ℕ} {r : Written} →
-    AnswersBytes (columnNumber (fontOf (take (h .instructions) is) (take (h .kerns) ks) (take (h .entries) es) (h .boundary) (h .left) (h .design)) (h .letters) (take (lettersIn (h .letters)) ws) (length reply))
-    (columnBytes (fontOf (take (h .instructions) is) (take (h .kerns) ks) (take (h .entries) es) (h .boundary) (h .left) (h .design)) (h .letters) (take (lettersIn (h .letters)) ws)) reply r reply′ →
+    AnswersBytes
+    (columnNumber (fontOf (take (h .instructions) is) (take (h .kerns) ks) (take (h .entries) es) (h .boundary) (h .left) (h .design)) (h .letters)
+    (take (lettersIn (h .letters)) ws) (length reply))
+    (columnBytes (fontOf (take (h .instructions) is) (take (h .kerns) ks) (take (h .entries) es) (h .boundary) (h .left) (h .design)) (h .letters)
+    (take (lettersIn (h .letters)) ws)) reply r reply′ →
     AnswersBytes (numberOfText (readText bytes) (length reply)) (bytesOfText (readText bytes)) reply r reply′
 said-answer s {reply} a =
     answers-as
-    ((λ i. columnNumber (fontOf (s .instructions i) (s .kerns i) (s .entries i) (s .boundary i) (s .left i) (s .design i)) (s .letters i) (s .word i) (length reply)) ∙ ap (λ (o : Option Text). numberOfText o (length reply)) (sym (s .read)))
-    ((λ i. columnBytes (fontOf (s .instructions i) (s .kerns i) (s .entries i) (s .boundary i) (s .left i) (s .design i)) (s .letters i) (s .word i)) ∙ ap bytesOfText (sym (s .read)))
+    ((λ i. columnNumber (fontOf (s .instructions i) (s .kerns i) (s .entries i) (s .boundary i) (s .left i) (s .design i)) (s .letters i) (s .word i)
+    (length reply)) ∙ ap (λ (o : Option Text). numberOfText o (length reply)) (sym (s .read)))
+    ((λ i. columnBytes (fontOf (s .instructions i) (s .kerns i) (s .entries i) (s .boundary i) (s .left i) (s .design i)) (s .letters i) (s .word i))
+    ∙ ap bytesOfText (sym (s .read)))
     a
 
 -- ---- every number is at most 16
@@ -140,21 +152,38 @@ few-if m n false l = l
 
 compile-few : (f : Font) → compileRefusal f columnRoom ≤ 15
 compile-few f =
-    let p = orElse-few 15 (sizeRefusal (f .instructions)) (recordRefusal (f .instructions)) (few-if 15 1 (both (eqb (length (f .instructions) % 4) 0) (leb (count (f .instructions)) 32767)) (omega arith)) (few-if 15 2 (every (count (f .instructions)) (isInstruction (f .instructions))) (omega arith)) in
-    let e = orElse-few 15 (absentRefusal 65535 (f .left)) (designRefusal (f .design)) (few-if 15 4 (absentOr 65535 (f .left)) (omega arith)) (few-if 15 5 (nonNeg (f .design)) (omega arith)) in
-    let b = orElse-few 15 (absentRefusal 255 (f .boundary)) (orElse (absentRefusal 65535 (f .left)) (designRefusal (f .design))) (few-if 15 4 (absentOr 255 (f .boundary)) (omega arith)) e in
-    let n = orElse-few 15 (entriesRefusal 65535 (f .entries)) (orElse (absentRefusal 255 (f .boundary)) (orElse (absentRefusal 65535 (f .left)) (designRefusal (f .design)))) (few-if 15 4 (both (eqb (length (f .entries) % 2) 0) (every (length (f .entries) / 2) (entryFits 65535 (f .entries)))) (omega arith)) b in
-    let k = orElse-few 15 (kernsRefusal (f .kerns)) (orElse (entriesRefusal 65535 (f .entries)) (orElse (absentRefusal 255 (f .boundary)) (orElse (absentRefusal 65535 (f .left)) (designRefusal (f .design))))) (few-if 15 3 (leb (length (f .kerns)) 32767) (omega arith)) n in
-    let font = orElse-few 15 (programRefusal (f .instructions)) (orElse (kernsRefusal (f .kerns)) (orElse (entriesRefusal 65535 (f .entries)) (orElse (absentRefusal 255 (f .boundary)) (orElse (absentRefusal 65535 (f .left)) (designRefusal (f .design)))))) p k in
-    let o = orElse-few 15 (opsRefusal f columnRoom) (loopsRefusal f columnRoom) (few-if 15 14 (both (leb (totalOps f) 2147483647) (leb (2 * totalOps f) (columnRoom .ops))) (omega arith)) (few-if 15 15 (leb (2 * length (loopsOfFont f)) (columnRoom .loops)) (omega arith)) in
+    let p = orElse-few 15 (sizeRefusal (f .instructions)) (recordRefusal (f .instructions))
+    (few-if 15 1 (both (eqb (length (f .instructions) % 4) 0) (leb (count (f .instructions)) 32767)) (omega arith))
+    (few-if 15 2 (every (count (f .instructions)) (isInstruction (f .instructions))) (omega arith)) in
+    let e = orElse-few 15 (absentRefusal 65535 (f .left)) (designRefusal (f .design)) (few-if 15 4 (absentOr 65535 (f .left)) (omega arith))
+    (few-if 15 5 (nonNeg (f .design)) (omega arith)) in
+    let b = orElse-few 15 (absentRefusal 255 (f .boundary)) (orElse (absentRefusal 65535 (f .left)) (designRefusal (f .design)))
+    (few-if 15 4 (absentOr 255 (f .boundary)) (omega arith)) e in
+    let n = orElse-few 15 (entriesRefusal 65535 (f .entries))
+    (orElse (absentRefusal 255 (f .boundary)) (orElse (absentRefusal 65535 (f .left)) (designRefusal (f .design))))
+    (few-if 15 4 (both (eqb (length (f .entries) % 2) 0) (every (length (f .entries) / 2) (entryFits 65535 (f .entries)))) (omega arith)) b in
+    let k = orElse-few 15 (kernsRefusal (f .kerns))
+    (orElse (entriesRefusal 65535 (f .entries))
+    (orElse (absentRefusal 255 (f .boundary)) (orElse (absentRefusal 65535 (f .left)) (designRefusal (f .design)))))
+    (few-if 15 3 (leb (length (f .kerns)) 32767) (omega arith)) n in
+    let font = orElse-few 15 (programRefusal (f .instructions))
+    (orElse (kernsRefusal (f .kerns))
+    (orElse (entriesRefusal 65535 (f .entries))
+    (orElse (absentRefusal 255 (f .boundary)) (orElse (absentRefusal 65535 (f .left)) (designRefusal (f .design)))))) p k in
+    let o = orElse-few 15 (opsRefusal f columnRoom) (loopsRefusal f columnRoom)
+    (few-if 15 14 (both (leb (totalOps f) 2147483647) (leb (2 * totalOps f) (columnRoom .ops))) (omega arith))
+    (few-if 15 15 (leb (2 * length (loopsOfFont f)) (columnRoom .loops)) (omega arith)) in
     let s = orElse-few 15 (kernRefusal f) (orElse (opsRefusal f columnRoom) (loopsRefusal f columnRoom)) (few-if 15 13 (allScale f) (omega arith)) o in
-    let t = orElse-few 15 (pairsRefusal f columnRoom) (orElse (kernRefusal f) (orElse (opsRefusal f columnRoom) (loopsRefusal f columnRoom))) (few-if 15 12 (both (leb (length (pairsOf f)) (columnRoom .work / 16)) (leb (length (pairsOf f)) (columnRoom .pairs / 6))) (omega arith)) s in
+    let t = orElse-few 15 (pairsRefusal f columnRoom) (orElse (kernRefusal f) (orElse (opsRefusal f columnRoom) (loopsRefusal f columnRoom)))
+    (few-if 15 12 (both (leb (length (pairsOf f)) (columnRoom .work / 16)) (leb (length (pairsOf f)) (columnRoom .pairs / 6))) (omega arith)) s in
     orElse-few 15 (fontRefusal f) (tablesRefusal f columnRoom) font t
 
 begin-few : (pairs ops : List ℤ) (boundary : ℤ) (word : List ℕ) → beginRefusal pairs ops boundary word columnOptions ≤ 15
 begin-few pairs ops boundary word =
-    let t = orElse-few 15 (wordRefusal word) (tableRefusal pairs ops) (few-if 15 6 (leb (length word) 65535) (omega arith)) (few-if 15 7 (tableForm pairs ops) (omega arith)) in
-    let l = orElse-few 15 (lettersRefusal word) (orElse (wordRefusal word) (tableRefusal pairs ops)) (few-if 15 4 (every (length word) (λ i. leb (getD word i 0) 255)) (omega arith)) t in
+    let t = orElse-few 15 (wordRefusal word) (tableRefusal pairs ops) (few-if 15 6 (leb (length word) 65535) (omega arith))
+    (few-if 15 7 (tableForm pairs ops) (omega arith)) in
+    let l = orElse-few 15 (lettersRefusal word) (orElse (wordRefusal word) (tableRefusal pairs ops))
+    (few-if 15 4 (every (length word) (λ i. leb (getD word i 0) 255)) (omega arith)) t in
     let e = orElse-few 15 (absentRefusal 255 boundary) (absentRefusal 255 (negsuc 0)) (few-if 15 4 (absentOr 255 boundary) (omega arith)) (omega arith) in
     orElse-few 15 (edgesRefusal boundary columnOptions) (orElse (lettersRefusal word) (orElse (wordRefusal word) (tableRefusal pairs ops))) e l
 
@@ -164,15 +193,20 @@ after-few (suc n) r l k = l
 
 items-of-few : (f : Font) (letters : ℤ) (word : List ℕ) → columnItems f letters word .number ≤ 15
 items-of-few f (pos n) word =
-    after-few (beginRefusal (fontTable f) (fontOps f) (f .boundary) word columnOptions) (itemsFrom (fontTable f) (fontOps f) (f .boundary) word columnOptions 885 (freshState word columnOptions))
-    (begin-few (fontTable f) (fontOps f) (f .boundary) word) (items-few (fontTable f) (fontOps f) (f .boundary) word columnOptions 885 (freshState word columnOptions))
+    after-few (beginRefusal (fontTable f) (fontOps f) (f .boundary) word columnOptions)
+    (itemsFrom (fontTable f) (fontOps f) (f .boundary) word columnOptions 885 (freshState word columnOptions))
+    (begin-few (fontTable f) (fontOps f) (f .boundary) word)
+    (items-few (fontTable f) (fontOps f) (f .boundary) word columnOptions 885 (freshState word columnOptions))
 items-of-few f (negsuc n) word = omega arith
 
 column-few : (f : Font) (letters : ℤ) (word : List ℕ) (room : ℕ) → columnNumber f letters word room ≤ 15
 column-few f letters word room =
-    orElse-few 15 (lower (compileRefusal f columnRoom) (lettersRefusal word)) (orElse (columnItems f letters word .number) (replyRefusal (columnBytes f letters word) room))
-    (lower-few 15 (compileRefusal f columnRoom) (lettersRefusal word) (compile-few f) (few-if 15 4 (every (length word) (λ i. leb (getD word i 0) 255)) (omega arith)))
-    (orElse-few 15 (columnItems f letters word .number) (replyRefusal (columnBytes f letters word) room) (items-of-few f letters word) (few-if 15 15 (both (leb (length (columnBytes f letters word)) 65536) (leb (length (columnBytes f letters word)) room)) (omega arith)))
+    orElse-few 15 (lower (compileRefusal f columnRoom) (lettersRefusal word))
+    (orElse (columnItems f letters word .number) (replyRefusal (columnBytes f letters word) room))
+    (lower-few 15 (compileRefusal f columnRoom) (lettersRefusal word) (compile-few f)
+    (few-if 15 4 (every (length word) (λ i. leb (getD word i 0) 255)) (omega arith)))
+    (orElse-few 15 (columnItems f letters word .number) (replyRefusal (columnBytes f letters word) room) (items-of-few f letters word)
+    (few-if 15 15 (both (leb (length (columnBytes f letters word)) 65536) (leb (length (columnBytes f letters word)) room)) (omega arith)))
 
 pub text-few : (o : Option Text) (room : ℕ) → numberOfText o room ≤ 16
 text-few none room = omega arith
@@ -187,13 +221,15 @@ text-short (some t) room e =
     let n = lengthOfWord (t .word) in
     let w = wordOfText t in
     let k = length (columnBytes f n w) in
-    let a = orElse-none (lower (compileRefusal f columnRoom) (lettersRefusal w)) (orElse (columnItems f n w .number) (replyRefusal (columnBytes f n w) room)) e .1 in
+    let a = orElse-none (lower (compileRefusal f columnRoom) (lettersRefusal w)) (orElse (columnItems f n w .number) (replyRefusal (columnBytes f n w) room))
+    e .1 in
     let b = orElse-none (columnItems f n w .number) (replyRefusal (columnBytes f n w) room) a .1 in
     leb-true k 65536 (both-left (leb k 65536) (leb k room) (unless-none 14 (both (leb k 65536) (leb k room)) b))
 
 -- ---- the length, or minus the number
 
-pub length-answer : {text reply reply′ : List ℕ} (n : ℕ) → AnswersBytes (numberOfText (readText text) (length reply)) (bytesOfText (readText text)) reply (written.Count n) reply′ →
+pub length-answer : {text reply reply′ : List ℕ} (n : ℕ) →
+    AnswersBytes (numberOfText (readText text) (length reply)) (bytesOfText (readText text)) reply (written.Count n) reply′ →
     (n ≤ 65536) × AnswersText text reply (pos n) reply′
 length-answer {text} {reply} n a =
     let k = count-known (numberOfText (readText text) (length reply)) n (length (bytesOfText (readText text))) (a .answer) in (
@@ -205,11 +241,18 @@ minus : (n m : ℕ) → 0 < n → negsuc (n - 1) ≡ lengthOr n m
 minus zero m h = absurd (omega (arith, h))
 minus (suc n) m h = ap negsuc (omega arith)
 
-pub number-answer : {text reply reply′ : List ℕ} (n : ℕ) → AnswersBytes (numberOfText (readText text) (length reply)) (bytesOfText (readText text)) reply (written.Refused n) reply′ →
+pub number-answer : {text reply reply′ : List ℕ} (n : ℕ) →
+    AnswersBytes (numberOfText (readText text) (length reply)) (bytesOfText (readText text)) reply (written.Refused n) reply′ →
     (0 < n) × (n ≤ 16) × AnswersText text reply (numberOf (4294967295 - (n - 1))) reply′
 number-answer {text} {reply} n a =
     let k = refused-known (numberOfText (readText text) (length reply)) n (length (bytesOfText (readText text))) (a .answer) in
     let few : n ≤ 16 = omega (arith, k .0, text-few (readText text) (length reply)) in
     let w : 4294967296 - suc (4294967295 - (n - 1)) ≡ n - 1 = omega (arith, k .1, few) in
-    let z : numberOf (4294967295 - (n - 1)) ≡ negsuc (n - 1) = number-neg (4294967295 - (n - 1)) (omega (arith, few)) ∙ ap negsuc w in
-    (k .1, few, record { answer = z ∙ minus n (length (bytesOfText (readText text))) (k .1) ∙ ap (λ (m : ℕ). lengthOr m (length (bytesOfText (readText text)))) (k .0); list = a .list })
+    let z : numberOf (4294967295 - (n - 1)) ≡ negsuc (n - 1) = number-neg (4294967295 - (n - 1)) (omega (arith, few)) ∙ ap negsuc w in (
+      k .1,
+      few,
+      record {
+        answer = z ∙ minus n (length (bytesOfText (readText text))) (k .1) ∙ ap (λ (m : ℕ). lengthOr m (length (bytesOfText (readText text)))) (k .0);
+        list = a .list;
+      },
+    )

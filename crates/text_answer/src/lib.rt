@@ -1,5 +1,5 @@
-// The column text for a host: a text in, the reply in bytes out. Document 01, 'The column text'. Crate `scan` reads the text, and `font_reply` answers for the font and the word that
-// it says.
+// The column text for a host: a text in, the reply in bytes out. Document 01, 'The column text'. Crate `scan` reads the
+// text, and `font_reply` answers for the font and the word that it says.
 ghost use mathlib.Core.Path.{_≡_};
 ghost use lib.ListN.{length};
 ghost use Rattle.columns.specs.Ligcols.{numberOfText, bytesOfText, AnswersText};
@@ -14,7 +14,8 @@ use words::number_of;
 use words::word_of;
 use words::zero::zero_u8;
 
-// Room for what a text says, within its limits: four numbers an instruction, one a kern, two an entry, and a word's letters.
+// Room for what a text says, within its limits: four numbers an instruction, one a kern, two an entry, and a word's
+// letters.
 fn instruction_list() -> [i32; 2048]
     ensures { λ r. ⌜ 2048 ≡ length r ⌝ }
 {
@@ -49,7 +50,8 @@ fn length_of(letters: i32) -> usize
 
 // A text read, and then answered.
 fn answer(text: &[u8], reply: &mut [u8]) -> Written
-    ensures { λ r. ⌜ AnswersBytes (numberOfText (readText (now (text .entry))) (length (now (reply .entry)))) (bytesOfText (readText (now (text .entry)))) (now (reply .entry)) r (now (reply .exit)) ⌝ }
+    ensures { λ r. ⌜ AnswersBytes (numberOfText (readText (now (text .entry))) (length (now (reply .entry))))
+        (bytesOfText (readText (now (text .entry)))) (now (reply .entry)) r (now (reply .exit)) ⌝ }
 {
     let mut instructions = instruction_list();
     let mut kerns = kern_list();
@@ -81,7 +83,8 @@ fn answer(text: &[u8], reply: &mut [u8]) -> Written
     }
 }
 
-// A text and its reply: the reply's length, or minus the number, with zeros after the reply and everywhere on a refusal.
+// A text and its reply: the reply's length, or minus the number, with zeros after the reply and everywhere on a
+// refusal.
 #[no_mangle]
 pub extern "C" fn ligcols(text: &[u8], reply: &mut [u8]) -> i32
     ensures { λ r. ⌜ AnswersText (now (text .entry)) (now (reply .entry)) r (now (reply .exit)) ⌝ }

@@ -52,13 +52,16 @@ pub record Written (n end : ℕ) (l d : List ℕ) (i m : ℕ) : Type 0 where
 
 pub written-none : (n end : ℕ) (l : List ℕ) → n < 2 ^ 32 → Written n end l l end n
 unfolding limit
-written-none n end l h = record { left = 9; done = []; whole = sym (append-nil (digits 10 n)); few = omega arith; less = omega arith; place = omega arith; ten = refl; stored = refl }
+written-none n end l h =
+    record
+    { left = 9; done = []; whole = sym (append-nil (digits 10 n)); few = omega arith; less = omega arith; place = omega arith; ten = refl; stored = refl }
 
 -- there is room for one digit more
 pub written-place : {n end : ℕ} {l d : List ℕ} {i m : ℕ} → Written n end l d i m → 10 ≤ end → (0 < i) × (i ≤ end)
 written-place w h = (omega (arith, w .place, w .ten), omega (arith, w .place))
 
-more-by : {n end : ℕ} {l d : List ℕ} {i m : ℕ} (left : ℕ) (done : List ℕ) → digits 10 n ≡ digits (suc left) m ++ done → m < limit (suc left) → m ≤ n → i + length done ≡ end → suc left + length done ≡ 10 → d ≡ sets l i done → 10 ≤ m → 0 < i → Written n end l (set d (i - 1) (48 + m % 10)) (i - 1) (m / 10)
+more-by : {n end : ℕ} {l d : List ℕ} {i m : ℕ} (left : ℕ) (done : List ℕ) → digits 10 n ≡ digits (suc left) m ++ done → m < limit (suc left) → m ≤ n →
+    i + length done ≡ end → suc left + length done ≡ 10 → d ≡ sets l i done → 10 ≤ m → 0 < i → Written n end l (set d (i - 1) (48 + m % 10)) (i - 1) (m / 10)
 unfolding digits limit
 more-by zero done w f o p t s h k = absurd (omega arith)
 more-by {l = l} {d} {i} {m} (suc left) done w f o p t s h k =
@@ -73,7 +76,8 @@ more-by {l = l} {d} {i} {m} (suc left) done w f o p t s h k =
       stored = sets-before done l d i (48 + m % 10) k s;
     }
 
-pub written-more : {n end : ℕ} {l d : List ℕ} {i m : ℕ} → Written n end l d i m → 10 ≤ end → 10 ≤ m → Written n end l (set d (i - 1) (48 + m % 10)) (i - 1) (m / 10)
+pub written-more : {n end : ℕ} {l d : List ℕ} {i m : ℕ} → Written n end l d i m → 10 ≤ end → 10 ≤ m →
+    Written n end l (set d (i - 1) (48 + m % 10)) (i - 1) (m / 10)
 written-more w e h = more-by (w .left) (w .done) (w .whole) (w .few) (w .less) (w .place) (w .ten) (w .stored) h (written-place w e .0)
 
 -- the two digits of what is left over the hundreds
@@ -84,7 +88,8 @@ rest-ones : (n : ℕ) → (n - 100 * (n / 100)) % 10 ≡ n % 10
 rest-ones n = omega arith
 
 -- two digits more
-pub written-two : {n end : ℕ} {l d d′ : List ℕ} {i m : ℕ} (j : ℕ) → Written n end l d i m → 10 ≤ end → 100 ≤ m → j + 2 ≡ i → d′ ≡ sets d j ((48 + m / 10 % 10) ∷ (48 + m % 10) ∷ []) → Written n end l d′ j (m / 100)
+pub written-two : {n end : ℕ} {l d d′ : List ℕ} {i m : ℕ} (j : ℕ) → Written n end l d i m → 10 ≤ end → 100 ≤ m → j + 2 ≡ i →
+    d′ ≡ sets d j ((48 + m / 10 % 10) ∷ (48 + m % 10) ∷ []) → Written n end l d′ j (m / 100)
 written-two {n} {end} {l} {d} {d′} {i} {m} j w e h p g =
     let ones = 48 + m % 10 in
     let tens = 48 + m / 10 % 10 in
@@ -94,9 +99,11 @@ written-two {n} {end} {l} {d} {d′} {i} {m} j w e h p g =
     let others : m / 10 / 10 ≡ m / 100 = omega arith in
     let was = set (set d (i - 1) ones) (i - 1 - 1) tens in
     let same : was ≡ d′ = (λ x. set (set d (last x) ones) (first x) tens) ∙ sym (set-comm d j (suc j) tens ones (λ q. omega (arith, q))) ∙ sym g in
-    subst (λ (t : List ℕ). Written n end l t j (m / 100)) same (subst (λ (k : ℕ). Written n end l was k (m / 100)) first (subst (Written n end l was (i - 1 - 1)) others more))
+    subst (λ (t : List ℕ). Written n end l t j (m / 100)) same
+    (subst (λ (k : ℕ). Written n end l was k (m / 100)) first (subst (Written n end l was (i - 1 - 1)) others more))
 
-pub written-low : {n end : ℕ} {l d d′ : List ℕ} {i m r : ℕ} (j : ℕ) → Written n end l d i m → 10 ≤ end → 100 ≤ m → j + 2 ≡ i → (r ≡ m / 100) × (d′ ≡ sets d j ((48 + m / 10 % 10) ∷ (48 + m % 10) ∷ [])) → Written n end l d′ j r
+pub written-low : {n end : ℕ} {l d d′ : List ℕ} {i m r : ℕ} (j : ℕ) → Written n end l d i m → 10 ≤ end → 100 ≤ m → j + 2 ≡ i →
+    (r ≡ m / 100) × (d′ ≡ sets d j ((48 + m / 10 % 10) ∷ (48 + m % 10) ∷ [])) → Written n end l d′ j r
 written-low {n} {end} {l} {d′ = d′} j w e h p g = subst (Written n end l d′ j) (sym (g .0)) (written-two j w e h p (g .1))
 
 -- the last one or two
@@ -106,10 +113,13 @@ short-by left m (inl h) f k = rw (lt-ltb m 10 h)
 short-by zero m (inr h) f k = absurd (omega arith)
 short-by (suc left) m (inr h) f k = rw (le-ltb m 10 h, lt-ltb (m / 10) 10 (omega arith))
 
-pub written-top : {n end : ℕ} {l d d′ : List ℕ} {i m : ℕ} (r : ℕ) → Written n end l d i m → m < 100 → r + length (digits 10 m) ≡ i → d′ ≡ sets d r (digits 10 m) → (r + length (digits 10 n) ≡ end) × (d′ ≡ sets l r (digits 10 n))
+pub written-top : {n end : ℕ} {l d d′ : List ℕ} {i m : ℕ} (r : ℕ) → Written n end l d i m → m < 100 → r + length (digits 10 m) ≡ i →
+    d′ ≡ sets d r (digits 10 m) → (r + length (digits 10 n) ≡ end) × (d′ ≡ sets l r (digits 10 n))
 written-top {n} {l = l} {d} {d′} {i} {m} r w h p g =
-    let whole : digits 10 n ≡ digits 10 m ++ w .done = w .whole ∙ ap (λ (t : List ℕ). t ++ w .done) (short-by (w .left) m (less-or-not m 10) (w .few) h) in
-    (omega (arith, ap length whole, length-append (digits 10 m) (w .done), w .place), sets-front (digits 10 m) (w .done) l d d′ i r (w .stored) p g ∙ ap (sets l r) (sym whole))
+    let whole : digits 10 n ≡ digits 10 m ++ w .done = w .whole ∙ ap (λ (t : List ℕ). t ++ w .done) (short-by (w .left) m (less-or-not m 10) (w .few) h) in (
+      omega (arith, ap length whole, length-append (digits 10 m) (w .done), w .place),
+      sets-front (digits 10 m) (w .done) l d d′ i r (w .stored) p g ∙ ap (sets l r) (sym whole),
+    )
 
 pub top-one : (n : ℕ) → n < 10 → digits 10 n ≡ (48 + n) ∷ []
 unfolding digits
@@ -150,7 +160,8 @@ module _ (d : List ℕ) (at : ℕ) where
       let e = top-two w h k in
       spells-positive w (omega arith) d′ (at + 10) (omega (arith, ap length e)) (g ∙ ap (sets d (at + 10)) (sym e))
 
-  pub spells-three : (w h q : ℕ) → 100 ≤ w → w < 1000 → h ≡ w * 41 / 4096 → q ≡ w - 100 * h → (d′ : List ℕ) → d′ ≡ sets (set d (at + 9) (48 + h)) (at + 10) ((48 + q / 10) ∷ (48 + q % 10) ∷ []) → d′ ≡ spells d at w
+  pub spells-three : (w h q : ℕ) → 100 ≤ w → w < 1000 → h ≡ w * 41 / 4096 → q ≡ w - 100 * h → (d′ : List ℕ) →
+      d′ ≡ sets (set d (at + 9) (48 + h)) (at + 10) ((48 + q / 10) ∷ (48 + q % 10) ∷ []) → d′ ≡ spells d at w
   spells-three w h q l k s qs d′ g =
       let e = top-three w l k in
       let few : w / 100 ≤ 9 = omega arith in

@@ -19,7 +19,8 @@ module _ {A : Type 0} where
   -- .. and a run of them
   pub sets-first : (vs ws l : List A) (i k : ℕ) → k + length vs ≤ i → sets (sets l i ws) k vs ≡ sets (sets l k vs) i ws
   sets-first [] ws l i k h = refl
-  sets-first (v ∷ vs) ws l i k h = ap (λ (t : List A). sets t (suc k) vs) (set-first ws l i k v (omega arith)) ∙ sets-first vs ws (set l k v) i (suc k) (omega arith)
+  sets-first (v ∷ vs) ws l i k h =
+      ap (λ (t : List A). sets t (suc k) vs) (set-first ws l i k v (omega arith)) ∙ sets-first vs ws (set l k v) i (suc k) (omega arith)
 
   -- several more before a run
   pub sets-front : (vs ws l d d′ : List A) (i k : ℕ) → d ≡ sets l i ws → k + length vs ≡ i → d′ ≡ sets d k vs → d′ ≡ sets l k (vs ++ ws)
@@ -58,15 +59,18 @@ module _ {A : Type 0} where
   sets-over vs ws l d d′ i s e g = g ∙ ap (λ (t : List A). sets t i ws) e ∙ sets-again vs ws l i s
 
   -- the end of a run of n equal values, written over
-  pub sets-end : (n : ℕ) (b : A) (vs l : List A) (i j : ℕ) → length vs ≤ n → j + length vs ≡ i + n → sets (sets l i (replicate n b)) j vs ≡ sets l i (replicate (n - length vs) b ++ vs)
+  pub sets-end : (n : ℕ) (b : A) (vs l : List A) (i j : ℕ) → length vs ≤ n → j + length vs ≡ i + n →
+      sets (sets l i (replicate n b)) j vs ≡ sets l i (replicate (n - length vs) b ++ vs)
   sets-end n b vs l i j h e =
       let s : n - length vs + length vs ≡ n = omega arith in
       let p : j ≡ i + length (replicate (n - length vs) b) = omega (arith, length-replicate (n - length vs) b) in
-      let r : replicate n b ≡ replicate (n - length vs) b ++ replicate (length vs) b = ap (λ (k : ℕ). replicate k b) (sym s) ∙ sym (replicate-append-replicate (n - length vs) (length vs) b) in
+      let r : replicate n b ≡ replicate (n - length vs) b ++ replicate (length vs) b = ap (λ (k : ℕ). replicate k b) (sym s)
+      ∙ sym (replicate-append-replicate (n - length vs) (length vs) b) in
       ap (λ (t : List A). sets (sets l i t) j vs) r
       ∙ ap (λ (t : List A). sets t j vs) (sets-append (replicate (n - length vs) b) (replicate (length vs) b) l i)
       ∙ ap (λ (k : ℕ). sets (sets (sets l i (replicate (n - length vs) b)) (i + length (replicate (n - length vs) b)) (replicate (length vs) b)) k vs) p
-      ∙ sets-again (replicate (length vs) b) vs (sets l i (replicate (n - length vs) b)) (i + length (replicate (n - length vs) b)) (length-replicate (length vs) b)
+      ∙ sets-again (replicate (length vs) b) vs (sets l i (replicate (n - length vs) b)) (i + length (replicate (n - length vs) b))
+      (length-replicate (length vs) b)
       ∙ sym (sets-append (replicate (n - length vs) b) vs l i)
 
   -- one equal value more

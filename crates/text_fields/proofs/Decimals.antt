@@ -54,7 +54,8 @@ module _ (d : Decimal) (n : ℕ) (is : d ≡ decimal.Value n) where
   pub with-beyond : 2147483648 < n → replyOf 16 [] ≡ numberReply (withSign (digitsOf d))
   with-beyond h = rw (is, signed-beyond n h)
 
-  pub with-is : (n ≡ 0 → ⊥) → n ≤ 2147483648 → (z : ℤ) → z ≡ numberOf (4294967296 - n) → replyOf 0 (numberOf (wordOf z) ∷ []) ≡ numberReply (withSign (digitsOf d))
+  pub with-is : (n ≡ 0 → ⊥) → n ≤ 2147483648 → (z : ℤ) → z ≡ numberOf (4294967296 - n) →
+      replyOf 0 (numberOf (wordOf z) ∷ []) ≡ numberReply (withSign (digitsOf d))
   with-is o h z e = rw (is, signed-is n o h) (ap (λ (y : ℤ). replyOf 0 (y ∷ [])) (passed (4294967296 - n) z (omega arith) e))
 
   pub without-beyond : 2147483647 < n → replyOf 16 [] ≡ numberReply (withoutSign (digitsOf d))
@@ -94,11 +95,13 @@ module _ (text : List ℕ) (from end : ℕ) (few : end ≤ from + 12) (inside : 
   counting-few {n} {i} c = omega (arith, c .below, limit-few (i - from) (omega (arith, c .before)))
 
   -- one byte more
-  step : (n i : ℕ) → i < end → moreDigits n (slice i end text) ≡ cond (isDigit (getD text i 0)) (moreDigits (10 * n + (getD text i 0 - 48)) (slice (i + 1) end text)) none
+  step : (n i : ℕ) → i < end →
+      moreDigits n (slice i end text) ≡ cond (isDigit (getD text i 0)) (moreDigits (10 * n + (getD text i 0 - 48)) (slice (i + 1) end text)) none
   unfolding moreDigits
   step n i h = rw (slice-cons i end text 0 h inside, add-one)
 
-  pub counting-more : {n i : ℕ} → Counting text from end n i → i < end → 48 ≤ getD text i 0 → getD text i 0 ≤ 57 → Counting text from end (10 * n + (getD text i 0 - 48)) (i + 1)
+  pub counting-more : {n i : ℕ} → Counting text from end n i → i < end → 48 ≤ getD text i 0 → getD text i 0 ≤ 57 →
+      Counting text from end (10 * n + (getD text i 0 - 48)) (i + 1)
   unfolding limit
   counting-more {n} {i} c h a b =
       let k : i + 1 - from ≡ suc (i - from) = omega (arith, c .after) in
@@ -152,7 +155,8 @@ module _ (text : List ℕ) (from end : ℕ) (inside : end ≤ length text) where
   unfolding readField
   read-minus h e = rw (opens h, e)
 
-  pub read-plain : from < end → (getD text from 0 ≡ 32 → ⊥) → (getD text from 0 ≡ 45 → ⊥) → readField (slice from end text) ≡ withoutSign (unsigned (slice from end text))
+  pub read-plain : from < end → (getD text from 0 ≡ 32 → ⊥) → (getD text from 0 ≡ 45 → ⊥) →
+      readField (slice from end text) ≡ withoutSign (unsigned (slice from end text))
   unfolding readField
   read-plain h b m = rw (opens h, ne-eqb (getD text from 0) 32 b, ne-eqb (getD text from 0) 45 m)
 
@@ -184,13 +188,18 @@ module _ (text : List ℕ) (from end : ℕ) (inside : end ≤ length text) where
     first : from < end → Counting text from end (10 * 0 + (digit-at from - 48)) (from + 1)
     first o = counting-more text from end few inside (counting-none text from end few inside (omega arith)) o (omega arith) h
 
-    second : from + 1 < end → 48 ≤ digit-at (from + 1) → digit-at (from + 1) ≤ 57 → Counting text from end (10 * (10 * 0 + (digit-at from - 48)) + (digit-at (from + 1) - 48)) (from + 1 + 1)
+    second : from + 1 < end → 48 ≤ digit-at (from + 1) → digit-at (from + 1) ≤ 57 →
+        Counting text from end (10 * (10 * 0 + (digit-at from - 48)) + (digit-at (from + 1) - 48)) (from + 1 + 1)
     second o = counting-more text from end few inside (first (omega arith)) o
 
-    pub read-two : from + 2 ≡ end → 48 ≤ digit-at (from + 1) → digit-at (from + 1) ≤ 57 → readField (slice from end text) ≡ withoutSign (some (10 * (10 * 0 + (digit-at from - 48)) + (digit-at (from + 1) - 48)))
+    pub read-two : from + 2 ≡ end → 48 ≤ digit-at (from + 1) → digit-at (from + 1) ≤ 57 →
+        readField (slice from end text) ≡ withoutSign (some (10 * (10 * 0 + (digit-at from - 48)) + (digit-at (from + 1) - 48)))
     read-two e a b = counted (second (omega arith) a b) (omega arith) (omega arith)
 
-    pub read-three : from + 3 ≡ end → 48 ≤ digit-at (from + 1) → digit-at (from + 1) ≤ 57 → 48 ≤ digit-at (from + 2) → digit-at (from + 2) ≤ 57 → readField (slice from end text) ≡ withoutSign (some (10 * (10 * (10 * 0 + (digit-at from - 48)) + (digit-at (from + 1) - 48)) + (digit-at (from + 2) - 48)))
+    pub read-three : from + 3 ≡ end → 48 ≤ digit-at (from + 1) → digit-at (from + 1) ≤ 57 → 48 ≤ digit-at (from + 2) → digit-at (from + 2) ≤ 57 →
+        readField (slice from end text)
+        ≡ withoutSign (some (10 * (10 * (10 * 0 + (digit-at from - 48)) + (digit-at (from + 1) - 48)) + (digit-at (from + 2) - 48)))
     read-three e a b p q =
         let two : from + 1 + 1 ≡ from + 2 = omega arith in
-        counted (counting-more text from end few inside (subst (Counting text from end _) two (second (omega arith) a b)) (omega arith) p q) (omega arith) (omega arith)
+        counted (counting-more text from end few inside (subst (Counting text from end _) two (second (omega arith) a b)) (omega arith) p q) (omega arith)
+        (omega arith)

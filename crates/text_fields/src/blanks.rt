@@ -1,5 +1,5 @@
-// The blanks that a field starts with. Eight bytes are compared at once: as one number they are 2,314,885,530,818,453,536 where each is 32, and the compiler makes one
-// load of them.
+// The blanks that a field starts with. Eight bytes are compared at once: as one number they are
+// 2,314,885,530,818,453,536 where each is 32, and the compiler makes one load of them.
 ghost use mathlib.Core.Path.{_≡_};
 ghost use mathlib.Core.Bool.{true};
 ghost use Prim.Native.Nat.{_+_, _<_, _≤_};

@@ -1,5 +1,5 @@
-// The last four columns of a field after eight blanks: numbers of one, two and three digits, which are most there are. What is none of them is read as any part of a
-// field is.
+// The last four columns of a field after eight blanks: numbers of one, two and three digits, which are most there are.
+// What is none of them is read as any part of a field is.
 ghost use mathlib.Core.Path.{_≡_};
 ghost use mathlib.Core.Bool.{true};
 ghost use Prim.Native.Nat.{_+_, _≤_};

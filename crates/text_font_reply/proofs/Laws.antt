@@ -108,7 +108,8 @@ front o (suc n) m k xs ys e z l = absurd (omega (arith, z))
 -- .. which has room for it, where it is as long as it was
 pub room-known : {A : Type 0} (o : A) (n m : ℕ) (xs ys : List A) → ys ≡ listOf n o m xs → n ≡ 0 → length ys ≡ m → length xs ≤ m
 room-known o zero m xs ys e z l =
-    let t : length ys ≡ length xs + (m - length xs) = ap length e ∙ length-append xs (replicate (m - length xs) o) ∙ ap (λ (j : ℕ). length xs + j) (length-replicate (m - length xs) o) in
+    let t : length ys ≡ length xs + (m - length xs) = ap length e ∙ length-append xs (replicate (m - length xs) o)
+    ∙ ap (λ (j : ℕ). length xs + j) (length-replicate (m - length xs) o) in
     omega (arith, t, l)
 room-known o (suc n) m xs ys e z l = absurd (omega (arith, z))
 
@@ -119,7 +120,8 @@ abbrev pub freshRun : List ℤ → List ℤ → ℤ → List ℕ → Reply
 freshRun pairs ops boundary word = itemsFrom pairs ops boundary word columnOptions 885 (freshState word columnOptions)
 
 -- what set_fresh left in a list of 5,310 numbers
-module _ (pairs ops : List ℤ) (boundary : ℤ) (word : List ℕ) (items items′ : List ℤ) (m : 5310 ≡ length items) (k : ℕ) (t : Tells (freshRun pairs ops boundary word) items (written.Count k) items′) where
+module _ (pairs ops : List ℤ) (boundary : ℤ) (word : List ℕ) (items items′ : List ℤ) (m : 5310 ≡ length items) (k : ℕ)
+    (t : Tells (freshRun pairs ops boundary word) items (written.Count k) items′) where
   abbrev known : (freshRun pairs ops boundary word .number ≡ 0) × (k ≡ length (freshRun pairs ops boundary word .values) / 6)
   known = count-known (freshRun pairs ops boundary word .number) k (length (freshRun pairs ops boundary word .values) / 6) (t .answer)
 
@@ -130,16 +132,23 @@ module _ (pairs ops : List ℤ) (boundary : ℤ) (word : List ℕ) (items items�
   listed = t .list ∙ ap (λ (j : ℕ). listOf (freshRun pairs ops boundary word .number) (pos 0) j (freshRun pairs ops boundary word .values)) (sym m)
 
   pub items-room : length items′ ≡ 5310 → 6 * k ≤ 5310
-  items-room l = omega (arith, six, room-known (pos 0) (freshRun pairs ops boundary word .number) 5310 (freshRun pairs ops boundary word .values) items′ listed (known .0) l)
+  items-room l =
+      omega (
+        arith,
+        six,
+        room-known (pos 0) (freshRun pairs ops boundary word .number) 5310 (freshRun pairs ops boundary word .values) items′ listed (known .0) l,
+      )
 
   items-front : take (6 * k) items′ ≡ freshRun pairs ops boundary word .values
   items-front = front (pos 0) (freshRun pairs ops boundary word .number) 5310 (6 * k) (freshRun pairs ops boundary word .values) items′ listed (known .0) six
 
 module _ (reply : List ℕ) (r : Written) (reply′ : List ℕ) where
-  written-as : (m : ℕ) (bytes bytes′ : List ℕ) → bytes′ ≡ bytes → m ≡ replyRefusal bytes (length reply) → WritesReply bytes′ reply r reply′ → AnswersBytes m bytes reply r reply′
+  written-as : (m : ℕ) (bytes bytes′ : List ℕ) → bytes′ ≡ bytes → m ≡ replyRefusal bytes (length reply) → WritesReply bytes′ reply r reply′ →
+      AnswersBytes m bytes reply r reply′
   written-as m bytes bytes′ e n a =
       let b : AnswersBytes (replyRefusal bytes′ (length reply)) bytes′ reply r reply′ = record { answer = a .answer; list = a .list } in
-      let c : AnswersBytes (replyRefusal bytes (length reply)) bytes reply r reply′ = subst (λ (bs : List ℕ). AnswersBytes (replyRefusal bs (length reply)) bs reply r reply′) e b in
+      let c : AnswersBytes (replyRefusal bytes (length reply)) bytes reply r reply′ =
+      subst (λ (bs : List ℕ). AnswersBytes (replyRefusal bs (length reply)) bs reply r reply′) e b in
       subst (λ (k : ℕ). AnswersBytes k bytes reply r reply′) (sym n) c
 
   module _ (pairs ops loops : List ℤ) (boundary : ℤ) (word : List ℕ) where
@@ -153,29 +162,35 @@ module _ (reply : List ℕ) (r : Written) (reply′ : List ℕ) where
     pub table-set : (items items′ : List ℤ) → 5310 ≡ length items → (k : ℕ) → Tells (freshRun pairs ops boundary word) items (written.Count k) items′ →
         (z : ℤ) (w : ℕ) → Word z w → w < 2147483648 → WritesReply (replyBytes pairs ops loops z (take (6 * k) items′)) reply r reply′ → Answered z
     table-set items items′ m k t (pos n) w h l a =
-        written-as (freshNumber pairs ops loops boundary (pos n) word (length reply)) (freshBytes pairs ops loops boundary (pos n) word) (replyBytes pairs ops loops (pos n) (take (6 * k) items′))
+        written-as (freshNumber pairs ops loops boundary (pos n) word (length reply)) (freshBytes pairs ops loops boundary (pos n) word)
+        (replyBytes pairs ops loops (pos n) (take (6 * k) items′))
         (ap (replyBytes pairs ops loops (pos n)) (items-front pairs ops boundary word items items′ m k t))
-        (second-is (freshRun pairs ops boundary word .number) (replyRefusal (freshBytes pairs ops loops boundary (pos n) word) (length reply)) (known pairs ops boundary word items items′ m k t .0))
+        (second-is (freshRun pairs ops boundary word .number) (replyRefusal (freshBytes pairs ops loops boundary (pos n) word) (length reply))
+        (known pairs ops boundary word items items′ m k t .0))
         a
     table-set items items′ m k t (negsuc n) w h l a = absurd (let e = read-pos h l in let z : _≡_ {A = ℕ} 0 1 = cc in omega arith)
 
-    pub table-refused : (items items′ : List ℤ) (k : ℕ) → Tells (freshRun pairs ops boundary word) items (written.Refused k) items′ → (z : ℤ) (w : ℕ) → Word z w → w < 2147483648 → AnswersBytes k [] reply r reply′ → Answered z
+    pub table-refused : (items items′ : List ℤ) (k : ℕ) → Tells (freshRun pairs ops boundary word) items (written.Refused k) items′ → (z : ℤ) (w : ℕ) →
+        Word z w → w < 2147483648 → AnswersBytes k [] reply r reply′ → Answered z
     table-refused items items′ k t (pos n) w h l a =
         let b = refused-known (freshRun pairs ops boundary word .number) k (length (freshRun pairs ops boundary word .values) / 6) (t .answer) in
         refused-as (freshNumber pairs ops loops boundary (pos n) word (length reply)) k
-        (first-is (freshRun pairs ops boundary word .number) (replyRefusal (freshBytes pairs ops loops boundary (pos n) word) (length reply)) (λ e. omega (arith, e, b .0, b .1)) ∙ sym (b .0)) (b .1) a
+        (first-is (freshRun pairs ops boundary word .number) (replyRefusal (freshBytes pairs ops loops boundary (pos n) word) (length reply))
+        (λ e. omega (arith, e, b .0, b .1)) ∙ sym (b .0)) (b .1) a
     table-refused items items′ k t (negsuc n) w h l a = absurd (let e = read-pos h l in let z : _≡_ {A = ℕ} 0 1 = cc in omega arith)
 
 -- ---- a font compiled, in the room that a text has
 
-module _ (f : Font) (pairs ops loops : List ℤ) (work : List ℕ) (a : 3072 ≡ length pairs) (b : 4096 ≡ length ops) (d : 128 ≡ length loops) (e : 8192 ≡ length work) where
+module _ (f : Font) (pairs ops loops : List ℤ) (work : List ℕ) (a : 3072 ≡ length pairs) (b : 4096 ≡ length ops) (d : 128 ≡ length loops)
+    (e : 8192 ≡ length work) where
   room-is : roomIn pairs ops loops work ≡ columnRoom
   room-is i = roomOf (sym a i) (sym b i) (sym d i) (sym e i)
 
   module _ {pairs′ ops′ loops′ : List ℤ} {work′ : List ℕ} where
     pub not-compiled : (n : ℕ) → Compiles f pairs ops loops work (compiled.Refused n) pairs′ ops′ loops′ work′ → (n ≡ compileRefusal f columnRoom) × (0 < n)
     not-compiled n c =
-        let k = number-known (compileRefusal f (roomIn pairs ops loops work)) n (pos (tablePairs f)) (pos (totalOps f) ∷ pos (length (loopsOfFont f)) ∷ []) (c .answer) in
+        let k = number-known (compileRefusal f (roomIn pairs ops loops work)) n (pos (tablePairs f)) (pos (totalOps f) ∷ pos (length (loopsOfFont f)) ∷ [])
+        (c .answer) in
         (k .0 ∙ ap (compileRefusal f) room-is, k .1)
 
     module _ {p o l : ℕ} (c : Compiles f pairs ops loops work (compiled.Tables p o l) pairs′ ops′ loops′ work′) where
@@ -183,13 +198,28 @@ module _ (f : Font) (pairs ops loops : List ℤ) (work : List ℕ) (a : 3072 ≡
       compiled-taken = sym (ap (compileRefusal f) room-is) ∙ lists-of c .0
 
       pub pairs-fit : length pairs′ ≡ length pairs → 6 * p ≤ 3072
-      pairs-fit k = omega (arith, room-known (pos 0) (compileRefusal f (roomIn pairs ops loops work)) (length pairs) (fontTable f) pairs′ (c .lists .table) (lists-of c .0) k, lists-of c .1 .table-long)
+      pairs-fit k =
+          omega (
+            arith,
+            room-known (pos 0) (compileRefusal f (roomIn pairs ops loops work)) (length pairs) (fontTable f) pairs′ (c .lists .table) (lists-of c .0) k,
+            lists-of c .1 .table-long,
+          )
 
       pub ops-fit : length ops′ ≡ length ops → 2 * o ≤ 4096
-      ops-fit k = omega (arith, room-known (pos 0) (compileRefusal f (roomIn pairs ops loops work)) (length ops) (fontOps f) ops′ (c .lists .ops-table) (lists-of c .0) k, lists-of c .1 .op-table-long)
+      ops-fit k =
+          omega (
+            arith,
+            room-known (pos 0) (compileRefusal f (roomIn pairs ops loops work)) (length ops) (fontOps f) ops′ (c .lists .ops-table) (lists-of c .0) k,
+            lists-of c .1 .op-table-long,
+          )
 
       pub loops-fit : length loops′ ≡ length loops → 2 * l ≤ 128
-      loops-fit k = omega (arith, room-known (pos 0) (compileRefusal f (roomIn pairs ops loops work)) (length loops) (fontLoops f) loops′ (c .lists .loop-list) (lists-of c .0) k, lists-of c .1 .loop-table-long)
+      loops-fit k =
+          omega (
+            arith,
+            room-known (pos 0) (compileRefusal f (roomIn pairs ops loops work)) (length loops) (fontLoops f) loops′ (c .lists .loop-list) (lists-of c .0) k,
+            lists-of c .1 .loop-table-long,
+          )
 
 -- ---- a font with its word
 
@@ -210,7 +240,8 @@ module _ (pairs ops : List ℤ) (boundary : ℤ) (word : List ℕ) (edges : edge
   run-long : (n : ℕ) (s : State) → itemsFrom pairs ops boundary word columnOptions n s ≡ replyOf 6 []
   unfolding itemsBy
   run-long zero s = ap (λ (x : Answer). andThen x (replyOf 15 [])) (step-long s)
-  run-long (suc n) s = ap (λ (x : Answer). andThen x (itemsFrom pairs ops boundary word columnOptions n (stepOf pairs ops boundary word columnOptions s .state))) (step-long s)
+  run-long (suc n) s =
+      ap (λ (x : Answer). andThen x (itemsFrom pairs ops boundary word columnOptions n (stepOf pairs ops boundary word columnOptions s .state))) (step-long s)
 
   begin-long : lettersRefusal word ≡ 0 → beginRefusal pairs ops boundary word columnOptions ≡ 6
   begin-long e =
@@ -226,33 +257,50 @@ module _ (f : Font) (letters : ℤ) (word reply : List ℕ) (r : Written) (reply
   pub number-first : (m : ℕ) → m ≡ lower (compileRefusal f columnRoom) (lettersRefusal word) → 0 < m → AnswersBytes m [] reply r reply′ → Font-answered
   number-first m e h a =
       refused-as (columnNumber f letters word (length reply)) m
-      (first-is (lower (compileRefusal f columnRoom) (lettersRefusal word)) (orElse (columnItems f letters word .number) (replyRefusal (columnBytes f letters word) (length reply))) (λ z. omega (arith, z, e, h)) ∙ sym e)
+      (first-is (lower (compileRefusal f columnRoom) (lettersRefusal word))
+      (orElse (columnItems f letters word .number) (replyRefusal (columnBytes f letters word) (length reply))) (λ z. omega (arith, z, e, h)) ∙ sym e)
       h
       a
 
   -- the items of a table that compiling wrote, which begin would take, but for a word that is too long
-  items-by : compileRefusal f columnRoom ≡ 0 → lettersRefusal word ≡ 0 → (length word < 65536) ⊎ (65536 ≤ length word) → freshRun (fontTable f) (fontOps f) (f .boundary) word ≡ setReply (fontTable f) (fontOps f) (f .boundary) word columnOptions itemRoom
-  items-by c n (inl h) = sym (ap (λ (k : ℕ). afterBegin k (freshRun (fontTable f) (fontOps f) (f .boundary) word)) (font-begins f columnRoom word c n (omega (arith, h))))
+  items-by : compileRefusal f columnRoom ≡ 0 → lettersRefusal word ≡ 0 → (length word < 65536) ⊎ (65536 ≤ length word) →
+      freshRun (fontTable f) (fontOps f) (f .boundary) word ≡ setReply (fontTable f) (fontOps f) (f .boundary) word columnOptions itemRoom
+  items-by c n (inl h) =
+      sym (ap (λ (k : ℕ). afterBegin k (freshRun (fontTable f) (fontOps f) (f .boundary) word)) (font-begins f columnRoom word c n (omega (arith, h))))
   items-by c n (inr h) =
       let e : edgesRefusal (f .boundary) columnOptions ≡ 0 =
-      orElse-none (edgesRefusal (f .boundary) columnOptions) (orElse (lettersRefusal []) (orElse (wordRefusal []) (tableRefusal (fontTable f) (fontOps f)))) (font-begins f columnRoom [] c no-letters (omega arith)) .0 in
+      orElse-none (edgesRefusal (f .boundary) columnOptions) (orElse (lettersRefusal []) (orElse (wordRefusal []) (tableRefusal (fontTable f) (fontOps f))))
+      (font-begins f columnRoom [] c no-letters (omega arith)) .0 in
       let l : 65535 < length word = omega (arith, h) in
       run-long (fontTable f) (fontOps f) (f .boundary) word e l 885 (freshState word columnOptions)
-      ∙ sym (ap (λ (k : ℕ). afterBegin k (freshRun (fontTable f) (fontOps f) (f .boundary) word)) (begin-long (fontTable f) (fontOps f) (f .boundary) word e l n))
+      ∙ sym (ap (λ (k : ℕ). afterBegin k (freshRun (fontTable f) (fontOps f) (f .boundary) word))
+      (begin-long (fontTable f) (fontOps f) (f .boundary) word e l n))
 
-  fresh-items : (z : ℤ) → compileRefusal f columnRoom ≡ 0 → lettersRefusal word ≡ 0 → freshItems (fontTable f) (fontOps f) (f .boundary) z word ≡ columnItems f z word
+  fresh-items : (z : ℤ) → compileRefusal f columnRoom ≡ 0 → lettersRefusal word ≡ 0 →
+      freshItems (fontTable f) (fontOps f) (f .boundary) z word ≡ columnItems f z word
   fresh-items (pos n) c e = items-by c e (less-or-not (length word) 65536)
   fresh-items (negsuc n) c e = refl
 
-  pub font-set : compileRefusal f columnRoom ≡ 0 → lettersRefusal word ≡ 0 → (pairs ops loops : List ℤ) → pairs ≡ fontTable f → ops ≡ fontOps f → loops ≡ fontLoops f →
-      AnswersBytes (freshNumber pairs ops loops (f .boundary) letters word (length reply)) (freshBytes pairs ops loops (f .boundary) letters word) reply r reply′ → Font-answered
+  pub font-set : compileRefusal f columnRoom ≡ 0 → lettersRefusal word ≡ 0 → (pairs ops loops : List ℤ) → pairs ≡ fontTable f → ops ≡ fontOps f →
+      loops ≡ fontLoops f →
+      AnswersBytes (freshNumber pairs ops loops (f .boundary) letters word (length reply)) (freshBytes pairs ops loops (f .boundary) letters word) reply r
+      reply′ → Font-answered
   font-set c n pairs ops loops p o x a =
       let q = fresh-items letters c n in
-      let b : AnswersBytes (freshNumber (fontTable f) (fontOps f) (fontLoops f) (f .boundary) letters word (length reply)) (freshBytes (fontTable f) (fontOps f) (fontLoops f) (f .boundary) letters word) reply r reply′ =
-      subst (λ (xs : List ℤ). AnswersBytes (freshNumber xs (fontOps f) (fontLoops f) (f .boundary) letters word (length reply)) (freshBytes xs (fontOps f) (fontLoops f) (f .boundary) letters word) reply r reply′) p
-      (subst (λ (xs : List ℤ). AnswersBytes (freshNumber pairs xs (fontLoops f) (f .boundary) letters word (length reply)) (freshBytes pairs xs (fontLoops f) (f .boundary) letters word) reply r reply′) o
-      (subst (λ (xs : List ℤ). AnswersBytes (freshNumber pairs ops xs (f .boundary) letters word (length reply)) (freshBytes pairs ops xs (f .boundary) letters word) reply r reply′) x a)) in
+      let b : AnswersBytes (freshNumber (fontTable f) (fontOps f) (fontLoops f) (f .boundary) letters word (length reply))
+      (freshBytes (fontTable f) (fontOps f) (fontLoops f) (f .boundary) letters word) reply r reply′ =
+      subst (λ (xs : List ℤ). AnswersBytes (freshNumber xs (fontOps f) (fontLoops f) (f .boundary) letters word (length reply))
+      (freshBytes xs (fontOps f) (fontLoops f) (f .boundary) letters word) reply r reply′) p
+      (subst (λ (xs : List ℤ). AnswersBytes (freshNumber pairs xs (fontLoops f) (f .boundary) letters word (length reply))
+      (freshBytes pairs xs (fontLoops f) (f .boundary) letters word) reply r reply′) o
+      (subst (λ (xs : List ℤ). AnswersBytes (freshNumber pairs ops xs (f .boundary) letters word (length reply))
+      (freshBytes pairs ops xs (f .boundary) letters word) reply r reply′) x a)) in
       let k : lower (compileRefusal f columnRoom) (lettersRefusal word) ≡ 0 = rw (c, n) in
-      let d : AnswersBytes (orElse (columnItems f letters word .number) (replyRefusal (columnBytes f letters word) (length reply))) (columnBytes f letters word) reply r reply′ =
-      subst (λ (i : Reply). AnswersBytes (orElse (i .number) (replyRefusal (replyBytes (fontTable f) (fontOps f) (fontLoops f) letters (i .values)) (length reply))) (replyBytes (fontTable f) (fontOps f) (fontLoops f) letters (i .values)) reply r reply′) q b in
-      subst (λ (m : ℕ). AnswersBytes m (columnBytes f letters word) reply r reply′) (sym (second-is (lower (compileRefusal f columnRoom) (lettersRefusal word)) (orElse (columnItems f letters word .number) (replyRefusal (columnBytes f letters word) (length reply))) k)) d
+      let d : AnswersBytes (orElse (columnItems f letters word .number) (replyRefusal (columnBytes f letters word) (length reply))) (columnBytes f letters word)
+      reply r reply′ =
+      subst (λ (i : Reply). AnswersBytes
+      (orElse (i .number) (replyRefusal (replyBytes (fontTable f) (fontOps f) (fontLoops f) letters (i .values)) (length reply)))
+      (replyBytes (fontTable f) (fontOps f) (fontLoops f) letters (i .values)) reply r reply′) q b in
+      subst (λ (m : ℕ). AnswersBytes m (columnBytes f letters word) reply r reply′)
+      (sym (second-is (lower (compileRefusal f columnRoom) (lettersRefusal word))
+      (orElse (columnItems f letters word .number) (replyRefusal (columnBytes f letters word) (length reply))) k)) d

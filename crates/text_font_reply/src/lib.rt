@@ -1,5 +1,5 @@
-// A font with its word, as a reply: compiled, its word set, the reply written; or the number of a refusal. Document 01, 'The column text'. What compiling wrote has the form of a
-// table, so nothing checks it again.
+// A font with its word, as a reply: compiled, its word set, the reply written; or the number of a refusal. Document 01,
+// 'The column text'. What compiling wrote has the form of a table, so nothing checks it again.
 ghost use mathlib.Core.Path.{_≡_};
 ghost use mathlib.Core.List.{[]};
 ghost use Prim.Native.Nat.{_<_};
@@ -81,7 +81,11 @@ fn answer_table(
     word: &[u32],
     reply: &mut [u8],
 ) -> Written
-    ensures { λ r. ⌜ AnswersBytes (freshNumber (now (pairs .entry)) (now (ops .entry)) (now (loops .entry)) boundary letters (now (word .entry)) (length (now (reply .entry)))) (freshBytes (now (pairs .entry)) (now (ops .entry)) (now (loops .entry)) boundary letters (now (word .entry))) (now (reply .entry)) r (now (reply .exit)) ⌝ }
+    ensures { λ r. ⌜ AnswersBytes
+        (freshNumber (now (pairs .entry)) (now (ops .entry)) (now (loops .entry)) boundary letters
+        (now (word .entry)) (length (now (reply .entry))))
+        (freshBytes (now (pairs .entry)) (now (ops .entry)) (now (loops .entry)) boundary letters
+        (now (word .entry))) (now (reply .entry)) r (now (reply .exit)) ⌝ }
 {
     let mut items = item_list();
     if 2147483648 <= word_of(letters) {
@@ -109,7 +113,14 @@ pub fn answer_font(
     word: &[u32],
     reply: &mut [u8],
 ) -> Written
-    ensures { λ r. ⌜ AnswersBytes (columnNumber (fontOf (now (instructions .entry)) (now (kerns .entry)) (now (entries .entry)) boundary «left_entry» «design_size») letters (now (word .entry)) (length (now (reply .entry)))) (columnBytes (fontOf (now (instructions .entry)) (now (kerns .entry)) (now (entries .entry)) boundary «left_entry» «design_size») letters (now (word .entry))) (now (reply .entry)) r (now (reply .exit)) ⌝ }
+    ensures { λ r. ⌜ AnswersBytes
+        (columnNumber
+        (fontOf (now (instructions .entry)) (now (kerns .entry)) (now (entries .entry)) boundary
+        «left_entry» «design_size») letters (now (word .entry)) (length (now (reply .entry))))
+        (columnBytes
+        (fontOf (now (instructions .entry)) (now (kerns .entry)) (now (entries .entry)) boundary
+        «left_entry» «design_size») letters (now (word .entry))) (now (reply .entry)) r
+        (now (reply .exit)) ⌝ }
 {
     let mut pairs = pair_list();
     let mut ops = op_list();

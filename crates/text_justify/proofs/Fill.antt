@@ -47,7 +47,8 @@ module _ (l : List ℕ) (at : ℕ) where
   filled-all zs = ap (sets l at) (append-nil (fieldsOf zs))
 
   -- one more spelled over the blanks
-  pub filled-more : (zs : List ℤ) (m : ℕ) {d d′ : List ℕ} {w next : ℕ} {z : ℤ} → next ≡ at + 12 * length zs → d ≡ filled l at zs (suc m) → Word z w → d′ ≡ spells d next w → d′ ≡ filled l at (zs ++ (z ∷ [])) m
+  pub filled-more : (zs : List ℤ) (m : ℕ) {d d′ : List ℕ} {w next : ℕ} {z : ℤ} → next ≡ at + 12 * length zs → d ≡ filled l at zs (suc m) → Word z w →
+      d′ ≡ spells d next w → d′ ≡ filled l at (zs ++ (z ∷ [])) m
   filled-more zs m {d} {d′} {w} {next} {z} h e r g =
       let fs = fieldsOf zs in
       let b = replicate {A = ℕ} 12 32 in
@@ -56,9 +57,11 @@ module _ (l : List ℕ) (at : ℕ) where
       let x = sets l at fs in
       let p : next ≡ at + length fs = omega (arith, fields-long zs) in
       let twelve : 12 * suc m ≡ 12 + 12 * m = omega arith in
-      let more : replicate {A = ℕ} (12 * suc m) 32 ≡ b ++ rest = ap (λ (k : ℕ). replicate {A = ℕ} k 32) twelve ∙ sym (replicate-append-replicate 12 (12 * m) 32) in
+      let more : replicate {A = ℕ} (12 * suc m) 32
+      ≡ b ++ rest = ap (λ (k : ℕ). replicate {A = ℕ} k 32) twelve ∙ sym (replicate-append-replicate 12 (12 * m) 32) in
       let blanks : d ≡ sets (sets x next b) (next + 12) rest =
-      e ∙ ap (λ (t : List ℕ). sets l at (fs ++ t)) more ∙ sets-append fs (b ++ rest) l at ∙ ap (λ (k : ℕ). sets x k (b ++ rest)) (sym p) ∙ sets-append b rest x next in
+      e ∙ ap (λ (t : List ℕ). sets l at (fs ++ t)) more ∙ sets-append fs (b ++ rest) l at ∙ ap (λ (k : ℕ). sets x k (b ++ rest)) (sym p)
+      ∙ sets-append b rest x next in
       let spelt : d′ ≡ sets (sets x next (fieldOf z)) (next + 12) rest =
       g ∙ ap (λ (y : ℤ). sets d (next + (12 - length (spelled y))) (spelled y)) (number-is r)
       ∙ ap (λ (t : List ℕ). sets t (next + (12 - length s)) s) blanks
@@ -78,12 +81,15 @@ module _ (l : List ℕ) (at : ℕ) where
       let o : n ≡ n - 0 = omega arith in
       e ∙ filled-none n ∙ ap (filled l at []) o
 
-  pub fields-all : (numbers : List ℤ) (from n j : ℕ) {d : List ℕ} → j ≡ n → d ≡ filled l at (numbersFrom numbers from j) (n - j) → d ≡ sets l at (fieldsOf (numbersFrom numbers from n))
+  pub fields-all : (numbers : List ℤ) (from n j : ℕ) {d : List ℕ} → j ≡ n → d ≡ filled l at (numbersFrom numbers from j) (n - j) →
+      d ≡ sets l at (fieldsOf (numbersFrom numbers from n))
   fields-all numbers from n j q e =
       let o : n - j ≡ 0 = omega arith in
       e ∙ (λ x. filled l at (numbersFrom numbers from (q x)) (o x)) ∙ filled-all (numbersFrom numbers from n)
 
-  pub fields-more : (numbers : List ℤ) (from n j : ℕ) → j < n → {d d′ : List ℕ} {w next : ℕ} → next ≡ at + 12 * j → d ≡ filled l at (numbersFrom numbers from j) (n - j) → Word (getD numbers (from + j) (pos 0)) w → d′ ≡ spells d next w → d′ ≡ filled l at (numbersFrom numbers from (j + 1)) (n - (j + 1))
+  pub fields-more : (numbers : List ℤ) (from n j : ℕ) → j < n → {d d′ : List ℕ} {w next : ℕ} → next ≡ at + 12 * j →
+      d ≡ filled l at (numbersFrom numbers from j) (n - j) → Word (getD numbers (from + j) (pos 0)) w → d′ ≡ spells d next w →
+      d′ ≡ filled l at (numbersFrom numbers from (j + 1)) (n - (j + 1))
   unfolding tabulate
   fields-more numbers from n j o {d} {d′} {w} {next} h e r g =
       let zs = numbersFrom numbers from j in
@@ -100,7 +106,10 @@ module _ (pairs : List ℤ) (first : ℕ) (l : List ℕ) (at : ℕ) where
   abbrev pub number-from : ℕ → ℤ
   number-from j = getD pairs (first + j) (pos 0)
 
-  pub five-filled : {d₀ d₁ d₂ d₃ d₄ d₅ : List ℕ} {w₀ w₁ w₂ w₃ w₅ : ℕ} → d₀ ≡ sets l at (replicate 60 32) → Word (getD pairs first (pos 0)) w₀ → d₁ ≡ spells d₀ at w₀ → Word (number-from 1) w₁ → d₂ ≡ spells d₁ (at + 12) w₁ → Word (number-from 2) w₂ → d₃ ≡ spells d₂ (at + 24) w₂ → Word (number-from 3) w₃ → d₄ ≡ spells d₃ (at + 36) w₃ → Word (number-from 5) w₅ → d₅ ≡ spells d₄ (at + 48) w₅ → d₅ ≡ sets l at (fieldsOf (fiveFrom pairs first))
+  pub five-filled : {d₀ d₁ d₂ d₃ d₄ d₅ : List ℕ} {w₀ w₁ w₂ w₃ w₅ : ℕ} → d₀ ≡ sets l at (replicate 60 32) → Word (getD pairs first (pos 0)) w₀ →
+      d₁ ≡ spells d₀ at w₀ → Word (number-from 1) w₁ → d₂ ≡ spells d₁ (at + 12) w₁ → Word (number-from 2) w₂ → d₃ ≡ spells d₂ (at + 24) w₂ →
+      Word (number-from 3) w₃ → d₄ ≡ spells d₃ (at + 36) w₃ → Word (number-from 5) w₅ → d₅ ≡ spells d₄ (at + 48) w₅ →
+      d₅ ≡ sets l at (fieldsOf (fiveFrom pairs first))
   unfolding tabulate
   five-filled {w₀ = w₀} e r₀ g₀ r₁ g₁ r₂ g₂ r₃ g₃ r₅ g₅ =
       let o : first ≡ first + 0 = omega arith in
@@ -113,7 +122,8 @@ module _ (pairs : List ℤ) (first : ℕ) (l : List ℕ) (at : ℕ) where
       f₅ ∙ filled-all l at (fiveFrom pairs first)
 
   -- four, and one
-  pub five-parts : {d d′ : List ℕ} → d ≡ sets l at (fieldsOf (numbersFrom pairs first 4)) → d′ ≡ sets d (at + 48) (fieldsOf (numbersFrom pairs (first + 5) 1)) → d′ ≡ sets l at (fieldsOf (fiveFrom pairs first))
+  pub five-parts : {d d′ : List ℕ} → d ≡ sets l at (fieldsOf (numbersFrom pairs first 4)) → d′ ≡ sets d (at + 48) (fieldsOf (numbersFrom pairs (first + 5) 1)) →
+      d′ ≡ sets l at (fieldsOf (fiveFrom pairs first))
   unfolding tabulate
   five-parts {d} {d′} e g =
       let zs = numbersFrom pairs first 4 in

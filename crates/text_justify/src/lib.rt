@@ -1,4 +1,5 @@
-// Numbers of a list in fields of 12 columns, right-justified, one after the other: blanks, and the numbers over them. Document 01, 'The column text'.
+// Numbers of a list in fields of 12 columns, right-justified, one after the other: blanks, and the numbers over them.
+// Document 01, 'The column text'.
 ghost use mathlib.Core.Path.{_≡_};
 ghost use Prim.Native.Nat.{_+_, _<_, _≤_};
 ghost use lib.IntN.{pos};
@@ -15,7 +16,8 @@ use words::word_of;
 
 mod number;
 
-// So many fields are taken: there is room for all of them at a place. From a place up to `last` on every place among the numbers is below 2^64.
+// So many fields are taken: there is room for all of them at a place. From a place up to `last` on every place among
+// the numbers is below 2^64.
 fn fields_fit(last: usize, from: usize, n: usize, at: usize, room: usize) -> bool
     ensures { λ r. ⌜ r ≡ fieldsFit last from n at room ⌝ }
 {
@@ -33,7 +35,9 @@ fn fields_fit(last: usize, from: usize, n: usize, at: usize, room: usize) -> boo
 
 // The fields of n numbers from a place of the list on. Fields that are not taken are not written.
 pub fn put_fields(numbers: &[i32], from: usize, n: usize, out: &mut [u8], at: usize)
-    ensures { λ _. ⌜ now (out .exit) ≡ fieldsWhere (fieldsFit 18446744073709551609 from n at (length (now (out .entry)))) (now (out .entry)) at (numbersFrom (now (numbers .entry)) from n) ⌝ }
+    ensures { λ _. ⌜ now (out .exit) ≡ fieldsWhere
+        (fieldsFit 18446744073709551609 from n at (length (now (out .entry)))) (now (out .entry)) at
+        (numbersFrom (now (numbers .entry)) from n) ⌝ }
 {
     if !fields_fit(18446744073709551609, from, n, at, out.len()) {
         return;
@@ -60,7 +64,8 @@ fn word_in(numbers: &[i32], i: usize) -> u32
 // The fields of five of a pair's six numbers, which are in the list. The one left out says where its ops begin.
 fn put_five(pairs: &[i32], first: usize, out: &mut [u8], at: usize)
     requires { ⌜ (first + 6 ≤ length (now pairs)) × (at + 60 ≤ length (now out)) ⌝ }
-    ensures { λ _. ⌜ now (out .exit) ≡ sets (now (out .entry)) at (fieldsOf (fiveFrom (now (pairs .entry)) first)) ⌝ }
+    ensures { λ _. ⌜ now (out .exit) ≡ sets (now (out .entry)) at
+        (fieldsOf (fiveFrom (now (pairs .entry)) first)) ⌝ }
 {
     put_blanks(out, at, 60);
     put_character(out, at, word_in(pairs, first));
@@ -72,7 +77,9 @@ fn put_five(pairs: &[i32], first: usize, out: &mut [u8], at: usize)
 
 // The same, wherever the list ends. Fields that are not taken are not written.
 pub fn put_pair_fields(pairs: &[i32], first: usize, out: &mut [u8], at: usize)
-    ensures { λ _. ⌜ now (out .exit) ≡ fieldsWhere (fieldsFit 9223372036854775808 first 5 at (length (now (out .entry)))) (now (out .entry)) at (fiveFrom (now (pairs .entry)) first) ⌝ }
+    ensures { λ _. ⌜ now (out .exit) ≡ fieldsWhere
+        (fieldsFit 9223372036854775808 first 5 at (length (now (out .entry)))) (now (out .entry)) at
+        (fiveFrom (now (pairs .entry)) first) ⌝ }
 {
     if !fields_fit(9223372036854775808, first, 5, at, out.len()) {
         return;

@@ -1,4 +1,5 @@
-// A number in a field of 12 columns, right-justified: its digits over blanks. Numbers of few digits, which are most there are, are written here.
+// A number in a field of 12 columns, right-justified: its digits over blanks. Numbers of few digits, which are most
+// there are, are written here.
 ghost use mathlib.Core.Path.{_≡_};
 ghost use mathlib.Core.List.{[], _∷_};
 ghost use Prim.Native.Nat.{_+_, _/_, _%_, _<_, _≤_};

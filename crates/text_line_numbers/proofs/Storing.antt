@@ -63,7 +63,8 @@ number-none none e = refl
 number-none (some y) e = absurd (let k : _≡_ {A = ℕ} 0 16 = ap (λ (r : Reply). r .number) e in omega arith)
 
 -- the field that is the j-th from a place on
-pub field-some : (text : List ℕ) (at j : ℕ) (z : ℤ) → fieldAt text (at + 12 * j) ≡ replyOf 0 (z ∷ []) → readField (take 12 (drop (12 * j) (drop at text))) ≡ some z
+pub field-some : (text : List ℕ) (at j : ℕ) (z : ℤ) → fieldAt text (at + 12 * j) ≡ replyOf 0 (z ∷ []) →
+    readField (take 12 (drop (12 * j) (drop at text))) ≡ some z
 field-some text at j z e = rw (drop-drop (12 * j) at text) (number-some (readField (take 12 (drop (at + 12 * j) text))) z e)
 
 pub field-none : (text : List ℕ) (at j : ℕ) → fieldAt text (at + 12 * j) ≡ replyOf 16 [] → readField (take 12 (drop (12 * j) (drop at text))) ≡ none
@@ -90,7 +91,8 @@ unfolding readField
 field-fits [] z e = absurd (none-some e)
 field-fits (b ∷ bs) z e = by (eqb b 32) (eqb b 45) e (field-fits bs z)
   where
-    by : (s t : Bool) → cond s (readField bs) (cond t (withSign (unsigned bs)) (withoutSign (unsigned (b ∷ bs)))) ≡ some z → (readField bs ≡ some z → SFits w32 z) → SFits w32 z
+    by : (s t : Bool) → cond s (readField bs) (cond t (withSign (unsigned bs)) (withoutSign (unsigned (b ∷ bs)))) ≡ some z →
+        (readField bs ≡ some z → SFits w32 z) → SFits w32 z
     by true t e k = k e
     by false true e k = with-fits (unsigned bs) z e
     by false false e k = without-fits (unsigned (b ∷ bs)) z e
@@ -128,7 +130,8 @@ in-some room n bs zs e =
 -- ---- fields one after the other
 
 -- one more at the end
-fields-more : (j : ℕ) (bs : List ℕ) (zs : List ℤ) (z : ℤ) → readFields j bs ≡ some zs → readField (take 12 (drop (12 * j) bs)) ≡ some z → readFields (suc j) bs ≡ some (zs ++ (z ∷ []))
+fields-more : (j : ℕ) (bs : List ℕ) (zs : List ℤ) (z : ℤ) → readFields j bs ≡ some zs → readField (take 12 (drop (12 * j) bs)) ≡ some z →
+    readFields (suc j) bs ≡ some (zs ++ (z ∷ []))
 unfolding readFields
 fields-more zero bs zs z e f = let q : [] ≡ zs = Option·some-injective [] zs e in rw (f, ← q)
 fields-more (suc j) bs zs z e f =
@@ -160,11 +163,13 @@ pub record Storing {A : Type 0} (f : List ℤ → List A) (bs : List ℕ) (list�
 pub stores-none : {A : Type 0} (o : Option (List A)) (list list′ : List A) (place : ℕ) → o ≡ none → Stores o list place false list′
 stores-none o list list′ place e = record { answer = rw e; stored = λ vs s. absurd (none-some (sym e ∙ s)) }
 
-pub stores-some : {A : Type 0} (o : Option (List A)) (vs list list′ : List A) (place : ℕ) → o ≡ some vs → list′ ≡ sets list place vs → Stores o list place true list′
+pub stores-some : {A : Type 0} (o : Option (List A)) (vs list list′ : List A) (place : ℕ) → o ≡ some vs → list′ ≡ sets list place vs →
+    Stores o list place true list′
 stores-some o vs list list′ place e h =
     record { answer = rw e; stored = λ ws s. h ∙ ap (sets list place) (Option·some-injective vs ws (sym e ∙ s)) }
 
-module _ {A : Type 0} (f : List ℤ → List A) (g : ℤ → A) (one : (zs : List ℤ) (z : ℤ) → f (zs ++ (z ∷ [])) ≡ f zs ++ (g z ∷ [])) (same : (zs : List ℤ) → length (f zs) ≡ length zs) (bs : List ℕ) (list₀ : List A) (place : ℕ) where
+module _ {A : Type 0} (f : List ℤ → List A) (g : ℤ → A) (one : (zs : List ℤ) (z : ℤ) → f (zs ++ (z ∷ [])) ≡ f zs ++ (g z ∷ []))
+    (same : (zs : List ℤ) → length (f zs) ≡ length zs) (bs : List ℕ) (list₀ : List A) (place : ℕ) where
   storing-none : f [] ≡ [] → Storing f bs list₀ list₀ place 0
   unfolding readFields
   storing-none e = record { numbers = []; reads = refl; stored = rw e }
@@ -172,7 +177,8 @@ module _ {A : Type 0} (f : List ℤ → List A) (g : ℤ → A) (one : (zs : Lis
   storing-length : {list : List A} {j : ℕ} → Storing f bs list₀ list place j → length list ≡ length list₀
   storing-length s = rw (s .stored) (length-sets list₀ place (f (s .numbers)))
 
-  storing-more : {list : List A} {j : ℕ} (z : ℤ) → Storing f bs list₀ list place j → readField (take 12 (drop (12 * j) bs)) ≡ some z → Storing f bs list₀ (set list (place + j) (g z)) place (j + 1)
+  storing-more : {list : List A} {j : ℕ} (z : ℤ) → Storing f bs list₀ list place j → readField (take 12 (drop (12 * j) bs)) ≡ some z →
+      Storing f bs list₀ (set list (place + j) (g z)) place (j + 1)
   storing-more {list} {j} z s e =
       let l : length (f (s .numbers)) ≡ j = same (s .numbers) ∙ fields-count j bs (s .numbers) (s .reads) in
       record {
@@ -196,12 +202,14 @@ module _ (bs : List ℕ) (list₀ : List ℤ) (place : ℕ) where
   pub numbers-length : {list : List ℤ} {j : ℕ} → Storing plain bs list₀ list place j → length list ≡ length list₀
   numbers-length s = storing-length plain (λ z. z) (λ zs z. refl) (λ zs. refl) bs list₀ place s
 
-  pub numbers-more : {list : List ℤ} {j : ℕ} (z : ℤ) → Storing plain bs list₀ list place j → readField (take 12 (drop (12 * j) bs)) ≡ some z → Storing plain bs list₀ (set list (place + j) (numberOf (wordOf z))) place (j + 1)
+  pub numbers-more : {list : List ℤ} {j : ℕ} (z : ℤ) → Storing plain bs list₀ list place j → readField (take 12 (drop (12 * j) bs)) ≡ some z →
+      Storing plain bs list₀ (set list (place + j) (numberOf (wordOf z))) place (j + 1)
   numbers-more {list} {j} z s e =
       rw (number-word z (field-fits (take 12 (drop (12 * j) bs)) z e))
       (storing-more plain (λ z. z) (λ zs z. refl) (λ zs. refl) bs list₀ place z s e)
 
-  pub numbers-stop : {list : List ℤ} {j : ℕ} (n : ℕ) → Storing plain bs list₀ list place j → readField (take 12 (drop (12 * j) bs)) ≡ none → j < n → Stores (readFields n bs) list₀ place false list
+  pub numbers-stop : {list : List ℤ} {j : ℕ} (n : ℕ) → Storing plain bs list₀ list place j → readField (take 12 (drop (12 * j) bs)) ≡ none → j < n →
+      Stores (readFields n bs) list₀ place false list
   numbers-stop {list} {j} n s e h = stores-none (readFields n bs) list₀ list place (fields-stop j n bs (s .numbers) (s .reads) e h)
 
   pub numbers-all : {list : List ℤ} {j : ℕ} (n : ℕ) → Storing plain bs list₀ list place j → j ≡ n → Stores (readFields n bs) list₀ place true list
@@ -220,12 +228,14 @@ module _ (bs : List ℕ) (word₀ : List ℕ) where
   pub letters-length : {word : List ℕ} {j : ℕ} → Storing worded bs word₀ word 0 j → length word ≡ length word₀
   letters-length s = storing-length worded wordOf last same bs word₀ 0 s
 
-  pub letters-more : {word : List ℕ} {j : ℕ} (z : ℤ) (w : ℕ) → Storing worded bs word₀ word 0 j → readField (take 12 (drop (12 * j) bs)) ≡ some z → w ≡ wordOf (numberOf (wordOf z)) → Storing worded bs word₀ (set word j w) 0 (j + 1)
+  pub letters-more : {word : List ℕ} {j : ℕ} (z : ℤ) (w : ℕ) → Storing worded bs word₀ word 0 j → readField (take 12 (drop (12 * j) bs)) ≡ some z →
+      w ≡ wordOf (numberOf (wordOf z)) → Storing worded bs word₀ (set word j w) 0 (j + 1)
   letters-more {word} {j} z w s e i =
       let k : 0 + j ≡ j = omega arith in
       rw (i, number-word z (field-fits (take 12 (drop (12 * j) bs)) z e)) (rw k at (storing-more worded wordOf last same bs word₀ 0 z s e))
 
-  pub letters-stop : {word : List ℕ} {j : ℕ} (n : ℕ) → Storing worded bs word₀ word 0 j → readField (take 12 (drop (12 * j) bs)) ≡ none → j < n → Stores (wordsOf (readFields n bs)) word₀ 0 false word
+  pub letters-stop : {word : List ℕ} {j : ℕ} (n : ℕ) → Storing worded bs word₀ word 0 j → readField (take 12 (drop (12 * j) bs)) ≡ none → j < n →
+      Stores (wordsOf (readFields n bs)) word₀ 0 false word
   letters-stop {word} {j} n s e h = stores-none (wordsOf (readFields n bs)) word₀ word 0 (ap wordsOf (fields-stop j n bs (s .numbers) (s .reads) e h))
 
   pub letters-all : {word : List ℕ} {j : ℕ} (n : ℕ) → Storing worded bs word₀ word 0 j → j ≡ n → Stores (wordsOf (readFields n bs)) word₀ 0 true word

@@ -21,13 +21,16 @@ use Rattle.text_lines.proofs.Bytes.{bytes-last, line-length, lines-leng
 
 -- ---- a line: its letter, its fields, a line feed
 
-pub line-put : (letter : ℕ) (fs l d : List ℕ) (at end : ℕ) → end ≡ at + 1 + length fs → d ≡ sets (set l at letter) (at + 1) fs → set d end 10 ≡ sets l at ((letter ∷ fs) ++ (10 ∷ []))
+pub line-put : (letter : ℕ) (fs l d : List ℕ) (at end : ℕ) → end ≡ at + 1 + length fs → d ≡ sets (set l at letter) (at + 1) fs →
+    set d end 10 ≡ sets l at ((letter ∷ fs) ++ (10 ∷ []))
 line-put letter fs l d at end q e =
     let o : at + 1 ≡ suc at = add-one at in
     let p : end ≡ at + length (letter ∷ fs) = omega arith in
     sets-after (letter ∷ fs) (10 ∷ []) l d (set d end 10) at end (e ∙ ap (λ (k : ℕ). sets (set l at letter) k fs) o) p refl
 
-pub line-puts : (letter : ℕ) (numbers : List ℤ) (from n : ℕ) (l d : List ℕ) (at : ℕ) → d ≡ sets (set l at letter) (at + 1) (fieldsOf (numbersFrom numbers from n)) → Puts (lineBytes (lineOf letter (numbersFrom numbers from n))) l at (at + 2 + 12 * n) (set d (at + 1 + 12 * n) 10)
+pub line-puts : (letter : ℕ) (numbers : List ℤ) (from n : ℕ) (l d : List ℕ) (at : ℕ) →
+    d ≡ sets (set l at letter) (at + 1) (fieldsOf (numbersFrom numbers from n)) →
+    Puts (lineBytes (lineOf letter (numbersFrom numbers from n))) l at (at + 2 + 12 * n) (set d (at + 1 + 12 * n) 10)
 line-puts letter numbers from n l d at e =
     let q = from-length numbers from n in
     record {
@@ -37,7 +40,8 @@ line-puts letter numbers from n l d at e =
 
 -- ---- P
 
-pub pair-puts : (pairs : List ℤ) (k : ℕ) (l d : List ℕ) (at : ℕ) → d ≡ sets (set l at 80) (at + 1) (fieldsOf (fiveFrom pairs (6 * k))) → Puts (lineBytes (pairLine pairs k)) l at (at + 62) (set d (at + 61) 10)
+pub pair-puts : (pairs : List ℤ) (k : ℕ) (l d : List ℕ) (at : ℕ) → d ≡ sets (set l at 80) (at + 1) (fieldsOf (fiveFrom pairs (6 * k))) →
+    Puts (lineBytes (pairLine pairs k)) l at (at + 62) (set d (at + 61) 10)
 unfolding tabulate
 pair-puts pairs k l d at e =
     let zs = pairLine pairs k .numbers in
@@ -77,7 +81,8 @@ module _ (letter n : ℕ) (numbers : List ℤ) (k : ℕ) (l : List ℕ) (at : �
   unfolding tabulate textOf
   lines-none = puts-none l at
 
-  pub lines-more : {d d′ : List ℕ} {next r : ℕ} (i : ℕ) → Puts (some-bytes i) l at next d → Puts (lineBytes (at-line i)) d next r d′ → Puts (some-bytes (i + 1)) l at r d′
+  pub lines-more : {d d′ : List ℕ} {next r : ℕ} (i : ℕ) → Puts (some-bytes i) l at next d → Puts (lineBytes (at-line i)) d next r d′ →
+      Puts (some-bytes (i + 1)) l at r d′
   unfolding tabulate
   lines-more i a b =
       let e : some-bytes (i + 1) ≡ some-bytes i ++ lineBytes (at-line i) = ap some-bytes (add-one i) ∙ bytes-last (tabulate i at-line) (at-line i) in

@@ -36,7 +36,9 @@ fit-of n k count at room t =
       six = leb-true n 6 (both-left (leb n 6) _ t);
       first = leb-true k (2 ^ 60) (both-left (leb k (2 ^ 60)) _ r₁);
       place = leb-true at room (both-left (leb at room) _ r₂);
-      all = le-div-iff-mul-le {k = 12 * n + 2} {x = count} {y = room - at} (omega arith) .0 (leb-true count ((room - at) / (12 * n + 2)) (both-right (leb at room) _ r₂));
+      all =
+          le-div-iff-mul-le {k = 12 * n + 2} {x = count} {y = room - at} (omega arith) .0
+          (leb-true count ((room - at) / (12 * n + 2)) (both-right (leb at room) _ r₂));
     }
 
 -- there is room for each line, and every place among the numbers fits
@@ -79,14 +81,18 @@ pair-fits k at room t = let f = fit-of 5 k 1 at room t in (omega (arith, f .plac
 module _ {bytes l d : List ℕ} {at r : ℕ} (t : Bool) where
   pub where-taken : t ≡ true → Puts bytes l at r d → PutsWhere t bytes l at r d
   where-taken e p =
-      record { next = p .next ∙ sym (ap (λ (b : Bool). cond b (at + length bytes) at) e); written = p .written ∙ sym (ap (λ (b : Bool). cond b (sets l at bytes) l) e) }
+      record {
+        next = p .next ∙ sym (ap (λ (b : Bool). cond b (at + length bytes) at) e);
+        written = p .written ∙ sym (ap (λ (b : Bool). cond b (sets l at bytes) l) e);
+      }
 
   pub where-puts : t ≡ true → PutsWhere t bytes l at r d → Puts bytes l at r d
   where-puts e p =
       record { next = p .next ∙ ap (λ (b : Bool). cond b (at + length bytes) at) e; written = p .written ∙ ap (λ (b : Bool). cond b (sets l at bytes) l) e }
 
 pub where-left : (t : Bool) (bytes l : List ℕ) (at : ℕ) → t ≡ false → PutsWhere t bytes l at at l
-where-left t bytes l at e = record { next = sym (ap (λ (b : Bool). cond b (at + length bytes) at) e); written = sym (ap (λ (b : Bool). cond b (sets l at bytes) l) e) }
+where-left t bytes l at e =
+    record { next = sym (ap (λ (b : Bool). cond b (at + length bytes) at) e); written = sym (ap (λ (b : Bool). cond b (sets l at bytes) l) e) }
 
 -- ---- at most six numbers each, a first line whose index fits, and room: they are taken
 
@@ -95,7 +101,8 @@ fit-taken n k count at room f =
     let d : count ≤ (room - at) / (12 * n + 2) = le-div-iff-mul-le {k = 12 * n + 2} {x = count} {y = room - at} (omega arith) .1 (f .all) in
     rw (le-leb n 6 (f .six), le-leb k (2 ^ 60) (f .first), le-leb at room (f .place), le-leb count ((room - at) / (12 * n + 2)) d)
 
-pub taken-is : (letter n : ℕ) (numbers : List ℤ) (k count : ℕ) (l : List ℕ) (at : ℕ) → n ≤ 6 → k ≤ 2 ^ 60 → HasRoom (bytesOf (linesFrom letter n numbers k count)) l at → linesFit n k count at (length l) ≡ true
+pub taken-is : (letter n : ℕ) (numbers : List ℤ) (k count : ℕ) (l : List ℕ) (at : ℕ) → n ≤ 6 → k ≤ 2 ^ 60 →
+    HasRoom (bytesOf (linesFrom letter n numbers k count)) l at → linesFit n k count at (length l) ≡ true
 taken-is letter n numbers k count l at s c r =
     let q = run-length letter n numbers k l at count in
     fit-taken n k count at (length l) (record { six = s; first = c; place = omega (arith, r); all = omega (arith, r, q) })

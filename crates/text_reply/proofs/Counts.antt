@@ -103,7 +103,8 @@ module _ (pairs ops loops : List ℤ) (letters : ℤ) (items : List ℤ) where
       bytes-append (table ++ all-loops) (wordLines letters items)
       ∙ ap (λ (t : List ℕ). t ++ bytesOf (wordLines letters items)) (bytes-append table all-loops)
 
-  reply-length : length (replyBytes pairs ops loops letters items) ≡ length (tableBytes pairs ops) + length loops / 2 * 26 + length (bytesOf (wordLines letters items))
+  reply-length : length (replyBytes pairs ops loops letters items)
+      ≡ length (tableBytes pairs ops) + length loops / 2 * 26 + length (bytesOf (wordLines letters items))
   reply-length =
       omega (
         arith,
@@ -128,7 +129,8 @@ module _ (pairs ops loops : List ℤ) (letters : ℤ) (items : List ℤ) where
         table-next ∙ ap cappedSize (sym q)
 
     -- with one
-    pub size-word : (n : ℕ) → letters ≡ pos n → (b r : ℕ) → b ≡ cappedSize (a + 14) → r ≡ cappedSize (b + length items / 6 * 74) → r ≡ cappedSize (length (replyBytes pairs ops loops letters items))
+    pub size-word : (n : ℕ) → letters ≡ pos n → (b r : ℕ) → b ≡ cappedSize (a + 14) → r ≡ cappedSize (b + length items / 6 * 74) →
+        r ≡ cappedSize (length (replyBytes pairs ops loops letters items))
     size-word n z b r p s =
         let q : length (replyBytes pairs ops loops letters items) ≡ length (tableBytes pairs ops) + length loops / 2 * 26 + 14 + length items / 6 * 74 =
         omega (arith, reply-length, ap (λ (y : ℤ). length (bytesOf (wordLines y items))) z, word-length items n) in

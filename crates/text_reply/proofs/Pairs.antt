@@ -39,7 +39,8 @@ module _ (pairs ops : List ℤ) where
       ∙ ap (λ (ls : List Line). lineBytes (pairLine pairs k) ++ bytesOf ls) (sym (op-lines ops (firstOp pairs k) (countOf pairs k))))
 
   ops-are : (k : ℕ) → length (ops-of k) ≡ countOf pairs k * 26
-  ops-are k = ap (λ (ls : List Line). length (bytesOf ls)) (op-lines ops (firstOp pairs k) (countOf pairs k)) ∙ ops-length ops (firstOp pairs k) (countOf pairs k)
+  ops-are k =
+      ap (λ (ls : List Line). length (bytesOf ls)) (op-lines ops (firstOp pairs k) (countOf pairs k)) ∙ ops-length ops (firstOp pairs k) (countOf pairs k)
 
   pub pairs-length : (k : ℕ) → length (some-pairs (suc k)) ≡ length (some-pairs k) + (62 + 26 * countOf pairs k)
   pairs-length k =
@@ -65,10 +66,13 @@ module _ (pairs ops : List ℤ) where
 
     module _ (k next : ℕ) (d : List ℕ) (h : k < pairCount pairs) (r : HasRoom (tableBytes pairs ops) l at) (p : Puts (some-pairs k) l at next d) where
       -- the pair is written, and its ops after it
-      pub pair-more : length pairs < 2 ^ 61 → (m : ℕ) (d₁ : List ℕ) → PutsWhere (linesFit 5 k 1 next (length d)) (lineBytes (pairLine pairs k)) d next m d₁ → (first count : ℕ) → Word (number pairs k 4) first → Word (number pairs k 5) count → (n : ℕ) (d₂ : List ℕ) → PutsWhere (linesFit 2 first count m (length d₁)) (bytesOf (linesFrom 79 2 ops first count)) d₁ m n d₂ → Puts (some-pairs (k + 1)) l at n d₂
+      pub pair-more : length pairs < 2 ^ 61 → (m : ℕ) (d₁ : List ℕ) → PutsWhere (linesFit 5 k 1 next (length d)) (lineBytes (pairLine pairs k)) d next m d₁ →
+          (first count : ℕ) → Word (number pairs k 4) first → Word (number pairs k 5) count → (n : ℕ) (d₂ : List ℕ) →
+          PutsWhere (linesFit 2 first count m (length d₁)) (bytesOf (linesFrom 79 2 ops first count)) d₁ m n d₂ → Puts (some-pairs (k + 1)) l at n d₂
       pair-more w m d₁ v first count f c n d₂ q =
           let room = pairs-room k (pairCount pairs) h in
-          let g : Puts (lineBytes (pairLine pairs k)) d next m d₁ = where-puts (linesFit 5 k 1 next (length d)) (pair-taken k next (length d) (omega arith) (omega (arith, room, r, p .next, puts-length p))) v in
+          let g : Puts (lineBytes (pairLine pairs k)) d next m d₁ = where-puts (linesFit 5 k 1 next (length d))
+          (pair-taken k next (length d) (omega arith) (omega (arith, room, r, p .next, puts-length p))) v in
           let e : bytesOf (linesFrom 79 2 ops first count) ≡ ops-of k = λ i. bytesOf (linesFrom 79 2 ops (f .is i) (c .is i)) in
           let o : HasRoom (ops-of k) d₁ m = omega (arith, room, r, p .next, puts-length p, g .next, puts-length g, line-length (pairLine pairs k), ops-are k) in
           let b : Puts (ops-of k) d₁ m n d₂ = puts-lines 79 2 ops first count (omega arith) (omega (arith, read-lt f)) e o q in

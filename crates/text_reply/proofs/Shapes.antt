@@ -23,7 +23,9 @@ module _ (numbers : List ℤ) (p : ℕ) where
   unfolding tabulate
   two-numbers = rw (add-zero p)
 
-  six-numbers : numbersFrom numbers p 6 ≡ getD numbers p (pos 0) ∷ getD numbers (p + 1) (pos 0) ∷ getD numbers (p + 2) (pos 0) ∷ getD numbers (p + 3) (pos 0) ∷ getD numbers (p + 4) (pos 0) ∷ getD numbers (p + 5) (pos 0) ∷ []
+  six-numbers : numbersFrom numbers p 6
+      ≡ getD numbers p (pos 0) ∷ getD numbers (p + 1) (pos 0) ∷ getD numbers (p + 2) (pos 0) ∷ getD numbers (p + 3) (pos 0) ∷ getD numbers (p + 4) (pos 0)
+      ∷ getD numbers (p + 5) (pos 0) ∷ []
   unfolding tabulate
   six-numbers = rw (add-zero p)
 
@@ -33,7 +35,8 @@ pub op-lines : (ops : List ℤ) (k count : ℕ) → linesFrom 79 2 ops k count �
 op-lines ops k count = tabulate-ext count (λ j. lineAt 79 2 ops (k + j)) (λ j. opLine ops (k + j)) (λ j h. ap (lineOf 79) (two-numbers ops (2 * (k + j))))
 
 -- lines from the first on
-from-first : (letter n : ℕ) (numbers : List ℤ) (f : ℕ → Line) → ((i : ℕ) → lineAt letter n numbers i ≡ f i) → (count : ℕ) → linesFrom letter n numbers 0 count ≡ tabulate count f
+from-first : (letter n : ℕ) (numbers : List ℤ) (f : ℕ → Line) → ((i : ℕ) → lineAt letter n numbers i ≡ f i) → (count : ℕ) →
+    linesFrom letter n numbers 0 count ≡ tabulate count f
 from-first letter n numbers f e count =
     tabulate-ext count (λ i. lineAt letter n numbers (0 + i)) f (λ i h. let z : 0 + i ≡ i = omega arith in ap (lineAt letter n numbers) z ∙ e i)
 
@@ -62,7 +65,9 @@ items-length items count = lines-length (itemLine items) 74 (λ i. line-length (
 
 -- ---- written: lines for which there is room
 
-pub puts-lines : (letter n : ℕ) (numbers : List ℤ) (k count : ℕ) {bytes l d : List ℕ} {at r : ℕ} → n ≤ 6 → k ≤ 2 ^ 60 → bytesOf (linesFrom letter n numbers k count) ≡ bytes → HasRoom bytes l at → PutsWhere (linesFit n k count at (length l)) (bytesOf (linesFrom letter n numbers k count)) l at r d → Puts bytes l at r d
+pub puts-lines : (letter n : ℕ) (numbers : List ℤ) (k count : ℕ) {bytes l d : List ℕ} {at r : ℕ} → n ≤ 6 → k ≤ 2 ^ 60 →
+    bytesOf (linesFrom letter n numbers k count) ≡ bytes → HasRoom bytes l at →
+    PutsWhere (linesFit n k count at (length l)) (bytesOf (linesFrom letter n numbers k count)) l at r d → Puts bytes l at r d
 puts-lines letter n numbers k count {bytes} {l} {d} {at} {r} s c e h p =
     let t = taken-is letter n numbers k count l at s c (subst (λ (bs : List ℕ). HasRoom bs l at) (sym e) h) in
     subst (λ (bs : List ℕ). Puts bs l at r d) e (where-puts (linesFit n k count at (length l)) t p)

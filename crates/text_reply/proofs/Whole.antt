@@ -54,12 +54,17 @@ module _ (letters : ℕ) (items : List ℤ) (h : letters < 2 ^ 31) (l : List ℕ
       ∙ bytes-first (lineOf 87 (pos letters ∷ [])) (tabulate (length items / 6) (itemLine items))
       ∙ ap (λ (z : ℤ). lineBytes (lineOf 87 (z ∷ [])) ++ all-items) (sym (number-pos letters h))
 
-  pub word-put : HasRoom (bytesOf (wordLines (numberOf letters) items)) l at → (z : ℤ) → z ≡ numberOf letters → (d : List ℕ) (j : ℕ) → PutsWhere (linesFit 1 0 1 at (length l)) (bytesOf (linesFrom 87 1 (z ∷ []) 0 1)) l at j d →
-      (d′ : List ℕ) (n : ℕ) → PutsWhere (linesFit 6 0 (length items / 6) j (length d)) (bytesOf (linesFrom 84 6 items 0 (length items / 6))) d j n d′ → d′ ≡ sets l at (bytesOf (wordLines (numberOf letters) items))
+  pub word-put : HasRoom (bytesOf (wordLines (numberOf letters) items)) l at → (z : ℤ) → z ≡ numberOf letters → (d : List ℕ) (j : ℕ) →
+      PutsWhere (linesFit 1 0 1 at (length l)) (bytesOf (linesFrom 87 1 (z ∷ []) 0 1)) l at j d →
+      (d′ : List ℕ) (n : ℕ) → PutsWhere (linesFit 6 0 (length items / 6) j (length d)) (bytesOf (linesFrom 84 6 items 0 (length items / 6))) d j n d′ →
+      d′ ≡ sets l at (bytesOf (wordLines (numberOf letters) items))
   word-put r z e d j p d′ n q =
-      let s : length (bytesOf (wordLines (numberOf letters) items)) ≡ 14 + length all-items = omega (arith, ap length word-is, length-append (lineBytes first-line) all-items, line-length first-line) in
-      let a : Puts (lineBytes first-line) l at j d = puts-lines 87 1 (z ∷ []) 0 1 (omega arith) (omega arith) (one-line 87 z ∙ ap (λ (y : ℤ). lineBytes (lineOf 87 (y ∷ []))) e) (omega (arith, r, s, line-length first-line)) p in
-      let b : Puts all-items d j n d′ = puts-lines 84 6 items 0 (length items / 6) (omega arith) (omega arith) (ap bytesOf (item-lines items (length items / 6))) (omega (arith, r, s, a .next, puts-length a, line-length first-line)) q in
+      let s : length (bytesOf (wordLines (numberOf letters) items))
+      ≡ 14 + length all-items = omega (arith, ap length word-is, length-append (lineBytes first-line) all-items, line-length first-line) in
+      let a : Puts (lineBytes first-line) l at j d = puts-lines 87 1 (z ∷ []) 0 1 (omega arith) (omega arith)
+      (one-line 87 z ∙ ap (λ (y : ℤ). lineBytes (lineOf 87 (y ∷ []))) e) (omega (arith, r, s, line-length first-line)) p in
+      let b : Puts all-items d j n d′ = puts-lines 84 6 items 0 (length items / 6) (omega arith) (omega arith)
+      (ap bytesOf (item-lines items (length items / 6))) (omega (arith, r, s, a .next, puts-length a, line-length first-line)) q in
       puts-both a b .written ∙ ap (sets l at) (sym word-is)
 
 -- ---- all parts
@@ -68,7 +73,8 @@ module _ (letters : ℕ) (items : List ℤ) (h : letters < 2 ^ 31) (l : List ℕ
 abbrev pub loopBytes : List ℤ → List ℕ
 loopBytes loops = bytesOf (tabulate (length loops / 2) (loopLine loops))
 
-pub loops-put : (loops : List ℤ) {d d′ : List ℕ} {j m : ℕ} → HasRoom (loopBytes loops) d j → PutsWhere (linesFit 2 0 (length loops / 2) j (length d)) (bytesOf (linesFrom 88 2 loops 0 (length loops / 2))) d j m d′ → Puts (loopBytes loops) d j m d′
+pub loops-put : (loops : List ℤ) {d d′ : List ℕ} {j m : ℕ} → HasRoom (loopBytes loops) d j →
+    PutsWhere (linesFit 2 0 (length loops / 2) j (length d)) (bytesOf (linesFrom 88 2 loops 0 (length loops / 2))) d j m d′ → Puts (loopBytes loops) d j m d′
 loops-put loops r q = puts-lines 88 2 loops 0 (length loops / 2) (omega arith) (omega arith) (ap bytesOf (loop-lines loops (length loops / 2))) r q
 
 module _ (pairs ops loops : List ℤ) (letters : ℤ) (items : List ℤ) (l : List ℕ) (r : length (replyBytes pairs ops loops letters items) ≤ length l) where
@@ -79,7 +85,8 @@ module _ (pairs ops loops : List ℤ) (letters : ℤ) (items : List ℤ) (l : Li
   the-word = bytesOf (wordLines letters items)
 
   pub parts-fit : length (tableBytes pairs ops) + length (loopBytes loops) + length the-word ≤ length l
-  parts-fit = omega (arith, r, ap length (reply-is pairs ops loops letters items), length-append front the-word, length-append (tableBytes pairs ops) (loopBytes loops))
+  parts-fit =
+      omega (arith, r, ap length (reply-is pairs ops loops letters items), length-append front the-word, length-append (tableBytes pairs ops) (loopBytes loops))
 
   module _ {d : List ℕ} {m : ℕ} (p : Puts front l 0 m d) where
     pub word-fits : HasRoom the-word d m
@@ -90,13 +97,15 @@ module _ (pairs ops loops : List ℤ) (letters : ℤ) (items : List ℤ) (l : Li
 
 -- ---- zeros after the reply, which is written at the front
 
-pub rest-zeroed : (bytes l d zs : List ℕ) (size : ℕ) → length bytes ≤ length l → size ≡ length bytes → d ≡ sets l 0 bytes → zs ≡ replicate (length (midOf size (length d - size) d)) 0 → putMid size (length d - size) d zs ≡ bytes ++ replicate (length l - length bytes) 0
+pub rest-zeroed : (bytes l d zs : List ℕ) (size : ℕ) → length bytes ≤ length l → size ≡ length bytes → d ≡ sets l 0 bytes →
+    zs ≡ replicate (length (midOf size (length d - size) d)) 0 → putMid size (length d - size) d zs ≡ bytes ++ replicate (length l - length bytes) 0
 rest-zeroed bytes l d zs size h s e z =
     let k : length d ≡ length l = ap length e ∙ length-sets l 0 bytes in
     let b : take size d ≡ bytes = ap (take size) (e ∙ sets-front bytes l h) ∙ take-at bytes (drop (length bytes) l) size (sym s) in
     let m : length (midOf size (length d - size) d) ≡ length l - length bytes = mid-len size (length d) d (omega arith) ∙ (λ i. k i - s i) in
     let r : zs ++ postOf size (length d - size) d ≡ replicate (length l - length bytes) 0 =
-    (λ i. (z ∙ ap (λ (n : ℕ). replicate n 0) m) i ++ (post-is size (length d) d (omega arith) ∙ drop-length d) i) ∙ append-nil (replicate (length l - length bytes) 0) in
+    (λ i. (z ∙ ap (λ (n : ℕ). replicate n 0) m) i ++ (post-is size (length d) d (omega arith) ∙ drop-length d) i)
+    ∙ append-nil (replicate (length l - length bytes) 0) in
     λ i. b i ++ r i
 
 -- ---- what is answered
@@ -130,4 +139,7 @@ module _ (bytes l : List ℕ) (size : ℕ) (s : size ≡ cappedSize (length byte
     pub reply-taken : (d : List ℕ) → d ≡ bytes ++ replicate (length l - length bytes) 0 → WritesReply bytes l (Count size) d
     reply-taken d z =
         let r : replyRefusal bytes (length l) ≡ 0 = ap (unless 15) (test-is ∙ f) in
-        record { answer = ap (λ (n : ℕ). writtenReply (Count n)) size-is ∙ taken-answer (length bytes) r; list = z ∙ sym (ap (λ (n : ℕ). listOf n 0 (length l) bytes) r) }
+        record {
+          answer = ap (λ (n : ℕ). writtenReply (Count n)) size-is ∙ taken-answer (length bytes) r;
+          list = z ∙ sym (ap (λ (n : ℕ). listOf n 0 (length l) bytes) r);
+        }

@@ -1,5 +1,5 @@
-// The reply to a column text, written. Document 01, 'The column text'. First its length is decided (size), then its parts are written, each line once and in
-// place (parts), and zeros after the last.
+// The reply to a column text, written. Document 01, 'The column text'. First its length is decided (size), then its
+// parts are written, each line once and in place (parts), and zeros after the last.
 ghost use mathlib.Core.Path.{_≡_};
 ghost use lib.Dec.{leb};
 ghost use Rattle.lang.specs.Every.{both};
@@ -20,7 +20,8 @@ fn has_room(size: usize, room: usize) -> bool
     size <= 65536 && size <= room
 }
 
-// The reply, with zeros after it. Answers how many bytes it has; 15, and zeros, where they are over 65,536 or more than there is room for.
+// The reply, with zeros after it. Answers how many bytes it has; 15, and zeros, where they are over 65,536 or more than
+// there is room for.
 pub fn write_reply(
     pairs: &[i32],
     ops: &[i32],
@@ -29,7 +30,9 @@ pub fn write_reply(
     items: &[i32],
     reply: &mut [u8],
 ) -> Written
-    ensures { λ r. ⌜ WritesReply (replyBytes (now (pairs .entry)) (now (ops .entry)) (now (loops .entry)) letters (now (items .entry))) (now (reply .entry)) r (now (reply .exit)) ⌝ }
+    ensures { λ r. ⌜ WritesReply
+        (replyBytes (now (pairs .entry)) (now (ops .entry)) (now (loops .entry)) letters (now (items .entry)))
+        (now (reply .entry)) r (now (reply .exit)) ⌝ }
 {
     let word = word_of(letters);
     let size = reply_size(pairs, loops, word, items);

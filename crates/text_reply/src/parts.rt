@@ -15,7 +15,8 @@ use words::word_at;
 // P and O: every pair with its ops, from a place on. Answers the place after them.
 fn put_table(pairs: &[i32], ops: &[i32], out: &mut [u8], at: usize) -> usize
     requires { ⌜ HasRoom (tableBytes (now pairs) (now ops)) (now out) at ⌝ }
-    ensures { λ r. ⌜ Puts (tableBytes (now (pairs .entry)) (now (ops .entry))) (now (out .entry)) at r (now (out .exit)) ⌝ }
+    ensures { λ r. ⌜ Puts (tableBytes (now (pairs .entry)) (now (ops .entry))) (now (out .entry)) at r
+        (now (out .exit)) ⌝ }
 {
     let mut next = at;
     let mut k = 0;
@@ -32,7 +33,8 @@ fn put_table(pairs: &[i32], ops: &[i32], out: &mut [u8], at: usize) -> usize
 // W and T: the word's length, given by its 32 bits, and its items. Nothing where there is no word.
 fn put_set_word(letters: u32, items: &[i32], out: &mut [u8], at: usize)
     requires { ⌜ HasRoom (bytesOf (wordLines (numberOf letters) (now items))) (now out) at ⌝ }
-    ensures { λ _. ⌜ now (out .exit) ≡ sets (now (out .entry)) at (bytesOf (wordLines (numberOf letters) (now (items .entry)))) ⌝ }
+    ensures { λ _. ⌜ now (out .exit) ≡ sets (now (out .entry)) at
+        (bytesOf (wordLines (numberOf letters) (now (items .entry)))) ⌝ }
 {
     if letters < 2147483648 {
         let numbers = [number_of(letters)];
@@ -50,8 +52,11 @@ pub(crate) fn put_reply(
     items: &[i32],
     out: &mut [u8],
 )
-    requires { ⌜ length (replyBytes (now pairs) (now ops) (now loops) (numberOf letters) (now items)) ≤ length (now out) ⌝ }
-    ensures { λ _. ⌜ now (out .exit) ≡ sets (now (out .entry)) 0 (replyBytes (now (pairs .entry)) (now (ops .entry)) (now (loops .entry)) (numberOf letters) (now (items .entry))) ⌝ }
+    requires { ⌜ length (replyBytes (now pairs) (now ops) (now loops) (numberOf letters) (now items))
+        ≤ length (now out) ⌝ }
+    ensures { λ _. ⌜ now (out .exit) ≡ sets (now (out .entry)) 0
+        (replyBytes (now (pairs .entry)) (now (ops .entry)) (now (loops .entry)) (numberOf letters)
+        (now (items .entry))) ⌝ }
 {
     let ops_end = put_table(pairs, ops, out, 0);
     let loops_end = put_lines(88, loops, 0, loops.len() / 2, 2, out, ops_end);

@@ -39,7 +39,10 @@ fn table_size(pairs: &[i32]) -> usize
 
 // The bytes of a whole reply; the word's length is given by its 32 bits.
 pub(crate) fn reply_size(pairs: &[i32], loops: &[i32], letters: u32, items: &[i32]) -> usize
-    ensures { λ r. ⌜ ((ops : List ℤ) → r ≡ cappedSize (length (replyBytes (now (pairs .entry)) ops (now (loops .entry)) (numberOf letters) (now (items .entry))))) ⌝ }
+    ensures { λ r. ⌜ ((ops : List ℤ) →
+        r ≡ cappedSize
+        (length
+        (replyBytes (now (pairs .entry)) ops (now (loops .entry)) (numberOf letters) (now (items .entry))))) ⌝ }
 {
     let size = with_lines(table_size(pairs), loops.len() / 2, 26);
     if letters < 2147483648 {

@@ -92,7 +92,8 @@ module _ (text : List ℕ) (p : TextProgress) (t : Text) (tells : TellsText text
   pub from-here : restOf (b ∷ drop (p .at + 1) text) (some t) ≡ readText text
   from-here = ap (λ (l : List ℕ). restOf l (some t)) (sym stands) ∙ tells .rest
 
-  pub further : (n : ℕ) (zs : List ℤ) (u : Text) → (b ≡ 10 → ⊥) → numbersOn n (drop (p .at + 1) text) ≡ some zs → addLine t (some (lineOf b zs)) ≡ some u → restOf (drop (p .at + (12 * n + 2)) text) (some u) ≡ readText text
+  pub further : (n : ℕ) (zs : List ℤ) (u : Text) → (b ≡ 10 → ⊥) → numbersOn n (drop (p .at + 1) text) ≡ some zs → addLine t (some (lineOf b zs)) ≡ some u →
+      restOf (drop (p .at + (12 * n + 2)) text) (some u) ≡ readText text
   further n zs u o e a =
       let k : p .at + 1 + (12 * n + 1) ≡ p .at + (12 * n + 2) = omega arith in
       ap (λ (j : ℕ). restOf (drop j text) (some u)) (sym k)
@@ -103,16 +104,20 @@ module _ (text : List ℕ) (p : TextProgress) (t : Text) (tells : TellsText text
   inside : (n : ℕ) (zs : List ℤ) → numbersOn n (drop (p .at + 1) text) ≡ some zs → p .at + (12 * n + 2) ≤ length text
   inside n zs e = omega (arith, numbered n (drop (p .at + 1) text) zs e .long, length-drop (p .at + 1) text, before .inside)
 
-  pub none-short : (n : ℕ) → ((zs : List ℤ) (u : Text) → addLine t (some (lineOf b zs)) ≡ some u → length zs ≡ n) → numbersOn n (drop (p .at + 1) text) ≡ none → readText text ≡ none
+  pub none-short : (n : ℕ) → ((zs : List ℤ) (u : Text) → addLine t (some (lineOf b zs)) ≡ some u → length zs ≡ n) → numbersOn n (drop (p .at + 1) text) ≡ none →
+      readText text ≡ none
   none-short n only e = sym from-here ∙ rest-short t n b (drop (p .at + 1) text) only e
 
   pub none-refused : ((zs : List ℤ) → addLine t (some (lineOf b zs)) ≡ none) → readText text ≡ none
   none-refused h = sym from-here ∙ rest-refused t b (drop (p .at + 1) text) h
 
   -- n numbers, to a list of so many places
-  module _ (n limit place : ℕ) (q : TextProgress) (done list list′ : List ℤ) (more : List ℤ → Text) (instructions kerns entries : List ℤ) (o : b ≡ 10 → ⊥) (at-end : length done ≡ place) (held : Appending done (zeros (pos 0) limit) list)
-      (add : (zs : List ℤ) → length zs ≡ n → place + n ≤ limit → addLine t (some (lineOf b zs)) ≡ some (more zs)) (only : (zs : List ℤ) (u : Text) → addLine t (some (lineOf b zs)) ≡ some u → length zs ≡ n) (full : limit < place + n → readText text ≡ none)
-      (then : (zs : List ℤ) → length zs ≡ n → p .at + (12 * n + 2) ≤ length text → restOf (drop (p .at + (12 * n + 2)) text) (some (more zs)) ≡ readText text → Appending (done ++ zs) (zeros (pos 0) limit) list′ → Scanning text q instructions kerns entries) where
+  module _ (n limit place : ℕ) (q : TextProgress) (done list list′ : List ℤ) (more : List ℤ → Text) (instructions kerns entries : List ℤ) (o : b ≡ 10 → ⊥)
+      (at-end : length done ≡ place) (held : Appending done (zeros (pos 0) limit) list)
+      (add : (zs : List ℤ) → length zs ≡ n → place + n ≤ limit → addLine t (some (lineOf b zs)) ≡ some (more zs))
+      (only : (zs : List ℤ) (u : Text) → addLine t (some (lineOf b zs)) ≡ some u → length zs ≡ n) (full : limit < place + n → readText text ≡ none)
+      (then : (zs : List ℤ) → length zs ≡ n → p .at + (12 * n + 2) ≤ length text → restOf (drop (p .at + (12 * n + 2)) text) (some (more zs)) ≡ readText text →
+      Appending (done ++ zs) (zeros (pos 0) limit) list′ → Scanning text q instructions kerns entries) where
     room : place ≤ limit
     room = omega (arith, held .within, zeros-long (pos 0) limit)
 
@@ -125,7 +130,8 @@ module _ (text : List ℕ) (p : TextProgress) (t : Text) (tells : TellsText text
     by-room true k e = none-short n only e
     by-room false k e = full (omega (arith, leb-false n (limit - place) k, room))
 
-    by-read : (r : NextLine) (v : Option (List ℤ)) → numbersIn (limit - place) n (drop (p .at + 1) text) ≡ v → p .at < q .at → r ≡ nextBy v q → ((zs : List ℤ) → v ≡ some zs → list′ ≡ sets list place zs) → Goes text p instructions kerns entries r
+    by-read : (r : NextLine) (v : Option (List ℤ)) → numbersIn (limit - place) n (drop (p .at + 1) text) ≡ v → p .at < q .at → r ≡ nextBy v q →
+        ((zs : List ℤ) → v ≡ some zs → list′ ≡ sets list place zs) → Goes text p instructions kerns entries r
     by-read r none e h a s = goes-nowhere text p instructions kerns entries r a (by-room (leb n (limit - place)) refl e)
     by-read r (some zs) e h a s =
         let c = cond-some (leb n (limit - place)) (numbersOn n (drop (p .at + 1) text)) zs e in
@@ -134,13 +140,16 @@ module _ (text : List ℕ) (p : TextProgress) (t : Text) (tells : TellsText text
         goes-at text p instructions kerns entries r q a h
         (then zs m (inside n zs (c .1)) (further n zs (more zs) o (c .1) (add zs m l)) (stored zs m l (s zs refl)))
 
-    pub line-goes : (r : NextLine) → p .at < q .at → TakesLine (numbersIn (limit - place) n (drop (p .at + 1) text)) q list place r list′ → Goes text p instructions kerns entries r
+    pub line-goes : (r : NextLine) → p .at < q .at → TakesLine (numbersIn (limit - place) n (drop (p .at + 1) text)) q list place r list′ →
+        Goes text p instructions kerns entries r
     line-goes r h k = by-read r (numbersIn (limit - place) n (drop (p .at + 1) text)) refl h (k .answer) (k .stored)
 
   -- one number, once: `once o u` is u where there is none yet
-  module _ (read : Bool) (w : ℕ) (v : Option ℤ) (f : ℕ → TextProgress) (more : ℤ → Text) (instructions kerns entries : List ℤ) (o : b ≡ 10 → ⊥) (head : HeadSaid v read w)
+  module _ (read : Bool) (w : ℕ) (v : Option ℤ) (f : ℕ → TextProgress) (more : ℤ → Text) (instructions kerns entries : List ℤ) (o : b ≡ 10 → ⊥)
+      (head : HeadSaid v read w)
       (add : (zs : List ℤ) → addLine t (some (lineOf b zs)) ≡ byOne (λ z. once v (more z)) zs) (ahead : (z : ℤ) → p .at < f (wordOf z) .at)
-      (then : (z : ℤ) → SFits w32 z → p .at + 14 ≤ length text → restOf (drop (p .at + 14) text) (some (more z)) ≡ readText text → Scanning text (f (wordOf z)) instructions kerns entries) where
+      (then : (z : ℤ) → SFits w32 z → p .at + 14 ≤ length text → restOf (drop (p .at + 14) text) (some (more z)) ≡ readText text →
+      Scanning text (f (wordOf z)) instructions kerns entries) where
     again : read ≡ true → readText text ≡ none
     again e = let i : v ≡ some (numberOf w) = head .is ∙ rw e in none-refused (λ zs. add zs ∙ rw i (none-by-one zs))
 
@@ -157,7 +166,8 @@ module _ (text : List ℕ) (p : TextProgress) (t : Text) (tells : TellsText text
         goes-at text p instructions kerns entries r (f (wordOf z)) a (ahead z)
         (then z (fits-one (drop (p .at + 1) text) z e) (inside 1 (z ∷ []) g) (further 1 (z ∷ []) (more z) o g (add (z ∷ []) ∙ rw (first-time i))))
 
-    by-flag : (r : NextLine) (k : Bool) → read ≡ k → r ≡ cond k next.Unreadable (headBy f (numberOn (drop (p .at + 1) text))) → Goes text p instructions kerns entries r
+    by-flag : (r : NextLine) (k : Bool) → read ≡ k → r ≡ cond k next.Unreadable (headBy f (numberOn (drop (p .at + 1) text))) →
+        Goes text p instructions kerns entries r
     by-flag r true i a = goes-nowhere text p instructions kerns entries r a (again i)
     by-flag r false i a = by-number r (numberOn (drop (p .at + 1) text)) refl i a
 

@@ -33,7 +33,8 @@ pub too-long : (text : List ℕ) → 65536 < length text → readText text ≡ n
 too-long text h = rw (lt-leb (length text) 65536 h)
 
 -- reading starts after D with nothing in the lists
-pub starts : (text : List ℕ) (p : TextProgress) (instructions kerns entries : List ℤ) (word : List ℕ) → Zeroed instructions kerns entries word → TellsText text p (opened (numberOf (p .design))) → Scanning text p instructions kerns entries
+pub starts : (text : List ℕ) (p : TextProgress) (instructions kerns entries : List ℤ) (word : List ℕ) → Zeroed instructions kerns entries word →
+    TellsText text p (opened (numberOf (p .design))) → Scanning text p instructions kerns entries
 starts text p instructions kerns entries word z t =
     record {
       says = opened (numberOf (p .design));
@@ -43,7 +44,8 @@ starts text p instructions kerns entries word z t =
       in-entries = rw (z .no-entries) (appending-none (zeros (pos 0) 5040));
     }
 
-pub clears : (text : List ℕ) (read : TextRead) (instructions kerns entries : List ℤ) (word : List ℕ) → read ≡ whole.Unreadable → readText text ≡ none → Zeroed instructions kerns entries word → ReadsText text read instructions kerns entries word
+pub clears : (text : List ℕ) (read : TextRead) (instructions kerns entries : List ℤ) (word : List ℕ) → read ≡ whole.Unreadable → readText text ≡ none →
+    Zeroed instructions kerns entries word → ReadsText text read instructions kerns entries word
 clears text read instructions kerns entries word u e z =
     let r : textRefusal (readText text) ≡ 16 = ap textRefusal e in
     record {

@@ -43,12 +43,15 @@ held-long done list n h = appending-length (zeros (pos 0) n) h ∙ zeros-long (p
 
 front-is : (n : ℕ) (xs : List ℕ) → length xs ≤ n → sets (zeros 0 n) 0 xs ≡ padded 0 n xs
 front-is n xs h =
-    ap (λ (l : List ℕ). sets l 0 xs) (zeros-are 0 n) ∙ sets-front xs (replicate n 0) (omega (arith, length-replicate {A = ℕ} n 0)) ∙ ap (λ (l : List ℕ). xs ++ l) (drop-replicate (length xs) n 0)
+    ap (λ (l : List ℕ). sets l 0 xs) (zeros-are 0 n) ∙ sets-front xs (replicate n 0) (omega (arith, length-replicate {A = ℕ} n 0))
+    ∙ ap (λ (l : List ℕ). xs ++ l) (drop-replicate (length xs) n 0)
 
 -- ---- where everything is read
 
 module _ (text : List ℕ) (t : Text) (is : readText text ≡ some t) (instructions kerns entries : List ℤ) (word : List ℕ) where
-  said : (r : TextRead) → textReadReply r ≡ replyOf 0 (textHeads t) → Appending (t .instructions) (zeros (pos 0) 2048) instructions → Appending (t .kerns) (zeros (pos 0) 512) kerns → Appending (t .entries) (zeros (pos 0) 5040) entries → length word ≡ 64 → word ≡ padded 0 64 (map wordOf (lettersOf (t .word))) → ReadsText text r instructions kerns entries word
+  said : (r : TextRead) → textReadReply r ≡ replyOf 0 (textHeads t) → Appending (t .instructions) (zeros (pos 0) 2048) instructions →
+      Appending (t .kerns) (zeros (pos 0) 512) kerns → Appending (t .entries) (zeros (pos 0) 5040) entries → length word ≡ 64 →
+      word ≡ padded 0 64 (map wordOf (lettersOf (t .word))) → ReadsText text r instructions kerns entries word
   said r a i k e l w =
       record {
         answer = rw is a;
@@ -59,29 +62,36 @@ module _ (text : List ℕ) (t : Text) (is : readText text ≡ some t) (instructi
         word = rw is w;
       }
 
-  pub reads-all : (r : TextRead) → ReadsText text r instructions kerns entries word → textReadReply r .number ≡ 0 → ReadsLists text instructions kerns entries word r
+  pub reads-all : (r : TextRead) → ReadsText text r instructions kerns entries word → textReadReply r .number ≡ 0 →
+      ReadsLists text instructions kerns entries word r
   reads-all whole.Unreadable s e = absurd (omega (arith, e))
   reads-all (whole.Text h) s e = record { on = λ _ _. s; stuck = λ i. absurd (let o : _≡_ {A = ℕ} 0 1 = cc in omega arith) }
 
-pub reads-none : (text : List ℕ) (instructions kerns entries : List ℤ) (word : List ℕ) (r : TextRead) → readText text ≡ none → textReadReply r .number ≡ 16 → ReadsLists text instructions kerns entries word r
-reads-none text instructions kerns entries word whole.Unreadable n e = record { on = λ h i. absurd (let o : _≡_ {A = ℕ} 0 1 = cc in omega arith); stuck = λ _. n }
+pub reads-none : (text : List ℕ) (instructions kerns entries : List ℤ) (word : List ℕ) (r : TextRead) → readText text ≡ none → textReadReply r .number ≡ 16 →
+    ReadsLists text instructions kerns entries word r
+reads-none text instructions kerns entries word whole.Unreadable n e =
+    record { on = λ h i. absurd (let o : _≡_ {A = ℕ} 0 1 = cc in omega arith); stuck = λ _. n }
 reads-none text instructions kerns entries word (whole.Text h) n e = absurd (omega (arith, e))
 
 -- the heads are those of the text
-heads-are : (text : List ℕ) (p : TextProgress) (t : Text) (l : ℤ) → TellsText text p t → headsOf p l ≡ (t .design ∷ orAbsent (t .boundary) ∷ orAbsent (t .left) ∷ pos (length (t .instructions)) ∷ pos (length (t .kerns)) ∷ pos (length (t .entries)) ∷ l ∷ [])
+heads-are : (text : List ℕ) (p : TextProgress) (t : Text) (l : ℤ) → TellsText text p t →
+    headsOf p l ≡ (t .design ∷ orAbsent (t .boundary) ∷ orAbsent (t .left) ∷ pos (length (t .instructions)) ∷ pos (length (t .kerns))
+    ∷ pos (length (t .entries)) ∷ l ∷ [])
 heads-are text p t l c = rw (c .design, c .boundary .said, c .left .said, c .instructions, c .kerns, c .entries)
 
 module _ (text : List ℕ) (p : TextProgress) (instructions kerns entries : List ℤ) (s : Scanning text p instructions kerns entries) where
   -- ---- without a word
 
-  pub ends-plain : (h : TextHeads) (w : List ℕ) → length text ≤ p .at → headNumbers h ≡ headsOf p (numberOf 4294967295) → w ≡ zeros 0 64 → ReadsLists text instructions kerns entries w (whole.Text h)
+  pub ends-plain : (h : TextHeads) (w : List ℕ) → length text ≤ p .at → headNumbers h ≡ headsOf p (numberOf 4294967295) → w ≡ zeros 0 64 →
+      ReadsLists text instructions kerns entries w (whole.Text h)
   ends-plain h w l e z =
       let t = s .says in
       let c = s .tells in
       let is : readText text ≡ some t = sym (c .rest) ∙ ap (λ (bs : List ℕ). restOf bs (some t)) (drop-of-length-le text {i = p .at} l) ∙ rest-none-left t in
       reads-all text t is instructions kerns entries w (whole.Text h)
       (said text t is instructions kerns entries w (whole.Text h)
-      (ap (replyOf 0) (e ∙ heads-are text p t (negsuc 0) c) ∙ rw (c .word)) (s .in-instructions) (s .in-kerns) (s .in-entries) (ap length z ∙ zeros-long 0 64) (z ∙ zeros-are 0 64 ∙ rw (c .word)))
+      (ap (replyOf 0) (e ∙ heads-are text p t (negsuc 0) c) ∙ rw (c .word)) (s .in-instructions) (s .in-kerns) (s .in-entries) (ap length z ∙ zeros-long 0 64)
+      (z ∙ zeros-are 0 64 ∙ rw (c .word)))
       refl
 
   -- ---- with one
@@ -91,7 +101,10 @@ module _ (text : List ℕ) (p : TextProgress) (instructions kerns entries : List
     bs = drop (p .at + 1) text
 
     abbrev worded : List ℤ → Text
-    worded zs = let t = s .says in record { design = t .design; boundary = t .boundary; left = t .left; instructions = t .instructions; kerns = t .kerns; entries = t .entries; word = some zs }
+    worded zs =
+        let t = s .says in
+        record
+        { design = t .design; boundary = t .boundary; left = t .left; instructions = t .instructions; kerns = t .kerns; entries = t .entries; word = some zs }
 
     word-only : (zs : List ℤ) (u : Text) → addLine (s .says) (some (lineOf 87 zs)) ≡ some u → (length zs ≤ 64) × (worded zs ≡ u)
     word-only zs u e =
@@ -108,7 +121,8 @@ module _ (text : List ℕ) (p : TextProgress) (instructions kerns entries : List
         let m = length (g .zs) in
         let a = rest-added (drop (12 * m + 1) bs) (addLine (s .says) (some (lineOf 87 (g .zs)))) u (g .rest) in
         let o = word-only (g .zs) (a .text) (a .is) in
-        let k : drop (12 * m + 1) bs ≡ [] = none-left (g .zs) (drop (12 * m + 1) bs) u (ap (λ (x : Text). restOf (drop (12 * m + 1) bs) (some x)) (o .1) ∙ ap (restOf (drop (12 * m + 1) bs)) (sym (a .is)) ∙ g .rest) in
+        let k : drop (12 * m + 1) bs ≡ [] = none-left (g .zs) (drop (12 * m + 1) bs) u
+        (ap (λ (x : Text). restOf (drop (12 * m + 1) bs) (some x)) (o .1) ∙ ap (restOf (drop (12 * m + 1) bs)) (sym (a .is)) ∙ g .rest) in
         let n = numbered m bs (g .zs) (g .numbers) in
         let l : length bs ≡ 12 * m + 1 = omega (arith, ap length k, length-drop (12 * m + 1) bs, n .long) in
         let r : length bs % 12 ≡ 1 = omega arith in
@@ -127,16 +141,19 @@ module _ (text : List ℕ) (p : TextProgress) (instructions kerns entries : List
         let r : length bs % 12 ≡ 1 = eqb-true (length bs % 12) 1 (c .0) in
         let m : length zs ≡ n = fields-count n bs zs (numbered n bs zs (d .1) .reads) in
         let f : length zs ≤ 64 = omega (arith, m, leb-true n 64 (d .0)) in
-        let g = further text p (s .says) (s .tells) before 87 is n zs (worded zs) (λ x. omega (arith, x)) (d .1) (adds (s .says) 87 zs (s .tells .word) ∙ rw (le-leb (length zs) 64 f)) in
+        let g = further text p (s .says) (s .tells) before 87 is n zs (worded zs) (λ x. omega (arith, x)) (d .1)
+        (adds (s .says) 87 zs (s .tells .word) ∙ rw (le-leb (length zs) 64 f)) in
         let l : length text ≤ p .at + (12 * n + 2) = omega (arith, length-drop (p .at + 1) text, before .inside) in
         (f, sym g ∙ ap (λ (cs : List ℕ). restOf cs (some (worded zs))) (drop-of-length-le text {i = p .at + (12 * n + 2)} l) ∙ rest-none-left (worded zs))
 
-    by-word : (v : Option (List ℤ)) → wordOn bs ≡ v → (r : TextRead) (w w′ : List ℕ) → w ≡ zeros 0 64 → textReadReply r ≡ wordReply p v → ((zs : List ℤ) → v ≡ some zs → w′ ≡ sets w 0 (map wordOf zs)) → ReadsLists text instructions kerns entries w′ r
+    by-word : (v : Option (List ℤ)) → wordOn bs ≡ v → (r : TextRead) (w w′ : List ℕ) → w ≡ zeros 0 64 → textReadReply r ≡ wordReply p v →
+        ((zs : List ℤ) → v ≡ some zs → w′ ≡ sets w 0 (map wordOf zs)) → ReadsLists text instructions kerns entries w′ r
     by-word none i r w w′ z a k = reads-none text instructions kerns entries w′ r (word-none i) (ap (λ (x : Reply). x .number) a)
     by-word (some zs) i r w w′ z a k =
         let x = word-some zs i in
         let l : length (map wordOf zs) ≤ 64 = omega (arith, length-map zs wordOf, x .0) in
-        let heads : replyOf 0 (headsOf p (pos (length zs))) ≡ replyOf 0 (textHeads (worded zs)) = ap (replyOf 0) (heads-are text p (s .says) (pos (length zs)) (s .tells)) in
+        let heads : replyOf 0 (headsOf p (pos (length zs)))
+        ≡ replyOf 0 (textHeads (worded zs)) = ap (replyOf 0) (heads-are text p (s .says) (pos (length zs)) (s .tells)) in
         let long : length w′ ≡ 64 = ap length (k zs refl) ∙ length-sets w 0 (map wordOf zs) ∙ ap length z ∙ zeros-long 0 64 in
         let front : w′ ≡ padded 0 64 (map wordOf zs) = k zs refl ∙ ap (λ (y : List ℕ). sets y 0 (map wordOf zs)) z ∙ front-is 64 (map wordOf zs) l in
         reads-all text (worded zs) (x .1) instructions kerns entries w′ r

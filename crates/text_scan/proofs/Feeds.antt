@@ -75,7 +75,8 @@ field-feedless (b ∷ bs) z e = by (eqb b 32) refl e (field-feedless bs z)
     unblank true t e = let q = eqb-true b 45 t in feedless-more b bs (λ f. omega (arith, q, f)) (signed-feedless bs (unsigned bs) z refl e)
     unblank false t e = plain-feedless (b ∷ bs) (unsigned (b ∷ bs)) z refl e
 
-    by : (t : Bool) → eqb b 32 ≡ t → cond t (readField bs) (cond (eqb b 45) (withSign (unsigned bs)) (withoutSign (unsigned (b ∷ bs)))) ≡ some z → (readField bs ≡ some z → feedless bs ≡ true) → feedless (b ∷ bs) ≡ true
+    by : (t : Bool) → eqb b 32 ≡ t → cond t (readField bs) (cond (eqb b 45) (withSign (unsigned bs)) (withoutSign (unsigned (b ∷ bs)))) ≡ some z →
+        (readField bs ≡ some z → feedless bs ≡ true) → feedless (b ∷ bs) ≡ true
     by true t e k = let q = eqb-true b 32 t in feedless-more b bs (λ f. omega (arith, q, f)) (k e)
     by false t e k = unblank (eqb b 45) refl e
 
@@ -86,7 +87,8 @@ fields-feedless (suc n) bs zs e =
     let g = and-some (readField (take 12 bs)) (readFields n (drop 12 bs)) zs e in
     let k : 12 * suc n ≡ 12 + 12 * n = omega arith in
     rw (k, take-add 12 (12 * n) bs)
-    (feedless-append (take 12 bs) (take (12 * n) (drop 12 bs)) (field-feedless (take 12 bs) (g .first) (g .is-first)) (fields-feedless n (drop 12 bs) (g .others) (g .are-others)))
+    (feedless-append (take 12 bs) (take (12 * n) (drop 12 bs)) (field-feedless (take 12 bs) (g .first) (g .is-first))
+    (fields-feedless n (drop 12 bs) (g .others) (g .are-others)))
 
 -- ---- the first line
 
@@ -107,7 +109,8 @@ unfolding linesOf feedless
 lines-first [] rest e = feed-first (linesOf rest)
 lines-first (b ∷ l) rest e = by (eqb b 10) e (lines-first l rest)
   where
-    by : (t : Bool) → both (not t) (feedless l) ≡ true → (feedless l ≡ true → linesOf (l ++ (10 ∷ rest)) ≡ firstOf l (linesOf rest)) → cond t (afterFeed (linesOf (l ++ (10 ∷ rest)))) (onFirst b (linesOf (l ++ (10 ∷ rest)))) ≡ firstOf (b ∷ l) (linesOf rest)
+    by : (t : Bool) → both (not t) (feedless l) ≡ true → (feedless l ≡ true → linesOf (l ++ (10 ∷ rest)) ≡ firstOf l (linesOf rest)) →
+        cond t (afterFeed (linesOf (l ++ (10 ∷ rest)))) (onFirst b (linesOf (l ++ (10 ∷ rest)))) ≡ firstOf (b ∷ l) (linesOf rest)
     by true e k = absurd (let z : _≡_ {A = ℕ} 0 1 = cc in omega arith)
     by false e k = ap (onFirst b) (k e) ∙ byte-first b l (linesOf rest)
 
@@ -126,7 +129,8 @@ module _ (b : ℕ) (bs : List ℕ) (l : List ℕ) (ls : List (List ℕ)) where
       let qs : ks ≡ ls = cc in
       record { rest = bs; is = rw (f, ← ql); others = rw (← qs) i }
 
-  byte-split : (r : Option (List (List ℕ))) → linesOf bs ≡ r → onFirst b r ≡ some (l ∷ ls) → ((k : List ℕ) (ks : List (List ℕ)) → linesOf bs ≡ some (k ∷ ks) → FirstLine bs k ks) → FirstLine (b ∷ bs) l ls
+  byte-split : (r : Option (List (List ℕ))) → linesOf bs ≡ r → onFirst b r ≡ some (l ∷ ls) →
+      ((k : List ℕ) (ks : List (List ℕ)) → linesOf bs ≡ some (k ∷ ks) → FirstLine bs k ks) → FirstLine (b ∷ bs) l ls
   byte-split none i e h = absurd (none-some e)
   byte-split (some []) i e h = absurd (none-some e)
   byte-split (some (k ∷ ks)) i e h =
@@ -141,7 +145,8 @@ unfolding linesOf
 lines-split [] l ls e = absurd (let z : _≡_ {A = ℕ} 0 1 = cc in omega arith)
 lines-split (b ∷ bs) l ls e = by (eqb b 10) refl e (lines-split bs)
   where
-    by : (t : Bool) → eqb b 10 ≡ t → cond t (afterFeed (linesOf bs)) (onFirst b (linesOf bs)) ≡ some (l ∷ ls) → ((k : List ℕ) (ks : List (List ℕ)) → linesOf bs ≡ some (k ∷ ks) → FirstLine bs k ks) → FirstLine (b ∷ bs) l ls
+    by : (t : Bool) → eqb b 10 ≡ t → cond t (afterFeed (linesOf bs)) (onFirst b (linesOf bs)) ≡ some (l ∷ ls) →
+        ((k : List ℕ) (ks : List (List ℕ)) → linesOf bs ≡ some (k ∷ ks) → FirstLine bs k ks) → FirstLine (b ∷ bs) l ls
     by true t e h = feed-split b bs l ls (linesOf bs) refl (eqb-true b 10 t) e
     by false t e h = byte-split b bs l ls (linesOf bs) refl e h
 

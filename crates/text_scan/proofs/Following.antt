@@ -64,7 +64,8 @@ module _ (n : ℕ) (b : ℕ) (bs : List ℕ) (zs : List ℤ) (g : Numbered n bs 
   line-on =
       let m : length (take (12 * n) bs) % 12 ≡ 0 = omega (arith, long) in
       let d : length (take (12 * n) bs) / 12 ≡ n = omega (arith, long) in
-      let p : readFields n (take (12 * n) bs) ≡ some zs = sym (fields-prefix n (take (12 * n) bs) (10 ∷ drop (12 * n + 1) bs) long) ∙ ap (readFields n) (sym parted) ∙ g .reads in
+      let p : readFields n (take (12 * n) bs)
+      ≡ some zs = sym (fields-prefix n (take (12 * n) bs) (10 ∷ drop (12 * n + 1) bs) long) ∙ ap (readFields n) (sym parted) ∙ g .reads in
       rw (m, d, p)
 
   lines-on : (b ≡ 10 → ⊥) → linesOf (b ∷ bs) ≡ firstOf (b ∷ take (12 * n) bs) (linesOf (drop (12 * n + 1) bs))
@@ -79,7 +80,8 @@ first-of f l none = refl
 first-of f l (some ls) = refl
 
 -- the first line is read: f of it, and the rest added
-pub first-on : (f : Option Line → Option Text) (n b : ℕ) (bs : List ℕ) (zs : List ℤ) → (b ≡ 10 → ⊥) → numbersOn n bs ≡ some zs → firstBy f (linesOf (b ∷ bs)) ≡ restOf (drop (12 * n + 1) bs) (f (some (lineOf b zs)))
+pub first-on : (f : Option Line → Option Text) (n b : ℕ) (bs : List ℕ) (zs : List ℤ) → (b ≡ 10 → ⊥) → numbersOn n bs ≡ some zs →
+    firstBy f (linesOf (b ∷ bs)) ≡ restOf (drop (12 * n + 1) bs) (f (some (lineOf b zs)))
 first-on f n b bs zs o e =
     let g = numbered n bs zs e in
     ap (firstBy f) (lines-on n b bs zs g o)
@@ -93,7 +95,8 @@ pub record Opened (f : Option Line → Option Text) (b : ℕ) (bs : List ℕ) (u
   pub rest : restOf (drop (12 * length zs + 1) bs) (f (some (lineOf b zs))) ≡ some u
 
 -- the fields of a line that is read
-fields-back : (b : ℕ) (ds : List ℕ) (l : Line) → readLine (b ∷ ds) ≡ some l → (length ds ≡ 12 * length (l .numbers)) × (readFields (length (l .numbers)) ds ≡ some (l .numbers)) × (b ≡ l .letter)
+fields-back : (b : ℕ) (ds : List ℕ) (l : Line) → readLine (b ∷ ds) ≡ some l →
+    (length ds ≡ 12 * length (l .numbers)) × (readFields (length (l .numbers)) ds ≡ some (l .numbers)) × (b ≡ l .letter)
 fields-back b ds l e =
     let c = cond-some (eqb (length ds % 12) 0) (lettered b (readFields (length ds / 12) ds)) l e in
     let z : length ds % 12 ≡ 0 = eqb-true (length ds % 12) 0 (c .0) in
@@ -102,7 +105,8 @@ fields-back b ds l e =
     (omega (arith, m), rw m (g .0), g .1)
 
 module _ (f : Option Line → Option Text) (no : f none ≡ none) (b : ℕ) (bs : List ℕ) (u : Text) where
-  line-back : (c : ℕ) (ds rest : List ℕ) (ls : List (List ℕ)) → b ∷ bs ≡ (c ∷ ds) ++ (10 ∷ rest) → linesOf rest ≡ some ls → (r : Option Line) → readLine (c ∷ ds) ≡ r → addLines ls (f r) ≡ some u → Opened f b bs u
+  line-back : (c : ℕ) (ds rest : List ℕ) (ls : List (List ℕ)) → b ∷ bs ≡ (c ∷ ds) ++ (10 ∷ rest) → linesOf rest ≡ some ls → (r : Option Line) →
+      readLine (c ∷ ds) ≡ r → addLines ls (f r) ≡ some u → Opened f b bs u
   line-back c ds rest ls i o none e h = absurd (none-some (sym (lines-none ls) ∙ ap (addLines ls) (sym no) ∙ h))
   line-back c ds rest ls i o (some l) e h =
       let k = fields-back c ds l e in
@@ -132,7 +136,8 @@ module _ (f : Option Line → Option Text) (no : f none ≡ none) (b : ℕ) (bs 
   first-back h = first-by (linesOf (b ∷ bs)) refl h
 
 -- so nothing is read where no line of numbers is, to which the rest adds
-pub first-stuck : (f : Option Line → Option Text) (b : ℕ) (bs : List ℕ) → f none ≡ none → ((u : Text) → Opened f b bs u → ⊥) → firstBy f (linesOf (b ∷ bs)) ≡ none
+pub first-stuck : (f : Option Line → Option Text) (b : ℕ) (bs : List ℕ) → f none ≡ none → ((u : Text) → Opened f b bs u → ⊥) →
+    firstBy f (linesOf (b ∷ bs)) ≡ none
 first-stuck f b bs on h = none-by (firstBy f (linesOf (b ∷ bs))) (λ u e. h u (first-back f on b bs u e))
 
 -- ---- one line more, to what was read
@@ -146,7 +151,8 @@ by-adding t (some (l ∷ ls)) o = refl
 pub rest-first : (t : Text) (b : ℕ) (bs : List ℕ) → restOf (b ∷ bs) (some t) ≡ firstBy (addLine t) (linesOf (b ∷ bs))
 rest-first t b bs = by-adding t (linesOf (b ∷ bs)) (lines-some b bs)
 
-pub rest-on : (t : Text) (n b : ℕ) (bs : List ℕ) (zs : List ℤ) → (b ≡ 10 → ⊥) → numbersOn n bs ≡ some zs → restOf (b ∷ bs) (some t) ≡ restOf (drop (12 * n + 1) bs) (addLine t (some (lineOf b zs)))
+pub rest-on : (t : Text) (n b : ℕ) (bs : List ℕ) (zs : List ℤ) → (b ≡ 10 → ⊥) → numbersOn n bs ≡ some zs →
+    restOf (b ∷ bs) (some t) ≡ restOf (drop (12 * n + 1) bs) (addLine t (some (lineOf b zs)))
 rest-on t n b bs zs o e = rest-first t b bs ∙ first-on (addLine t) n b bs zs o e
 
 pub rest-stuck : (t : Text) (b : ℕ) (bs : List ℕ) → ((u : Text) → Opened (addLine t) b bs u → ⊥) → restOf (b ∷ bs) (some t) ≡ none
@@ -162,7 +168,8 @@ rest-added bs none u e = absurd (none-some (sym (all-none (linesOf bs)) ∙ e))
 rest-added bs (some t) u e = record { text = t; is = refl }
 
 -- a letter that takes n numbers, where there are none; and one to which nothing is added
-pub rest-short : (t : Text) (n b : ℕ) (bs : List ℕ) → ((zs : List ℤ) (u : Text) → addLine t (some (lineOf b zs)) ≡ some u → length zs ≡ n) → numbersOn n bs ≡ none → restOf (b ∷ bs) (some t) ≡ none
+pub rest-short : (t : Text) (n b : ℕ) (bs : List ℕ) → ((zs : List ℤ) (u : Text) → addLine t (some (lineOf b zs)) ≡ some u → length zs ≡ n) →
+    numbersOn n bs ≡ none → restOf (b ∷ bs) (some t) ≡ none
 rest-short t n b bs only e =
     rest-stuck t b bs
     (λ u g.

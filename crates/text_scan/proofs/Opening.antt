@@ -59,12 +59,14 @@ unread-first (b ∷ bs) h i e =
     none-some (sym (one-none bs e) ∙ ap (λ (m : ℕ). numbersOn m bs) (sym l) ∙ g .numbers)))
 
 -- D with its number
-read-first : (text : List ℕ) (z : ℤ) → length text ≤ 65536 → getD text 0 0 ≡ 68 → numberOn (drop 1 text) ≡ some z → (14 ≤ length text) × (restOf (drop 14 text) (some (opened z)) ≡ readText text)
+read-first : (text : List ℕ) (z : ℤ) → length text ≤ 65536 → getD text 0 0 ≡ 68 → numberOn (drop 1 text) ≡ some z →
+    (14 ≤ length text) × (restOf (drop 14 text) (some (opened z)) ≡ readText text)
 read-first [] z h i e = absurd (omega (arith, i))
 read-first (b ∷ bs) z h i e =
     let g = one-some bs z e in (
       omega (arith, numbered 1 bs (z ∷ []) g .long),
-      sym (text-first b bs h ∙ first-on openedBy 1 b bs (z ∷ []) (λ f. omega (arith, f, i)) g ∙ ap (λ (x : ℕ). restOf (drop 13 bs) (openedBy (some (lineOf x (z ∷ []))))) i),
+      sym (text-first b bs h ∙ first-on openedBy 1 b bs (z ∷ []) (λ f. omega (arith, f, i)) g
+          ∙ ap (λ (x : ℕ). restOf (drop 13 bs) (openedBy (some (lineOf x (z ∷ []))))) i),
     )
 
 -- ---- where reading then stands
@@ -82,7 +84,8 @@ module _ (text : List ℕ) (short : length text ≤ 65536) where
   pub opens-none : getD text 0 0 ≡ 68 → numberReply (numberOn (drop 1 text)) ≡ replyOf 16 [] → Opens text next.Unreadable
   opens-none i e = nowhere (unread-first text short i (number-none (numberOn (drop 1 text)) e))
 
-  pub opens-some : (z : ℤ) (w : ℕ) → getD text 0 0 ≡ 68 → numberReply (numberOn (drop 1 text)) ≡ replyOf 0 (z ∷ []) → w ≡ wordOf (numberOf (wordOf z)) → Opens text (next.At (firstAt w))
+  pub opens-some : (z : ℤ) (w : ℕ) → getD text 0 0 ≡ 68 → numberReply (numberOn (drop 1 text)) ≡ replyOf 0 (z ∷ []) → w ≡ wordOf (numberOf (wordOf z)) →
+      Opens text (next.At (firstAt w))
   opens-some z w i e k =
       let n = number-some (numberOn (drop 1 text)) z e in
       let q : w ≡ wordOf z = word-read (drop 1 text) z w n k in

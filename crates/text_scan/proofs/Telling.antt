@@ -37,10 +37,12 @@ module _ (bs : List ℕ) (n limit place : ℕ) (q : TextProgress) (list list′ 
     placed-as : numbersAt (length list) place n bs ≡ numbersIn (limit - place) n bs
     placed-as = ap (λ (k : ℕ). numbersAt k place n bs) long ∙ at-room limit place n bs few
 
-    pub takes-none : (r : Bool) → Stores (numbersAt (length list) place n bs) list place r list′ → r ≡ false → TakesLine (numbersIn (limit - place) n bs) q list place next.Unreadable list′
+    pub takes-none : (r : Bool) → Stores (numbersAt (length list) place n bs) list place r list′ → r ≡ false →
+        TakesLine (numbersIn (limit - place) n bs) q list place next.Unreadable list′
     takes-none r s e = rw (← placed-as) (by-none (numbersAt (length list) place n bs) (sym e ∙ s .answer))
 
-    pub takes-some : (r : Bool) → Stores (numbersAt (length list) place n bs) list place r list′ → r ≡ true → TakesLine (numbersIn (limit - place) n bs) q list place (next.At q) list′
+    pub takes-some : (r : Bool) → Stores (numbersAt (length list) place n bs) list place r list′ → r ≡ true →
+        TakesLine (numbersIn (limit - place) n bs) q list place (next.At q) list′
     takes-some r s e = rw (← placed-as) (by-some (numbersAt (length list) place n bs) (sym e ∙ s .answer) (s .stored))
 
 -- ---- what is answered for a line that comes once
@@ -55,7 +57,8 @@ module _ (text : List ℕ) (p : TextProgress) (read : Bool) (f : ℕ → TextPro
   pub head-none : read ≡ false → numberReply (numberOn (drop (p .at + 1) text)) ≡ replyOf 16 [] → next.Unreadable ≡ headLine text p read f
   head-none b e = rw (b, number-none (numberOn (drop (p .at + 1) text)) e)
 
-  pub head-some : (z : ℤ) (w : ℕ) → read ≡ false → numberReply (numberOn (drop (p .at + 1) text)) ≡ replyOf 0 (z ∷ []) → w ≡ wordOf (numberOf (wordOf z)) → next.At (f w) ≡ headLine text p read f
+  pub head-some : (z : ℤ) (w : ℕ) → read ≡ false → numberReply (numberOn (drop (p .at + 1) text)) ≡ replyOf 0 (z ∷ []) → w ≡ wordOf (numberOf (wordOf z)) →
+      next.At (f w) ≡ headLine text p read f
   head-some z w b e i =
       let n = number-some (numberOn (drop (p .at + 1) text)) z e in
       rw (b, n) (ap (λ (v : ℕ). next.At (f v)) (word-read (drop (p .at + 1) text) z w n i))

@@ -52,10 +52,13 @@ module _ (text : List ℕ) (p : TextProgress) (word word′ : List ℕ) where
     none-read (some zs) e = absurd (let z : _≡_ {A = ℕ} 0 1 = cc in omega arith)
 
     -- too many letters, no line feed, or a field that is unreadable
-    pub word-unread : (r : Bool) → Stores (wordsOf (numbersIn (length word) (rest / 12) bs)) word 0 r word′ → r ≡ false → EndsWord (wordOn bs) p word whole.Unreadable word′
+    pub word-unread : (r : Bool) → Stores (wordsOf (numbersIn (length word) (rest / 12) bs)) word 0 r word′ → r ≡ false →
+        EndsWord (wordOn bs) p word whole.Unreadable word′
     word-unread r s i = none-ends (fields ∙ none-read (numbersIn (length word) (rest / 12) bs) (sym i ∙ s .answer))
 
-    by-fields : (o : Option (List ℤ)) → numbersIn (length word) (rest / 12) bs ≡ o → true ≡ isSome (wordsOf o) → ((vs : List ℕ) → wordsOf o ≡ some vs → word′ ≡ sets word 0 vs) → (x : TextHeads) → headNumbers x ≡ headsOf p (numberOf (rest / 12)) → EndsWord o p word (whole.Text x) word′
+    by-fields : (o : Option (List ℤ)) → numbersIn (length word) (rest / 12) bs ≡ o → true ≡ isSome (wordsOf o) →
+        ((vs : List ℕ) → wordsOf o ≡ some vs → word′ ≡ sets word 0 vs) → (x : TextHeads) → headNumbers x ≡ headsOf p (numberOf (rest / 12)) →
+        EndsWord o p word (whole.Text x) word′
     by-fields none i a k x y = absurd (let z : _≡_ {A = ℕ} 0 1 = cc in omega arith)
     by-fields (some zs) i a k x y =
         let c = in-some (length word) (rest / 12) bs zs i in
@@ -63,5 +66,6 @@ module _ (text : List ℕ) (p : TextProgress) (word word′ : List ℕ) where
         let n : numberOf (rest / 12) ≡ pos (length zs) = number-pos (rest / 12) (omega (arith, c .0, long)) ∙ ap pos (sym m) in
         record { answer = ap (replyOf 0) (y ∙ ap (headsOf p) n); stored = λ ys j. k (map wordOf ys) (ap wordsOf j) }
 
-    pub word-all : (r : Bool) → Stores (wordsOf (numbersIn (length word) (rest / 12) bs)) word 0 r word′ → r ≡ true → (x : TextHeads) → headNumbers x ≡ headsOf p (numberOf (rest / 12)) → EndsWord (wordOn bs) p word (whole.Text x) word′
+    pub word-all : (r : Bool) → Stores (wordsOf (numbersIn (length word) (rest / 12) bs)) word 0 r word′ → r ≡ true → (x : TextHeads) →
+        headNumbers x ≡ headsOf p (numberOf (rest / 12)) → EndsWord (wordOn bs) p word (whole.Text x) word′
     word-all r s i x y = rw fields (by-fields (numbersIn (length word) (rest / 12) bs) refl (sym i ∙ s .answer) (s .stored) x y)

@@ -1,4 +1,5 @@
--- The lines of the rest of a text, added to what was read; and the line of a word. A line of n numbers: text_line_numbers/specs/LineNumbers.
+-- The lines of the rest of a text, added to what was read; and the line of a word. A line of n numbers:
+-- text_line_numbers/specs/LineNumbers.
 use mathlib.Core.Bool.{cond}
 use mathlib.Core.List.{List, [], _∷_}
 use mathlib.Core.Option.{Option, none, some}

@@ -1,5 +1,5 @@
-// A column text read: document 01, 'The column text'. Its numbers go to lists that have room for as many as its limits allow; of entries a text of 65,536 bytes has no
-// more than 5,040 numbers.
+// A column text read: document 01, 'The column text'. Its numbers go to lists that have room for as many as its limits
+// allow; of entries a text of 65,536 bytes has no more than 5,040 numbers.
 ghost use Rattle.columns.specs.Scanned.{ReadsText};
 ghost use Rattle.text_scan.specs.Standing.{Zeroed, ReadsLists};
 use columns::TextRead;
@@ -19,7 +19,8 @@ fn zero_lists(
     entries: &mut [i32; 5040],
     word: &mut [u32; 64],
 )
-    ensures { λ _. ⌜ Zeroed (now (instructions .exit)) (now (kerns .exit)) (now (entries .exit)) (now (word .exit)) ⌝ }
+    ensures { λ _. ⌜ Zeroed (now (instructions .exit)) (now (kerns .exit)) (now (entries .exit))
+        (now (word .exit)) ⌝ }
 {
     zero_i32(instructions);
     zero_i32(kerns);
@@ -36,7 +37,8 @@ fn read_zeroed(
     word: &mut [u32; 64],
 ) -> TextRead
     requires { ⌜ Zeroed (now instructions) (now kerns) (now entries) (now word) ⌝ }
-    ensures { λ r. ⌜ ReadsLists (now (text .entry)) (now (instructions .exit)) (now (kerns .exit)) (now (entries .exit)) (now (word .exit)) r ⌝ }
+    ensures { λ r. ⌜ ReadsLists (now (text .entry)) (now (instructions .exit)) (now (kerns .exit))
+        (now (entries .exit)) (now (word .exit)) r ⌝ }
 {
     if 65536 < text.len() {
         return TextRead::Unreadable;
@@ -55,7 +57,8 @@ pub fn read_text(
     entries: &mut [i32; 5040],
     word: &mut [u32; 64],
 ) -> TextRead
-    ensures { λ r. ⌜ ReadsText (now (text .entry)) r (now (instructions .exit)) (now (kerns .exit)) (now (entries .exit)) (now (word .exit)) ⌝ }
+    ensures { λ r. ⌜ ReadsText (now (text .entry)) r (now (instructions .exit)) (now (kerns .exit))
+        (now (entries .exit)) (now (word .exit)) ⌝ }
 {
     zero_lists(instructions, kerns, entries, word);
     let read = read_zeroed(text, instructions, kerns, entries, word);

@@ -1,9 +1,11 @@
-// One line read, by its letter: I, K and E to their lists, R and L to the heads. What is past a limit has no place in its list.
+// One line read, by its letter: I, K and E to their lists, R and L to the heads. What is past a limit has no place in
+// its list.
 ghost use mathlib.Core.Path.{_≡_};
 ghost use Prim.Native.Nat.{_+_, _-_, _≤_};
 ghost use lib.ListN.{getD, drop};
 ghost use Rattle.text_scan.specs.Following.{numbersIn};
-ghost use Rattle.text_scan.specs.Standing.{Scanning, Before, TakesLine, Goes, pastInstruction, pastKern, pastEntry, pastBoundary, pastLeft, headLine};
+ghost use Rattle.text_scan.specs.Standing.{Scanning, Before, TakesLine, Goes, pastInstruction, pastKern};
+ghost use Rattle.text_scan.specs.Standing.{pastEntry, pastBoundary, pastLeft, headLine};
 use crate::progress::NextLine;
 use crate::progress::TextProgress;
 use columns::FieldRead;
@@ -15,7 +17,8 @@ use words::word_of;
 fn instruction_line(text: &[u8], p: TextProgress, instructions: &mut [i32; 2048]) -> NextLine
     requires { ⌜ Before (now text) p ⌝ }
     requires { ⌜ p .instructions ≤ 2048 ⌝ }
-    ensures { λ r. ⌜ TakesLine (numbersIn (2048 - p .instructions) 4 (drop (p .at + 1) (now (text .entry)))) (pastInstruction p) (now (instructions .entry)) (p .instructions) r (now (instructions .exit)) ⌝ }
+    ensures { λ r. ⌜ TakesLine (numbersIn (2048 - p .instructions) 4 (drop (p .at + 1) (now (text .entry))))
+        (pastInstruction p) (now (instructions .entry)) (p .instructions) r (now (instructions .exit)) ⌝ }
 {
     if !read_numbers(text, p.at + 1, 4, instructions, p.instructions) {
         return NextLine::Unreadable;
@@ -30,7 +33,8 @@ fn instruction_line(text: &[u8], p: TextProgress, instructions: &mut [i32; 2048]
 fn kern_line(text: &[u8], p: TextProgress, kerns: &mut [i32; 512]) -> NextLine
     requires { ⌜ Before (now text) p ⌝ }
     requires { ⌜ p .kerns ≤ 512 ⌝ }
-    ensures { λ r. ⌜ TakesLine (numbersIn (512 - p .kerns) 1 (drop (p .at + 1) (now (text .entry)))) (pastKern p) (now (kerns .entry)) (p .kerns) r (now (kerns .exit)) ⌝ }
+    ensures { λ r. ⌜ TakesLine (numbersIn (512 - p .kerns) 1 (drop (p .at + 1) (now (text .entry))))
+        (pastKern p) (now (kerns .entry)) (p .kerns) r (now (kerns .exit)) ⌝ }
 {
     if !read_numbers(text, p.at + 1, 1, kerns, p.kerns) {
         return NextLine::Unreadable;
@@ -45,7 +49,8 @@ fn kern_line(text: &[u8], p: TextProgress, kerns: &mut [i32; 512]) -> NextLine
 fn entry_line(text: &[u8], p: TextProgress, entries: &mut [i32; 5040]) -> NextLine
     requires { ⌜ Before (now text) p ⌝ }
     requires { ⌜ p .entries ≤ 5040 ⌝ }
-    ensures { λ r. ⌜ TakesLine (numbersIn (5040 - p .entries) 2 (drop (p .at + 1) (now (text .entry)))) (pastEntry p) (now (entries .entry)) (p .entries) r (now (entries .exit)) ⌝ }
+    ensures { λ r. ⌜ TakesLine (numbersIn (5040 - p .entries) 2 (drop (p .at + 1) (now (text .entry))))
+        (pastEntry p) (now (entries .entry)) (p .entries) r (now (entries .exit)) ⌝ }
 {
     if !read_numbers(text, p.at + 1, 2, entries, p.entries) {
         return NextLine::Unreadable;
@@ -102,7 +107,8 @@ pub(crate) fn next_line(
 ) -> NextLine
     requires { ⌜ (Before (now text) p) × (getD (now text) (p .at) 0 ≡ 87 → ⊥) ⌝ }
     requires { ⌜ Scanning (now text) p (now instructions) (now kerns) (now entries) ⌝ }
-    ensures { λ r. ⌜ Goes (now (text .entry)) p (now (instructions .exit)) (now (kerns .exit)) (now (entries .exit)) r ⌝ }
+    ensures { λ r. ⌜ Goes (now (text .entry)) p (now (instructions .exit)) (now (kerns .exit))
+        (now (entries .exit)) r ⌝ }
 {
     let at = p.at;
     let letter = text[at];

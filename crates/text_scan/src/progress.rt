@@ -6,8 +6,8 @@ ghost use Rattle.text_scan.specs.Standing.{headsOf};
 use columns::TextHeads;
 use words::number_of;
 
-// The place of the next line; the numbers of D, R and L, as words (that of -1 where R or L is absent), and whether R and L were read; how many numbers of instructions,
-// kerns and entries.
+// The place of the next line; the numbers of D, R and L, as words (that of -1 where R or L is absent), and whether R
+// and L were read; how many numbers of instructions, kerns and entries.
 pub(crate) struct TextProgress {
     pub(crate) at: usize,
     pub(crate) design: u32,

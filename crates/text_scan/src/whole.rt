@@ -42,7 +42,8 @@ pub(crate) fn first_line(text: &[u8]) -> NextLine
 // W: as many numbers as there are up to the end of the text.
 fn word_line(text: &[u8], p: TextProgress, word: &mut [u32; 64]) -> TextRead
     requires { ⌜ Before (now text) p ⌝ }
-    ensures { λ r. ⌜ EndsWord (wordOn (drop (p .at + 1) (now (text .entry)))) p (now (word .entry)) r (now (word .exit)) ⌝ }
+    ensures { λ r. ⌜ EndsWord (wordOn (drop (p .at + 1) (now (text .entry)))) p (now (word .entry)) r
+        (now (word .exit)) ⌝ }
 {
     let at = p.at + 1;
     let rest = text.len() - at;
@@ -67,7 +68,8 @@ pub(crate) fn read_lines(
 ) -> TextRead
     requires { ⌜ (length (now text) ≤ 65536) × (now word ≡ zeros 0 64) ⌝ }
     requires { ⌜ Scanning (now text) first (now instructions) (now kerns) (now entries) ⌝ }
-    ensures { λ r. ⌜ ReadsLists (now (text .entry)) (now (instructions .exit)) (now (kerns .exit)) (now (entries .exit)) (now (word .exit)) r ⌝ }
+    ensures { λ r. ⌜ ReadsLists (now (text .entry)) (now (instructions .exit)) (now (kerns .exit))
+        (now (entries .exit)) (now (word .exit)) r ⌝ }
 {
     let mut p = first;
     while p.at < text.len() {

@@ -62,7 +62,8 @@ module _ (m : Multiplier) (h : Halved m) where
       rw (negative-times (m .z) w e, ← top-times (m .z) (m .alpha) (beta m) (h .whole), low-is w)
       (sym (shr-sub (w % 16777216 * m .z) (m .alpha * m .z) (65536 * beta m) (omega (arith, beta-pos m (h .below)))))
 
-pub rounded-down : (w z : ℕ) → w < 2 ^ 32 → z < 2 ^ 27 → (v : ℤ) → scaledFrom z w ≡ Scaled v → v ≡ shrZ (numberOf w *ℤ pos (multiplier z .z)) (65536 * beta (multiplier z))
+pub rounded-down : (w z : ℕ) → w < 2 ^ 32 → z < 2 ^ 27 → (v : ℤ) → scaledFrom z w ≡ Scaled v →
+    v ≡ shrZ (numberOf w *ℤ pos (multiplier z .z)) (65536 * beta (multiplier z))
 rounded-down w z hw hz v s = by (ℕ-discrete (w / 16777216) 0) (ℕ-discrete (w / 16777216) 255)
   where
     by : Dec (w / 16777216 ≡ 0) → Dec (w / 16777216 ≡ 255) → v ≡ shrZ (numberOf w *ℤ pos (multiplier z .z)) (65536 * beta (multiplier z))

@@ -1,5 +1,5 @@
-// The numbers of a TFM file that lig/kern programs use, after lib.rs: `FixWord` (lines 1701 to 1778) and `Char` (1029 to 1091).
-// Scaling is TeX's own arithmetic: TeX 568 for z, 572 for alpha and beta, 571 for the bytes.
+// The numbers of a TFM file that lig/kern programs use, after lib.rs: `FixWord` (lines 1701 to 1778) and `Char` (1029
+// to 1091). Scaling is TeX's own arithmetic: TeX 568 for z, 572 for alpha and beta, 571 for the bytes.
 ghost use mathlib.Core.Path.{_≡_};
 ghost use Prim.Native.Nat.{_<_, _^_, _/_, _%_};
 ghost use lib.Dec.{leb};

@@ -33,7 +33,8 @@ item-six (Refused n) h = no h
 -- ---- the six numbers of an item, as they are stored
 
 module _ {x : Answer} where
-  pub character-numbers : {c p : ℕ} → x ≡ Char c p → Small x → numberOf 0 ∷ numberOf c ∷ numberOf p ∷ numberOf 1 ∷ numberOf 0 ∷ numberOf 0 ∷ [] ≡ answerReply x .values
+  pub character-numbers : {c p : ℕ} → x ≡ Char c p → Small x →
+      numberOf 0 ∷ numberOf c ∷ numberOf p ∷ numberOf 1 ∷ numberOf 0 ∷ numberOf 0 ∷ [] ≡ answerReply x .values
   character-numbers {c} {p} e m =
       let n = subst Small e m in
       rw e (λ j. pos 0 ∷ number-pos c (omega (arith, n .0)) j ∷ number-pos p (omega (arith, n .1)) j ∷ pos 1 ∷ pos 0 ∷ pos 0 ∷ [])
@@ -44,11 +45,13 @@ module _ {x : Answer} where
       let q = subst Small e m in
       rw e (λ j. pos 1 ∷ number-pos c (omega (arith, q .0)) j ∷ number-pos p (omega (arith, q .1)) j ∷ number-pos n (omega (arith, q .2)) j ∷ f j ∷ g j ∷ [])
 
-  pub kern-numbers : {k : ℤ} (w : ℕ) → x ≡ Kern k → numberOf w ≡ k → numberOf 2 ∷ numberOf w ∷ numberOf 0 ∷ numberOf 0 ∷ numberOf 0 ∷ numberOf 0 ∷ [] ≡ answerReply x .values
+  pub kern-numbers : {k : ℤ} (w : ℕ) → x ≡ Kern k → numberOf w ≡ k →
+      numberOf 2 ∷ numberOf w ∷ numberOf 0 ∷ numberOf 0 ∷ numberOf 0 ∷ numberOf 0 ∷ [] ≡ answerReply x .values
   kern-numbers {k} w e q = rw e (λ j. pos 2 ∷ q j ∷ pos 0 ∷ pos 0 ∷ pos 0 ∷ pos 0 ∷ [])
 
 module _ (d d′ : List ℤ) (at : ℕ) where
-  pub put-character : {x : Answer} {c p : ℕ} → x ≡ Char c p → Small x → d′ ≡ sets d at (numberOf 0 ∷ numberOf c ∷ numberOf p ∷ numberOf 1 ∷ numberOf 0 ∷ numberOf 0 ∷ []) → d′ ≡ sets d at (answerReply x .values)
+  pub put-character : {x : Answer} {c p : ℕ} → x ≡ Char c p → Small x →
+      d′ ≡ sets d at (numberOf 0 ∷ numberOf c ∷ numberOf p ∷ numberOf 1 ∷ numberOf 0 ∷ numberOf 0 ∷ []) → d′ ≡ sets d at (answerReply x .values)
   put-character e m h = h ∙ ap (sets d at) (character-numbers e m)
 
 -- .. and where there may be no room for them
@@ -72,8 +75,11 @@ pub test-small : (a : Answer) → isSmall a ≡ true → Small a
 test-small (Char c p) e = (leb-true c 255 (both-left (leb c 255) (leb p 65535) e), leb-true p 65535 (both-right (leb c 255) (leb p 65535) e))
 test-small (Ligature c p n a b) e =
     let o = both (leb p 65535) (leb n 65535) in
-    let f = both-right (leb c 255) o e in
-    (leb-true c 255 (both-left (leb c 255) o e), leb-true p 65535 (both-left (leb p 65535) (leb n 65535) f), leb-true n 65535 (both-right (leb p 65535) (leb n 65535) f))
+    let f = both-right (leb c 255) o e in (
+      leb-true c 255 (both-left (leb c 255) o e),
+      leb-true p 65535 (both-left (leb p 65535) (leb n 65535) f),
+      leb-true n 65535 (both-right (leb p 65535) (leb n 65535) f),
+    )
 test-small (Kern k) e = tt
 test-small End e = tt
 test-small (Refused k) e = (ltb-true 0 k (both-left (ltb 0 k) (leb k 7) e), leb-true k 7 (both-right (ltb 0 k) (leb k 7) e))

@@ -1,5 +1,5 @@
-// A list of items, six numbers each as a T line has them: one item written, and what is answered where a run stops. Document 01, 'Caption items' and 'The column
-// text'. Each function is total.
+// A list of items, six numbers each as a T line has them: one item written, and what is answered where a run stops.
+// Document 01, 'Caption items' and 'The column text'. Each function is total.
 ghost use mathlib.Core.Path.{_≡_};
 ghost use Rattle.words.specs.Words.{numberOf};
 ghost use Rattle.captions.specs.Replies.{bitNumber, answerReply};
@@ -65,7 +65,8 @@ fn write_item(items: &mut [i32], at: usize, answer: Answer)
     }
 }
 
-// The numbers of an item at a place; nothing where there is no room for six numbers, or where those of the answer are no step's.
+// The numbers of an item at a place; nothing where there is no room for six numbers, or where those of the answer are
+// no step's.
 pub fn put_item(items: &mut [i32], at: usize, answer: Answer)
     ensures { λ _. ⌜ now (items .exit) ≡ itemAt (now (items .entry)) at answer ⌝ }
 {

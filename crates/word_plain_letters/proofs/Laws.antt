@@ -24,7 +24,8 @@ use Rattle.captions.specs.Begin.{edgesRefusal, wordRefusal}
 use Rattle.step_quick.specs.Quick.{plainCode, nextLetter, isQuick, quickLeft, foundPlace, givenPlain}
 use Rattle.step_quick.proofs.Theorems.{quick-is}
 use Rattle.word_plain_letters.specs.declared.Stop.{Stop}
-use Rattle.word_plain_letters.specs.Stretch.{least, plainLeft, isFree, letterItem, plainState, lettersMoved, letterItems, freeLetters, stopPlace, stopAt, Gave, mostLetters, Stretched}
+use Rattle.word_plain_letters.specs.Stretch.{least, plainLeft, isFree, letterItem, plainState, lettersMoved, letterItems, freeLetters, stopPlace, stopAt}
+use Rattle.word_plain_letters.specs.Stretch.{Gave, mostLetters, Stretched}
 use Rattle.word_plain_letters.proofs.Theorems.{leading-all, leading-stop, leading-few, state-none, state-more, state-read, state-given, state-op}
 
 module _ (word : List ℕ) (s : State) where
@@ -50,7 +51,16 @@ module _ (word : List ℕ) (s : State) where
       let r : s .read + suc n ≡ suc (u .read) = omega (arith, state-read word s n) in
       let g : s .given + suc n ≡ suc (u .given) = omega (arith, state-given word s n) in
       rw (ne-eqb (suc n) 0 (λ z. omega (arith, z)))
-      ((λ i. record { «next_left» = next.Char (c i); op = sym (state-op word s n) i; ops = 0; read = r i; given = g i; pending = 0; «pending_boundary» = false; «consumes_left» = consumes.Nothing })
+      ((λ i. record {
+        «next_left» = next.Char (c i);
+        op = sym (state-op word s n) i;
+        ops = 0;
+        read = r i;
+        given = g i;
+        pending = 0;
+        «pending_boundary» = false;
+        «consumes_left» = consumes.Nothing;
+      })
       ∙ sym (state-more word s n))
 
 module _ (pairs : List ℤ) (word : List ℕ) (s : State) (n : ℕ) (items₀ : List ℤ) (k : ℕ) where
@@ -66,7 +76,12 @@ module _ (pairs : List ℤ) (word : List ℕ) (s : State) (n : ℕ) (items₀ : 
 
   pub giving-none : (l : ℕ) → l ≡ plainLeft s → Giving l items₀ 0
   giving-none l e =
-      record { left = e ∙ ap plainLeft (sym (state-none word s)); all = every-none free; few = omega arith; list = sym (ap (sets items₀ (6 * k)) (items-none word s)) }
+      record {
+        left = e ∙ ap plainLeft (sym (state-none word s));
+        all = every-none free;
+        few = omega arith;
+        list = sym (ap (sets items₀ (6 * k)) (items-none word s));
+      }
 
   module _ (l : ℕ) (items : List ℤ) (i : ℕ) (g : Giving l items i) where
     pub giving-length : length items ≡ length items₀
@@ -82,7 +97,8 @@ module _ (pairs : List ℤ) (word : List ℕ) (s : State) (n : ℕ) (items₀ : 
       stopped : free i ≡ false → i ≡ freeLetters pairs word s n
       stopped f = sym (leading-stop free n i h (g .all) f)
 
-      stop-is : (b : Bool) → leb (nextLetter word u) 255 ≡ b → stopPlace pairs word s n i ≡ cond b (foundPlace pairs (plainLeft u) (nextLetter word u)) (pairCount pairs)
+      stop-is : (b : Bool) → leb (nextLetter word u) 255 ≡ b →
+          stopPlace pairs word s n i ≡ cond b (foundPlace pairs (plainLeft u) (nextLetter word u)) (pairCount pairs)
       stop-is b f = rw (lt-ltb i n h, f)
 
       -- a letter out of range
@@ -101,7 +117,12 @@ module _ (pairs : List ℤ) (word : List ℕ) (s : State) (n : ℕ) (items₀ : 
         -- a pair
         pub gave-pair : p < pairCount pairs → Gave pairs word s n items₀ k (stopAt l i p) items
         gave-pair m =
-            record { count = stopped (rw (in-range, found, lt-leb (pairCount pairs) p m)); left = g .left; pair = sym (stop-is true in-range ∙ found); list = g .list }
+            record {
+              count = stopped (rw (in-range, found, lt-leb (pairCount pairs) p m));
+              left = g .left;
+              pair = sym (stop-is true in-range ∙ found);
+              list = g .list;
+            }
 
         -- one letter more
         pub giving-more : pairCount pairs ≤ p → (items′ : List ℤ) →
@@ -110,7 +131,9 @@ module _ (pairs : List ℤ) (word : List ℕ) (s : State) (n : ℕ) (items₀ : 
         giving-more m items′ w =
             let c : l - 1 ≡ plainCode (u .«next_left») = omega (arith, g .left) in
             let six : items′ ≡ sets items (6 * (k + i)) (letterItem u) =
-            w ∙ (λ j. sets items (6 * (k + i)) (numberOf 0 ∷ numberOf (c j) ∷ numberOf (sym (state-given word s i) j) ∷ numberOf 1 ∷ numberOf 0 ∷ numberOf 0 ∷ [])) in
+            w
+            ∙ (λ j. sets items (6 * (k + i))
+            (numberOf 0 ∷ numberOf (c j) ∷ numberOf (sym (state-given word s i) j) ∷ numberOf 1 ∷ numberOf 0 ∷ numberOf 0 ∷ [])) in
             let at : 6 * (k + i) ≡ 6 * k + length (letterItems word s i) = omega (arith, items-long word s i) in
             let next : plainState word s (i + 1) ≡ givenPlain word u .state = ap (plainState word s) (add-one i) ∙ state-more word s i in
             record {
@@ -151,10 +174,12 @@ least-second a b = go (leb a b) refl
 
 module _ (pairs ops : List ℤ) (boundary : ℤ) (word : List ℕ) (options : RunOptions) (s : State) (items : List ℤ) (k : ℕ) where
   -- a state that is not quick
-  pub stretched-none : (l : ℕ) → l ≡ quickLeft ops boundary word options s → l ≡ 0 → Stretched pairs ops boundary word options s items k (record { state = s; count = 0; pair = pairCount pairs }) items
+  pub stretched-none : (l : ℕ) → l ≡ quickLeft ops boundary word options s → l ≡ 0 →
+      Stretched pairs ops boundary word options s items k (record { state = s; count = 0; pair = pairCount pairs }) items
   stretched-none l e z = go (isQuick ops boundary word options s) refl (sym e ∙ z)
     where
-      go : (b : Bool) → isQuick ops boundary word options s ≡ b → cond b (plainLeft s) 0 ≡ 0 → Stretched pairs ops boundary word options s items k (record { state = s; count = 0; pair = pairCount pairs }) items
+      go : (b : Bool) → isQuick ops boundary word options s ≡ b → cond b (plainLeft s) 0 ≡ 0 →
+          Stretched pairs ops boundary word options s items k (record { state = s; count = 0; pair = pairCount pairs }) items
       go true f h = absurd (omega (arith, h))
       go false f h =
           record { count = rw f; state = sym (state-none word s); pair = rw f; list = sym (ap (sets items (6 * k)) (items-none word s)) }
@@ -183,7 +208,8 @@ module _ (pairs ops : List ℤ) (boundary : ℤ) (word : List ℕ) (options : Ru
           let m : t .count ≤ n = omega (arith, g .count, leading-few (λ j. isFree pairs word (plainState word s j)) n) in
           (omega (arith, g .left), omega (arith, f, b, word-short, r .there, m), omega (arith, f, b, word-short, r .there, r .waits, m))
 
-      pub stretched : (v : State) → v ≡ lettersMoved s (t .left) (t .count) → Stretched pairs ops boundary word options s items k (record { state = v; count = t .count; pair = t .pair }) items′
+      pub stretched : (v : State) → v ≡ lettersMoved s (t .left) (t .count) →
+          Stretched pairs ops boundary word options s items k (record { state = v; count = t .count; pair = t .pair }) items′
       stretched v e =
           record {
             count = rw q (g .count ∙ ap (freeLetters pairs word s) f);

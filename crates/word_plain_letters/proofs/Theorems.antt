@@ -35,7 +35,8 @@ module _ (p : ℕ → Bool) where
   leading-all zero h = refl
   leading-all (suc n) h = rw (leading-all n (both-left (every n p) (p n) h), eq-eqb n n refl, both-right (every n p) (p n) h)
 
-  stop-by : (n i : ℕ) → (i ≡ n) ⊎ (i < n) → every i p ≡ true → p i ≡ false → (i < n → leading n p ≡ i) → cond (eqb (leading n p) n) (cond (p n) (suc n) n) (leading n p) ≡ i
+  stop-by : (n i : ℕ) → (i ≡ n) ⊎ (i < n) → every i p ≡ true → p i ≡ false → (i < n → leading n p ≡ i) →
+      cond (eqb (leading n p) n) (cond (p n) (suc n) n) (leading n p) ≡ i
   stop-by n i (inl e) a f k =
       let m : leading n p ≡ n = leading-all n (subst (λ (j : ℕ). every j p ≡ true) e a) in
       rw (m, eq-eqb n n refl, subst (λ (j : ℕ). p j ≡ false) e f) (sym e)
@@ -139,15 +140,19 @@ module _ (pairs ops : List ℤ) (boundary : ℤ) (word : List ℕ) (options : Ru
         (quick-along s q i (λ j k. leading-below free n j (omega arith)) (omega (arith, leading-few free n)) (free-letter u f))
         (free-none u f)
 
-    stops-by : (u : State) (a b : Bool) → ltb m n ≡ a → leb (nextLetter word u) 255 ≡ b → (m < n → leb (nextLetter word u) 255 ≡ true → isQuick ops boundary word options u ≡ true) →
+    stops-by : (u : State) (a b : Bool) → ltb m n ≡ a → leb (nextLetter word u) 255 ≡ b →
+        (m < n → leb (nextLetter word u) 255 ≡ true → isQuick ops boundary word options u ≡ true) →
         cond a (cond b (foundPlace pairs (plainLeft u) (nextLetter word u)) (pairCount pairs)) (pairCount pairs) < pairCount pairs →
-        (isQuick ops boundary word options u ≡ true) × (cond a (cond b (foundPlace pairs (plainLeft u) (nextLetter word u)) (pairCount pairs)) (pairCount pairs) ≡ foundPlace pairs (plainLeft u) (nextLetter word u))
+        (isQuick ops boundary word options u ≡ true)
+        × (cond a (cond b (foundPlace pairs (plainLeft u) (nextLetter word u)) (pairCount pairs)) (pairCount pairs)
+        ≡ foundPlace pairs (plainLeft u) (nextLetter word u))
     stops-by u true true e f k h = (k (ltb-true m n e) f, refl)
     stops-by u true false e f k h = absurd (omega arith)
     stops-by u false b e f k h = absurd (omega arith)
 
     pub stops-at : stopPlace pairs word s n m < pairCount pairs →
-        (isQuick ops boundary word options (plainState word s m) ≡ true) × (stopPlace pairs word s n m ≡ foundPlace pairs (plainLeft (plainState word s m)) (nextLetter word (plainState word s m)))
+        (isQuick ops boundary word options (plainState word s m) ≡ true)
+        × (stopPlace pairs word s n m ≡ foundPlace pairs (plainLeft (plainState word s m)) (nextLetter word (plainState word s m)))
     stops-at h =
         let u = plainState word s m in
         stops-by u (ltb m n) (leb (nextLetter word u) 255) refl refl

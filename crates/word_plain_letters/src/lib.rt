@@ -1,5 +1,6 @@
-// Letters that a quick state gives as they stand, one after the other, each written as an item of six numbers: what a run of a word does most often. After the
-// loop over what `run_with_options` of ligkern/mod.rs returns. Each function is the definition of the same name in specs/Stretch.antt.
+// Letters that a quick state gives as they stand, one after the other, each written as an item of six numbers: what a
+// run of a word does most often. After the loop over what `run_with_options` of ligkern/mod.rs returns. Each function
+// is the definition of the same name in specs/Stretch.antt.
 ghost use mathlib.Core.Path.{_≡_};
 ghost use mathlib.Core.List.{[], _∷_};
 ghost use Prim.Native.Nat.{_+_, _-_, _/_, _<_, _≤_};
@@ -16,8 +17,8 @@ use step_quick::left::quick_left;
 use step_quick_find::found_place;
 use words::number_of;
 
-// Where a stretch ends: the left that is next (one more than its code), how many letters were given, and the pair that stopped it; the number of pairs where
-// none did.
+// Where a stretch ends: the left that is next (one more than its code), how many letters were given, and the pair that
+// stopped it; the number of pairs where none did.
 pub struct Stop {
     pub left: u32,
     pub count: usize,
@@ -52,7 +53,9 @@ fn write_six(
     right: u32,
 )
     requires { ⌜ at + 6 ≤ length (now items) ⌝ }
-    ensures { λ _. ⌜ now (items .exit) ≡ sets (now (items .entry)) at (numberOf kind ∷ numberOf value ∷ numberOf start ∷ numberOf count ∷ numberOf left ∷ numberOf right ∷ []) ⌝ }
+    ensures { λ _. ⌜ now (items .exit) ≡ sets (now (items .entry)) at
+        (numberOf kind ∷ numberOf value ∷ numberOf start ∷ numberOf count ∷ numberOf left
+        ∷ numberOf right ∷ []) ⌝ }
 {
     put_in(items, at, kind);
     put_in(items, at + 1, value);
@@ -73,7 +76,9 @@ pub fn put_six(
     left: u32,
     right: u32,
 )
-    ensures { λ _. ⌜ now (items .exit) ≡ sixAt (now (items .entry)) at (numberOf kind ∷ numberOf value ∷ numberOf start ∷ numberOf count ∷ numberOf left ∷ numberOf right ∷ []) ⌝ }
+    ensures { λ _. ⌜ now (items .exit) ≡ sixAt (now (items .entry)) at
+        (numberOf kind ∷ numberOf value ∷ numberOf start ∷ numberOf count ∷ numberOf left
+        ∷ numberOf right ∷ []) ⌝ }
 {
     if items.len() < 6 {
         return;
@@ -119,8 +124,10 @@ fn give(
     k: usize,
     n: usize,
 ) -> Stop
-    requires { ⌜ (left ≡ plainLeft s) × (s .read + n ≤ length (now word)) × (length (now word) ≤ 65535) × (s .given ≤ 65535) × (n ≤ length (now items) / 6 - k) ⌝ }
-    ensures { λ r. ⌜ Gave (now (pairs .entry)) (now (word .entry)) s n (now (items .entry)) k r (now (items .exit)) ⌝ }
+    requires { ⌜ (left ≡ plainLeft s) × (s .read + n ≤ length (now word)) × (length (now word) ≤ 65535)
+        × (s .given ≤ 65535) × (n ≤ length (now items) / 6 - k) ⌝ }
+    ensures { λ r. ⌜ Gave (now (pairs .entry)) (now (word .entry)) s n (now (items .entry)) k r
+        (now (items .exit)) ⌝ }
 {
     let none = pairs.len() / 6;
     let mut l = left;
@@ -173,7 +180,8 @@ pub fn give_letters(
     items: &mut [i32],
     k: usize,
 ) -> Stretch
-    ensures { λ r. ⌜ Stretched (now (pairs .entry)) (now (ops .entry)) boundary (now (word .entry)) options s (now (items .entry)) k r (now (items .exit)) ⌝ }
+    ensures { λ r. ⌜ Stretched (now (pairs .entry)) (now (ops .entry)) boundary (now (word .entry)) options s
+        (now (items .entry)) k r (now (items .exit)) ⌝ }
 {
     let left = quick_left(ops, boundary, word, options, s);
     if left == 0 {

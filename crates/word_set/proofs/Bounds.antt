@@ -29,7 +29,9 @@ use Rattle.captions.specs.declared.Turned.{Turned}
 use Rattle.captions.specs.declared.Turned.the-variants.{Gives, Goes}
 use Rattle.captions.specs.Tables.{opCount, opKind, opValue, opHolds, opFits, keyBy, find}
 use Rattle.captions.specs.Begin.{edgesRefusal, wordRefusal}
-use Rattle.captions.specs.Steps.{taken, takesBoundary, settled, giveItem, giveCharacter, giveLigature, afterOp, endsWord, giveOp, opsFit, readOp, gathered, leftPlaceOf, afterRight, readOn, withNext, giveLeft, entryReads, turnBy, turnAtEnd, turnAtLetter, turn, withNothingNext, runOn, nextFits, placed, rightItem, ranFrom, stepRefusal, handBack, steppedBy, stepOf}
+use Rattle.captions.specs.Steps.{taken, takesBoundary, settled, giveItem, giveCharacter, giveLigature, afterOp, endsWord, giveOp, opsFit, readOp, gathered}
+use Rattle.captions.specs.Steps.{leftPlaceOf, afterRight, readOn, withNext, giveLeft, entryReads, turnBy, turnAtEnd, turnAtLetter, turn, withNothingNext, runOn}
+use Rattle.captions.specs.Steps.{nextFits, placed, rightItem, ranFrom, stepRefusal, handBack, steppedBy, stepOf}
 use Rattle.step_turns.specs.Turns.{turnNext, turnOnce, turnsLeft, Within}
 use Rattle.step_turns.proofs.Laws.{gathered-read}
 use Rattle.step_turns.proofs.Turning.{Running, running-begin, running-less, running-more, running-end, placed-within}
@@ -64,12 +66,14 @@ holds-code false k v h l = absurd (omega (arith, eqb-true k 2 h))
 
 module _ (n : ℕ) (few : n ≤ 65535) where
   item-fits : (a : Answer) (k : ℕ) (s : State) → s .read ≤ n → (s .given + k ≤ 65535 → Fit (record { answer = a; state = settled k s })) → Fit (giveItem a k s)
-  item-fits a k s r h = either (leb (s .given + k) (s .read)) (λ e. h (omega (arith, leb-true (s .given + k) (s .read) e, r, few))) (λ _. refusal 6 (omega arith))
+  item-fits a k s r h =
+      either (leb (s .given + k) (s .read)) (λ e. h (omega (arith, leb-true (s .given + k) (s .read) e, r, few))) (λ _. refusal 6 (omega arith))
 
   character-fits : (c : ℕ) (s : State) → c ≤ 255 → s .read ≤ n → Fit (giveCharacter c s)
   character-fits c s l r =
       either (eqb (s .pending) 0) (λ _. item-fits (Char c (s .given)) 1 s r (λ h. character c (s .given) l (omega (arith, h))))
-      (λ _. item-fits (Ligature c (s .given) (s .pending) (s .«pending_boundary») false) (s .pending) s r (λ h. ligature c (s .given) (s .pending) (s .«pending_boundary») false l (omega (arith, h)) (omega (arith, h))))
+      (λ _. item-fits (Ligature c (s .given) (s .pending) (s .«pending_boundary») false) (s .pending) s r
+      (λ h. ligature c (s .given) (s .pending) (s .«pending_boundary») false l (omega (arith, h)) (omega (arith, h))))
 
   ligature-fits : (c : ℕ) (right : Bool) (s : State) → c ≤ 255 → s .read ≤ n → Fit (giveLigature c right s)
   ligature-fits c right s l r =
@@ -84,7 +88,8 @@ module _ (n : ℕ) (few : n ≤ 65535) where
         let o : opHolds ops (s .op) ≡ true = both-right (ltb (s .op) (opCount ops)) (opHolds ops (s .op)) (both-left (opFits ops (s .op)) _ h) in
         let f : k < 2 → c ≤ 255 = holds-code (within 1 (opKind ops (s .op))) k (opValue ops (s .op)) o in
         either (eqb k 0) (λ e. character-fits c (afterOp s) (f (omega (arith, eqb-true k 0 e))) r)
-        (λ _. either (eqb k 1) (λ e. ligature-fits c (endsWord ops (afterOp s)) (afterOp s) (f (omega (arith, eqb-true k 1 e))) r) (λ _. kern (opValue ops (s .op))))
+        (λ _. either (eqb k 1) (λ e. ligature-fits c (endsWord ops (afterOp s)) (afterOp s) (f (omega (arith, eqb-true k 1 e))) r)
+        (λ _. kern (opValue ops (s .op))))
 
     read-fits : Fit (readOp ops s)
     read-fits = either (opsFit ops s) op-fits (λ _. refusal 6 (omega arith))
@@ -111,12 +116,14 @@ module _ (pairs ops : List ℤ) (o : Option ℕ) (word : List ℕ) (few : length
   left-given (next.FinalLig c) s f r = goes
   left-given next.None s f r = goes
 
-  with-given : (x : NextLeft) (letter : Bool) (y : ℕ) (s : State) → nextFits x ≡ true → readOn letter (s .read) ≤ length word → (k : Option ℕ) → Given (turnBy pairs ops x letter y s k)
+  with-given : (x : NextLeft) (letter : Bool) (y : ℕ) (s : State) → nextFits x ≡ true → readOn letter (s .read) ≤ length word → (k : Option ℕ) →
+      Given (turnBy pairs ops x letter y s k)
   with-given x letter y s f r none = left-given x (withNext (afterRight letter (plain y)) (readOn letter (s .read)) s) f r
   with-given x letter y s f r (some k) = given-either (entryReads pairs ops x k) (λ _. goes) (λ _. gives (refusal 6 (omega arith)))
 
   letter-given : (x : NextLeft) (y : ℕ) (s : State) → nextFits x ≡ true → suc (s .read) ≤ length word → Given (turnAtLetter pairs ops x y s)
-  letter-given x y s f r = given-either (leb y 255) (λ _. with-given x true y s f r (find pairs (keyBy (leftPlaceOf x) y))) (λ _. gives (refusal 3 (omega arith)))
+  letter-given x y s f r =
+      given-either (leb y 255) (λ _. with-given x true y s f r (find pairs (keyBy (leftPlaceOf x) y))) (λ _. gives (refusal 3 (omega arith)))
 
   end-given : (q : Option ℕ) (x : NextLeft) (s : State) → nextFits x ≡ true → s .read ≤ length word → Given (turnAtEnd pairs ops q x s)
   end-given q next.Boundary s f r = gives over
@@ -153,7 +160,8 @@ module _ (pairs ops : List ℤ) (o : Option ℕ) (word : List ℕ) (few : length
     abbrev Ran : Type 0
     Ran = Fit (run (suc (length word - s .read)) s)
 
-    ran-by : (t : State) → Running (length word) (opCount ops) run s t → ((u : State) → turnsLeft (length word) u < turnsLeft (length word) t → Running (length word) (opCount ops) run s u → Ran) →
+    ran-by : (t : State) → Running (length word) (opCount ops) run s t →
+        ((u : State) → turnsLeft (length word) u < turnsLeft (length word) t → Running (length word) (opCount ops) run s u → Ran) →
         (x : Turned) → x ≡ turnOnce ops (turn pairs ops o word) t → Ran
     ran-by t r onward (Gives a) e = subst Fit (running-end pairs ops o word s t r (Gives a) e a refl) (given-step (once-given t (r .inside)) (sym e))
     ran-by t r onward (Goes u) e = onward u (running-less pairs ops o word s t r (Goes u) e u refl) (running-more pairs ops o word s t r (Goes u) e u refl)
@@ -165,7 +173,8 @@ module _ (pairs ops : List ℤ) (o : Option ℕ) (word : List ℕ) (few : length
     ran-fits : Fit (ranFrom pairs ops o word s)
     ran-fits =
         either (placed ops word s)
-        (λ e. ran-in (suc (turnsLeft (length word) s)) s (omega arith) (running-begin (length word) (opCount ops) run s (placed-within ops word s (omega (arith, few)) e)))
+        (λ e. ran-in (suc (turnsLeft (length word) s)) s (omega arith)
+        (running-begin (length word) (opCount ops) run s (placed-within ops word s (omega (arith, few)) e)))
         (λ _. refusal 6 (omega arith))
 
 -- ---- the step
@@ -197,7 +206,8 @@ module _ (pairs ops : List ℤ) (boundary : ℤ) (word : List ℕ) (options : Ru
   few : stepRefusal boundary word options ≤ 7
   few =
       orElse-few 7 (edgesRefusal boundary options) (wordRefusal word)
-      (orElse-few 7 (absentRefusal 255 boundary) (absentRefusal 255 (options .«right_boundary_override»)) (unless-few 7 4 (absentOr 255 boundary) (omega arith)) (unless-few 7 4 (absentOr 255 (options .«right_boundary_override»)) (omega arith)))
+      (orElse-few 7 (absentRefusal 255 boundary) (absentRefusal 255 (options .«right_boundary_override»))
+      (unless-few 7 4 (absentOr 255 boundary) (omega arith)) (unless-few 7 4 (absentOr 255 (options .«right_boundary_override»)) (omega arith)))
       (unless-few 7 6 (leb (length word) 65535) (omega arith))
 
   pub step-small : Small (stepOf pairs ops boundary word options s .answer)

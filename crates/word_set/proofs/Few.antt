@@ -44,12 +44,14 @@ module _ (pairs ops : List ℤ) (boundary : ℤ) (word : List ℕ) (options : Ru
   unfolding itemsBy
   items-few zero s = then-few (stepOf pairs ops boundary word options s .answer) (replyOf 15 []) (step-small pairs ops boundary word options s) (omega arith)
   items-few (suc n) s =
-      then-few (stepOf pairs ops boundary word options s .answer) (itemsFrom pairs ops boundary word options n (stepOf pairs ops boundary word options s .state))
+      then-few (stepOf pairs ops boundary word options s .answer)
+      (itemsFrom pairs ops boundary word options n (stepOf pairs ops boundary word options s .state))
       (step-small pairs ops boundary word options s) (items-few n (stepOf pairs ops boundary word options s .state))
 
   pub items-sixes : (n : ℕ) (s : State) → length (itemsFrom pairs ops boundary word options n s .values) % 6 ≡ 0
   unfolding itemsBy
   items-sixes zero s = then-sixes (stepOf pairs ops boundary word options s .answer) (replyOf 15 []) refl
   items-sixes (suc n) s =
-      then-sixes (stepOf pairs ops boundary word options s .answer) (itemsFrom pairs ops boundary word options n (stepOf pairs ops boundary word options s .state))
+      then-sixes (stepOf pairs ops boundary word options s .answer)
+      (itemsFrom pairs ops boundary word options n (stepOf pairs ops boundary word options s .state))
       (items-sixes n (stepOf pairs ops boundary word options s .state))

@@ -61,7 +61,8 @@ item-then (Refused n) r h = no h
 
 -- ---- what a reply tells
 
-tells-count : (d₀ d done : List ℤ) (k : ℕ) → length done ≡ 6 * k → Appending done d₀ d → d₀ ≡ replicate (length d₀) (pos 0) → Tells (replyOf 0 done) d₀ (written.Count k) d
+tells-count : (d₀ d done : List ℤ) (k : ℕ) → length done ≡ 6 * k → Appending done d₀ d → d₀ ≡ replicate (length d₀) (pos 0) →
+    Tells (replyOf 0 done) d₀ (written.Count k) d
 tells-count d₀ d done k m w z =
     let e : k ≡ length done / 6 = omega (arith, m) in
     record { answer = ap (λ (j : ℕ). replyOf 0 (pos j ∷ [])) e; list = appending-rest d₀ (pos 0) (length d₀) z w }
@@ -111,7 +112,13 @@ module _ (step : State → Step) where
   pub standing-none : (s : State) (d : List ℤ) → Standing s d d s 0
   standing-none s d =
       let e : length d / 6 - 0 ≡ length d / 6 = omega arith in
-      record { done = []; many = refl; stored = appending-none d; few = omega arith; rest = sym (ap (λ (n : ℕ). numbersBefore [] (itemsBy step n s)) e ∙ from-normal (length d / 6) s) }
+      record {
+        done = [];
+        many = refl;
+        stored = appending-none d;
+        few = omega arith;
+        rest = sym (ap (λ (n : ℕ). numbersBefore [] (itemsBy step n s)) e ∙ from-normal (length d / 6) s);
+      }
 
   module _ (s₀ : State) (d₀ d : List ℤ) (s : State) (k : ℕ) (i : Standing s₀ d₀ d s k) (t : Step) (e : t ≡ step s) where
     -- one item more
@@ -150,7 +157,8 @@ module _ (step : State → Step) where
           (rw (w .0) (tells-refused d₀ d′ 14 (w .1 ∙ ap (λ (j : ℕ). replicate j (pos 0)) same)))
 
     -- the end, or a refusal
-    stop-by : (a : Answer) → t .answer ≡ a → Small a → isItem a ≡ false → (x : Written) (d′ : List ℤ) → Stops a k d x d′ → d₀ ≡ replicate (length d₀) (pos 0) → Tells (itemsBy step (length d₀ / 6) s₀) d₀ x d′
+    stop-by : (a : Answer) → t .answer ≡ a → Small a → isItem a ≡ false → (x : Written) (d′ : List ℤ) → Stops a k d x d′ → d₀ ≡ replicate (length d₀) (pos 0) →
+        Tells (itemsBy step (length d₀ / 6) s₀) d₀ x d′
     stop-by (Char c p) q m h x d′ w z = no (sym h)
     stop-by (Ligature c p n a b) q m h x d′ w z = no (sym h)
     stop-by (Kern v) q m h x d′ w z = no (sym h)
@@ -166,11 +174,13 @@ module _ (step : State → Step) where
         (sym (i .rest ∙ ap (numbersBefore (i .done)) (from-stops s t e (length d₀ / 6 - k) (Refused (suc n)) (replyOf (suc n) []) q (λ r. refl))))
         (rw (w .0) (tells-refused d₀ d′ n (w .1 ∙ ap (λ (j : ℕ). replicate j (pos 0)) (appending-length d₀ (i .stored)))))
 
-    pub standing-stop : Small (t .answer) → isItem (t .answer) ≡ false → (x : Written) (d′ : List ℤ) → Stops (t .answer) k d x d′ → d₀ ≡ replicate (length d₀) (pos 0) → Tells (itemsBy step (length d₀ / 6) s₀) d₀ x d′
+    pub standing-stop : Small (t .answer) → isItem (t .answer) ≡ false → (x : Written) (d′ : List ℤ) → Stops (t .answer) k d x d′ →
+        d₀ ≡ replicate (length d₀) (pos 0) → Tells (itemsBy step (length d₀ / 6) s₀) d₀ x d′
     standing-stop m h x d′ w z = stop-by (t .answer) refl m h x d′ w z
 
   -- items in a list that was zeroed, from a state that is this one
-  pub tells-zeroed : (d₀ d : List ℤ) (s t : State) → s ≡ t → length d ≡ length d₀ → (x : Written) (d′ : List ℤ) → Tells (itemsBy step (length d / 6) s) d x d′ → Tells (itemsBy step (length d₀ / 6) t) d₀ x d′
+  pub tells-zeroed : (d₀ d : List ℤ) (s t : State) → s ≡ t → length d ≡ length d₀ → (x : Written) (d′ : List ℤ) → Tells (itemsBy step (length d / 6) s) d x d′ →
+      Tells (itemsBy step (length d₀ / 6) t) d₀ x d′
   tells-zeroed d₀ d s t e l = tells-same (itemsBy step (length d / 6) s) (itemsBy step (length d₀ / 6) t) (λ j. itemsBy step (l j / 6) (e j)) d d₀ l
 
 -- ---- from begin on
@@ -198,14 +208,17 @@ module _ (step : State → Step) (pairs ops : List ℤ) (boundary : ℤ) (word :
       let m = begun-run (beginRefusal pairs ops boundary word options) (freshState word options) s e in
       λ j. afterBegin (m .0 j) (itemsBy step (room / 6) (m .1 j))
 
-  pub tells-run : (d₀ d : List ℤ) (s : State) → begun.Run s ≡ beginOf pairs ops boundary word options → length d ≡ length d₀ → (x : Written) (d′ : List ℤ) → Tells (itemsBy step (length d / 6) s) d x d′ → Tells (replyBy (length d₀)) d₀ x d′
+  pub tells-run : (d₀ d : List ℤ) (s : State) → begun.Run s ≡ beginOf pairs ops boundary word options → length d ≡ length d₀ → (x : Written) (d′ : List ℤ) →
+      Tells (itemsBy step (length d / 6) s) d x d′ → Tells (replyBy (length d₀)) d₀ x d′
   tells-run d₀ d s e l =
       tells-same (itemsBy step (length d / 6) s) (replyBy (length d₀)) (ap (λ (n : ℕ). itemsBy step (n / 6) s) l ∙ sym (run-items s e (length d₀))) d d₀ l
 
   -- a begin that is refused
-  pub tells-no-run : (d₀ d : List ℤ) (n : ℕ) → begun.Refused n ≡ beginOf pairs ops boundary word options → d ≡ replicate (length d₀) (pos 0) → Tells (replyBy (length d₀)) d₀ (written.Refused n) d
+  pub tells-no-run : (d₀ d : List ℤ) (n : ℕ) → begun.Refused n ≡ beginOf pairs ops boundary word options → d ≡ replicate (length d₀) (pos 0) →
+      Tells (replyBy (length d₀)) d₀ (written.Refused n) d
   tells-no-run d₀ d n e z =
       let m = begun-refused (beginRefusal pairs ops boundary word options) n (freshState word options) e in
       let r = replyBy (length d₀) in
-      let q : n ≡ r .number = sym (refusal-is (beginRefusal pairs ops boundary word options) n (itemsBy step (length d₀ / 6) (freshState word options)) (m .0) (m .1)) in
+      let q : n ≡ r .number =
+      sym (refusal-is (beginRefusal pairs ops boundary word options) n (itemsBy step (length d₀ / 6) (freshState word options)) (m .0) (m .1)) in
       record { answer = refused-answer (length (r .values) / 6) q (m .1); list = refused-list (pos 0) (length d₀) (r .values) q (m .1) z }

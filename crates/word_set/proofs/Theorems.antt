@@ -1,5 +1,5 @@
--- What is set is what demand 3 promises: the statement is specs/Purpose. By induction on the items: each step gives the next of them, and the step after the last
--- is the end. Assumes nothing.
+-- What is set is what demand 3 promises: the statement is specs/Purpose. By induction on the items: each step gives the next of them, and the step after the
+-- last is the end. Assumes nothing.
 use mathlib.Core.Path.{_≡_, refl, sym, ap, _∙_}
 use mathlib.Core.Bool.{true}
 use mathlib.Core.List.{List, [], _∷_, _++_, map}
@@ -77,7 +77,8 @@ module _ (pairs ops : List ℤ) (boundary : ℤ) (word : List ℕ) (options : Ru
     unfolding answers thenEnds
     other-items o items n e = ap othersOf e
 
-    one-more : (n : ℕ) (o : Out) (items : List Out) → shown (t .answer) ≡ shows o → Holds (itemsFrom pairs ops boundary word options n (t .state)) items → Holds (itemsFrom pairs ops boundary word options (suc n) s) (o ∷ items)
+    one-more : (n : ℕ) (o : Out) (items : List Out) → shown (t .answer) ≡ shows o → Holds (itemsFrom pairs ops boundary word options n (t .state)) items →
+        Holds (itemsFrom pairs ops boundary word options (suc n) s) (o ∷ items)
     unfolding valuesOf
     one-more n o items e h =
         let v = answerReply (t .answer) .values in
@@ -104,5 +105,12 @@ module _ (pairs ops : List ℤ) (boundary : ℤ) (word : List ℕ) (options : Ru
 pub every-word : EveryWord
 every-word f pairs ops word options items room a l =
     let h = holds pairs ops (f .boundary) word options items (room / 6) (a .start) (omega (arith, l)) (a .answered) in
-    let q : setReply pairs ops (f .boundary) word options room ≡ replyOf 0 (valuesOf (h .held)) = set-run pairs ops (f .boundary) word options (a .start) (sym (a .begins)) room ∙ h .values in
-    record { accepted = ap (λ (r : Reply). r .number) q; answers = h .held; same = h .same; numbers = ap (λ (r : Reply). r .values) q; counted = ap (λ (r : Reply). length (r .values) / 6) q ∙ (let n : length (valuesOf (h .held)) / 6 ≡ length items = omega (arith, h .many) in n) }
+    let q : setReply pairs ops (f .boundary) word options room
+    ≡ replyOf 0 (valuesOf (h .held)) = set-run pairs ops (f .boundary) word options (a .start) (sym (a .begins)) room ∙ h .values in
+    record {
+      accepted = ap (λ (r : Reply). r .number) q;
+      answers = h .held;
+      same = h .same;
+      numbers = ap (λ (r : Reply). r .values) q;
+      counted = ap (λ (r : Reply). length (r .values) / 6) q ∙ (let n : length (valuesOf (h .held)) / 6 ≡ length items = omega (arith, h .many) in n);
+    }

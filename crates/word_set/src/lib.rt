@@ -1,5 +1,5 @@
-// A word set whole: a run from its begin to its end, each item as the six numbers of a T line. Document 01, 'Caption items' and 'The column text'; after the loop
-// over what `run_with_options` of ligkern/mod.rs returns.
+// A word set whole: a run from its begin to its end, each item as the six numbers of a T line. Document 01, 'Caption
+// items' and 'The column text'; after the loop over what `run_with_options` of ligkern/mod.rs returns.
 ghost use mathlib.Core.Path.{_≡_};
 ghost use Prim.Native.Nat.{_/_};
 ghost use lib.ListN.{length, replicate};
@@ -25,7 +25,8 @@ use word_items::stopped;
 use word_plain_letters::give_letters;
 use words::zero::zero_i32;
 
-// The step from a state in which a stretch of letters ended, and the pair that ended it if there is one: its first op at once, or a last kern, and else by turns.
+// The step from a state in which a stretch of letters ended, and the pair that ended it if there is one: its first op
+// at once, or a last kern, and else by turns.
 fn next_step(
     pairs: &[i32],
     ops: &[i32],
@@ -36,7 +37,8 @@ fn next_step(
     pair: usize,
 ) -> Step
     requires { ⌜ NextPair (now pairs) (now ops) boundary (now word) options s pair ⌝ }
-    ensures { λ r. ⌜ r ≡ stepOf (now (pairs .entry)) (now (ops .entry)) boundary (now (word .entry)) options s ⌝ }
+    ensures { λ r. ⌜ r ≡ stepOf (now (pairs .entry)) (now (ops .entry)) boundary (now (word .entry)) options
+        s ⌝ }
 {
     if pairs.len() / 6 <= pair {
         return kern_step(pairs, ops, boundary, word, options, s);
@@ -47,7 +49,8 @@ fn next_step(
     quick_step(pairs, ops, word, pair, s)
 }
 
-// The items from a state on, in a list of zeros: letters as they stand, and then the step that is next, again and again.
+// The items from a state on, in a list of zeros: letters as they stand, and then the step that is next, again and
+// again.
 fn set_from(
     pairs: &[i32],
     ops: &[i32],
@@ -58,7 +61,9 @@ fn set_from(
     items: &mut [i32],
 ) -> Written
     requires { ⌜ now items ≡ replicate (length (now items)) (pos 0) ⌝ }
-    ensures { λ r. ⌜ Tells (itemsFrom (now (pairs .entry)) (now (ops .entry)) boundary (now (word .entry)) options (length (now (items .entry)) / 6) state) (now (items .entry)) r (now (items .exit)) ⌝ }
+    ensures { λ r. ⌜ Tells
+        (itemsFrom (now (pairs .entry)) (now (ops .entry)) boundary (now (word .entry)) options
+        (length (now (items .entry)) / 6) state) (now (items .entry)) r (now (items .exit)) ⌝ }
 {
     let mut s = state;
     let mut k = 0;
@@ -80,7 +85,8 @@ fn set_from(
     }
 }
 
-// The items that a fresh run gives over a table that is taken as it stands, which begin would check: what `set_word` gives where begin refuses nothing.
+// The items that a fresh run gives over a table that is taken as it stands, which begin would check: what `set_word`
+// gives where begin refuses nothing.
 pub fn set_fresh(
     pairs: &[i32],
     ops: &[i32],
@@ -89,14 +95,18 @@ pub fn set_fresh(
     options: RunOptions,
     items: &mut [i32],
 ) -> Written
-    ensures { λ r. ⌜ Tells (itemsFrom (now (pairs .entry)) (now (ops .entry)) boundary (now (word .entry)) options (length (now (items .entry)) / 6) (freshState (now (word .entry)) options)) (now (items .entry)) r (now (items .exit)) ⌝ }
+    ensures { λ r. ⌜ Tells
+        (itemsFrom (now (pairs .entry)) (now (ops .entry)) boundary (now (word .entry)) options
+        (length (now (items .entry)) / 6) (freshState (now (word .entry)) options)) (now (items .entry)) r
+        (now (items .exit)) ⌝ }
 {
     zero_i32(items);
     let fresh = fresh_state(word, options);
     set_from(pairs, ops, boundary, word, options, fresh, items)
 }
 
-// The items of a word up to its end, six numbers each as a T line has them, with zeros after them. Answers how many there are. Begin's numbers, then 15.
+// The items of a word up to its end, six numbers each as a T line has them, with zeros after them. Answers how many
+// there are. Begin's numbers, then 15.
 pub fn set_word(
     pairs: &[i32],
     ops: &[i32],
@@ -105,7 +115,8 @@ pub fn set_word(
     options: RunOptions,
     items: &mut [i32],
 ) -> Written
-    ensures { λ r. ⌜ Sets (now (pairs .entry)) (now (ops .entry)) boundary (now (word .entry)) options (now (items .entry)) r (now (items .exit)) ⌝ }
+    ensures { λ r. ⌜ Sets (now (pairs .entry)) (now (ops .entry)) boundary (now (word .entry)) options
+        (now (items .entry)) r (now (items .exit)) ⌝ }
 {
     zero_i32(items);
     match begin(pairs, ops, boundary, word, options) {

@@ -18,7 +18,8 @@ unfolding tabulate
 length-tabulate zero f = refl
 length-tabulate (suc n) f = length-append (tabulate n f) (f n ∷ []) ∙ rw (length-tabulate n f, add-one)
 
-getD-last {ℓ} : {A : Type ℓ} (n : ℕ) (f : ℕ → A) (i : ℕ) (d : A) → (i ≡ n) ⊎ (i < n) → (i < n → getD (tabulate n f) i d ≡ f i) → getD (tabulate n f ++ (f n ∷ [])) i d ≡ f i
+getD-last {ℓ} : {A : Type ℓ} (n : ℕ) (f : ℕ → A) (i : ℕ) (d : A) → (i ≡ n) ⊎ (i < n) → (i < n → getD (tabulate n f) i d ≡ f i) →
+    getD (tabulate n f ++ (f n ∷ [])) i d ≡ f i
 getD-last n f i d (inl e) k = rw e (getD-at (tabulate n f) (f n) [] d n (length-tabulate n f))
 getD-last n f i d (inr h) k = List·getD-append (tabulate n f) (f n ∷ []) d i (rw (length-tabulate n f) h) ∙ k h
 
@@ -51,7 +52,11 @@ module _ {A : Type 0} (f : ℕ → A) (d₀ : List A) where
   unfolding tabulate
   filling-more {d} {i} h l =
       let k : i < length d₀ = omega (arith, filling-length h) in
-      record { within = omega arith; filled = rw (h .filled, drop-cons d₀ i (f i) k, add-one) (set-at (tabulate i f) (getD d₀ i (f i)) (drop (suc i) d₀) (f i) i (length-tabulate i f) ∙ simp append-assoc) }
+      record {
+        within = omega arith;
+        filled = rw (h .filled, drop-cons d₀ i (f i) k, add-one)
+            (set-at (tabulate i f) (getD d₀ i (f i)) (drop (suc i) d₀) (f i) i (length-tabulate i f) ∙ simp append-assoc);
+      }
 
   pub filling-all : {d : List A} {i : ℕ} → Filling f d₀ d i → length d ≤ i → d ≡ tabulate (length d₀) f
   filling-all {d} {i} h l =
@@ -85,14 +90,20 @@ module _ {A : Type 0} (d₀ : List A) where
       }
 
   -- several more, by stores in a row
-  pub appending-more : {done d : List A} (vs : List A) → Appending done d₀ d → length done + length vs ≤ length d → Appending (done ++ vs) d₀ (sets d (length done) vs)
+  pub appending-more : {done d : List A} (vs : List A) → Appending done d₀ d → length done + length vs ≤ length d →
+      Appending (done ++ vs) d₀ (sets d (length done) vs)
   appending-more {done} {d} vs h l =
       let k : length done + length vs ≤ length d₀ = omega (arith, appending-length h) in
       record {
         within = simp length-append k;
         appended =
             sets-eq vs d (length done) l
-            ∙ rw (h .appended, take-at done (drop (length done) d₀) (length done) refl, drop-append-add done (drop (length done) d₀) (length vs), drop-drop (length vs) (length done) d₀)
+            ∙ rw (
+              h .appended,
+              take-at done (drop (length done) d₀) (length done) refl,
+              drop-append-add done (drop (length done) d₀) (length vs),
+              drop-drop (length vs) (length done) d₀,
+            )
             (simp (append-assoc, length-append));
       }
 

@@ -15,13 +15,27 @@ use Rattle.c_indexed.proofs.ligkern_set_word_indexed.Statement.{stateme
 use Rattle.c_indexed.proofs.ligkern_set_word_indexed.Tie as tie
 
 -- set_word_indexed is handed the boundary character and the override as they were lent; what it answered is this
-was-set : (c : tie.After-set-word-indexed) (x : Written) → c .set-word-indexed .result ≡ x → let a = c .before .before .before .before .before .before .before .before .before .args in Tells (indexedReply (a .index .now) (a .pairs .now) (a .ops .now) (a .boundary) (a .word .now) (optionsOf (a .«disable-left-boundary») (a .«right-boundary-override»)) (length (a .items .now))) (a .items .now) x (c .set-word-indexed .last .1 .1 .1 .1 .1 .1 .0)
+was-set : (c : tie.After-set-word-indexed) (x : Written) → c .set-word-indexed .result ≡ x →
+    let a = c .before .before .before .before .before .before .before .before .before .args in
+    Tells
+    (indexedReply (a .index .now) (a .pairs .now) (a .ops .now) (a .boundary) (a .word .now)
+    (optionsOf (a .«disable-left-boundary») (a .«right-boundary-override»)) (length (a .items .now))) (a .items .now) x
+    (c .set-word-indexed .last .1 .1 .1 .1 .1 .1 .0)
 was-set c x e =
     let s = c .before .before .before .before .before .before .before .before .before in
     let a = s .args in
-    subst (λ (y : Written). Tells (indexedReply (a .index .now) (a .pairs .now) (a .ops .now) (a .boundary) (a .word .now) (optionsOf (a .«disable-left-boundary») (a .«right-boundary-override»)) (length (a .items .now))) (a .items .now) y (c .set-word-indexed .last .1 .1 .1 .1 .1 .1 .0)) e
-    (subst (λ (y : ℤ). Tells (indexedReply (a .index .now) (a .pairs .now) (a .ops .now) y (a .word .now) (optionsOf (a .«disable-left-boundary») (a .«right-boundary-override»)) (length (a .items .now))) (a .items .now) (c .set-word-indexed .result) (c .set-word-indexed .last .1 .1 .1 .1 .1 .1 .0)) (number-word (a .boundary) (s .fits .boundary))
-    (subst (λ (y : ℤ). Tells (indexedReply (a .index .now) (a .pairs .now) (a .ops .now) (numberOf (wordOf (a .boundary))) (a .word .now) (optionsOf (a .«disable-left-boundary») y) (length (a .items .now))) (a .items .now) (c .set-word-indexed .result) (c .set-word-indexed .last .1 .1 .1 .1 .1 .1 .0)) (number-word (a .«right-boundary-override») (s .fits .«right-boundary-override»))
+    subst (λ (y : Written). Tells
+    (indexedReply (a .index .now) (a .pairs .now) (a .ops .now) (a .boundary) (a .word .now)
+    (optionsOf (a .«disable-left-boundary») (a .«right-boundary-override»)) (length (a .items .now))) (a .items .now) y
+    (c .set-word-indexed .last .1 .1 .1 .1 .1 .1 .0)) e
+    (subst (λ (y : ℤ). Tells
+    (indexedReply (a .index .now) (a .pairs .now) (a .ops .now) y (a .word .now) (optionsOf (a .«disable-left-boundary») (a .«right-boundary-override»))
+    (length (a .items .now))) (a .items .now) (c .set-word-indexed .result) (c .set-word-indexed .last .1 .1 .1 .1 .1 .1 .0))
+    (number-word (a .boundary) (s .fits .boundary))
+    (subst (λ (y : ℤ). Tells
+    (indexedReply (a .index .now) (a .pairs .now) (a .ops .now) (numberOf (wordOf (a .boundary))) (a .word .now)
+    (optionsOf (a .«disable-left-boundary») y) (length (a .items .now))) (a .items .now) (c .set-word-indexed .result)
+    (c .set-word-indexed .last .1 .1 .1 .1 .1 .1 .0)) (number-word (a .«right-boundary-override») (s .fits .«right-boundary-override»))
     (c .set-word-indexed .ensures)))
 
 zero-u64-requires : tie.Need-zero-u64-requires
@@ -53,7 +67,11 @@ returns c =
     let d = g .set-word-indexed .last .1 .1 .1 .1 .1 .1 .0 in
     let v = c .before .before .before .before .before .k .given in
     let w = c .before .zero-i32 in
-    caption-short (indexedReply (a .index .now) (a .pairs .now) (a .ops .now) (a .boundary) (a .word .now) (optionsOf (a .«disable-left-boundary») (a .«right-boundary-override»)) (length (a .items .now))) (a .items .now) d (a .count .now) (z .last .0) (z .ensures) (v .0 .0) (was-set g _ (v .1)) (c .before .before .before .if1 .taken) (w .last .0) (w .ensures) (g .set-word-indexed .kept .1 .1 .1 .1 .1 .1 .0)
+    caption-short
+    (indexedReply (a .index .now) (a .pairs .now) (a .ops .now) (a .boundary) (a .word .now)
+    (optionsOf (a .«disable-left-boundary») (a .«right-boundary-override»)) (length (a .items .now))) (a .items .now) d (a .count .now) (z .last .0)
+    (z .ensures) (v .0 .0) (was-set g _ (v .1)) (c .before .before .before .if1 .taken) (w .last .0) (w .ensures)
+    (g .set-word-indexed .kept .1 .1 .1 .1 .1 .1 .0)
 
 slice-write-count : tie.Need-slice-write-count
 slice-write-count c = search needs
@@ -71,7 +89,10 @@ returns-2 c =
     let a = g .before .before .before .before .before .before .before .before .before .args in
     let d = g .set-word-indexed .last .1 .1 .1 .1 .1 .1 .0 in
     let v = c .before .n .given in
-    caption-refused (indexedReply (a .index .now) (a .pairs .now) (a .ops .now) (a .boundary) (a .word .now) (optionsOf (a .«disable-left-boundary») (a .«right-boundary-override»)) (length (a .items .now))) (a .items .now) d (a .count .now) (z .last .0) (z .ensures) (v .0 .0) (was-set g _ (v .1))
+    caption-refused
+    (indexedReply (a .index .now) (a .pairs .now) (a .ops .now) (a .boundary) (a .word .now)
+    (optionsOf (a .«disable-left-boundary») (a .«right-boundary-override»)) (length (a .items .now))) (a .items .now) d (a .count .now) (z .last .0)
+    (z .ensures) (v .0 .0) (was-set g _ (v .1))
 
 same-length-5 : tie.Need-same-length-5
 same-length-5 c = search needs
@@ -86,7 +107,10 @@ returns-3 c =
     let a = g .before .before .before .before .before .before .before .before .before .args in
     let d = g .set-word-indexed .last .1 .1 .1 .1 .1 .1 .0 in
     let v = c .before .before .k .given in
-    caption-taken (indexedReply (a .index .now) (a .pairs .now) (a .ops .now) (a .boundary) (a .word .now) (optionsOf (a .«disable-left-boundary») (a .«right-boundary-override»)) (length (a .items .now))) (a .items .now) d (a .count .now) (z .last .0) (z .ensures) (v .0 .0) (was-set g _ (v .1)) (c .if1 .left)
+    caption-taken
+    (indexedReply (a .index .now) (a .pairs .now) (a .ops .now) (a .boundary) (a .word .now)
+    (optionsOf (a .«disable-left-boundary») (a .«right-boundary-override»)) (length (a .items .now))) (a .items .now) d (a .count .now) (z .last .0)
+    (z .ensures) (v .0 .0) (was-set g _ (v .1)) (c .if1 .left)
 
 pub ligkern-set-word-indexed-spec : {M : Type 1} → statement M
 ligkern-set-word-indexed-spec =

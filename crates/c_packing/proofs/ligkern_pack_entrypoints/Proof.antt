@@ -43,8 +43,14 @@ returns c =
     let g = packable (a .instructions .now) (a .entries .now) (numberOf (wordOf (a .boundary))) (numberOf (wordOf (a .«left-entry»))) in
     let out = a .out .now in
     let more = a .«entries-out» .now in
-    lent-two (λ (x y : ℤ). GivesTwo (pos 0) (packReply (packable (a .instructions .now) (a .entries .now) x y) (length out) (length more)) (packedInstructions (packable (a .instructions .now) (a .entries .now) x y)) (packedEntries (packable (a .instructions .now) (a .entries .now) x y)) out more (a .values .now) (t .tell-sizes .result) (k .keep-i32 .last .1 .0) (l .keep-i322 .last .1 .0) (t .tell-sizes .last .1 .0)) (number-word (a .boundary) (s .fits .boundary)) (number-word (a .«left-entry») (s .fits .«left-entry»))
-    (gives-two (pos 0) (packingRefusal g (length out) (length more)) (packedSizes g) (packedInstructions g) (packedEntries g) out more (a .values .now) (w .pack-entrypoints .ensures .answer) (t .tell-sizes .ensures) (w .pack-entrypoints .ensures .instructions) (w .pack-entrypoints .ensures .entries) (w .pack-entrypoints .kept .1 .1 .1 .1 .0) (w .pack-entrypoints .kept .1 .1 .1 .1 .1 .0) (k .keep-i32 .ensures) (l .keep-i322 .ensures))
+    lent-two
+    (λ (x y : ℤ). GivesTwo (pos 0) (packReply (packable (a .instructions .now) (a .entries .now) x y) (length out) (length more))
+    (packedInstructions (packable (a .instructions .now) (a .entries .now) x y)) (packedEntries (packable (a .instructions .now) (a .entries .now) x y))
+    out more (a .values .now) (t .tell-sizes .result) (k .keep-i32 .last .1 .0) (l .keep-i322 .last .1 .0) (t .tell-sizes .last .1 .0))
+    (number-word (a .boundary) (s .fits .boundary)) (number-word (a .«left-entry») (s .fits .«left-entry»))
+    (gives-two (pos 0) (packingRefusal g (length out) (length more)) (packedSizes g) (packedInstructions g) (packedEntries g) out more (a .values .now)
+    (w .pack-entrypoints .ensures .answer) (t .tell-sizes .ensures) (w .pack-entrypoints .ensures .instructions) (w .pack-entrypoints .ensures .entries)
+    (w .pack-entrypoints .kept .1 .1 .1 .1 .0) (w .pack-entrypoints .kept .1 .1 .1 .1 .1 .0) (k .keep-i32 .ensures) (l .keep-i322 .ensures))
 
 pub ligkern-pack-entrypoints-spec : {M : Type 1} → statement M
 ligkern-pack-entrypoints-spec =

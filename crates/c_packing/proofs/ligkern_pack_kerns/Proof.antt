@@ -30,7 +30,9 @@ returns c =
     let t = k .before .before .before .before in
     let w = t .before .before .before in
     let a = w .before .before .before .args in
-    gives (pos 0) (packRefusal (a .instructions .now) (a .kerns .now) (length (a .out .now))) (pos (count (a .instructions .now)) ∷ []) (packed (a .instructions .now) (a .kerns .now)) (a .out .now) (a .values .now) (w .pack-kerns .ensures .answer) (t .tell .ensures) (w .pack-kerns .ensures .list) (w .pack-kerns .kept .1 .1 .0) (k .keep-i32 .ensures)
+    gives (pos 0) (packRefusal (a .instructions .now) (a .kerns .now) (length (a .out .now))) (pos (count (a .instructions .now)) ∷ [])
+    (packed (a .instructions .now) (a .kerns .now)) (a .out .now) (a .values .now) (w .pack-kerns .ensures .answer) (t .tell .ensures)
+    (w .pack-kerns .ensures .list) (w .pack-kerns .kept .1 .1 .0) (k .keep-i32 .ensures)
 
 pub ligkern-pack-kerns-spec : {M : Type 1} → statement M
 ligkern-pack-kerns-spec =

@@ -36,7 +36,10 @@ returns c =
     let t = k .before .before .before .before in
     let w = t .before .before .before .before in
     let a = w .before .before .before .before .args in
-    gives-two (pos 0) (unpackKernsRefusal (a .instructions .now) (length (a .out .now)) (length (a .kerns .now))) (pos (length (kernsOf (a .instructions .now))) ∷ []) (unpacked (a .instructions .now)) (kernsOf (a .instructions .now)) (a .out .now) (a .kerns .now) (a .values .now) (w .unpack-kerns .ensures .answer) (t .tell .ensures) (w .unpack-kerns .ensures .list) (w .unpack-kerns .ensures .shares) (w .unpack-kerns .kept .1 .0) (w .unpack-kerns .kept .1 .1 .0) (k .keep-i32 .ensures) (l .keep-i322 .ensures)
+    gives-two (pos 0) (unpackKernsRefusal (a .instructions .now) (length (a .out .now)) (length (a .kerns .now)))
+    (pos (length (kernsOf (a .instructions .now))) ∷ []) (unpacked (a .instructions .now)) (kernsOf (a .instructions .now)) (a .out .now) (a .kerns .now)
+    (a .values .now) (w .unpack-kerns .ensures .answer) (t .tell .ensures) (w .unpack-kerns .ensures .list) (w .unpack-kerns .ensures .shares)
+    (w .unpack-kerns .kept .1 .0) (w .unpack-kerns .kept .1 .1 .0) (k .keep-i32 .ensures) (l .keep-i322 .ensures)
 
 pub ligkern-unpack-kerns-spec : {M : Type 1} → statement M
 ligkern-unpack-kerns-spec =

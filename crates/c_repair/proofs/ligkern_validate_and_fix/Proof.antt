@@ -54,8 +54,18 @@ returns c =
     let s = v .before .before .before .before .before .before .before .before .before .before in
     let a = s .args in
     let e = a .«from-0» ∷ a .«from-64» ∷ a .«from-128» ∷ a .«from-192» ∷ [] in
-    lent-three (λ (x y z : ℤ). GivesRepaired (damagedOf (a .instructions .now) (a .kerns .now) (a .entries .now) x y z e (a .passthrough .now)) (a .fixed .now) (a .through .now) (a .warnings .now) (a .work .now) (a .left .now) (a .values .now) (t .tell-fixed .result) (k .keep-i32 .last .1 .0) (l .keep-u8 .last .1 .0) (m .keep-i322 .last .1 .0) (v .validate-and-fix .last .1 .1 .1 .1 .1 .1 .1 .1 .1 .1 .1 .0) (t .tell-fixed .last .1 .0) (t .tell-fixed .last .1 .1 .0)) (number-word (a .boundary) (s .fits .boundary)) (number-word (a .«left-entry») (s .fits .«left-entry»)) (number-word (a .replacement) (s .fits .replacement))
-    (gives-repaired (damagedOf (a .instructions .now) (a .kerns .now) (a .entries .now) (numberOf (wordOf (a .boundary))) (numberOf (wordOf (a .«left-entry»))) (numberOf (wordOf (a .replacement))) e (a .passthrough .now)) (a .fixed .now) (a .through .now) (a .warnings .now) (a .work .now) (a .left .now) (a .values .now) (v .validate-and-fix .ensures) (v .validate-and-fix .kept .1 .1 .1 .1 .1 .1 .1 .1 .0) (v .validate-and-fix .kept .1 .1 .1 .1 .1 .1 .1 .1 .1 .0) (v .validate-and-fix .kept .1 .1 .1 .1 .1 .1 .1 .1 .1 .1 .0) (t .tell-fixed .ensures) (k .keep-i32 .ensures) (l .keep-u8 .ensures) (m .keep-i322 .ensures))
+    lent-three
+    (λ (x y z : ℤ). GivesRepaired (damagedOf (a .instructions .now) (a .kerns .now) (a .entries .now) x y z e (a .passthrough .now)) (a .fixed .now)
+    (a .through .now) (a .warnings .now) (a .work .now) (a .left .now) (a .values .now) (t .tell-fixed .result) (k .keep-i32 .last .1 .0)
+    (l .keep-u8 .last .1 .0) (m .keep-i322 .last .1 .0) (v .validate-and-fix .last .1 .1 .1 .1 .1 .1 .1 .1 .1 .1 .1 .0) (t .tell-fixed .last .1 .0)
+    (t .tell-fixed .last .1 .1 .0)) (number-word (a .boundary) (s .fits .boundary)) (number-word (a .«left-entry») (s .fits .«left-entry»))
+    (number-word (a .replacement) (s .fits .replacement))
+    (gives-repaired
+    (damagedOf (a .instructions .now) (a .kerns .now) (a .entries .now) (numberOf (wordOf (a .boundary))) (numberOf (wordOf (a .«left-entry»)))
+    (numberOf (wordOf (a .replacement))) e (a .passthrough .now)) (a .fixed .now) (a .through .now) (a .warnings .now) (a .work .now) (a .left .now)
+    (a .values .now) (v .validate-and-fix .ensures) (v .validate-and-fix .kept .1 .1 .1 .1 .1 .1 .1 .1 .0)
+    (v .validate-and-fix .kept .1 .1 .1 .1 .1 .1 .1 .1 .1 .0) (v .validate-and-fix .kept .1 .1 .1 .1 .1 .1 .1 .1 .1 .1 .0) (t .tell-fixed .ensures)
+    (k .keep-i32 .ensures) (l .keep-u8 .ensures) (m .keep-i322 .ensures))
 
 pub ligkern-validate-and-fix-spec : {M : Type 1} → statement M
 ligkern-validate-and-fix-spec =

@@ -33,7 +33,9 @@ returns c =
     let z = w .before .before .before .before in
     let y = z .before .before .before in
     let a = y .before .before .before .args in
-    rw (w .validated2 .given .1) (no-left (w .validated2 .given .0 .0) (w .validated2 .given .0 .1 .0) (a .left .now) (a .values .now) (omega (arith, c .if1 .taken, y .zero-i32 .kept .0)) (y .zero-i32 .ensures) (z .zero-u64 .ensures))
+    rw (w .validated2 .given .1)
+    (no-left (w .validated2 .given .0 .0) (w .validated2 .given .0 .1 .0) (a .left .now) (a .values .now)
+    (omega (arith, c .if1 .taken, y .zero-i32 .kept .0)) (y .zero-i32 .ensures) (z .zero-u64 .ensures))
 
 same-length-3 : tie.Need-same-length-3
 same-length-3 c = search needs
@@ -47,7 +49,10 @@ returns-2 c =
     let z = w .before .before .before .before in
     let y = z .before .before .before in
     let a = y .before .before .before .args in
-    rw (w .validated2 .given .1) (no-values (w .validated2 .given .0 .0) (w .validated2 .given .0 .1 .0) (a .left .now) (a .values .now) (omega (arith, c .before .if1 .left, y .zero-i32 .kept .0)) (omega (arith, c .if2 .taken, z .zero-u64 .kept .0)) (y .zero-i32 .ensures) (z .zero-u64 .ensures))
+    rw (w .validated2 .given .1)
+    (no-values (w .validated2 .given .0 .0) (w .validated2 .given .0 .1 .0) (a .left .now) (a .values .now)
+    (omega (arith, c .before .if1 .left, y .zero-i32 .kept .0)) (omega (arith, c .if2 .taken, z .zero-u64 .kept .0)) (y .zero-i32 .ensures)
+    (z .zero-u64 .ensures))
 
 slice-set-from-entry : tie.Need-slice-set-from-entry
 slice-set-from-entry c = search needs
@@ -81,7 +86,11 @@ returns-4 c =
     let z = w .before .before .before .before in
     let y = z .before .before .before in
     let a = y .before .before .before .args in
-    rw (w .validated2 .given .1) (fixed-taken (w .validated2 .given .0 .0) (w .validated2 .given .0 .1 .0) (a .left .now) (a .values .now) (omega (arith, c .before .if1 .left, y .zero-i32 .kept .0)) (omega (arith, c .if2 .left, z .zero-u64 .kept .0)) (y .zero-i32 .ensures) (z .zero-u64 .ensures) (ap (set (y .zero-i32 .last .0) 0) (number-word (w .validated2 .given .0 .0) (record { sfits = c .before .before .known-told2 .given .0 .1 }))) refl)
+    rw (w .validated2 .given .1)
+    (fixed-taken (w .validated2 .given .0 .0) (w .validated2 .given .0 .1 .0) (a .left .now) (a .values .now)
+    (omega (arith, c .before .if1 .left, y .zero-i32 .kept .0)) (omega (arith, c .if2 .left, z .zero-u64 .kept .0)) (y .zero-i32 .ensures)
+    (z .zero-u64 .ensures)
+    (ap (set (y .zero-i32 .last .0) 0) (number-word (w .validated2 .given .0 .0) (record { sfits = c .before .before .known-told2 .given .0 .1 }))) refl)
 
 pub tell-fixed-spec : {M : Type 1} → statement M
 tell-fixed-spec =

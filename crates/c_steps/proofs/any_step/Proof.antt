@@ -12,7 +12,8 @@ use Rattle.c_steps.proofs.any_step.Statement.{statement}
 use Rattle.c_steps.proofs.any_step.Tie as tie
 
 -- the step is handed the state that stands in the list, and the boundary character as it was lent
-stepped : (c : tie.After-kern-step) → let a = c .before .before .before .before .before .before .before .before .args in c .kern-step .result ≡ stepIn (a .pairs .now) (a .ops .now) (a .boundary) (a .word .now) (a .options) (a .state .now)
+stepped : (c : tie.After-kern-step) → let a = c .before .before .before .before .before .before .before .before .args in
+    c .kern-step .result ≡ stepIn (a .pairs .now) (a .ops .now) (a .boundary) (a .word .now) (a .options) (a .state .now)
 stepped c =
     let s = c .before .before .before .before .before .before .before .before in
     let a = s .args in
@@ -44,7 +45,8 @@ returns c =
     let z = g .before .before .before .before .zero-i32 in
     let a = g .before .before .before .before .before .before .before .before .args in
     let n = c .before .refusal-of in
-    steps-refused (a .pairs .now) (a .ops .now) (a .boundary) (a .word .now) (a .options) (a .state .now) (a .item .now) (z .last .0) (z .ensures) (g .kern-step .result) (stepped g) (n .result) (n .ensures) (c .if1 .taken)
+    steps-refused (a .pairs .now) (a .ops .now) (a .boundary) (a .word .now) (a .options) (a .state .now) (a .item .now) (z .last .0) (z .ensures)
+    (g .kern-step .result) (stepped g) (n .result) (n .ensures) (c .if1 .taken)
 
 same-length-3 : tie.Need-same-length-3
 same-length-3 c = search needs
@@ -58,14 +60,16 @@ returns-2 c =
     let z = g .before .before .before .before .zero-i32 in
     let a = g .before .before .before .before .before .before .before .before .args in
     let n = c .before .before .refusal-of in
-    steps-short (a .pairs .now) (a .ops .now) (a .boundary) (a .word .now) (a .options) (a .state .now) (a .item .now) (z .last .0) (z .ensures) (g .kern-step .result) (stepped g) (n .result) (n .ensures) (c .before .if1 .left) (omega (arith, c .if2 .taken))
+    steps-short (a .pairs .now) (a .ops .now) (a .boundary) (a .word .now) (a .options) (a .state .now) (a .item .now) (z .last .0) (z .ensures)
+    (g .kern-step .result) (stepped g) (n .result) (n .ensures) (c .before .if1 .left) (omega (arith, c .if2 .taken))
 
 tell-requires : tie.Need-tell-requires
 tell-requires c κs =
     let g = c .before .before .before .before in
     let z = g .before .before .before .before .zero-i32 in
     let a = g .before .before .before .before .before .before .before .before .args in (
-      given-small (a .pairs .now) (a .ops .now) (a .boundary) (a .word .now) (a .options) (a .state .now) (a .item .now) (z .last .0) (z .ensures) (g .kern-step .result) (stepped g),
+      given-small (a .pairs .now) (a .ops .now) (a .boundary) (a .word .now) (a .options) (a .state .now) (a .item .now) (z .last .0) (z .ensures)
+          (g .kern-step .result) (stepped g),
       omega (arith, c .before .if2 .left),
     )
 
@@ -87,7 +91,9 @@ returns-3 c =
     let a = g .before .before .before .before .before .before .before .before .args in
     let n = u .before .before .refusal-of in
     let p = c .before .before .put-state in
-    steps-taken (a .pairs .now) (a .ops .now) (a .boundary) (a .word .now) (a .options) (a .state .now) (a .item .now) (z .last .0) (z .ensures) (g .kern-step .result) (stepped g) (n .result) (n .ensures) (u .before .if1 .left) (u .if2 .left) (i .tell .last .0) (i .tell .ensures) (p .result) (p .last .0) (p .ensures)
+    steps-taken (a .pairs .now) (a .ops .now) (a .boundary) (a .word .now) (a .options) (a .state .now) (a .item .now) (z .last .0) (z .ensures)
+    (g .kern-step .result) (stepped g) (n .result) (n .ensures) (u .before .if1 .left) (u .if2 .left) (i .tell .last .0) (i .tell .ensures) (p .result)
+    (p .last .0) (p .ensures)
 
 pub any-step-spec : {M : Type 1} → statement M
 any-step-spec =

@@ -18,14 +18,22 @@ use Rattle.c_steps.proofs.ligkern_step.Statement.{statement}
 use Rattle.c_steps.proofs.ligkern_step.Tie as tie
 
 -- what is said of the bits of the boundary character and the override, which are passed on, is said of them as they were lent
-as-lent : (c : tie.Start) {r : ℕ} {state′ : List ℕ} {item′ : List ℤ} → let a = c .args in StepsRun (a .pairs .now) (a .ops .now) (numberOf (wordOf (a .boundary))) (a .word .now) (optionsOf (a .«disable-left-boundary») (numberOf (wordOf (a .«right-boundary-override»)))) (a .state .now) (a .item .now) r state′ item′ → StepsRun (a .pairs .now) (a .ops .now) (a .boundary) (a .word .now) (optionsOf (a .«disable-left-boundary») (a .«right-boundary-override»)) (a .state .now) (a .item .now) r state′ item′
+as-lent : (c : tie.Start) {r : ℕ} {state′ : List ℕ} {item′ : List ℤ} → let a = c .args in
+    StepsRun (a .pairs .now) (a .ops .now) (numberOf (wordOf (a .boundary))) (a .word .now)
+    (optionsOf (a .«disable-left-boundary») (numberOf (wordOf (a .«right-boundary-override»)))) (a .state .now) (a .item .now) r state′ item′ →
+    StepsRun (a .pairs .now) (a .ops .now) (a .boundary) (a .word .now) (optionsOf (a .«disable-left-boundary») (a .«right-boundary-override»))
+    (a .state .now) (a .item .now) r state′ item′
 as-lent c {r} {state′} {item′} h =
     let a = c .args in
-    subst (λ (b : ℤ). StepsRun (a .pairs .now) (a .ops .now) b (a .word .now) (optionsOf (a .«disable-left-boundary») (a .«right-boundary-override»)) (a .state .now) (a .item .now) r state′ item′) (number-word (a .boundary) (c .fits .boundary))
-    (subst (λ (o : ℤ). StepsRun (a .pairs .now) (a .ops .now) (numberOf (wordOf (a .boundary))) (a .word .now) (optionsOf (a .«disable-left-boundary») o) (a .state .now) (a .item .now) r state′ item′) (number-word (a .«right-boundary-override») (c .fits .«right-boundary-override»)) h)
+    subst (λ (b : ℤ). StepsRun (a .pairs .now) (a .ops .now) b (a .word .now) (optionsOf (a .«disable-left-boundary») (a .«right-boundary-override»))
+    (a .state .now) (a .item .now) r state′ item′) (number-word (a .boundary) (c .fits .boundary))
+    (subst (λ (o : ℤ). StepsRun (a .pairs .now) (a .ops .now) (numberOf (wordOf (a .boundary))) (a .word .now) (optionsOf (a .«disable-left-boundary») o)
+    (a .state .now) (a .item .now) r state′ item′) (number-word (a .«right-boundary-override») (c .fits .«right-boundary-override»)) h)
 
 -- the entry can be read
-ready : (q : tie.After-quick-step) → let p = q .before .before .before in isReady (p .before .before .before .before .before .before .before .before .before .args .pairs .now) (p .before .before .before .before .before .before .before .before .before .args .ops .now) (p .found-place .result) ≡ true
+ready : (q : tie.After-quick-step) → let p = q .before .before .before in
+    isReady (p .before .before .before .before .before .before .before .before .before .args .pairs .now)
+    (p .before .before .before .before .before .before .before .before .before .args .ops .now) (p .found-place .result) ≡ true
 ready q = sym (q .before .before .is-ready .ensures) ∙ not-false _ (q .before .if3 .left)
 
 any-step-requires : tie.Need-any-step-requires
@@ -56,7 +64,8 @@ same-length-4 : tie.Need-same-length-4
 same-length-4 c = search needs
 
 returns-2 : tie.Need-returns-2
-returns-2 c = let g = c .before .before .before in as-lent (g .before .before .before .before .before .before .before .before .before .before) (g .any-step2 .ensures)
+returns-2 c =
+    let g = c .before .before .before in as-lent (g .before .before .before .before .before .before .before .before .before .before) (g .any-step2 .ensures)
 
 u32-at-requires : tie.Need-u32-at-requires
 u32-at-requires c κs = search needs
@@ -77,7 +86,9 @@ same-length-6 : tie.Need-same-length-6
 same-length-6 c = search needs
 
 returns-3 : tie.Need-returns-3
-returns-3 c = let g = c .before .before .before in as-lent (g .before .before .before .before .before .before .before .before .before .before .before .before .before .before) (g .any-step3 .ensures)
+returns-3 c =
+    let g = c .before .before .before in
+    as-lent (g .before .before .before .before .before .before .before .before .before .before .before .before .before .before) (g .any-step3 .ensures)
 
 quick-step-requires : tie.Need-quick-step-requires
 quick-step-requires c κs = search needs
@@ -90,7 +101,10 @@ tell-character-requires c κs =
     let l = u .before .before in
     let e = l .before in
     let a = e .before .before .before .before .before .args in
-    told-asks (a .pairs .now) (a .ops .now) (numberOf (wordOf (a .boundary))) (a .word .now) (optionsOf (a .«disable-left-boundary») (numberOf (wordOf (a .«right-boundary-override»)))) (a .state .now) (e .state-in .ensures) (l .quick-left .ensures) (u .before .if2 .left) (u .u32-at .ensures) (p .found-place .ensures) (ready q) (q .quick-step .ensures) (a .item .now) (e .before .before .if1 .left)
+    told-asks (a .pairs .now) (a .ops .now) (numberOf (wordOf (a .boundary))) (a .word .now)
+    (optionsOf (a .«disable-left-boundary») (numberOf (wordOf (a .«right-boundary-override»)))) (a .state .now) (e .state-in .ensures)
+    (l .quick-left .ensures) (u .before .if2 .left) (u .u32-at .ensures) (p .found-place .ensures) (ready q) (q .quick-step .ensures) (a .item .now)
+    (e .before .before .if1 .left)
 
 put-state-requires : tie.Need-put-state-requires
 put-state-requires c κs = search needs
@@ -112,8 +126,11 @@ returns-4 c =
     let e = l .before in
     let a = e .before .before .before .before .before .args in
     as-lent (e .before .before .before .before .before)
-    (steps-told (a .pairs .now) (a .ops .now) (numberOf (wordOf (a .boundary))) (a .word .now) (optionsOf (a .«disable-left-boundary») (numberOf (wordOf (a .«right-boundary-override»)))) (a .state .now) (e .state-in .ensures) (l .quick-left .ensures) (u .before .if2 .left) (u .u32-at .ensures) (p .found-place .ensures) (ready q) (q .quick-step .ensures)
-    (a .item .now) (e .before .before .if1 .left) (i .tell-character .last .0) (i .tell-character .ensures) (m .put-state .result) (m .put-state .last .0) (m .put-state .ensures))
+    (steps-told (a .pairs .now) (a .ops .now) (numberOf (wordOf (a .boundary))) (a .word .now)
+    (optionsOf (a .«disable-left-boundary») (numberOf (wordOf (a .«right-boundary-override»)))) (a .state .now) (e .state-in .ensures)
+    (l .quick-left .ensures) (u .before .if2 .left) (u .u32-at .ensures) (p .found-place .ensures) (ready q) (q .quick-step .ensures)
+    (a .item .now) (e .before .before .if1 .left) (i .tell-character .last .0) (i .tell-character .ensures) (m .put-state .result) (m .put-state .last .0)
+    (m .put-state .ensures))
 
 pub ligkern-step-spec : {M : Type 1} → statement M
 ligkern-step-spec =

@@ -25,7 +25,9 @@ returns : tie.Need-returns
 returns c =
     let w = c .before .before in
     let z = w .before .before .before .before in
-    rw (w .written2 .given .1) (tells-short (pos (w .written2 .given .0 .0) ∷ []) (z .before .before .before .args .values .now) (omega (arith, c .if1 .taken, z .zero-u64 .kept .0)) (z .zero-u64 .ensures))
+    rw (w .written2 .given .1)
+    (tells-short (pos (w .written2 .given .0 .0) ∷ []) (z .before .before .before .args .values .now) (omega (arith, c .if1 .taken, z .zero-u64 .kept .0))
+    (z .zero-u64 .ensures))
 
 slice-write-values : tie.Need-slice-write-values
 slice-write-values c = search needs
@@ -46,7 +48,9 @@ returns-3 : tie.Need-returns-3
 returns-3 c =
     let w = c .before .before in
     let z = w .before .before .before .before in
-    rw (w .written2 .given .1) (tells-taken (pos (w .written2 .given .0 .0) ∷ []) (z .before .before .before .args .values .now) (omega (arith, c .if1 .left, z .zero-u64 .kept .0)) (z .zero-u64 .ensures) refl)
+    rw (w .written2 .given .1)
+    (tells-taken (pos (w .written2 .given .0 .0) ∷ []) (z .before .before .before .args .values .now) (omega (arith, c .if1 .left, z .zero-u64 .kept .0))
+    (z .zero-u64 .ensures) refl)
 
 pub tell-spec : {M : Type 1} → statement M
 tell-spec =

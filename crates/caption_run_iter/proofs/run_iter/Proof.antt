@@ -48,7 +48,8 @@ use Rattle.caption_run_iter.proofs.run_iter.Code as code
 abbrev stayed : Stays (run-iter.ended .signature .params) (run-iter.ended .kept)
 stayed = (stay-none-slice (0 ∷ []) tt (plain (λ _. u32)) yes, (stay-none (λ _. S.the-row) yes, tt))
 
-module _ {M : Type 1} (𝓤 : URA M) (H : Heap 𝓤) (A : Atoms 𝓤) (W : Given 𝓤 H A) (mem : Memory → SProp 𝓤) (run : Routine → Fun 𝓤) (κ : Lft) (q : Share) (s : RefT (List ℕ)) (d : State) where
+module _ {M : Type 1} (𝓤 : URA M) (H : Heap 𝓤) (A : Atoms 𝓤) (W : Given 𝓤 H A) (mem : Memory → SProp 𝓤) (run : Routine → Fun 𝓤) (κ : Lft) (q : Share)
+    (s : RefT (List ℕ)) (d : State) where
   abbrev α : NamedLft
   α = namedLft 1 0 tt (κ, tt)
 
@@ -77,20 +78,27 @@ module _ {M : Type 1} (𝓤 : URA M) (H : Heap 𝓤) (A : Atoms 𝓤) (W : Given
   exits : Is S.the-row d (u ∷ []) → ent 𝓤 (onEntry 𝓤 H A run-iter.signature (κ, tt) (q, tt) (s, (d, tt)) at) (Post mach)
   exits is =
       qed W ((‵ (flft κ q) ⊛ ‵ ftrue) ∷ ‵ (owns (ShrSlice (named 0) κ u32 ∷ S.the-row ∷ []) (s, (d, tt)) at) ∷ []) ∵
-      suffices ! _ (ends-at 𝓤 H A run-iter.ended stayed (run-iter.clauses 𝓤 H A mem run) W (((κ, tt), (q, tt), tt, (s, (d, tt)), at), tt) mach made (tt, (tt, tt)) (tt, (tt, tt))) $ says ! (refl, refl) $
-      frame ! $ fsplit ! $ use1 W (‵ Own ⊛ ‵ Own) (shr-slice-copy 𝓤 H A W (named 0) κ u32 .twice s (v ∷ [])) $ split ! $ move ! (0 ∷ 2 ∷ []) $ fjoin ! $ frame ! $
+      suffices ! _
+      (ends-at 𝓤 H A run-iter.ended stayed (run-iter.clauses 𝓤 H A mem run) W (((κ, tt), (q, tt), tt, (s, (d, tt)), at), tt) mach made (tt, (tt, tt))
+      (tt, (tt, tt))) $ says ! (refl, refl) $
+      frame ! $ fsplit ! $ use1 W (‵ Own ⊛ ‵ Own) (shr-slice-copy 𝓤 H A W (named 0) κ u32 .twice s (v ∷ [])) $ split ! $ move ! (0 ∷ 2 ∷ []) $ fjoin ! $
+      frame ! $
       -- [what word owns]: what the fields own together, of it and of the state's facts, is what the struct owns
       nothing ! $ has-state ! d is $ fjoin ! $ move ! (1 ∷ 0 ∷ []) $ fjoin ! $ by ! (own-shut 𝓤 H A W (T.the-type α) (T′.the-laws α) (s, (d, tt)))
 
   module _ (C : Calls 𝓤 H) (Λ : Loops 𝓤 H) where
-    walk : Is (ShrSlice (named 0) κ u32) s (v ∷ []) → Is S.the-row d (u ∷ []) → ent 𝓤 (onEntry 𝓤 H A run-iter.signature (κ, tt) (q, tt) (s, (d, tt)) at) (WpFn 𝓤 H C Λ code.function (v ∷ u ∷ []) Post)
+    walk : Is (ShrSlice (named 0) κ u32) s (v ∷ []) → Is S.the-row d (u ∷ []) →
+        ent 𝓤 (onEntry 𝓤 H A run-iter.signature (κ, tt) (q, tt) (s, (d, tt)) at) (WpFn 𝓤 H C Λ code.function (v ∷ u ∷ []) Post)
     walk p is =
         qed W (raw (onEntry 𝓤 H A run-iter.signature (κ, tt) (q, tt) (s, (d, tt)) at) ∷ []) ∵ enter ! C Λ code.function (v ∷ u ∷ []) _ $
         alloc1 ! (λ l₀. alloc1 ! (λ l₁. alloc1 ! (λ l₂. alloc0 ! $ params1 ! $
-        pass1 ! (init ! 2 refl (shr-slice-lawful 𝓤 H A W (named 0) κ u32 .typed s (v ∷ []) p .0)) $ pass1 ! (init ! 0 refl (state-typed 𝓤 H A W d is)) $ pass0 ! $
-        assigns ! (agg ! (and-then ! (load ! (from ! (stop !)) (look ! 2 refl)) (and-then ! (load ! (from ! (stop !)) (look ! 0 refl)) (no-more !)))) (from ! (stop !))
+        pass1 ! (init ! 2 refl (shr-slice-lawful 𝓤 H A W (named 0) κ u32 .typed s (v ∷ []) p .0)) $ pass1 ! (init ! 0 refl (state-typed 𝓤 H A W d is)) $
+        pass0 ! $
+        assigns ! (agg ! (and-then ! (load ! (from ! (stop !)) (look ! 2 refl)) (and-then ! (load ! (from ! (stop !)) (look ! 0 refl)) (no-more !))))
+        (from ! (stop !))
         (init ! 4 refl (reader-typed 𝓤 H A W (named 0) (named 0) κ made mach (LL.owes (T.the-type α) (T′.the-laws α) made (p, (is, tt))))) $
-        returns ! (look ! 4 refl) $ forget ! 0 refl $ forget ! 2 refl $ forget ! 4 refl $ move ! (4 ∷ 5 ∷ []) $ free1 ! $ move ! (2 ∷ 3 ∷ []) $ free1 ! $ free1 ! $ free0 ! $ by ! (exits is))))
+        returns ! (look ! 4 refl) $ forget ! 0 refl $ forget ! 2 refl $ forget ! 4 refl $ move ! (4 ∷ 5 ∷ []) $ free1 ! $ move ! (2 ∷ 3 ∷ []) $ free1 ! $
+        free1 ! $ free0 ! $ by ! (exits is))))
 
 module _ {M : Type 1} (𝓤 : URA M) (H : Heap 𝓤) (A : Atoms 𝓤) (W : Given 𝓤 H A) (mem : Memory → SProp 𝓤) (run : Routine → Fun 𝓤) where
   run-iter-walks : (C : Calls 𝓤 H) (Λ : Loops 𝓤 H) → Walks 𝓤 H A run-iter.ended stayed (WpFn 𝓤 H C Λ code.function) (run-iter.clauses 𝓤 H A mem run)
@@ -101,7 +109,9 @@ module _ {M : Type 1} (𝓤 : URA M) (H : Heap 𝓤) (A : Atoms 𝓤) (W : Given
 run-iter-meets : {M : Type 1} (𝓤 : URA M) (H : Heap 𝓤) (A : Atoms 𝓤) → Given 𝓤 H A → (mem : Memory → SProp 𝓤) (run : Routine → Fun 𝓤) (𝓣 : Tables 𝓤 H)
     → Meets 𝓤 H A run-iter.signature (WpFn 𝓤 H (𝓣 .C) (𝓣 .Λ) code.function) (run-iter.spec 𝓤 H A mem run)
 run-iter-meets 𝓤 H A W mem run 𝓣 =
-    walk-meets 𝓤 H A run-iter.ended stayed W (goes-none-slice 𝓤 H A W 1 (0 ∷ []) tt (plain (λ _. u32)) yes, (goes-none 𝓤 H A W 1 (λ _. S.the-row) yes (λ κs x f. refl), tt)) (run-iter.clauses 𝓤 H A mem run)
+    walk-meets 𝓤 H A run-iter.ended stayed W
+    (goes-none-slice 𝓤 H A W 1 (0 ∷ []) tt (plain (λ _. u32)) yes, (goes-none 𝓤 H A W 1 (λ _. S.the-row) yes (λ κs x f. refl), tt))
+    (run-iter.clauses 𝓤 H A mem run)
     (WpFn 𝓤 H (𝓣 .C) (𝓣 .Λ) code.function) (WpFn-mono 𝓤 H (W .laws) 𝓣 code.function) (run-iter-walks 𝓤 H A W mem run (𝓣 .C) (𝓣 .Λ))
 
 pub run-iter-spec : {M : Type 1} → stated.statement M

@@ -52,8 +52,10 @@ returns c =
     let y = number-word (a .«left-entry») (s .fits .«left-entry») in
     let z = number-word (a .«design-size») (s .fits .«design-size») in
     let f = fontOf (a .instructions .now) (a .kerns .now) (a .entries .now) (a .boundary) (a .«left-entry») (a .«design-size») in
-    let e = number-as (a .instructions .now) (a .kerns .now) (a .entries .now) _ (a .boundary) _ (a .«left-entry») _ (a .«design-size») (k .font-refusal .result) (k .font-refusal .ensures) x y z in
-    refused f (a .pairs .now) (a .ops .now) (a .loops .now) (a .work .now) (Refused (k .font-refusal .result)) (p .zero-i32 .last .0) (zo .last .0) (zl .last .0) (v .last .0) (k .font-refusal .result) e (p .before .before .if1 .taken) (p .zero-i32 .ensures) (zo .ensures) (zl .ensures) (v .ensures)
+    let e = number-as (a .instructions .now) (a .kerns .now) (a .entries .now) _ (a .boundary) _ (a .«left-entry») _ (a .«design-size»)
+    (k .font-refusal .result) (k .font-refusal .ensures) x y z in
+    refused f (a .pairs .now) (a .ops .now) (a .loops .now) (a .work .now) (Refused (k .font-refusal .result)) (p .zero-i32 .last .0) (zo .last .0)
+    (zl .last .0) (v .last .0) (k .font-refusal .result) e (p .before .before .if1 .taken) (p .zero-i32 .ensures) (zo .ensures) (zl .ensures) (v .ensures)
 
 write-lists-requires : tie.Need-write-lists-requires
 write-lists-requires c κs = search needs
@@ -81,10 +83,15 @@ returns-2 c =
     let y = number-word (a .«left-entry») (s .fits .«left-entry») in
     let z = number-word (a .«design-size») (s .fits .«design-size») in
     let f = fontOf (a .instructions .now) (a .kerns .now) (a .entries .now) (a .boundary) (a .«left-entry») (a .«design-size») in
-    let e = number-as (a .instructions .now) (a .kerns .now) (a .entries .now) _ (a .boundary) _ (a .«left-entry») _ (a .«design-size») (k .font-refusal .result) (k .font-refusal .ensures) x y z in
+    let e = number-as (a .instructions .now) (a .kerns .now) (a .entries .now) _ (a .boundary) _ (a .«left-entry») _ (a .«design-size»)
+    (k .font-refusal .result) (k .font-refusal .ensures) x y z in
     let o = t .write-lists .last .1 .1 .1 .1 .1 in
-    let b = lent-as (λ (g : Font) (r : Compiled). Builds g (a .pairs .now) (a .ops .now) (a .loops .now) (a .work .now) r (o .0) (o .1 .0) (o .1 .1 .0) (o .1 .1 .1 .0)) (a .instructions .now) (a .kerns .now) (a .entries .now) (a .boundary) _ (a .«left-entry») _ (a .«design-size») (t .write-lists .result) (t .write-lists .result) (t .write-lists .ensures (a .boundary)) refl y z in
-    compiled f (a .pairs .now) (a .ops .now) (a .loops .now) (a .work .now) (t .write-lists .result) (o .0) (o .1 .0) (o .1 .1 .0) (o .1 .1 .1 .0) (sym (i .if1 .left) ∙ e) b
+    let b = lent-as
+    (λ (g : Font) (r : Compiled). Builds g (a .pairs .now) (a .ops .now) (a .loops .now) (a .work .now) r (o .0) (o .1 .0) (o .1 .1 .0) (o .1 .1 .1 .0))
+    (a .instructions .now) (a .kerns .now) (a .entries .now) (a .boundary) _ (a .«left-entry») _ (a .«design-size») (t .write-lists .result)
+    (t .write-lists .result) (t .write-lists .ensures (a .boundary)) refl y z in
+    compiled f (a .pairs .now) (a .ops .now) (a .loops .now) (a .work .now) (t .write-lists .result) (o .0) (o .1 .0) (o .1 .1 .0) (o .1 .1 .1 .0)
+    (sym (i .if1 .left) ∙ e) b
 
 pub compile-spec : {M : Type 1} → statement M
 compile-spec =

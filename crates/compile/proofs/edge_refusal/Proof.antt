@@ -21,8 +21,11 @@ absent-refusal-requires-2 c κs = search needs
 
 returns-2 : tie.Need-returns-2
 returns-2 c =
-    let d = c .before .before .before .absent-refusal .ensures ∙ ap (absentRefusal 255) (number-word (c .before .before .before .before .args .boundary) (c .before .before .before .before .fits .boundary)) in
-    let e = c .before .absent-refusal2 .ensures ∙ ap (absentRefusal 65535) (number-word (c .before .before .before .before .args .«left-entry») (c .before .before .before .before .fits .«left-entry»)) in
+    let d = c .before .before .before .absent-refusal .ensures
+    ∙ ap (absentRefusal 255) (number-word (c .before .before .before .before .args .boundary) (c .before .before .before .before .fits .boundary)) in
+    let e = c .before .absent-refusal2 .ensures
+    ∙ ap (absentRefusal 65535) (number-word (c .before .before .before .before .args .«left-entry») (c .before .before .before .before .fits .«left-entry»))
+    in
     e ∙ sym (first-is _ _ (λ h. c .if2 .taken (e ∙ h))) ∙ sym (second-is _ _ (sym d ∙ c .before .before .if1 .left))
 
 design-refusal-requires : tie.Need-design-refusal-requires
@@ -30,9 +33,16 @@ design-refusal-requires c κs = search needs
 
 returns-3 : tie.Need-returns-3
 returns-3 c =
-    let d = c .before .before .before .before .absent-refusal .ensures ∙ ap (absentRefusal 255) (number-word (c .before .before .before .before .before .args .boundary) (c .before .before .before .before .before .fits .boundary)) in
-    let e = c .before .before .absent-refusal2 .ensures ∙ ap (absentRefusal 65535) (number-word (c .before .before .before .before .before .args .«left-entry») (c .before .before .before .before .before .fits .«left-entry»)) in
-    c .design-refusal .ensures ∙ ap designRefusal (number-word (c .before .before .before .before .before .args .«design-size») (c .before .before .before .before .before .fits .«design-size»)) ∙ sym (second-is _ _ (sym e ∙ c .before .if2 .left)) ∙ sym (second-is _ _ (sym d ∙ c .before .before .before .if1 .left))
+    let d = c .before .before .before .before .absent-refusal .ensures
+    ∙ ap (absentRefusal 255)
+    (number-word (c .before .before .before .before .before .args .boundary) (c .before .before .before .before .before .fits .boundary)) in
+    let e = c .before .before .absent-refusal2 .ensures
+    ∙ ap (absentRefusal 65535)
+    (number-word (c .before .before .before .before .before .args .«left-entry») (c .before .before .before .before .before .fits .«left-entry»)) in
+    c .design-refusal .ensures
+    ∙ ap designRefusal
+    (number-word (c .before .before .before .before .before .args .«design-size») (c .before .before .before .before .before .fits .«design-size»))
+    ∙ sym (second-is _ _ (sym e ∙ c .before .if2 .left)) ∙ sym (second-is _ _ (sym d ∙ c .before .before .before .if1 .left))
 
 pub edge-refusal-spec : {M : Type 1} → statement M
 edge-refusal-spec =

@@ -33,7 +33,8 @@ returns-3 c =
     let d = c .before .before .before .before .before .program-refusal .ensures in
     let k = c .before .before .before .kerns-refusal .ensures in
     let e = c .before .entries-refusal .ensures in
-    e ∙ sym (first-is _ _ (λ h. c .if3 .taken (e ∙ h))) ∙ sym (second-is _ _ (sym k ∙ c .before .before .if2 .left)) ∙ sym (second-is _ _ (sym d ∙ c .before .before .before .before .if1 .left))
+    e ∙ sym (first-is _ _ (λ h. c .if3 .taken (e ∙ h))) ∙ sym (second-is _ _ (sym k ∙ c .before .before .if2 .left))
+    ∙ sym (second-is _ _ (sym d ∙ c .before .before .before .before .if1 .left))
 
 edge-refusal-requires : tie.Need-edge-refusal-requires
 edge-refusal-requires c κs = search needs

@@ -15,7 +15,8 @@ returns : tie.Need-returns
 returns c =
     let n = c .before in
     let a = n .before .before in
-    adds-none (now (a .args .instructions)) (now (a .args .table)) (a .args .left) (n .entry-of .result) (n .entry-of .ensures) (a .args .n) (a .args .cap) (now (a .args .work)) (a .pre) (c .if1 .taken)
+    adds-none (now (a .args .instructions)) (now (a .args .table)) (a .args .left) (n .entry-of .result) (n .entry-of .ensures) (a .args .n) (a .args .cap)
+    (now (a .args .work)) (a .pre) (c .if1 .taken)
 
 cast-survey : tie.Need-cast-survey
 cast-survey c = search needs
@@ -33,7 +34,8 @@ returns-2 c =
     let n = x .before in
     let a = n .before .before in
     let f = y .survey .ensures in
-    adds-over (now (a .args .instructions)) (now (a .args .table)) (a .args .left) (a .args .n) (y .survey .result) (a .args .cap) (n .entry-of .result) (f .first) (f .order) (now (a .args .work)) (a .pre) (n .entry-of .ensures) (x .if1 .left) (f .surveyed) (c .if2 .taken)
+    adds-over (now (a .args .instructions)) (now (a .args .table)) (a .args .left) (a .args .n) (y .survey .result) (a .args .cap) (n .entry-of .result)
+    (f .first) (f .order) (now (a .args .work)) (a .pre) (n .entry-of .ensures) (x .if1 .left) (f .surveyed) (c .if2 .taken)
 
 cast-add-rows : tie.Need-cast-add-rows
 cast-add-rows c = search needs
@@ -57,7 +59,10 @@ returns-3 c =
     let n = x .before in
     let a = n .before .before in
     let o = y .survey .last .1 .1 in
-    adds-left (now (a .args .instructions)) (now (a .args .table)) (a .args .left) (a .args .n) (y .survey .result) (a .args .cap) (n .entry-of .result) (now (a .args .places)) (now (a .args .indices)) (o .0) (o .1 .0) (o .1 .1 .0) (now (a .args .work)) (a .pre) (n .entry-of .ensures) (x .if1 .left) (y .survey .ensures) (c .before .before .add-rows .last .0) (c .before .before .before .before .before .before .before .if2 .left) (c .before .before .add-rows .ensures)
+    adds-left (now (a .args .instructions)) (now (a .args .table)) (a .args .left) (a .args .n) (y .survey .result) (a .args .cap) (n .entry-of .result)
+    (now (a .args .places)) (now (a .args .indices)) (o .0) (o .1 .0) (o .1 .1 .0) (now (a .args .work)) (a .pre) (n .entry-of .ensures) (x .if1 .left)
+    (y .survey .ensures) (c .before .before .add-rows .last .0) (c .before .before .before .before .before .before .before .if2 .left)
+    (c .before .before .add-rows .ensures)
 
 pub add-left-spec : {M : Type 1} → statement M
 add-left-spec =

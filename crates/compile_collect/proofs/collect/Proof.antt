@@ -18,7 +18,8 @@ returns : tie.Need-returns
 returns c =
     let z = c .before .before .before .zero-u32 in
     let a = c .before .before .before .before .before .before .args in
-    collects _ _ _ _ _ _ (too-long (a .instructions .now) (entriesTable (a .entries .now) (a .«left-entry»)) (a .room) (a .work .now) (z .last .0) (c .if1 .taken) (z .ensures))
+    collects _ _ _ _ _ _
+    (too-long (a .instructions .now) (entriesTable (a .entries .now) (a .«left-entry»)) (a .room) (a .work .now) (z .last .0) (c .if1 .taken) (z .ensures))
 
 entries-table-requires : tie.Need-entries-table-requires
 entries-table-requires c κs = search needs
@@ -58,7 +59,10 @@ returns-2 c =
     let a = o .args in
     let table = entriesTable (a .entries .now) (a .«left-entry») in
     let e = t .entries-table .ensures ∙ ap (entriesTable (a .entries .now)) (number-word (a .«left-entry») (o .fits .«left-entry»)) in
-    collects _ _ _ _ _ _ (rows-left (a .instructions .now) table (a .room) (a .work .now) (a .work .now) (i .if1 .left) (z .last .0) (z .ensures) (m .smaller .result) (m .smaller .ensures) (t .entries-table .result) e (k .collect-rows .result) (k .collect-rows .last .1 .1 .0) (k .collect-rows .ensures) (c .before .n .given .0 .0) (c .before .n .given .0 .1 .0) (c .before .n .given .1))
+    collects _ _ _ _ _ _
+    (rows-left (a .instructions .now) table (a .room) (a .work .now) (a .work .now) (i .if1 .left) (z .last .0) (z .ensures) (m .smaller .result)
+    (m .smaller .ensures) (t .entries-table .result) e (k .collect-rows .result) (k .collect-rows .last .1 .1 .0) (k .collect-rows .ensures)
+    (c .before .n .given .0 .0) (c .before .n .given .0 .1 .0) (c .before .n .given .1))
 
 same-length-3 : tie.Need-same-length-3
 same-length-3 c = search needs
@@ -76,7 +80,10 @@ returns-3 c =
     let a = o .args in
     let table = entriesTable (a .entries .now) (a .«left-entry») in
     let e = t .entries-table .ensures ∙ ap (entriesTable (a .entries .now)) (number-word (a .«left-entry») (o .fits .«left-entry»)) in
-    collects _ _ _ _ _ _ (zeros-left (a .instructions .now) table (a .room) (a .work .now) (v .last .0) (i .if1 .left) (z .last .0) (z .ensures) (m .smaller .result) (m .smaller .ensures) (t .entries-table .result) e (k .collect-rows .result) (k .collect-rows .last .1 .1 .0) (k .collect-rows .ensures) (g .0 .0) (g .1) (k .collect-rows .kept .1 .1 .0) (v .ensures))
+    collects _ _ _ _ _ _
+    (zeros-left (a .instructions .now) table (a .room) (a .work .now) (v .last .0) (i .if1 .left) (z .last .0) (z .ensures) (m .smaller .result)
+    (m .smaller .ensures) (t .entries-table .result) e (k .collect-rows .result) (k .collect-rows .last .1 .1 .0) (k .collect-rows .ensures) (g .0 .0)
+    (g .1) (k .collect-rows .kept .1 .1 .0) (v .ensures))
 
 pub collect-spec : {M : Type 1} → statement M
 collect-spec =

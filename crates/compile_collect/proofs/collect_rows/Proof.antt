@@ -25,7 +25,8 @@ add-left-requires c κs =
     let i = c .before .before .before in
     let l = i .before in
     let a = l .before .before in
-    lefts-adding (now (a .args .instructions)) (now (a .args .table)) (a .args .cap) (now (a .args .work)) (l .loop .e) (l .loop .left) (l .loop .n) (l .loop .work) (l .loop .inv) (a .pre .0) (a .pre .1) (a .pre .2) (i .loop-test .taken)
+    lefts-adding (now (a .args .instructions)) (now (a .args .table)) (a .args .cap) (now (a .args .work)) (l .loop .e) (l .loop .left) (l .loop .n)
+    (l .loop .work) (l .loop .inv) (a .pre .0) (a .pre .1) (a .pre .2) (i .loop-test .taken)
 
 enum-known-m : tie.Need-enum-known-m Inv-loop μ-loop
 enum-known-m c = search needs
@@ -39,15 +40,20 @@ same-length c =
     let i = m .before .before .before .before in
     let l = i .before in
     let a = l .before .before in
-    m .add-left .kept .1 .1 .0 ∙ lefts-long (now (a .args .instructions)) (now (a .args .table)) (a .args .cap) (now (a .args .work)) (l .loop .e) (l .loop .left) (l .loop .n) (l .loop .work) (l .loop .inv)
+    m .add-left .kept .1 .1 .0
+    ∙ lefts-long (now (a .args .instructions)) (now (a .args .table)) (a .args .cap) (now (a .args .work)) (l .loop .e) (l .loop .left) (l .loop .n)
+    (l .loop .work) (l .loop .inv)
 
 returns : tie.Need-returns Inv-loop μ-loop
 returns c =
     let m = c .before .before .before .before in
     let i = m .before .before .before .before in
     let l = i .before in
-    let a = l .before .before in
-    (refl, over-is (now (a .args .instructions)) (now (a .args .table)) (l .loop .left) (l .loop .n) (a .args .cap) (l .loop .work) (m .add-left .last .1 .1 .0) (m .add-left .result) (m .add-left .ensures) (i .loop-test .taken) (c .enum-told .given .1))
+    let a = l .before .before in (
+      refl,
+      over-is (now (a .args .instructions)) (now (a .args .table)) (l .loop .left) (l .loop .n) (a .args .cap) (l .loop .work) (m .add-left .last .1 .1 .0)
+          (m .add-left .result) (m .add-left .ensures) (i .loop-test .taken) (c .enum-told .given .1),
+    )
 
 edge-rows-requires : tie.Need-edge-rows-requires Inv-loop μ-loop
 edge-rows-requires c κs = search needs
@@ -65,19 +71,25 @@ loop-again c =
     let i = m .before .before .before .before in
     let l = i .before in
     let a = l .before .before in
-    rw (c .edge-rows .ensures) (lefts-more (now (a .args .instructions)) (now (a .args .table)) (a .args .cap) (now (a .args .work)) (l .loop .e) (l .loop .left) (l .loop .n) (g .0 .0) (l .loop .work) (m .add-left .last .1 .1 .0) (l .loop .inv) (i .loop-test .taken) (m .add-left .kept .1 .1 .0) (upto-is (now (a .args .instructions)) (now (a .args .table)) (l .loop .left) (l .loop .n) (a .args .cap) (l .loop .work) (m .add-left .last .1 .1 .0) (m .add-left .result) (m .add-left .ensures) (g .0 .0) (g .1)))
+    rw (c .edge-rows .ensures)
+    (lefts-more (now (a .args .instructions)) (now (a .args .table)) (a .args .cap) (now (a .args .work)) (l .loop .e) (l .loop .left) (l .loop .n)
+    (g .0 .0) (l .loop .work) (m .add-left .last .1 .1 .0) (l .loop .inv) (i .loop-test .taken) (m .add-left .kept .1 .1 .0)
+    (upto-is (now (a .args .instructions)) (now (a .args .table)) (l .loop .left) (l .loop .n) (a .args .cap) (l .loop .work)
+    (m .add-left .last .1 .1 .0) (m .add-left .result) (m .add-left .ensures) (g .0 .0) (g .1)))
 
 same-length-2 : tie.Need-same-length-2 Inv-loop μ-loop
 same-length-2 c =
     let l = c .before in
     let a = l .before .before in
-    lefts-long (now (a .args .instructions)) (now (a .args .table)) (a .args .cap) (now (a .args .work)) (l .loop .e) (l .loop .left) (l .loop .n) (l .loop .work) (l .loop .inv)
+    lefts-long (now (a .args .instructions)) (now (a .args .table)) (a .args .cap) (now (a .args .work)) (l .loop .e) (l .loop .left) (l .loop .n)
+    (l .loop .work) (l .loop .inv)
 
 returns-2 : tie.Need-returns-2 Inv-loop μ-loop
 returns-2 c =
     let l = c .before in
     let a = l .before .before in
-    lefts-all (now (a .args .instructions)) (now (a .args .table)) (a .args .cap) (now (a .args .work)) (l .loop .e) (l .loop .left) (l .loop .n) (l .loop .work) (l .loop .inv) (c .loop-test .left)
+    lefts-all (now (a .args .instructions)) (now (a .args .table)) (a .args .cap) (now (a .args .work)) (l .loop .e) (l .loop .left) (l .loop .n)
+    (l .loop .work) (l .loop .inv) (c .loop-test .left)
 
 pub collect-rows-spec : {M : Type 1} → statement M
 collect-rows-spec =

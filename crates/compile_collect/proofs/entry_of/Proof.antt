@@ -15,7 +15,8 @@ word-at-requires c κs = search needs
 returns : tie.Need-returns
 returns c =
     let a = c .before .before .before in
-    entry-word (now (a .args .table)) (a .args .left) (c .before .place-of .result) (c .word-at .result) (c .before .before .word-at-arg .given .0) (a .pre) (c .before .place-of .ensures) (c .word-at .ensures)
+    entry-word (now (a .args .table)) (a .args .left) (c .before .place-of .result) (c .word-at .result) (c .before .before .word-at-arg .given .0) (a .pre)
+    (c .before .place-of .ensures) (c .word-at .ensures)
 
 pub entry-of-spec : {M : Type 1} → statement M
 entry-of-spec = tie.close (tie.spec place-of-requires word-at-requires returns)

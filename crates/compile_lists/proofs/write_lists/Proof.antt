@@ -37,8 +37,14 @@ write-pairs-requires c κs =
     let a = o .args in
     let u = k .write-ops .last .1 .1 .1 .1 .1 in
     let f = fontOf (a .instructions .now) (a .kerns .now) (a .entries .now) (pos 0) (a .«left-entry») (a .«design-size») in
-    let p = lent-as (λ (x : Font) (r : CountedFont). WritesOps x (length (zp .last .0)) (length (zl .last .0)) (a .ops .now) (a .work .now) (u .0) (u .1 .0) r) (a .instructions .now) (a .kerns .now) (a .entries .now) (pos 0) _ (a .«left-entry») _ (a .«design-size») (k .write-ops .result) _ (k .write-ops .ensures (pos 0)) (g .1) (number-word (a .«left-entry») (o .fits .«left-entry»)) (number-word (a .«design-size») (o .fits .«design-size»)) in
-    (p .rows .4 .ready, p .rows .3, pairs-blank f (a .pairs .now) (a .ops .now) (a .loops .now) (zp .last .0) (zl .last .0) (a .work .now) (u .1 .0) (zp .ensures) (zl .ensures) (u .0))
+    let p = lent-as (λ (x : Font) (r : CountedFont). WritesOps x (length (zp .last .0)) (length (zl .last .0)) (a .ops .now) (a .work .now) (u .0) (u .1 .0) r)
+    (a .instructions .now) (a .kerns .now) (a .entries .now) (pos 0) _ (a .«left-entry») _ (a .«design-size») (k .write-ops .result) _
+    (k .write-ops .ensures (pos 0)) (g .1) (number-word (a .«left-entry») (o .fits .«left-entry»)) (number-word (a .«design-size») (o .fits .«design-size»))
+    in (
+      p .rows .4 .ready,
+      p .rows .3,
+      pairs-blank f (a .pairs .now) (a .ops .now) (a .loops .now) (zp .last .0) (zl .last .0) (a .work .now) (u .1 .0) (zp .ensures) (zl .ensures) (u .0),
+    )
 
 write-loops-requires : tie.Need-write-loops-requires
 write-loops-requires c κs =
@@ -50,8 +56,17 @@ write-loops-requires c κs =
     let a = o .args in
     let u = k .write-ops .last .1 .1 .1 .1 .1 in
     let f = fontOf (a .instructions .now) (a .kerns .now) (a .entries .now) (pos 0) (a .«left-entry») (a .«design-size») in
-    let p = lent-as (λ (x : Font) (r : CountedFont). WritesOps x (length (zp .last .0)) (length (zl .last .0)) (a .ops .now) (a .work .now) (u .0) (u .1 .0) r) (a .instructions .now) (a .kerns .now) (a .entries .now) (pos 0) _ (a .«left-entry») _ (a .«design-size») (k .write-ops .result) _ (k .write-ops .ensures (pos 0)) (g .1) (number-word (a .«left-entry») (o .fits .«left-entry»)) (number-word (a .«design-size») (o .fits .«design-size»)) in
-    (few f (a .pairs .now) (a .ops .now) (a .loops .now) (zp .last .0) (zl .last .0) (a .work .now) (u .1 .0) (zp .ensures) (zl .ensures) (u .0) (g .0 .0) (g .0 .1 .0) (g .0 .1 .1 .0) (g .0 .1 .1 .1 .0) p, loop-room f (a .pairs .now) (a .ops .now) (a .loops .now) (zp .last .0) (zl .last .0) (a .work .now) (u .1 .0) (zp .ensures) (zl .ensures) (u .0) (g .0 .0) (g .0 .1 .0) (g .0 .1 .1 .0) (g .0 .1 .1 .1 .0) p, loops-blank f (a .pairs .now) (a .ops .now) (a .loops .now) (zp .last .0) (zl .last .0) (a .work .now) (u .1 .0) (zp .ensures) (zl .ensures) (u .0), p .rows .4 .listing)
+    let p = lent-as (λ (x : Font) (r : CountedFont). WritesOps x (length (zp .last .0)) (length (zl .last .0)) (a .ops .now) (a .work .now) (u .0) (u .1 .0) r)
+    (a .instructions .now) (a .kerns .now) (a .entries .now) (pos 0) _ (a .«left-entry») _ (a .«design-size») (k .write-ops .result) _
+    (k .write-ops .ensures (pos 0)) (g .1) (number-word (a .«left-entry») (o .fits .«left-entry»)) (number-word (a .«design-size») (o .fits .«design-size»))
+    in (
+      few f (a .pairs .now) (a .ops .now) (a .loops .now) (zp .last .0) (zl .last .0) (a .work .now) (u .1 .0) (zp .ensures) (zl .ensures) (u .0) (g .0 .0)
+          (g .0 .1 .0) (g .0 .1 .1 .0) (g .0 .1 .1 .1 .0) p,
+      loop-room f (a .pairs .now) (a .ops .now) (a .loops .now) (zp .last .0) (zl .last .0) (a .work .now) (u .1 .0) (zp .ensures) (zl .ensures) (u .0)
+          (g .0 .0) (g .0 .1 .0) (g .0 .1 .1 .0) (g .0 .1 .1 .1 .0) p,
+      loops-blank f (a .pairs .now) (a .ops .now) (a .loops .now) (zp .last .0) (zl .last .0) (a .work .now) (u .1 .0) (zp .ensures) (zl .ensures) (u .0),
+      p .rows .4 .listing,
+    )
 
 zero-u32-requires : tie.Need-zero-u32-requires
 zero-u32-requires c κs = search needs
@@ -81,7 +96,9 @@ returns c = λ b.
     let a = o .args in
     let u = k .write-ops .last .1 .1 .1 .1 .1 in
     let f = fontOf (a .instructions .now) (a .kerns .now) (a .entries .now) b (a .«left-entry») (a .«design-size») in
-    let p = lent-as (λ (x : Font) (r : CountedFont). WritesOps x (length (zp .last .0)) (length (zl .last .0)) (a .ops .now) (a .work .now) (u .0) (u .1 .0) r) (a .instructions .now) (a .kerns .now) (a .entries .now) b _ (a .«left-entry») _ (a .«design-size») (k .write-ops .result) _ (k .write-ops .ensures b) (g .1) (number-word (a .«left-entry») (o .fits .«left-entry»)) (number-word (a .«design-size») (o .fits .«design-size»)) in
+    let p = lent-as (λ (x : Font) (r : CountedFont). WritesOps x (length (zp .last .0)) (length (zl .last .0)) (a .ops .now) (a .work .now) (u .0) (u .1 .0) r)
+    (a .instructions .now) (a .kerns .now) (a .entries .now) b _ (a .«left-entry») _ (a .«design-size») (k .write-ops .result) _ (k .write-ops .ensures b)
+    (g .1) (number-word (a .«left-entry») (o .fits .«left-entry»)) (number-word (a .«design-size») (o .fits .«design-size»)) in
     unfit f (a .pairs .now) (a .ops .now) (a .loops .now) (zp .last .0) (zl .last .0) (a .work .now) (u .1 .0) (zp .ensures) (zl .ensures) (u .0) (g .0 .0) p
 
 same-length-5 : tie.Need-same-length-5
@@ -109,8 +126,12 @@ returns-2 c = λ b.
     let a = o .args in
     let u = k .write-ops .last .1 .1 .1 .1 .1 in
     let f = fontOf (a .instructions .now) (a .kerns .now) (a .entries .now) b (a .«left-entry») (a .«design-size») in
-    let p = lent-as (λ (x : Font) (r : CountedFont). WritesOps x (length (zp .last .0)) (length (zl .last .0)) (a .ops .now) (a .work .now) (u .0) (u .1 .0) r) (a .instructions .now) (a .kerns .now) (a .entries .now) b _ (a .«left-entry») _ (a .«design-size») (k .write-ops .result) _ (k .write-ops .ensures b) (g .1) (number-word (a .«left-entry») (o .fits .«left-entry»)) (number-word (a .«design-size») (o .fits .«design-size»)) in
-    built f (a .pairs .now) (a .ops .now) (a .loops .now) (zp .last .0) (zl .last .0) (a .work .now) (u .1 .0) (zp .ensures) (zl .ensures) (u .0) (g .0 .0) (g .0 .1 .0) (g .0 .1 .1 .0) (g .0 .1 .1 .1 .0) p (ps .result) (ps .last .1 .1 .1 .0) (ls .last .1 .1 .0) (v .last .0) (ps .ensures .0) (ps .ensures .1) (ls .ensures) (v .ensures)
+    let p = lent-as (λ (x : Font) (r : CountedFont). WritesOps x (length (zp .last .0)) (length (zl .last .0)) (a .ops .now) (a .work .now) (u .0) (u .1 .0) r)
+    (a .instructions .now) (a .kerns .now) (a .entries .now) b _ (a .«left-entry») _ (a .«design-size») (k .write-ops .result) _ (k .write-ops .ensures b)
+    (g .1) (number-word (a .«left-entry») (o .fits .«left-entry»)) (number-word (a .«design-size») (o .fits .«design-size»)) in
+    built f (a .pairs .now) (a .ops .now) (a .loops .now) (zp .last .0) (zl .last .0) (a .work .now) (u .1 .0) (zp .ensures) (zl .ensures) (u .0) (g .0 .0)
+    (g .0 .1 .0) (g .0 .1 .1 .0) (g .0 .1 .1 .1 .0) p (ps .result) (ps .last .1 .1 .1 .0) (ls .last .1 .1 .0) (v .last .0) (ps .ensures .0) (ps .ensures .1)
+    (ls .ensures) (v .ensures)
 
 pub write-lists-spec : {M : Type 1} → statement M
 write-lists-spec =

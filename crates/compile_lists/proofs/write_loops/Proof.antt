@@ -33,7 +33,8 @@ left-word-requires c κs =
     let g = c .before in
     let l = g .before .before in
     let s = l .before .before in
-    left-small (s .args .work .now) (s .args .r) (l .loop .i) (g .get .result) (c .get2 .result) (s .pre .3) (g .before .loop-test .taken) (g .get .ensures) (c .get2 .ensures)
+    left-small (s .args .work .now) (s .args .r) (l .loop .i) (g .get .result) (c .get2 .result) (s .pre .3) (g .before .loop-test .taken) (g .get .ensures)
+    (c .get2 .ensures)
 
 get-requires-3 : tie.Need-get-requires-3 Inv-loop μ-loop
 get-requires-3 c κs = search needs
@@ -45,7 +46,8 @@ put-word-requires : tie.Need-put-word-requires Inv-loop μ-loop
 put-word-requires c κs = tt
 
 mul-put-word-2 : tie.Need-mul-put-word-2 Inv-loop μ-loop
-mul-put-word-2 c = let l = c .before .before .before .before .before .before .before .before .before in omega (arith, l .loop .inv .0, l .before .before .pre .0)
+mul-put-word-2 c =
+    let l = c .before .before .before .before .before .before .before .before .before in omega (arith, l .loop .inv .0, l .before .before .pre .0)
 
 add-put-word : tie.Need-add-put-word Inv-loop μ-loop
 add-put-word c = let l = c .before .before .before .before .before .before .before .before .before in omega (arith, l .loop .inv .0, l .before .before .pre .0)
@@ -54,7 +56,9 @@ put-word-requires-2 : tie.Need-put-word-requires-2 Inv-loop μ-loop
 put-word-requires-2 c κs = tt
 
 add-i : tie.Need-add-i Inv-loop μ-loop
-add-i c = let l = c .before .before .before .before .before .before .before .before .before .before .before in omega (arith, l .loop .inv .0, l .before .before .pre .0)
+add-i c =
+    let l = c .before .before .before .before .before .before .before .before .before .before .before in
+    omega (arith, l .loop .inv .0, l .before .before .pre .0)
 
 loop-less : tie.Need-loop-less Inv-loop μ-loop
 loop-less c = let t = c .before .before .before .before .before .before .before .before .before .before in omega (arith, t .loop-test .taken)
@@ -69,7 +73,10 @@ loop-again c =
     let l = g .before .before in
     let s = l .before .before in (
       omega (arith, g .before .loop-test .taken),
-      loops-more (s .args .work .now) (s .args .r) (s .args .out .now) (l .loop .out) (p .put-word .last .0) (q .put-word2 .last .0) (l .loop .i) (g .get .result) (v .before .get2 .result) (v .left-word .result) (d .get3 .result) (s .pre .3) (g .before .loop-test .taken) (s .pre .1) (g .get .ensures) (v .before .get2 .ensures) (v .left-word .ensures) (d .get3 .ensures) (p .put-word .ensures) (q .put-word2 .ensures) (l .loop .inv .1),
+      loops-more (s .args .work .now) (s .args .r) (s .args .out .now) (l .loop .out) (p .put-word .last .0) (q .put-word2 .last .0) (l .loop .i)
+          (g .get .result) (v .before .get2 .result) (v .left-word .result) (d .get3 .result) (s .pre .3) (g .before .loop-test .taken) (s .pre .1)
+          (g .get .ensures) (v .before .get2 .ensures) (v .left-word .ensures) (d .get3 .ensures) (p .put-word .ensures) (q .put-word2 .ensures)
+          (l .loop .inv .1),
     )
 
 same-length : tie.Need-same-length Inv-loop μ-loop
@@ -79,7 +86,8 @@ returns : tie.Need-returns Inv-loop μ-loop
 returns c =
     let l = c .before in
     let s = l .before .before in
-    loops-all (s .args .work .now) (s .args .r) (l .loop .i) (s .args .out .now) (l .loop .out) (s .pre .2) (l .loop .inv .0) (c .loop-test .left) (l .loop .inv .1)
+    loops-all (s .args .work .now) (s .args .r) (l .loop .i) (s .args .out .now) (l .loop .out) (s .pre .2) (l .loop .inv .0) (c .loop-test .left)
+    (l .loop .inv .1)
 
 pub write-loops-spec : {M : Type 1} → statement M
 write-loops-spec =

@@ -28,8 +28,12 @@ put-pair-requires : tie.Need-put-pair-requires Inv-loop μ-loop
 put-pair-requires c κs =
     let l = c .before .before .before .before in
     let s = l .before .before in
-    let h = c .before .before .before .loop-test .taken in
-    (omega (arith, s .pre .0 .encoded .ascending .few), s .pre .0 .encoded .ascending .left (l .loop .k) h, pairs-room (s .args .n) (s .args .m) (s .args .work .now) (s .pre .0) (s .args .pairs .now) (l .loop .pairs) (l .loop .end) (l .loop .k) (l .loop .inv) h (s .pre .1))
+    let h = c .before .before .before .loop-test .taken in (
+      omega (arith, s .pre .0 .encoded .ascending .few),
+      s .pre .0 .encoded .ascending .left (l .loop .k) h,
+      pairs-room (s .args .n) (s .args .m) (s .args .work .now) (s .pre .0) (s .args .pairs .now) (l .loop .pairs) (l .loop .end) (l .loop .k) (l .loop .inv)
+          h (s .pre .1),
+    )
 
 add-end : tie.Need-add-end Inv-loop μ-loop
 add-end c =
@@ -49,8 +53,11 @@ loop-again c =
     let s = l .before .before in
     let h = c .before .before .loop-test .taken in
     let g = c .before .get .ensures in
-    ⊎-elim (λ x. pairs-finished (s .args .n) (s .args .m) (s .args .work .now) (s .pre .0) (s .args .pairs .now) (l .loop .pairs) (l .loop .end) (l .loop .k) (l .loop .inv) h (s .pre .1) (c .if1 .pairs) (c .if1 .end) (sym g ∙ x .0 .taken) (x .4 ∙ x .2 .ensures) (x .5))
-    (λ x. pairs-never (s .args .n) (s .args .m) (s .args .work .now) (s .pre .0) (s .args .pairs .now) (l .loop .pairs) (l .loop .end) (l .loop .k) (l .loop .inv) h (c .if1 .pairs) (c .if1 .end) (λ e. x .0 .left (g ∙ e)) (x .1) (x .2))
+    ⊎-elim
+    (λ x. pairs-finished (s .args .n) (s .args .m) (s .args .work .now) (s .pre .0) (s .args .pairs .now) (l .loop .pairs) (l .loop .end) (l .loop .k)
+    (l .loop .inv) h (s .pre .1) (c .if1 .pairs) (c .if1 .end) (sym g ∙ x .0 .taken) (x .4 ∙ x .2 .ensures) (x .5))
+    (λ x. pairs-never (s .args .n) (s .args .m) (s .args .work .now) (s .pre .0) (s .args .pairs .now) (l .loop .pairs) (l .loop .end) (l .loop .k)
+    (l .loop .inv) h (c .if1 .pairs) (c .if1 .end) (λ e. x .0 .left (g ∙ e)) (x .1) (x .2))
     (c .if1 .came)
 
 same-length : tie.Need-same-length Inv-loop μ-loop
@@ -61,7 +68,8 @@ same-length c =
 returns : tie.Need-returns Inv-loop μ-loop
 returns c =
     let s = c .before .before .before in
-    pairs-all (s .args .n) (s .args .m) (s .args .work .now) (s .pre .0) (s .args .pairs .now) (c .before .loop .pairs) (c .before .loop .end) (c .before .loop .k) (c .before .loop .inv) (c .loop-test .left) (s .pre .2)
+    pairs-all (s .args .n) (s .args .m) (s .args .work .now) (s .pre .0) (s .args .pairs .now) (c .before .loop .pairs) (c .before .loop .end)
+    (c .before .loop .k) (c .before .loop .inv) (c .loop-test .left) (s .pre .2)
 
 pub write-pairs-spec : {M : Type 1} → statement M
 write-pairs-spec =

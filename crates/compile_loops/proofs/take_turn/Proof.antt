@@ -45,7 +45,8 @@ returns c =
     let g = p .before .before .before in
     let v = g .before .before .before .before in
     let t = v .before .before in
-    meets-own (sym (t .before .get .ensures) ∙ t .if1 .taken) (v .walk-from .ensures) (sym (g .get2 .ensures) ∙ p .before .before .if2 .taken) (p .put .ensures) refl
+    meets-own (sym (t .before .get .ensures) ∙ t .if1 .taken) (v .walk-from .ensures) (sym (g .get2 .ensures) ∙ p .before .before .if2 .taken) (p .put .ensures)
+    refl
 
 same-length-2 : tie.Need-same-length-2
 same-length-2 c = search needs

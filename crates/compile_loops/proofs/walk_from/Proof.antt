@@ -34,7 +34,8 @@ loop-less c =
     let t = p .before .before .before .before in
     let l = t .before .before .before in
     let s = l .before .before in
-    underway-less (s .args .n) (s .args .id) (s .args .work .now) (s .args .k) (l .loop .work) (l .loop .cur) (l .loop .inv) (sym (t .before .get .ensures) ∙ t .if1 .taken) (s .pre .3) (p .put .last .0) (p .put .ensures)
+    underway-less (s .args .n) (s .args .id) (s .args .work .now) (s .args .k) (l .loop .work) (l .loop .cur) (l .loop .inv)
+    (sym (t .before .get .ensures) ∙ t .if1 .taken) (s .pre .3) (p .put .last .0) (p .put .ensures)
 
 loop-again : tie.Need-loop-again Inv-loop μ-loop
 loop-again c =
@@ -42,7 +43,8 @@ loop-again c =
     let t = p .before .before .before .before in
     let l = t .before .before .before in
     let s = l .before .before in
-    underway-more (s .args .n) (s .args .id) (s .args .work .now) (s .args .k) (l .loop .work) (l .loop .cur) (l .loop .inv) (sym (t .before .get .ensures) ∙ t .if1 .taken) (p .put .last .0) (p .before .before .get2 .result) (p .put .ensures) (p .before .before .get2 .ensures)
+    underway-more (s .args .n) (s .args .id) (s .args .work .now) (s .args .k) (l .loop .work) (l .loop .cur) (l .loop .inv)
+    (sym (t .before .get .ensures) ∙ t .if1 .taken) (p .put .last .0) (p .before .before .get2 .result) (p .put .ensures) (p .before .before .get2 .ensures)
 
 same-length : tie.Need-same-length Inv-loop μ-loop
 same-length c = c .before .before .before .loop .inv .same-length

@@ -42,7 +42,9 @@ take-turn-requires c κs =
     let a = l .before .before .args in
     let p = l .before .before .pre in (
       going-walkable (a .n) (p .1 .0) (a .work .now) (p .0) (p .1 .1) (a .e) (p .2) (l .loop .s) (l .loop .work) (l .loop .r) (l .loop .inv),
-      subst (λ (k : ℕ). k < a .n) (sym (c .before .row-of-turn .ensures)) (going-row (a .n) (p .1 .0) (a .work .now) (p .0) (p .1 .1) (a .e) (p .2) (l .loop .s) (l .loop .work) (l .loop .r) (l .loop .inv) (t .loop-test .taken)),
+      subst (λ (k : ℕ). k < a .n) (sym (c .before .row-of-turn .ensures))
+          (going-row (a .n) (p .1 .0) (a .work .now) (p .0) (p .1 .1) (a .e) (p .2) (l .loop .s) (l .loop .work) (l .loop .r) (l .loop .inv)
+          (t .loop-test .taken)),
       omega arith,
       omega (arith, l .loop .inv .few, t .loop-test .taken),
     )
@@ -63,7 +65,8 @@ loop-again c =
     let l = t .before in
     let a = l .before .before .args in
     let p = l .before .before .pre in
-    going-more (a .n) (p .1 .0) (a .work .now) (p .0) (p .1 .1) (a .e) (p .2) (l .loop .s) (l .loop .work) (l .loop .r) (l .loop .inv) (v .row-of-turn .result) (u .take-turn .last .0) (u .take-turn .result) (t .loop-test .taken) (v .row-of-turn .ensures) (u .take-turn .ensures)
+    going-more (a .n) (p .1 .0) (a .work .now) (p .0) (p .1 .1) (a .e) (p .2) (l .loop .s) (l .loop .work) (l .loop .r) (l .loop .inv) (v .row-of-turn .result)
+    (u .take-turn .last .0) (u .take-turn .result) (t .loop-test .taken) (v .row-of-turn .ensures) (u .take-turn .ensures)
 
 same-length : tie.Need-same-length Inv-loop μ-loop
 same-length c = c .before .loop .inv .taken .same-length

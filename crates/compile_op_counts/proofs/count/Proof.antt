@@ -30,7 +30,11 @@ measure-requires c κs =
     let o = k .before .before .before in
     let a = o .args in
     let w = k .find-loops .last .1 .1 .1 .1 .1 .0 in
-    let p = (lent-as (λ (f : Font) (r : WalkedFont). FindsLoops f (min (a .«pair-room» / 6) (length (a .work .now) / 16)) (a .work .now) w r) (a .instructions .now) (a .kerns .now) (a .entries .now) (pos 0) _ (a .«left-entry») _ (a .«design-size») (k .find-loops .result) _ (k .find-loops .ensures (pos 0)) (c .before .before .n .given .1) (number-word (a .«left-entry») (o .fits .«left-entry»)) (number-word (a .«design-size») (o .fits .«design-size»))) .rows in
+    let p =
+    (lent-as (λ (f : Font) (r : WalkedFont). FindsLoops f (min (a .«pair-room» / 6) (length (a .work .now) / 16)) (a .work .now) w r)
+    (a .instructions .now) (a .kerns .now) (a .entries .now) (pos 0) _ (a .«left-entry») _ (a .«design-size») (k .find-loops .result) _
+    (k .find-loops .ensures (pos 0)) (c .before .before .n .given .1) (number-word (a .«left-entry») (o .fits .«left-entry»))
+    (number-word (a .«design-size») (o .fits .«design-size»))) .rows in
     (_, p .4)
 
 same-length : tie.Need-same-length
@@ -42,8 +46,14 @@ returns c = λ b.
     let o = k .before .before .before in
     let a = o .args in
     let w = k .find-loops .last .1 .1 .1 .1 .1 .0 in
-    let p = (lent-as (λ (f : Font) (r : WalkedFont). FindsLoops f (min (a .«pair-room» / 6) (length (a .work .now) / 16)) (a .work .now) w r) (a .instructions .now) (a .kerns .now) (a .entries .now) b _ (a .«left-entry») _ (a .«design-size») (k .find-loops .result) _ (k .find-loops .ensures b) (c .before .number .given .1) (number-word (a .«left-entry») (o .fits .«left-entry»)) (number-word (a .«design-size») (o .fits .«design-size»))) .rows in
-    counts-font _ _ _ _ _ (unfit (fontOf (a .instructions .now) (a .kerns .now) (a .entries .now) b (a .«left-entry») (a .«design-size»)) (roomOf (a .«pair-room») (a .«op-room») (a .«loop-room») (length (a .work .now))) (a .work .now) refl (c .before .number .given .0 .0) w p)
+    let p =
+    (lent-as (λ (f : Font) (r : WalkedFont). FindsLoops f (min (a .«pair-room» / 6) (length (a .work .now) / 16)) (a .work .now) w r)
+    (a .instructions .now) (a .kerns .now) (a .entries .now) b _ (a .«left-entry») _ (a .«design-size») (k .find-loops .result) _
+    (k .find-loops .ensures b) (c .before .number .given .1) (number-word (a .«left-entry») (o .fits .«left-entry»))
+    (number-word (a .«design-size») (o .fits .«design-size»))) .rows in
+    counts-font _ _ _ _ _
+    (unfit (fontOf (a .instructions .now) (a .kerns .now) (a .entries .now) b (a .«left-entry») (a .«design-size»))
+    (roomOf (a .«pair-room») (a .«op-room») (a .«loop-room») (length (a .work .now))) (a .work .now) refl (c .before .number .given .0 .0) w p)
 
 same-length-2 : tie.Need-same-length-2
 same-length-2 c = search needs
@@ -56,8 +66,16 @@ returns-2 c = λ b.
     let o = k .before .before .before in
     let a = o .args in
     let w = k .find-loops .last .1 .1 .1 .1 .1 .0 in
-    let p = (lent-as (λ (f : Font) (r : WalkedFont). FindsLoops f (min (a .«pair-room» / 6) (length (a .work .now) / 16)) (a .work .now) w r) (a .instructions .now) (a .kerns .now) (a .entries .now) b _ (a .«left-entry») _ (a .«design-size») (k .find-loops .result) _ (k .find-loops .ensures b) (g .1) (number-word (a .«left-entry») (o .fits .«left-entry»)) (number-word (a .«design-size») (o .fits .«design-size»))) .rows in
-    counts-font _ _ _ _ _ (counts (fontOf (a .instructions .now) (a .kerns .now) (a .entries .now) b (a .«left-entry») (a .«design-size»)) (roomOf (a .«pair-room») (a .«op-room») (a .«loop-room») (length (a .work .now))) (a .work .now) refl (g .0 .0) (g .0 .1 .0) (g .0 .1 .1 .0) (g .0 .1 .1 .1 .0) w (s .last .0) p (s .result) (s .ensures (fontOf (a .instructions .now) (a .kerns .now) (a .entries .now) b (a .«left-entry») (a .«design-size»)) (p .4)))
+    let p =
+    (lent-as (λ (f : Font) (r : WalkedFont). FindsLoops f (min (a .«pair-room» / 6) (length (a .work .now) / 16)) (a .work .now) w r)
+    (a .instructions .now) (a .kerns .now) (a .entries .now) b _ (a .«left-entry») _ (a .«design-size») (k .find-loops .result) _
+    (k .find-loops .ensures b) (g .1) (number-word (a .«left-entry») (o .fits .«left-entry»))
+    (number-word (a .«design-size») (o .fits .«design-size»))) .rows in
+    counts-font _ _ _ _ _
+    (counts (fontOf (a .instructions .now) (a .kerns .now) (a .entries .now) b (a .«left-entry») (a .«design-size»))
+    (roomOf (a .«pair-room») (a .«op-room») (a .«loop-room») (length (a .work .now))) (a .work .now) refl (g .0 .0) (g .0 .1 .0) (g .0 .1 .1 .0)
+    (g .0 .1 .1 .1 .0) w (s .last .0) p (s .result)
+    (s .ensures (fontOf (a .instructions .now) (a .kerns .now) (a .entries .now) b (a .«left-entry») (a .«design-size»)) (p .4)))
 
 pub count-spec : {M : Type 1} → statement M
 count-spec =

@@ -15,8 +15,11 @@ count-rows-requires : tie.Need-count-rows-requires
 count-rows-requires c κs =
     let s = c .before .before .before .before .before .before in
     let z = c .before .before .before .zero-counts in
-    let o = z .ensures .only in
-    (encoded-still (s .args .n) (s .args .m) (s .args .work .now) (s .pre .0) (s .pre .1) (z .last .0) o, settled-still (s .args .n) (s .args .m) (s .args .work .now) (s .pre .0) (s .pre .1) (z .last .0) o, z .ensures .stored)
+    let o = z .ensures .only in (
+      encoded-still (s .args .n) (s .args .m) (s .args .work .now) (s .pre .0) (s .pre .1) (z .last .0) o,
+      settled-still (s .args .n) (s .args .m) (s .args .work .now) (s .pre .0) (s .pre .1) (z .last .0) o,
+      z .ensures .stored,
+    )
 
 total-count-requires : tie.Need-total-count-requires
 total-count-requires c κs = search needs

@@ -29,13 +29,19 @@ row-count-requires : tie.Need-row-count-requires Inv-loop μ-loop
 row-count-requires c κs =
     let l = c .before .before .before .before in
     let s = l .before .before in
-    turn-needs (s .args .n) (s .args .m) (s .args .work .now) (s .pre .0) (s .pre .1) (l .loop .work) (l .loop .i) (l .loop .inv) (c .before .before .before .loop-test .taken) (c .before .get .result) (c .before .get .ensures)
+    turn-needs (s .args .n) (s .args .m) (s .args .work .now) (s .pre .0) (s .pre .1) (l .loop .work) (l .loop .i) (l .loop .inv)
+    (c .before .before .before .loop-test .taken) (c .before .get .result) (c .before .get .ensures)
 
 put-requires : tie.Need-put-requires Inv-loop μ-loop
 put-requires c κs = search needs
 
 add-i : tie.Need-add-i Inv-loop μ-loop
-add-i c = omega (arith, c .before .before .before .before .before .before .before .before .loop-test .taken, c .before .before .before .before .before .before .before .before .before .before .before .fits .m)
+add-i c =
+    omega (
+      arith,
+      c .before .before .before .before .before .before .before .before .loop-test .taken,
+      c .before .before .before .before .before .before .before .before .before .before .before .fits .m,
+    )
 
 loop-less : tie.Need-loop-less Inv-loop μ-loop
 loop-less c = omega (arith, c .before .before .before .before .before .before .before .before .loop-test .taken)
@@ -45,7 +51,10 @@ loop-again c =
     let l = c .before .before .before .before .before .before .before .before .before in
     let s = l .before .before in
     let g = c .before .before .before .before .before .before in
-    counting-more (s .args .n) (s .args .m) (s .args .work .now) (s .pre .0) (s .pre .1) (l .loop .work) (l .loop .i) (l .loop .inv) (c .before .before .before .before .before .before .before .before .loop-test .taken) (g .get .result) (c .before .before .before .before .row-count .result) (c .before .before .put .last .0) (g .get .ensures) (c .before .before .before .before .row-count .ensures) (c .before .before .put .ensures)
+    counting-more (s .args .n) (s .args .m) (s .args .work .now) (s .pre .0) (s .pre .1) (l .loop .work) (l .loop .i) (l .loop .inv)
+    (c .before .before .before .before .before .before .before .before .loop-test .taken) (g .get .result)
+    (c .before .before .before .before .row-count .result) (c .before .before .put .last .0) (g .get .ensures)
+    (c .before .before .before .before .row-count .ensures) (c .before .before .put .ensures)
 
 same-length : tie.Need-same-length Inv-loop μ-loop
 same-length c = c .before .loop .inv .only .same-length
@@ -53,7 +62,8 @@ same-length c = c .before .loop .inv .only .same-length
 returns : tie.Need-returns Inv-loop μ-loop
 returns c =
     let s = c .before .before .before in
-    counting-all (s .args .n) (s .args .m) (s .args .work .now) (s .pre .0) (s .pre .1) (c .before .loop .work) (c .before .loop .i) (c .before .loop .inv) (c .loop-test .left)
+    counting-all (s .args .n) (s .args .m) (s .args .work .now) (s .pre .0) (s .pre .1) (c .before .loop .work) (c .before .loop .i) (c .before .loop .inv)
+    (c .loop-test .left)
 
 pub count-rows-spec : {M : Type 1} → statement M
 count-rows-spec =

@@ -33,10 +33,20 @@ add-total c =
     let p = c .before .before .before .before in
     let l = p .before .before .before in
     let s = l .before .before in
-    omega (arith, s .pre .3, first-within (s .args .n) (s .args .work .now) (s .pre .0 .ascending .room) (s .pre .2) (l .loop .work) (p .put .last .0) (l .loop .k) (l .loop .total) (c .get .result) (p .before .before .loop-test .taken) (l .loop .inv .0) (l .loop .inv .1) (p .put .ensures) (c .get .ensures))
+    omega (
+      arith,
+      s .pre .3,
+      first-within (s .args .n) (s .args .work .now) (s .pre .0 .ascending .room) (s .pre .2) (l .loop .work) (p .put .last .0) (l .loop .k) (l .loop .total)
+          (c .get .result) (p .before .before .loop-test .taken) (l .loop .inv .0) (l .loop .inv .1) (p .put .ensures) (c .get .ensures),
+    )
 
 add-k : tie.Need-add-k Inv-loop μ-loop
-add-k c = omega (arith, c .before .before .before .before .before .before .loop-test .taken, c .before .before .before .before .before .before .before .before .before .fits .n)
+add-k c =
+    omega (
+      arith,
+      c .before .before .before .before .before .before .loop-test .taken,
+      c .before .before .before .before .before .before .before .before .before .fits .n,
+    )
 
 loop-less : tie.Need-loop-less Inv-loop μ-loop
 loop-less c = omega (arith, c .before .before .before .before .before .before .loop-test .taken)
@@ -46,7 +56,8 @@ loop-again c =
     let p = c .before .before .before .before in
     let l = p .before .before .before in
     let s = l .before .before in
-    first-again (s .args .n) (s .args .work .now) (s .pre .0 .ascending .room) (s .pre .2) (l .loop .work) (p .put .last .0) (l .loop .k) (l .loop .total) (c .get .result) (p .before .before .loop-test .taken) (l .loop .inv .0) (l .loop .inv .1) (p .put .ensures) (c .get .ensures)
+    first-again (s .args .n) (s .args .work .now) (s .pre .0 .ascending .room) (s .pre .2) (l .loop .work) (p .put .last .0) (l .loop .k) (l .loop .total)
+    (c .get .result) (p .before .before .loop-test .taken) (l .loop .inv .0) (l .loop .inv .1) (p .put .ensures) (c .get .ensures)
 
 same-length : tie.Need-same-length Inv-loop μ-loop
 same-length c = c .before .loop .inv .0 .only .same-length

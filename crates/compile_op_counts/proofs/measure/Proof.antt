@@ -27,7 +27,8 @@ returns c = λ f g.
     let k = i .before .sizes-refusal in
     let t = i .before .before .before .before .count-ops in
     let a = i .before .before .before .before .before .before .before .args in
-    refused f (a .n) (a .m) (a .r) (a .work .now) g (t .result) (t .last .0) (t .ensures) (a .scaled) (a .«op-room») (a .«loop-room») (k .result) (v .last .0) (k .ensures) (i .if1 .taken) (v .ensures ∙ ap (λ (n : ℕ). replicate n 0) (t .kept .0))
+    refused f (a .n) (a .m) (a .r) (a .work .now) g (t .result) (t .last .0) (t .ensures) (a .scaled) (a .«op-room») (a .«loop-room») (k .result) (v .last .0)
+    (k .ensures) (i .if1 .taken) (v .ensures ∙ ap (λ (n : ℕ). replicate n 0) (t .kept .0))
 
 first-ops-requires : tie.Need-first-ops-requires
 first-ops-requires c κs =
@@ -38,8 +39,12 @@ first-ops-requires c κs =
     let a = s .args in
     let f = s .pre .0 in
     let g = s .pre .1 in
-    let z = sym (i .if1 .left) ∙ k .ensures in
-    (encoded₁ f (a .n) (a .m) (a .r) (a .work .now) g (t .result) (t .last .0) (t .ensures), settled₁ f (a .n) (a .m) (a .r) (a .work .now) g (t .result) (t .last .0) (t .ensures), exact₁ f (a .n) (a .m) (a .r) (a .work .now) g (t .result) (t .last .0) (t .ensures) (a .scaled) (a .«op-room») (a .«loop-room») z, total₁ f (a .n) (a .m) (a .r) (a .work .now) g (t .result) (t .last .0) (t .ensures) (a .scaled) (a .«op-room») (a .«loop-room») z)
+    let z = sym (i .if1 .left) ∙ k .ensures in (
+      encoded₁ f (a .n) (a .m) (a .r) (a .work .now) g (t .result) (t .last .0) (t .ensures),
+      settled₁ f (a .n) (a .m) (a .r) (a .work .now) g (t .result) (t .last .0) (t .ensures),
+      exact₁ f (a .n) (a .m) (a .r) (a .work .now) g (t .result) (t .last .0) (t .ensures) (a .scaled) (a .«op-room») (a .«loop-room») z,
+      total₁ f (a .n) (a .m) (a .r) (a .work .now) g (t .result) (t .last .0) (t .ensures) (a .scaled) (a .«op-room») (a .«loop-room») z,
+    )
 
 same-length-2 : tie.Need-same-length-2
 same-length-2 c = search needs
@@ -51,7 +56,8 @@ returns-2 c = λ f g.
     let k = i .before .sizes-refusal in
     let t = i .before .before .before .before .count-ops in
     let a = i .before .before .before .before .before .before .before .args in
-    measured f (a .n) (a .m) (a .r) (a .work .now) g (t .result) (t .last .0) (t .ensures) (a .scaled) (a .«op-room») (a .«loop-room») (sym (i .if1 .left) ∙ k .ensures) (o .last .0) (o .ensures)
+    measured f (a .n) (a .m) (a .r) (a .work .now) g (t .result) (t .last .0) (t .ensures) (a .scaled) (a .«op-room») (a .«loop-room»)
+    (sym (i .if1 .left) ∙ k .ensures) (o .last .0) (o .ensures)
 
 pub measure-spec : {M : Type 1} → statement M
 measure-spec =

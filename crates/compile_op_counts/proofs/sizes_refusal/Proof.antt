@@ -16,17 +16,20 @@ returns-2 c =
 returns-3 : tie.Need-returns-3
 returns-3 c =
     let a = c .before .before .before .args in
-    rw (not-false (a .scaled) (c .before .before .if1 .left)) (no-room (a .total) (a .loops) (a .«op-room») (a .«loop-room») (c .before .if2 .left) (c .if3 .taken))
+    rw (not-false (a .scaled) (c .before .before .if1 .left))
+    (no-room (a .total) (a .loops) (a .«op-room») (a .«loop-room») (c .before .if2 .left) (c .if3 .taken))
 
 returns-4 : tie.Need-returns-4
 returns-4 c =
     let a = c .before .before .before .before .args in
-    rw (not-false (a .scaled) (c .before .before .before .if1 .left)) (no-loop-room (a .total) (a .loops) (a .«op-room») (a .«loop-room») (c .before .before .if2 .left) (c .before .if3 .left) (c .if4 .taken))
+    rw (not-false (a .scaled) (c .before .before .before .if1 .left))
+    (no-loop-room (a .total) (a .loops) (a .«op-room») (a .«loop-room») (c .before .before .if2 .left) (c .before .if3 .left) (c .if4 .taken))
 
 returns-5 : tie.Need-returns-5
 returns-5 c =
     let a = c .before .before .before .before .args in
-    rw (not-false (a .scaled) (c .before .before .before .if1 .left)) (taken (a .total) (a .loops) (a .«op-room») (a .«loop-room») (c .before .before .if2 .left) (c .before .if3 .left) (c .if4 .left))
+    rw (not-false (a .scaled) (c .before .before .before .if1 .left))
+    (taken (a .total) (a .loops) (a .«op-room») (a .«loop-room») (c .before .before .if2 .left) (c .before .if3 .left) (c .if4 .left))
 
 pub sizes-refusal-spec : {M : Type 1} → statement M
 sizes-refusal-spec = tie.close (tie.spec returns returns-2 returns-3 returns-4 returns-5)

@@ -34,8 +34,11 @@ loop-less c = omega arith
 loop-again : tie.Need-loop-again Inv-loop μ-loop
 loop-again c =
     let l = c .before .before .before in
-    let w = l .before .before .args .work .now in
-    (c .capped-sum .ensures ∙ ap (λ (x : ℕ). capped (l .loop .total + x)) (c .before .get .ensures) ∙ counts-more w (l .loop .k) (l .loop .total) (l .loop .inv .0), omega (arith, c .before .before .loop-test .taken))
+    let w = l .before .before .args .work .now in (
+      c .capped-sum .ensures ∙ ap (λ (x : ℕ). capped (l .loop .total + x)) (c .before .get .ensures)
+          ∙ counts-more w (l .loop .k) (l .loop .total) (l .loop .inv .0),
+      omega (arith, c .before .before .loop-test .taken),
+    )
 
 returns : tie.Need-returns Inv-loop μ-loop
 returns c =

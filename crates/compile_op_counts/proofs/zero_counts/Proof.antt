@@ -31,7 +31,8 @@ loop-again : tie.Need-loop-again Inv-loop μ-loop
 loop-again c =
     let l = c .before .before .before .before .before in
     let s = l .before .before in
-    stored-more 12 (s .args .n) (λ (_ : ℕ). 0) (s .args .work .now) (l .loop .work) (c .before .before .put .last .0) (l .loop .k) 0 (omega arith) (c .before .before .before .before .loop-test .taken) (s .pre .room) refl (l .loop .inv) (c .before .before .put .ensures)
+    stored-more 12 (s .args .n) (λ (_ : ℕ). 0) (s .args .work .now) (l .loop .work) (c .before .before .put .last .0) (l .loop .k) 0 (omega arith)
+    (c .before .before .before .before .loop-test .taken) (s .pre .room) refl (l .loop .inv) (c .before .before .put .ensures)
 
 same-length : tie.Need-same-length Inv-loop μ-loop
 same-length c = c .before .loop .inv .only .same-length

@@ -25,7 +25,9 @@ returns c = λ en h.
     let g = c .before .before in
     let s = g .before .before .before .before in
     let a = s .args in
-    first-is (a .n) (a .work .now) (a .k) (g .before .before .get .ensures) (g .before .get2 .ensures) (g .get3 .ensures) (c .left-part .ensures ∙ first-high (a .n) (a .work .now) (g .before .before .get .result) (g .before .get2 .result) (g .get3 .result) 0 (c .before .if1 .taken))
+    first-is (a .n) (a .work .now) (a .k) (g .before .before .get .ensures) (g .before .get2 .ensures) (g .get3 .ensures)
+    (c .left-part .ensures
+    ∙ first-high (a .n) (a .work .now) (g .before .before .get .result) (g .before .get2 .result) (g .get3 .result) 0 (c .before .if1 .taken))
 
 pair-part-requires : tie.Need-pair-part-requires
 pair-part-requires c κs = search needs
@@ -35,7 +37,10 @@ returns-2 c = λ en h.
     let g = c .before .before .before in
     let s = g .before .before .before .before in
     let a = s .args in
-    first-is (a .n) (a .work .now) (a .k) (g .before .before .get .ensures) (g .before .get2 .ensures) (g .get3 .ensures) (c .pair-part .ensures (en .ascending) (small-value (a .n) (a .work .now) (a .k) en h (g .before .before .get .ensures) (g .get3 .ensures) (omega (arith, c .before .if2 .taken))) ∙ first-pair (a .n) (a .work .now) (g .before .before .get .result) (g .before .get2 .result) (g .get3 .result) 0 (inl (c .before .if2 .taken)))
+    first-is (a .n) (a .work .now) (a .k) (g .before .before .get .ensures) (g .before .get2 .ensures) (g .get3 .ensures)
+    (c .pair-part .ensures (en .ascending)
+    (small-value (a .n) (a .work .now) (a .k) en h (g .before .before .get .ensures) (g .get3 .ensures) (omega (arith, c .before .if2 .taken)))
+    ∙ first-pair (a .n) (a .work .now) (g .before .before .get .result) (g .before .get2 .result) (g .get3 .result) 0 (inl (c .before .if2 .taken)))
 
 pair-part-requires-2 : tie.Need-pair-part-requires-2
 pair-part-requires-2 c κs = search needs
@@ -45,14 +50,19 @@ returns-3 c = λ en h.
     let g = c .before .before .before .before in
     let s = g .before .before .before .before in
     let a = s .args in
-    first-is (a .n) (a .work .now) (a .k) (g .before .before .get .ensures) (g .before .get2 .ensures) (g .get3 .ensures) (c .pair-part2 .ensures (en .ascending) (small-value (a .n) (a .work .now) (a .k) en h (g .before .before .get .ensures) (g .get3 .ensures) (omega (arith, c .before .if3 .taken))) ∙ first-pair (a .n) (a .work .now) (g .before .before .get .result) (g .before .get2 .result) (g .get3 .result) 0 (inr (c .before .if3 .taken)))
+    first-is (a .n) (a .work .now) (a .k) (g .before .before .get .ensures) (g .before .get2 .ensures) (g .get3 .ensures)
+    (c .pair-part2 .ensures (en .ascending)
+    (small-value (a .n) (a .work .now) (a .k) en h (g .before .before .get .ensures) (g .get3 .ensures) (omega (arith, c .before .if3 .taken)))
+    ∙ first-pair (a .n) (a .work .now) (g .before .before .get .result) (g .before .get2 .result) (g .get3 .result) 0 (inr (c .before .if3 .taken)))
 
 returns-4 : tie.Need-returns-4
 returns-4 c = λ en h.
     let g = c .before .before .before in
     let s = g .before .before .before .before in
     let a = s .args in
-    first-is (a .n) (a .work .now) (a .k) (g .before .before .get .ensures) (g .before .get2 .ensures) (g .get3 .ensures) (first-none (a .n) (a .work .now) (g .before .before .get .result) (g .before .get2 .result) (g .get3 .result) 0 (c .before .before .if1 .left) (c .before .if2 .left) (c .if3 .left))
+    first-is (a .n) (a .work .now) (a .k) (g .before .before .get .ensures) (g .before .get2 .ensures) (g .get3 .ensures)
+    (first-none (a .n) (a .work .now) (g .before .before .get .result) (g .before .get2 .result) (g .get3 .result) 0 (c .before .before .if1 .left)
+    (c .before .if2 .left) (c .if3 .left))
 
 pub first-part-spec : {M : Type 1} → statement M
 first-part-spec =

@@ -24,13 +24,16 @@ returns : tie.Need-returns
 returns c = λ up small.
     let f = c .before .before .before .before in
     let a = f .before .before .args in
-    c .get .ensures ∙ sym (ap (lastBy (a .work .now) (a .right)) (found-some (rowOf (a .work .now) (a .n) (a .left) (a .right)) (f .find .ensures up small) (c .before .before .k .given .1)))
+    c .get .ensures
+    ∙ sym (ap (lastBy (a .work .now) (a .right))
+    (found-some (rowOf (a .work .now) (a .n) (a .left) (a .right)) (f .find .ensures up small) (c .before .before .k .given .1)))
 
 returns-2 : tie.Need-returns-2
 returns-2 c = λ up small.
     let f = c .before .before in
     let a = f .before .before .args in
-    sym (ap (lastBy (a .work .now) (a .right)) (missing-none (rowOf (a .work .now) (a .n) (a .left) (a .right)) (f .find .ensures up small) (c .enum-told .given .1)))
+    sym (ap (lastBy (a .work .now) (a .right))
+    (missing-none (rowOf (a .work .now) (a .n) (a .left) (a .right)) (f .find .ensures up small) (c .enum-told .given .1)))
 
 pub last-code-spec : {M : Type 1} → statement M
 last-code-spec =

@@ -30,7 +30,9 @@ returns-2 : tie.Need-returns-2
 returns-2 c = λ up small.
     let f = c .before .before .before in
     let a = f .before .before .args in
-    c .left-part .ensures ∙ sym (ap (partBy (a .left)) (missing-none (rowOf (a .work .now) (a .n) (a .left) (a .right)) (f .find .ensures up small) (c .before .enum-told .given .1)))
+    c .left-part .ensures
+    ∙ sym (ap (partBy (a .left))
+    (missing-none (rowOf (a .work .now) (a .n) (a .left) (a .right)) (f .find .ensures up small) (c .before .enum-told .given .1)))
 
 pub pair-part-spec : {M : Type 1} → statement M
 pair-part-spec =

@@ -45,40 +45,60 @@ returns : tie.Need-returns
 returns c = λ en h fits.
     let g = c .before in
     let a = g .before .before .before .before .before .args in
-    second-is (a .n) (a .work .now) (a .k) (g .before .before .before .get .ensures) (g .before .before .get2 .ensures) (g .get4 .ensures) (g .before .get3 .ensures) (second-kern (a .n) (a .work .now) (g .before .before .before .get .result) (g .before .before .get2 .result) (g .get4 .result) (g .before .get3 .result) (c .match .keys1))
+    second-is (a .n) (a .work .now) (a .k) (g .before .before .before .get .ensures) (g .before .before .get2 .ensures) (g .get4 .ensures)
+    (g .before .get3 .ensures)
+    (second-kern (a .n) (a .work .now) (g .before .before .before .get .result) (g .before .before .get2 .result) (g .get4 .result)
+    (g .before .get3 .result) (c .match .keys1))
 
 returns-2 : tie.Need-returns-2
 returns-2 c = λ en h fits.
     let g = c .before in
     let a = g .before .before .before .before .before .args in
-    second-is (a .n) (a .work .now) (a .k) (g .before .before .before .get .ensures) (g .before .before .get2 .ensures) (g .get4 .ensures) (g .before .get3 .ensures) (second-ligature (a .n) (a .work .now) (g .before .before .before .get .result) (g .before .before .get2 .result) (g .get4 .result) (g .before .get3 .result) (c .match .keys2))
+    second-is (a .n) (a .work .now) (a .k) (g .before .before .before .get .ensures) (g .before .before .get2 .ensures) (g .get4 .ensures)
+    (g .before .get3 .ensures)
+    (second-ligature (a .n) (a .work .now) (g .before .before .before .get .result) (g .before .before .get2 .result) (g .get4 .result)
+    (g .before .get3 .result) (c .match .keys2))
 
 returns-3 : tie.Need-returns-3
 returns-3 c = λ en h fits.
     let g = c .before .before .before in
     let a = g .before .before .before .before .before .args in
-    let v = small-value (a .n) (a .work .now) (a .k) en h (g .before .before .before .get .ensures) (g .get4 .ensures) (below (c .before .before .match .keys3)) in
+    let v = small-value (a .n) (a .work .now) (a .k) en h (g .before .before .before .get .ensures) (g .get4 .ensures) (below (c .before .before .match .keys3))
+    in
     let r = c .pair-part .ensures (en .ascending) (omega (arith, en .ascending .right (a .k) h, g .before .get3 .ensures)) in
     let p = ap (λ (x : ℕ). pairPart (a .n) (a .work .now) x (g .before .get3 .result)) (c .before .place-of .ensures v) in
-    second-is (a .n) (a .work .now) (a .k) (g .before .before .before .get .ensures) (g .before .before .get2 .ensures) (g .get4 .ensures) (g .before .get3 .ensures) (r ∙ p ∙ second-inserted (a .n) (a .work .now) (g .before .before .before .get .result) (g .before .before .get2 .result) (g .get4 .result) (g .before .get3 .result) (c .before .before .match .keys3))
+    second-is (a .n) (a .work .now) (a .k) (g .before .before .before .get .ensures) (g .before .before .get2 .ensures) (g .get4 .ensures)
+    (g .before .get3 .ensures)
+    (r ∙ p
+    ∙ second-inserted (a .n) (a .work .now) (g .before .before .before .get .result) (g .before .before .get2 .result) (g .get4 .result)
+    (g .before .get3 .result) (c .before .before .match .keys3))
 
 returns-4 : tie.Need-returns-4
 returns-4 c = λ en h fits.
     let l = c .before .before in
     let g = l .before .before in
     let a = g .before .before .before .before .before .args in
-    let v = small-value (a .n) (a .work .now) (a .k) en h (g .before .before .before .get .ensures) (g .get4 .ensures) (omega (arith, l .before .match .keys4)) in
+    let v = small-value (a .n) (a .work .now) (a .k) en h (g .before .before .before .get .ensures) (g .get4 .ensures) (omega (arith, l .before .match .keys4))
+    in
     let e = l .last-code .ensures (en .ascending) v in
-    let s = small-last (a .n) (a .work .now) (a .k) fits (g .before .before .before .get .ensures) (g .before .before .get2 .ensures) (g .get4 .ensures) (l .before .match .keys4) e in
+    let s = small-last (a .n) (a .work .now) (a .k) fits (g .before .before .before .get .ensures) (g .before .before .get2 .ensures) (g .get4 .ensures)
+    (l .before .match .keys4) e in
     let r = c .pair-part2 .ensures (en .ascending) (omega (arith, en .ascending .right (a .k) h, g .before .get3 .ensures)) in
     let p = ap (λ (x : ℕ). pairPart (a .n) (a .work .now) x (g .before .get3 .result)) (c .before .place-of2 .ensures s) in
-    second-is (a .n) (a .work .now) (a .k) (g .before .before .before .get .ensures) (g .before .before .get2 .ensures) (g .get4 .ensures) (g .before .get3 .ensures) (r ∙ p ∙ second-last (a .n) (a .work .now) (g .before .before .before .get .result) (g .before .before .get2 .result) (g .get4 .result) (g .before .get3 .result) (l .before .match .keys4) (l .last-code .result) e)
+    second-is (a .n) (a .work .now) (a .k) (g .before .before .before .get .ensures) (g .before .before .get2 .ensures) (g .get4 .ensures)
+    (g .before .get3 .ensures)
+    (r ∙ p
+    ∙ second-last (a .n) (a .work .now) (g .before .before .before .get .result) (g .before .before .get2 .result) (g .get4 .result)
+    (g .before .get3 .result) (l .before .match .keys4) (l .last-code .result) e)
 
 returns-5 : tie.Need-returns-5
 returns-5 c = λ en h fits.
     let g = c .before in
     let a = g .before .before .before .before .before .args in
-    second-is (a .n) (a .work .now) (a .k) (g .before .before .before .get .ensures) (g .before .before .get2 .ensures) (g .get4 .ensures) (g .before .get3 .ensures) (second-none (a .n) (a .work .now) (g .before .before .before .get .result) (g .before .before .get2 .result) (g .get4 .result) (g .before .get3 .result) (c .match .rest .0 .0 .0 .1) (c .match .rest .0 .0 .1) (c .match .rest .0 .1) (c .match .rest .1))
+    second-is (a .n) (a .work .now) (a .k) (g .before .before .before .get .ensures) (g .before .before .get2 .ensures) (g .get4 .ensures)
+    (g .before .get3 .ensures)
+    (second-none (a .n) (a .work .now) (g .before .before .before .get .result) (g .before .before .get2 .result) (g .get4 .result)
+    (g .before .get3 .result) (c .match .rest .0 .0 .0 .1) (c .match .rest .0 .0 .1) (c .match .rest .0 .1) (c .match .rest .1))
 
 pub second-part-spec : {M : Type 1} → statement M
 second-part-spec =

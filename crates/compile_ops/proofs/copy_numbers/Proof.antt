@@ -26,7 +26,13 @@ word-at-requires : tie.Need-word-at-requires Inv-loop μ-loop
 word-at-requires c κs = tt
 
 add-put-word : tie.Need-add-put-word Inv-loop μ-loop
-add-put-word c = omega (arith, c .before .before .before .before .before .pre .1, c .before .before .before .before .before .good .0 .0, c .before .before .before .loop-test .taken)
+add-put-word c =
+    omega (
+      arith,
+      c .before .before .before .before .before .pre .1,
+      c .before .before .before .before .before .good .0 .0,
+      c .before .before .before .loop-test .taken,
+    )
 
 put-word-requires : tie.Need-put-word-requires Inv-loop μ-loop
 put-word-requires c κs = tt
@@ -41,8 +47,12 @@ loop-again : tie.Need-loop-again Inv-loop μ-loop
 loop-again c =
     let l = c .before .before .before .before .before .before in
     let s = l .before in
-    let a = s .args in
-    (copy-more (a .ops .now) (a .from) (a .to) (a .count) (s .pre .0) (s .pre .2) (l .loop .ops) (c .before .put-word .last .0) (l .loop .i) (c .before .before .before .word-at .result) (c .before .before .before .before .before .loop-test .taken) (l .loop .inv .0) (c .before .before .before .word-at .ensures) (c .before .put-word .ensures), omega (arith, c .before .before .before .before .before .loop-test .taken))
+    let a = s .args in (
+      copy-more (a .ops .now) (a .from) (a .to) (a .count) (s .pre .0) (s .pre .2) (l .loop .ops) (c .before .put-word .last .0) (l .loop .i)
+          (c .before .before .before .word-at .result) (c .before .before .before .before .before .loop-test .taken) (l .loop .inv .0)
+          (c .before .before .before .word-at .ensures) (c .before .put-word .ensures),
+      omega (arith, c .before .before .before .before .before .loop-test .taken),
+    )
 
 same-length : tie.Need-same-length Inv-loop μ-loop
 same-length c =

@@ -42,7 +42,8 @@ returns c =
     let a = c .before .before .before .before .before .before .args in
     let x = c .before .before .before .before .get in
     let y = c .before .before .before .get2 in
-    copied-row (a .work .now) (a .k) (a .p) (x .result) (y .result) (a .ops .now) (c .before .copy-numbers .last .0) (x .ensures) (y .ensures) (c .before .copy-numbers .ensures)
+    copied-row (a .work .now) (a .k) (a .p) (x .result) (y .result) (a .ops .now) (c .before .copy-numbers .last .0) (x .ensures) (y .ensures)
+    (c .before .copy-numbers .ensures)
 
 pub copy-row-spec : {M : Type 1} → statement M
 copy-row-spec =

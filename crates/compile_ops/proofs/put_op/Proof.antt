@@ -24,8 +24,11 @@ same-length c = search needs
 
 returns : tie.Need-returns
 returns c =
-    let a = c .before .before .before .before .before .before .args in
-    (refl, put-two (a .ops .now) (c .before .before .before .before .put-word .last .0) (c .before .put-word2 .last .0) (a .p) (numberOf (a .kind)) (numberOf (a .value)) (c .before .before .before .before .put-word .ensures) (c .before .put-word2 .ensures))
+    let a = c .before .before .before .before .before .before .args in (
+      refl,
+      put-two (a .ops .now) (c .before .before .before .before .put-word .last .0) (c .before .put-word2 .last .0) (a .p) (numberOf (a .kind))
+          (numberOf (a .value)) (c .before .before .before .before .put-word .ensures) (c .before .put-word2 .ensures),
+    )
 
 pub put-op-spec : {M : Type 1} → statement M
 put-op-spec =

@@ -40,10 +40,19 @@ returns c =
     let s = l .before in
     c .before .put-word .ensures
     ∙ ap (λ (x : List ℤ). set x (l .loop .i) (numberOf 1)) (l .loop .inv .0)
-    ∙ raised-at (s .args .ops .now) (s .args .from) (s .args .to) os a (s .pre) (l .loop .i) (c .before .before .before .before .word-at .result) (l .loop .inv .1 os a) (c .before .before .before .before .before .before .loop-test .taken) (subst (λ (x : List ℤ). Word (getD x (l .loop .i) (pos 0)) (c .before .before .before .before .word-at .result)) (l .loop .inv .0) (c .before .before .before .before .word-at .ensures)) (c .before .before .before .if1 .taken)
+    ∙ raised-at (s .args .ops .now) (s .args .from) (s .args .to) os a (s .pre) (l .loop .i) (c .before .before .before .before .word-at .result)
+    (l .loop .inv .1 os a) (c .before .before .before .before .before .before .loop-test .taken)
+    (subst (λ (x : List ℤ). Word (getD x (l .loop .i) (pos 0)) (c .before .before .before .before .word-at .result)) (l .loop .inv .0)
+    (c .before .before .before .before .word-at .ensures)) (c .before .before .before .if1 .taken)
 
 add-i : tie.Need-add-i Inv-loop μ-loop
-add-i c = omega (arith, c .before .before .before .loop-test .taken, c .before .before .before .before .before .pre, c .before .before .before .before .before .good .0 .1)
+add-i c =
+    omega (
+      arith,
+      c .before .before .before .loop-test .taken,
+      c .before .before .before .before .before .pre,
+      c .before .before .before .before .before .good .0 .1,
+    )
 
 loop-less : tie.Need-loop-less Inv-loop μ-loop
 loop-less c = omega (arith, c .before .before .before .loop-test .taken)
@@ -51,8 +60,13 @@ loop-less c = omega (arith, c .before .before .before .loop-test .taken)
 loop-again : tie.Need-loop-again Inv-loop μ-loop
 loop-again c =
     let l = c .before .before .before .before in
-    let s = l .before in
-    (l .loop .inv .0, λ os a. passed-more (s .args .ops .now) (s .args .from) (s .args .to) os a (s .pre) (l .loop .i) (c .before .word-at .result) (l .loop .inv .1 os a) (c .before .before .before .loop-test .taken) (subst (λ (x : List ℤ). Word (getD x (l .loop .i) (pos 0)) (c .before .word-at .result)) (l .loop .inv .0) (c .before .word-at .ensures)) (c .if1 .left))
+    let s = l .before in (
+      l .loop .inv .0,
+      λ os a. passed-more (s .args .ops .now) (s .args .from) (s .args .to) os a (s .pre) (l .loop .i) (c .before .word-at .result) (l .loop .inv .1 os a)
+          (c .before .before .before .loop-test .taken)
+          (subst (λ (x : List ℤ). Word (getD x (l .loop .i) (pos 0)) (c .before .word-at .result)) (l .loop .inv .0) (c .before .word-at .ensures))
+          (c .if1 .left),
+    )
 
 same-length-2 : tie.Need-same-length-2 Inv-loop μ-loop
 same-length-2 c = ap length (c .before .loop .inv .0)

@@ -28,7 +28,8 @@ returns c =
     let s = c .before .before .before .before .before .before .before in
     let a = s .args in
     let x = c .before .write-part in
-    subst (PartWritten (a .work .now) (a .ops .now) (x .last .1 .1 .0) (a .p) (x .result)) (c .before .before .before .first-part .ensures (s .pre .0) (s .pre .1)) (x .ensures)
+    subst (PartWritten (a .work .now) (a .ops .now) (x .last .1 .1 .0) (a .p) (x .result))
+    (c .before .before .before .first-part .ensures (s .pre .0) (s .pre .1)) (x .ensures)
 
 get-requires-2 : tie.Need-get-requires-2
 get-requires-2 c κs = search needs
@@ -38,7 +39,8 @@ returns-2 c =
     let s = c .before .before .before .before .before in
     let a = s .args in
     let i = c .before .before in
-    let q = kern-edge (a .n) (a .work .now) (a .k) (sym (i .before .get .ensures) ∙ i .if1 .left) (c .before .get2 .result) (c .before .get2 .ensures) (c .if2 .taken) in
+    let q = kern-edge (a .n) (a .work .now) (a .k) (sym (i .before .get .ensures) ∙ i .if1 .left) (c .before .get2 .result) (c .before .get2 .ensures)
+    (c .if2 .taken) in
     subst (PartWritten (a .work .now) (a .ops .now) (a .ops .now) (a .p) (a .p)) q (nothing-written (a .work .now) (a .ops .now) (a .p))
 
 sub-put-op : tie.Need-sub-put-op
@@ -49,7 +51,8 @@ put-op-requires c κs =
     let s = c .before .before .before .before .before .before in
     let a = s .args in
     let i = c .before .before .before in
-    let q = kern-left (a .n) (a .work .now) (a .k) (sym (i .before .get .ensures) ∙ i .if1 .left) (c .before .before .get2 .result) (c .before .before .get2 .ensures) (c .before .if2 .left) in
+    let q = kern-left (a .n) (a .work .now) (a .k) (sym (i .before .get .ensures) ∙ i .if1 .left) (c .before .before .get2 .result)
+    (c .before .before .get2 .ensures) (c .before .if2 .left) in
     subst (PartFits (a .work .now) (a .ops .now) (a .p)) (sym q) (s .pre .2)
 
 same-length-2 : tie.Need-same-length-2
@@ -60,7 +63,8 @@ returns-3 c =
     let s = c .before .before .before .before .before .before .before .before in
     let a = s .args in
     let i = c .before .before .before .before .before in
-    let q = kern-left (a .n) (a .work .now) (a .k) (sym (i .before .get .ensures) ∙ i .if1 .left) (c .before .before .before .before .get2 .result) (c .before .before .before .before .get2 .ensures) (c .before .before .before .if2 .left) in
+    let q = kern-left (a .n) (a .work .now) (a .k) (sym (i .before .get .ensures) ∙ i .if1 .left) (c .before .before .before .before .get2 .result)
+    (c .before .before .before .before .get2 .ensures) (c .before .before .before .if2 .left) in
     let x = c .before .put-op in
     subst (PartWritten (a .work .now) (a .ops .now) (x .last .0) (a .p) (x .result)) q (record { next = x .ensures .0; written = x .ensures .1 })
 

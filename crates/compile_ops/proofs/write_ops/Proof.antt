@@ -34,8 +34,18 @@ write-rows-requires c κs =
     let a = o .args in
     let w = k .count .last .1 .1 .1 .1 .1 .0 in
     let f = fontOf (a .instructions .now) (a .kerns .now) (a .entries .now) (pos 0) (a .«left-entry») (a .«design-size») in
-    let p = (lent-as (λ (x : Font) (r : CountedFont). CountsFont x (roomOf (a .«pair-room») (length (z .last .0)) (a .«loop-room») (length (a .work .now))) (a .work .now) w r) (a .instructions .now) (a .kerns .now) (a .entries .now) (pos 0) _ (a .«left-entry») _ (a .«design-size») (k .count .result) _ (k .count .ensures (pos 0)) (g .1) (number-word (a .«left-entry») (o .fits .«left-entry»)) (number-word (a .«design-size») (o .fits .«design-size»))) .rows in
-    (p .4 .ready, op-room f (a .«pair-room») (a .«loop-room») (a .ops .now) (z .last .0) (a .work .now) w (z .ensures) (g .0 .0) (g .0 .1 .0) (g .0 .1 .1 .0) (g .0 .1 .1 .1 .0) p, blank-still f (a .«pair-room») (a .«loop-room») (a .ops .now) (z .last .0) (a .work .now) w (z .ensures) (g .0 .0) (g .0 .1 .0) (g .0 .1 .1 .0) (g .0 .1 .1 .1 .0) p)
+    let p =
+    (lent-as
+    (λ (x : Font) (r : CountedFont). CountsFont x (roomOf (a .«pair-room») (length (z .last .0)) (a .«loop-room») (length (a .work .now)))
+    (a .work .now) w r) (a .instructions .now) (a .kerns .now) (a .entries .now) (pos 0) _ (a .«left-entry») _ (a .«design-size»)
+    (k .count .result) _ (k .count .ensures (pos 0)) (g .1) (number-word (a .«left-entry») (o .fits .«left-entry»))
+    (number-word (a .«design-size») (o .fits .«design-size»))) .rows in (
+      p .4 .ready,
+      op-room f (a .«pair-room») (a .«loop-room») (a .ops .now) (z .last .0) (a .work .now) w (z .ensures) (g .0 .0) (g .0 .1 .0) (g .0 .1 .1 .0)
+          (g .0 .1 .1 .1 .0) p,
+      blank-still f (a .«pair-room») (a .«loop-room») (a .ops .now) (z .last .0) (a .work .now) w (z .ensures) (g .0 .0) (g .0 .1 .0) (g .0 .1 .1 .0)
+          (g .0 .1 .1 .1 .0) p,
+    )
 
 same-length : tie.Need-same-length
 same-length c = search needs
@@ -51,8 +61,14 @@ returns c = λ b.
     let o = k .before .before .before .before .before .before in
     let a = o .args in
     let w = k .count .last .1 .1 .1 .1 .1 .0 in
-    let p = (lent-as (λ (x : Font) (r : CountedFont). CountsFont x (roomOf (a .«pair-room») (length (z .last .0)) (a .«loop-room») (length (a .work .now))) (a .work .now) w r) (a .instructions .now) (a .kerns .now) (a .entries .now) b _ (a .«left-entry») _ (a .«design-size») (k .count .result) _ (k .count .ensures b) (g .1) (number-word (a .«left-entry») (o .fits .«left-entry»)) (number-word (a .«design-size») (o .fits .«design-size»))) .rows in
-    unfit (fontOf (a .instructions .now) (a .kerns .now) (a .entries .now) b (a .«left-entry») (a .«design-size»)) (a .«pair-room») (a .«loop-room») (a .ops .now) (z .last .0) (a .work .now) w (z .ensures) (g .0 .0) p
+    let p =
+    (lent-as
+    (λ (x : Font) (r : CountedFont). CountsFont x (roomOf (a .«pair-room») (length (z .last .0)) (a .«loop-room») (length (a .work .now)))
+    (a .work .now) w r) (a .instructions .now) (a .kerns .now) (a .entries .now) b _ (a .«left-entry») _ (a .«design-size») (k .count .result) _
+    (k .count .ensures b) (g .1) (number-word (a .«left-entry») (o .fits .«left-entry»)) (number-word (a .«design-size») (o .fits .«design-size»))) .rows
+    in
+    unfit (fontOf (a .instructions .now) (a .kerns .now) (a .entries .now) b (a .«left-entry») (a .«design-size»)) (a .«pair-room») (a .«loop-room»)
+    (a .ops .now) (z .last .0) (a .work .now) w (z .ensures) (g .0 .0) p
 
 same-length-3 : tie.Need-same-length-3
 same-length-3 c = search needs
@@ -69,8 +85,14 @@ returns-2 c = λ b.
     let o = k .before .before .before .before .before .before in
     let a = o .args in
     let w = k .count .last .1 .1 .1 .1 .1 .0 in
-    let p = (lent-as (λ (x : Font) (r : CountedFont). CountsFont x (roomOf (a .«pair-room») (length (z .last .0)) (a .«loop-room») (length (a .work .now))) (a .work .now) w r) (a .instructions .now) (a .kerns .now) (a .entries .now) b _ (a .«left-entry») _ (a .«design-size») (k .count .result) _ (k .count .ensures b) (g .1) (number-word (a .«left-entry») (o .fits .«left-entry»)) (number-word (a .«design-size») (o .fits .«design-size»))) .rows in
-    written (fontOf (a .instructions .now) (a .kerns .now) (a .entries .now) b (a .«left-entry») (a .«design-size»)) (a .«pair-room») (a .«loop-room») (a .ops .now) (z .last .0) (a .work .now) w (z .ensures) (g .0 .0) (g .0 .1 .0) (g .0 .1 .1 .0) (g .0 .1 .1 .1 .0) p (s .last .1 .1 .1 .0) (s .ensures)
+    let p =
+    (lent-as
+    (λ (x : Font) (r : CountedFont). CountsFont x (roomOf (a .«pair-room») (length (z .last .0)) (a .«loop-room») (length (a .work .now)))
+    (a .work .now) w r) (a .instructions .now) (a .kerns .now) (a .entries .now) b _ (a .«left-entry») _ (a .«design-size») (k .count .result) _
+    (k .count .ensures b) (g .1) (number-word (a .«left-entry») (o .fits .«left-entry»)) (number-word (a .«design-size») (o .fits .«design-size»))) .rows
+    in
+    written (fontOf (a .instructions .now) (a .kerns .now) (a .entries .now) b (a .«left-entry») (a .«design-size»)) (a .«pair-room») (a .«loop-room»)
+    (a .ops .now) (z .last .0) (a .work .now) w (z .ensures) (g .0 .0) (g .0 .1 .0) (g .0 .1 .1 .0) (g .0 .1 .1 .1 .0) p (s .last .1 .1 .1 .0) (s .ensures)
 
 pub write-ops-spec : {M : Type 1} → statement M
 write-ops-spec =

@@ -45,7 +45,8 @@ copy-row-requires c κs =
 returns : tie.Need-returns
 returns c =
     let s = c .before .before .before in
-    subst (PartWritten (s .args .work .now) (s .args .ops .now) (s .args .ops .now) (s .args .p) (s .args .p)) (sym (c .enum-told .given .1)) (nothing-written (s .args .work .now) (s .args .ops .now) (s .args .p))
+    subst (PartWritten (s .args .work .now) (s .args .ops .now) (s .args .ops .now) (s .args .p) (s .args .p)) (sym (c .enum-told .given .1))
+    (nothing-written (s .args .work .now) (s .args .ops .now) (s .args .p))
 
 same-length : tie.Need-same-length
 same-length c = search needs
@@ -64,7 +65,8 @@ returns-3 : tie.Need-returns-3
 returns-3 c =
     let s = c .before .before .before .before .before .before .before in
     let x = c .before .put-op2 in
-    subst (PartWritten (s .args .work .now) (s .args .ops .now) (x .last .0) (s .args .p) (x .result)) (sym (c .before .before .before .before .part2 .given .1))
+    subst (PartWritten (s .args .work .now) (s .args .ops .now) (x .last .0) (s .args .p) (x .result))
+    (sym (c .before .before .before .before .part2 .given .1))
     (record { next = x .ensures .0; written = x .ensures .1 })
 
 same-length-3 : tie.Need-same-length-3
@@ -74,7 +76,8 @@ returns-4 : tie.Need-returns-4
 returns-4 c =
     let s = c .before .before .before .before .before .before .before in
     let x = c .before .put-op3 in
-    subst (PartWritten (s .args .work .now) (s .args .ops .now) (x .last .0) (s .args .p) (x .result)) (sym (c .before .before .before .before .part3 .given .1))
+    subst (PartWritten (s .args .work .now) (s .args .ops .now) (x .last .0) (s .args .p) (x .result))
+    (sym (c .before .before .before .before .part3 .given .1))
     (record { next = x .ensures .0; written = x .ensures .1 })
 
 same-length-4 : tie.Need-same-length-4
@@ -84,9 +87,11 @@ returns-5 : tie.Need-returns-5
 returns-5 c =
     let s = c .before .before .before .before .before .before .before in
     let x = c .before .copy-row in
-    subst (PartWritten (s .args .work .now) (s .args .ops .now) (x .last .1 .1 .0) (s .args .p) (x .result)) (sym (c .before .before .before .before .part4 .given .1))
+    subst (PartWritten (s .args .work .now) (s .args .ops .now) (x .last .1 .1 .0) (s .args .p) (x .result))
+    (sym (c .before .before .before .before .part4 .given .1))
     (row-copied (s .args .work .now) (s .args .ops .now) (x .last .1 .1 .0) (s .args .p) (x .result) (c .before .before .before .before .part4 .given .0 .0)
-    (subst (PartFits (s .args .work .now) (s .args .ops .now) (s .args .p)) (c .before .before .before .before .part4 .given .1) (s .pre)) (x .ensures .0) (x .ensures .1))
+    (subst (PartFits (s .args .work .now) (s .args .ops .now) (s .args .p)) (c .before .before .before .before .part4 .given .1) (s .pre)) (x .ensures .0)
+    (x .ensures .1))
 
 pub write-part-spec : {M : Type 1} → statement M
 write-part-spec =

@@ -21,8 +21,12 @@ mul-from c = search needs
 write-first-requires : tie.Need-write-first-requires
 write-first-requires c κs =
     let s = c .before .before .before in
-    let a = s .args in
-    (s .pre .ready .encoded, s .pre .row, first-fits (a .n) (a .work .now) (a .k) (a .ops .now) (s .pre) (c .before .get .result) (firstPart (a .n) (a .work .now) (a .k)) (c .before .get .ensures) refl)
+    let a = s .args in (
+      s .pre .ready .encoded,
+      s .pre .row,
+      first-fits (a .n) (a .work .now) (a .k) (a .ops .now) (s .pre) (c .before .get .result) (firstPart (a .n) (a .work .now) (a .k))
+          (c .before .get .ensures) refl,
+    )
 
 write-second-requires : tie.Need-write-second-requires
 write-second-requires c κs =
@@ -30,8 +34,14 @@ write-second-requires c κs =
     let a = s .args in
     let u = c .before .before in
     let g = u .before .before .get in
-    let done = first-done (a .n) (a .work .now) (a .k) (a .ops .now) (s .pre) (g .result) (firstPart (a .n) (a .work .now) (a .k)) (u .write-first .last .1 .1 .1 .0) (u .write-first .result) (g .ensures) refl (u .write-first .ensures) in
-    (s .pre .ready .encoded, s .pre .row, last-of (a .n) (s .pre .finished) (a .work .now) (s .pre .ready .encoded) (s .pre .ready .settled) (a .k) (s .pre .row) (s .pre .status), second-fits (a .n) (a .work .now) (a .k) (a .ops .now) (s .pre) (u .write-first .last .1 .1 .1 .0) (u .write-first .result) done (secondPart (a .n) (a .work .now) (a .k)) refl)
+    let done = first-done (a .n) (a .work .now) (a .k) (a .ops .now) (s .pre) (g .result) (firstPart (a .n) (a .work .now) (a .k))
+    (u .write-first .last .1 .1 .1 .0) (u .write-first .result) (g .ensures) refl (u .write-first .ensures) in (
+      s .pre .ready .encoded,
+      s .pre .row,
+      last-of (a .n) (s .pre .finished) (a .work .now) (s .pre .ready .encoded) (s .pre .ready .settled) (a .k) (s .pre .row) (s .pre .status),
+      second-fits (a .n) (a .work .now) (a .k) (a .ops .now) (s .pre) (u .write-first .last .1 .1 .1 .0) (u .write-first .result) done
+          (secondPart (a .n) (a .work .now) (a .k)) refl,
+    )
 
 raise-first-requires : tie.Need-raise-first-requires
 raise-first-requires c κs =
@@ -39,10 +49,13 @@ raise-first-requires c κs =
     let a = s .args in
     let u = c .before .before .before .before .before in
     let g = u .before .before .get in
-    let done = first-done (a .n) (a .work .now) (a .k) (a .ops .now) (s .pre) (g .result) (firstPart (a .n) (a .work .now) (a .k)) (u .write-first .last .1 .1 .1 .0) (u .write-first .result) (g .ensures) refl (u .write-first .ensures) in
+    let done = first-done (a .n) (a .work .now) (a .k) (a .ops .now) (s .pre) (g .result) (firstPart (a .n) (a .work .now) (a .k))
+    (u .write-first .last .1 .1 .1 .0) (u .write-first .result) (g .ensures) refl (u .write-first .ensures) in
     let v = c .before .before .write-second in
-    let more = second-done (a .n) (a .work .now) (a .k) (a .ops .now) (s .pre) (u .write-first .last .1 .1 .1 .0) (u .write-first .result) done (secondPart (a .n) (a .work .now) (a .k)) (v .last .1 .1 .1 .0) (v .result) refl (v .ensures) in
-    raise-fits (a .n) (a .work .now) (a .k) (a .ops .now) (s .pre) (u .write-first .last .1 .1 .1 .0) (u .write-first .result) done (v .last .1 .1 .1 .0) (v .result) more
+    let more = second-done (a .n) (a .work .now) (a .k) (a .ops .now) (s .pre) (u .write-first .last .1 .1 .1 .0) (u .write-first .result) done
+    (secondPart (a .n) (a .work .now) (a .k)) (v .last .1 .1 .1 .0) (v .result) refl (v .ensures) in
+    raise-fits (a .n) (a .work .now) (a .k) (a .ops .now) (s .pre) (u .write-first .last .1 .1 .1 .0) (u .write-first .result) done (v .last .1 .1 .1 .0)
+    (v .result) more
 
 same-length : tie.Need-same-length
 same-length c = search needs
@@ -53,10 +66,13 @@ returns c =
     let a = s .args in
     let u = c .before .before .before .before .before .before .before in
     let g = u .before .before .get in
-    let done = first-done (a .n) (a .work .now) (a .k) (a .ops .now) (s .pre) (g .result) (firstPart (a .n) (a .work .now) (a .k)) (u .write-first .last .1 .1 .1 .0) (u .write-first .result) (g .ensures) refl (u .write-first .ensures) in
+    let done = first-done (a .n) (a .work .now) (a .k) (a .ops .now) (s .pre) (g .result) (firstPart (a .n) (a .work .now) (a .k))
+    (u .write-first .last .1 .1 .1 .0) (u .write-first .result) (g .ensures) refl (u .write-first .ensures) in
     let v = c .before .before .before .before .write-second in
-    let more = second-done (a .n) (a .work .now) (a .k) (a .ops .now) (s .pre) (u .write-first .last .1 .1 .1 .0) (u .write-first .result) done (secondPart (a .n) (a .work .now) (a .k)) (v .last .1 .1 .1 .0) (v .result) refl (v .ensures) in
-    row-done (a .n) (a .work .now) (a .k) (a .ops .now) (s .pre) (u .write-first .last .1 .1 .1 .0) (u .write-first .result) done (v .last .1 .1 .1 .0) (v .result) more (c .before .raise-first .last .0) (c .before .raise-first .ensures)
+    let more = second-done (a .n) (a .work .now) (a .k) (a .ops .now) (s .pre) (u .write-first .last .1 .1 .1 .0) (u .write-first .result) done
+    (secondPart (a .n) (a .work .now) (a .k)) (v .last .1 .1 .1 .0) (v .result) refl (v .ensures) in
+    row-done (a .n) (a .work .now) (a .k) (a .ops .now) (s .pre) (u .write-first .last .1 .1 .1 .0) (u .write-first .result) done (v .last .1 .1 .1 .0)
+    (v .result) more (c .before .raise-first .last .0) (c .before .raise-first .ensures)
 
 pub write-row-spec : {M : Type 1} → statement M
 write-row-spec =

@@ -29,7 +29,8 @@ write-row-requires : tie.Need-write-row-requires Inv-loop μ-loop
 write-row-requires c κs =
     let l = c .before .before .before in
     let s = l .before .before in
-    turn-of (s .args .n) (s .args .m) (s .args .work .now) (s .pre .0) (s .args .ops .now) (s .pre .1) (l .loop .ops) (l .loop .i) (c .before .get .result) (l .loop .inv) (c .before .before .loop-test .taken) (c .before .get .ensures)
+    turn-of (s .args .n) (s .args .m) (s .args .work .now) (s .pre .0) (s .args .ops .now) (s .pre .1) (l .loop .ops) (l .loop .i) (c .before .get .result)
+    (l .loop .inv) (c .before .before .loop-test .taken) (c .before .get .ensures)
 
 add-i : tie.Need-add-i Inv-loop μ-loop
 add-i c = omega (arith, c .before .before .before .before .loop-test .taken, c .before .before .before .before .before .before .before .fits .m)
@@ -42,7 +43,9 @@ loop-again c =
     let l = c .before .before .before .before .before in
     let s = l .before .before in
     let g = c .before .before .before in
-    writing-more (s .args .n) (s .args .m) (s .args .work .now) (s .pre .0) (s .args .ops .now) (s .pre .1) (l .loop .ops) (l .loop .i) (g .get .result) (l .loop .inv) (c .before .before .before .before .loop-test .taken) (g .get .ensures) (c .before .write-row .last .1 .1 .1 .0) (c .before .write-row .ensures)
+    writing-more (s .args .n) (s .args .m) (s .args .work .now) (s .pre .0) (s .args .ops .now) (s .pre .1) (l .loop .ops) (l .loop .i) (g .get .result)
+    (l .loop .inv) (c .before .before .before .before .loop-test .taken) (g .get .ensures) (c .before .write-row .last .1 .1 .1 .0)
+    (c .before .write-row .ensures)
 
 same-length : tie.Need-same-length Inv-loop μ-loop
 same-length c = c .before .loop .inv .same-length
@@ -50,7 +53,8 @@ same-length c = c .before .loop .inv .same-length
 returns : tie.Need-returns Inv-loop μ-loop
 returns c =
     let s = c .before .before .before in
-    writing-all (s .args .n) (s .args .m) (s .args .work .now) (s .pre .0) (s .args .ops .now) (s .pre .1) (c .before .loop .ops) (c .before .loop .i) (c .before .loop .inv) (c .loop-test .left) (s .pre .2)
+    writing-all (s .args .n) (s .args .m) (s .args .work .now) (s .pre .0) (s .args .ops .now) (s .pre .1) (c .before .loop .ops) (c .before .loop .i)
+    (c .before .loop .inv) (c .loop-test .left) (s .pre .2)
 
 pub write-rows-spec : {M : Type 1} → statement M
 write-rows-spec =

@@ -27,7 +27,8 @@ returns c =
     let s = c .before .before .before .before .before .before .before in
     let a = s .args in
     let x = c .before .write-part in
-    subst (PartWritten (a .work .now) (a .ops .now) (x .last .1 .1 .0) (a .p) (x .result)) (c .before .before .before .second-part .ensures (s .pre .0) (s .pre .1) (s .pre .2)) (x .ensures)
+    subst (PartWritten (a .work .now) (a .ops .now) (x .last .1 .1 .0) (a .p) (x .result))
+    (c .before .before .before .second-part .ensures (s .pre .0) (s .pre .1) (s .pre .2)) (x .ensures)
 
 get-requires-2 : tie.Need-get-requires-2
 get-requires-2 c κs = search needs
@@ -48,7 +49,8 @@ returns-2 c =
     let s = c .before .before .before .before .before .before .before in
     let a = s .args in
     let i = c .before .before .before .before in
-    let q = kern-second (a .n) (a .work .now) (a .k) (sym (i .before .get .ensures) ∙ i .if1 .left) (c .before .before .before .get2 .result) (c .before .before .before .get2 .ensures) in
+    let q = kern-second (a .n) (a .work .now) (a .k) (sym (i .before .get .ensures) ∙ i .if1 .left) (c .before .before .before .get2 .result)
+    (c .before .before .before .get2 .ensures) in
     let x = c .before .put-op in
     subst (PartWritten (a .work .now) (a .ops .now) (x .last .0) (a .p) (x .result)) q (record { next = x .ensures .0; written = x .ensures .1 })
 

@@ -24,7 +24,10 @@ encode-requires c κs =
     let k = c .before .before .before .before .before .before in
     let o = k .before .before .before in
     let a = o .args in
-    let q = (collects-as (a .instructions .now) (entriesTable (a .entries .now)) _ (a .«left-entry») (min (a .room) (length (a .work .now) / 16)) (a .work .now) (k .collect .last .1 .1 .1 .0) (k .collect .result) _ (k .collect .ensures) (c .before .before .n .given .1) (number-word (a .«left-entry») (o .fits .«left-entry»))) .rows in
+    let q =
+    (collects-as (a .instructions .now) (entriesTable (a .entries .now)) _ (a .«left-entry») (min (a .room) (length (a .work .now) / 16))
+    (a .work .now) (k .collect .last .1 .1 .1 .0) (k .collect .result) _ (k .collect .ensures) (c .before .before .n .given .1)
+    (number-word (a .«left-entry») (o .fits .«left-entry»))) .rows in
     q .2 .ascending
 
 same-length : tie.Need-same-length
@@ -36,8 +39,12 @@ returns c = λ b.
     let o = k .before .before .before in
     let a = o .args in
     let cap = min (a .room) (length (a .work .now) / 16) in
-    let q = (collects-as (a .instructions .now) (entriesTable (a .entries .now)) _ (a .«left-entry») cap (a .work .now) (k .collect .last .1 .1 .1 .0) (k .collect .result) _ (k .collect .ensures) (c .before .number .given .1) (number-word (a .«left-entry») (o .fits .«left-entry»))) .rows in
-    prepares _ _ _ _ _ (unfit (fontOf (a .instructions .now) (a .kerns .now) (a .entries .now) b (a .«left-entry») (a .«design-size»)) cap (a .work .now) (c .before .number .given .0 .0) (k .collect .last .1 .1 .1 .0) q)
+    let q =
+    (collects-as (a .instructions .now) (entriesTable (a .entries .now)) _ (a .«left-entry») cap (a .work .now) (k .collect .last .1 .1 .1 .0)
+    (k .collect .result) _ (k .collect .ensures) (c .before .number .given .1) (number-word (a .«left-entry») (o .fits .«left-entry»))) .rows in
+    prepares _ _ _ _ _
+    (unfit (fontOf (a .instructions .now) (a .kerns .now) (a .entries .now) b (a .«left-entry») (a .«design-size»)) cap (a .work .now)
+    (c .before .number .given .0 .0) (k .collect .last .1 .1 .1 .0) q)
 
 same-length-2 : tie.Need-same-length-2
 same-length-2 c = search needs
@@ -50,9 +57,14 @@ returns-2 c = λ b.
     let o = k .before .before .before in
     let a = o .args in
     let cap = min (a .room) (length (a .work .now) / 16) in
-    let q = (collects-as (a .instructions .now) (entriesTable (a .entries .now)) _ (a .«left-entry») cap (a .work .now) (k .collect .last .1 .1 .1 .0) (k .collect .result) _ (k .collect .ensures) (g .1) (number-word (a .«left-entry») (o .fits .«left-entry»))) .rows in
-    let e = encodes-as (a .instructions .now) (a .kerns .now) _ (a .«design-size») (g .0 .0) (k .collect .last .1 .1 .1 .0) (d .encode .last .1 .1 .1 .0) (d .encode .result) (d .encode .ensures) (number-word (a .«design-size») (o .fits .«design-size»)) in
-    prepares _ _ _ _ _ (prepared (fontOf (a .instructions .now) (a .kerns .now) (a .entries .now) b (a .«left-entry») (a .«design-size»)) cap (a .work .now) (g .0 .0) (g .0 .1 .0) (k .collect .last .1 .1 .1 .0) (d .encode .last .1 .1 .1 .0) q (d .encode .result) e)
+    let q =
+    (collects-as (a .instructions .now) (entriesTable (a .entries .now)) _ (a .«left-entry») cap (a .work .now) (k .collect .last .1 .1 .1 .0)
+    (k .collect .result) _ (k .collect .ensures) (g .1) (number-word (a .«left-entry») (o .fits .«left-entry»))) .rows in
+    let e = encodes-as (a .instructions .now) (a .kerns .now) _ (a .«design-size») (g .0 .0) (k .collect .last .1 .1 .1 .0) (d .encode .last .1 .1 .1 .0)
+    (d .encode .result) (d .encode .ensures) (number-word (a .«design-size») (o .fits .«design-size»)) in
+    prepares _ _ _ _ _
+    (prepared (fontOf (a .instructions .now) (a .kerns .now) (a .entries .now) b (a .«left-entry») (a .«design-size»)) cap (a .work .now) (g .0 .0)
+    (g .0 .1 .0) (k .collect .last .1 .1 .1 .0) (d .encode .last .1 .1 .1 .0) q (d .encode .result) e)
 
 pub prepare-spec : {M : Type 1} → statement M
 prepare-spec =

@@ -48,8 +48,12 @@ loop-again c =
     let t = c .before .before in
     let l = t .before in
     let a = l .before .before .args in
-    let mid = l .loop .lo + (l .loop .hi - l .loop .lo) / 2 in
-    (omega arith, l .loop .inv .1, λ up. between-up (a .n) (now (a .work)) up (256 * a .left + a .right) (l .loop .lo) (l .loop .hi) mid (l .loop .inv .2 up) (omega arith) (omega (arith, t .loop-test .taken)) (omega (arith, c .if1 .taken, c .before .key .ensures)))
+    let mid = l .loop .lo + (l .loop .hi - l .loop .lo) / 2 in (
+      omega arith,
+      l .loop .inv .1,
+      λ up. between-up (a .n) (now (a .work)) up (256 * a .left + a .right) (l .loop .lo) (l .loop .hi) mid (l .loop .inv .2 up) (omega arith)
+          (omega (arith, t .loop-test .taken)) (omega (arith, c .if1 .taken, c .before .key .ensures)),
+    )
 
 loop-less-2 : tie.Need-loop-less-2 Inv-loop μ-loop
 loop-less-2 c = omega arith
@@ -59,8 +63,12 @@ loop-again-2 c =
     let t = c .before .before in
     let l = t .before in
     let a = l .before .before .args in
-    let mid = l .loop .lo + (l .loop .hi - l .loop .lo) / 2 in
-    (omega arith, omega arith, λ up. between-down (a .n) (now (a .work)) up (256 * a .left + a .right) (l .loop .lo) (l .loop .hi) mid (l .loop .inv .2 up) (omega arith) (omega (arith, t .loop-test .taken)) (omega (arith, c .if1 .left, c .before .key .ensures)))
+    let mid = l .loop .lo + (l .loop .hi - l .loop .lo) / 2 in (
+      omega arith,
+      omega arith,
+      λ up. between-down (a .n) (now (a .work)) up (256 * a .left + a .right) (l .loop .lo) (l .loop .hi) mid (l .loop .inv .2 up) (omega arith)
+          (omega (arith, t .loop-test .taken)) (omega (arith, c .if1 .left, c .before .key .ensures)),
+    )
 
 key-requires-2 : tie.Need-key-requires-2 Inv-loop μ-loop
 key-requires-2 c κs = search needs

@@ -36,7 +36,11 @@ right-small c =
 character : (c : tie.After-get4) → c .get4 .result < 128 → c .before .get3 .result < 256
 character c h =
     let a = c .before .before .before .before .before in
-    omega (arith, c .before .get3 .ensures, value-small (c .get4 .result) (at (now (a .args .work)) (a .args .k) 4) (rw (c .get4 .ensures) (a .pre .0 .encoded .ops (a .args .k) (a .pre .1))) h)
+    omega (
+      arith,
+      c .before .get3 .ensures,
+      value-small (c .get4 .result) (at (now (a .args .work)) (a .args .k) 4) (rw (c .get4 .ensures) (a .pre .0 .encoded .ops (a .args .k) (a .pre .1))) h,
+    )
 
 get-requires : tie.Need-get-requires
 get-requires c κs = search needs
@@ -115,7 +119,8 @@ returns-4 c =
     let r = g .before .before .get2 in
     let t = g .before .before .before .get in
     let a = g .before .before .before .before .before in
-    row-both (a .args .n) (now (a .args .work)) (a .args .k) (a .pre .0 .encoded .ascending) (t .result) (r .result) (v .result) (y .result) (c .then-right .result)
+    row-both (a .args .n) (now (a .args .work)) (a .args .k) (a .pre .0 .encoded .ascending) (t .result) (r .result) (v .result) (y .result)
+    (c .then-right .result)
     (t .ensures) (r .ensures) (v .ensures) (y .ensures) (c .then-right .ensures) (sym (g .get4 .ensures) ∙ c .before .before .match .keys4)
 
 returns-5 : tie.Need-returns-5
@@ -126,7 +131,9 @@ returns-5 c =
     let a = g .before .before .before .before .before in
     let m = c .match .rest in
     row-plain (a .args .n) (now (a .args .work)) (a .args .k) (r .result) (r .ensures) (right-small g)
-    (rw (o .ensures) at (other-op (o .result) (at (now (a .args .work)) (a .args .k) 4) (rw (o .ensures) (a .pre .0 .encoded .ops (a .args .k) (a .pre .1))) (m .0 .0 .0 .1) (m .0 .0 .1) (m .0 .1) (m .1)))
+    (rw (o .ensures) at
+    (other-op (o .result) (at (now (a .args .work)) (a .args .k) 4) (rw (o .ensures) (a .pre .0 .encoded .ops (a .args .k) (a .pre .1))) (m .0 .0 .0 .1)
+    (m .0 .0 .1) (m .0 .1) (m .1)))
 
 pub by-rule-spec : {M : Type 1} → statement M
 by-rule-spec =

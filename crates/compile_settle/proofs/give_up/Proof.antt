@@ -24,7 +24,13 @@ row-few c =
     let t = c .before .before in
     let l = t .before in
     let a = l .before .before in
-    omega (arith, c .get .ensures, a .pre .0 .few, climbs-below (now (a .args .work)) (a .args .h) (a .args .j) (a .args .n) (a .pre .0) (a .pre .1) (l .loop .work) (l .loop .next) (l .loop .i) (t .loop-test .taken) (l .loop .inv))
+    omega (
+      arith,
+      c .get .ensures,
+      a .pre .0 .few,
+      climbs-below (now (a .args .work)) (a .args .h) (a .args .j) (a .args .n) (a .pre .0) (a .pre .1) (l .loop .work) (l .loop .next) (l .loop .i)
+          (t .loop-test .taken) (l .loop .inv),
+    )
 
 cast-next : tie.Need-cast-next Inv-loop μ-loop
 cast-next c = omega arith
@@ -63,7 +69,8 @@ loop-again c =
     let a = l .before .before in
     subst (λ (v : List ℕ). Climbs (now (a .args .work)) v (a .args .h) (a .args .j) (g .get .result) (l .loop .i - 1))
     (sym (s2 .put2 .ensures ∙ ap (λ (v : List ℕ). set v (16 * g .get .result + 9) (l .loop .next)) (s1 .put .ensures)))
-    (climbs-more (now (a .args .work)) (a .args .h) (a .args .j) (a .args .n) (a .pre .0) (a .pre .1) (l .loop .work) (l .loop .next) (l .loop .i) (g .get .result) (t .loop-test .taken) (l .loop .inv) (g .get .ensures))
+    (climbs-more (now (a .args .work)) (a .args .h) (a .args .j) (a .args .n) (a .pre .0) (a .pre .1) (l .loop .work) (l .loop .next) (l .loop .i)
+    (g .get .result) (t .loop-test .taken) (l .loop .inv) (g .get .ensures))
 
 same-length : tie.Need-same-length Inv-loop μ-loop
 same-length c = c .before .loop .inv .given-up .same-length

@@ -13,16 +13,23 @@ use Rattle.compile_settle.proofs.last_of.Statement.{statement}
 use Rattle.compile_settle.proofs.last_of.Tie as tie
 
 -- the row that was found
-found-row : (c : tie.After-known-told) → let a = c .before .before .before .before .before in rowOf (now (a .args .work)) (a .args .n) (a .args .left) (a .args .right) ≡ some (c .before .j .given .0 .0)
+found-row : (c : tie.After-known-told) → let a = c .before .before .before .before .before in
+    rowOf (now (a .args .work)) (a .args .n) (a .args .left) (a .args .right) ≡ some (c .before .j .given .0 .0)
 found-row c =
     let f = c .before .before .before in
     let a = f .before .before in
-    found-is (rowOf (now (a .args .work)) (a .args .n) (a .args .left) (a .args .right)) (f .find .result) (c .before .j .given .0 .0) (f .find .ensures (a .pre .0 .encoded .ascending) (a .pre .2)) (c .before .j .given .1)
+    found-is (rowOf (now (a .args .work)) (a .args .n) (a .args .left) (a .args .right)) (f .find .result) (c .before .j .given .0 .0)
+    (f .find .ensures (a .pre .0 .encoded .ascending) (a .pre .2)) (c .before .j .given .1)
 
 row-few : (c : tie.After-known-told) → c .before .j .given .0 .0 < 65792
 row-few c =
     let a = c .before .before .before .before .before in
-    omega (arith, a .pre .0 .encoded .ascending .few, found-less (a .args .n) (now (a .args .work)) (a .pre .0 .encoded .ascending) (a .args .left) (a .args .right) (c .before .j .given .0 .0) (found-row c))
+    omega (
+      arith,
+      a .pre .0 .encoded .ascending .few,
+      found-less (a .args .n) (now (a .args .work)) (a .pre .0 .encoded .ascending) (a .args .left) (a .args .right) (c .before .j .given .0 .0)
+          (found-row c),
+    )
 
 find-requires : tie.Need-find-requires
 find-requires c κs = search needs
@@ -38,7 +45,8 @@ returns c =
     let f = c .before .before in
     let a = f .before .before in
     says-missing (a .args .n) (now (a .args .work)) (a .pre .0 .encoded .ascending) (a .args .left) (a .args .right) (a .pre .2)
-    (missing-is (rowOf (now (a .args .work)) (a .args .n) (a .args .left) (a .args .right)) (f .find .result) (f .find .ensures (a .pre .0 .encoded .ascending) (a .pre .2)) (c .enum-told .given .1))
+    (missing-is (rowOf (now (a .args .work)) (a .args .n) (a .args .left) (a .args .right)) (f .find .result)
+    (f .find .ensures (a .pre .0 .encoded .ascending) (a .pre .2)) (c .enum-told .given .1))
 
 get-requires : tie.Need-get-requires
 get-requires c κs = search needs
@@ -55,7 +63,8 @@ returns-2 c =
     let j = g .before in
     let a = j .before .before .before .before .before in
     rw (c .before .get2 .ensures, c .get3 .ensures)
-    (says-done (a .args .n) (now (a .args .work)) (a .pre .0 .encoded .ascending) (a .args .left) (a .args .right) (j .before .j .given .0 .0) (found-row j) (a .pre .0)
+    (says-done (a .args .n) (now (a .args .work)) (a .pre .0 .encoded .ascending) (a .args .left) (a .args .right) (j .before .j .given .0 .0) (found-row j)
+    (a .pre .0)
     (sym (g .get .ensures) ∙ c .before .before .if1 .taken))
 
 returns-3 : tie.Need-returns-3

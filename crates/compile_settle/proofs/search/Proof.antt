@@ -33,17 +33,29 @@ finish-requires : tie.Need-finish-requires Inv-loop μ-loop
 finish-requires c κs =
     let o = c .before .before .before .before .before .before .before .before in
     let a = o .before .before .before in
-    let few = a .pre .0 .encoded .ascending .few in
-    (omega (arith, few, a .pre .1), omega (arith, few, kern-few (a .args .n) (a .args .m) (a .args .k) (now (a .args .work)) (o .open-row .last .0) (a .pre .0) (a .pre .1) (a .pre .2) (o .open-row .ensures)))
+    let few = a .pre .0 .encoded .ascending .few in (
+      omega (arith, few, a .pre .1),
+      omega (
+        arith,
+        few,
+        kern-few (a .args .n) (a .args .m) (a .args .k) (now (a .args .work)) (o .open-row .last .0) (a .pre .0) (a .pre .1) (a .pre .2)
+            (o .open-row .ensures),
+      ),
+    )
 
 add-result : tie.Need-add-result Inv-loop μ-loop
 add-result c =
     let o = c .before .before .before .before .before .before .before .before .before .before .before in
     let a = o .before .before .before in
-    omega (arith, a .pre .0 .encoded .ascending .few, kern-few (a .args .n) (a .args .m) (a .args .k) (now (a .args .work)) (o .open-row .last .0) (a .pre .0) (a .pre .1) (a .pre .2) (o .open-row .ensures))
+    omega (
+      arith,
+      a .pre .0 .encoded .ascending .few,
+      kern-few (a .args .n) (a .args .m) (a .args .k) (now (a .args .work)) (o .open-row .last .0) (a .pre .0) (a .pre .1) (a .pre .2) (o .open-row .ensures),
+    )
 
 same-length : tie.Need-same-length Inv-loop μ-loop
-same-length c = c .before .before .finish .kept .0 ∙ c .before .before .before .before .before .before .before .before .before .before .before .open-row .kept .0
+same-length c =
+    c .before .before .finish .kept .0 ∙ c .before .before .before .before .before .before .before .before .before .before .before .open-row .kept .0
 
 returns : tie.Need-returns Inv-loop μ-loop
 returns c =
@@ -53,7 +65,8 @@ returns c =
     let g = i .before in
     let o = g .before .before .before .before in
     let a = o .before .before .before in
-    kern-found (a .args .n) (a .args .m) (a .args .k) (now (a .args .work)) (o .open-row .last .0) (a .pre .0) (a .pre .1) (a .pre .2) (o .open-row .ensures) (g .get .result) (r .get2 .result) (f .finish .last .0) (g .get .ensures) (i .if1 .taken) (r .get2 .ensures) (f .finish .ensures)
+    kern-found (a .args .n) (a .args .m) (a .args .k) (now (a .args .work)) (o .open-row .last .0) (a .pre .0) (a .pre .1) (a .pre .2) (o .open-row .ensures)
+    (g .get .result) (r .get2 .result) (f .finish .last .0) (g .get .ensures) (i .if1 .taken) (r .get2 .ensures) (f .finish .ensures)
 
 loop-holds : tie.Need-loop-holds Inv-loop μ-loop
 loop-holds c =
@@ -73,7 +86,8 @@ loop-again c =
     let l = t .before .before .before .before in
     let o = l .before .before .before .before .before .before in
     let a = o .before .before .before in
-    going-more (a .args .n) (a .args .k) (o .open-row .last .0) (l .loop .work) (t .turn .last .0) (l .loop .p) (t .turn .result) (a .pre .1) (l .loop .inv) (t .turn .ensures)
+    going-more (a .args .n) (a .args .k) (o .open-row .last .0) (l .loop .work) (t .turn .last .0) (l .loop .p) (t .turn .result) (a .pre .1) (l .loop .inv)
+    (t .turn .ensures)
 
 same-length-2 : tie.Need-same-length-2 Inv-loop μ-loop
 same-length-2 c =
@@ -86,7 +100,8 @@ returns-2 c =
     let l = c .before .before in
     let o = l .before .before .before .before .before .before in
     let a = o .before .before .before in
-    going-end (a .args .n) (a .args .m) (a .args .k) (now (a .args .work)) (o .open-row .last .0) (a .pre .0) (a .pre .1) (a .pre .2) (o .open-row .ensures) (l .loop .work) (l .loop .p) (l .loop .inv) (c .if2 .left)
+    going-end (a .args .n) (a .args .m) (a .args .k) (now (a .args .work)) (o .open-row .last .0) (a .pre .0) (a .pre .1) (a .pre .2) (o .open-row .ensures)
+    (l .loop .work) (l .loop .p) (l .loop .inv) (c .if2 .left)
 
 pub search-spec : {M : Type 1} → statement M
 search-spec =

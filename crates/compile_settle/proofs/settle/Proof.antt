@@ -28,7 +28,11 @@ settle-rows-requires c κs =
     let o = k .before .before .before in
     let a = o .args in
     let w = k .prepare .last .1 .1 .1 .1 .1 .0 in
-    let p = (lent-as (λ (f : Font) (r : Prepared). Prepares f (min (a .room) (length (a .work .now) / 16)) (a .work .now) w r) (a .instructions .now) (a .kerns .now) (a .entries .now) (pos 0) _ (a .«left-entry») _ (a .«design-size») (k .prepare .result) _ (k .prepare .ensures (pos 0)) (c .before .before .n .given .1) (number-word (a .«left-entry») (o .fits .«left-entry»)) (number-word (a .«design-size») (o .fits .«design-size»))) .rows in
+    let p =
+    (lent-as (λ (f : Font) (r : Prepared). Prepares f (min (a .room) (length (a .work .now) / 16)) (a .work .now) w r) (a .instructions .now)
+    (a .kerns .now) (a .entries .now) (pos 0) _ (a .«left-entry») _ (a .«design-size») (k .prepare .result) _ (k .prepare .ensures (pos 0))
+    (c .before .before .n .given .1) (number-word (a .«left-entry») (o .fits .«left-entry»))
+    (number-word (a .«design-size») (o .fits .«design-size»))) .rows in
     (p .4 .encoded, p .4 .new)
 
 same-length : tie.Need-same-length
@@ -41,8 +45,13 @@ returns c = λ b.
     let a = o .args in
     let w = k .prepare .last .1 .1 .1 .1 .1 .0 in
     let cap = min (a .room) (length (a .work .now) / 16) in
-    let p = (lent-as (λ (f : Font) (r : Prepared). Prepares f cap (a .work .now) w r) (a .instructions .now) (a .kerns .now) (a .entries .now) b _ (a .«left-entry») _ (a .«design-size») (k .prepare .result) _ (k .prepare .ensures b) (c .before .number .given .1) (number-word (a .«left-entry») (o .fits .«left-entry»)) (number-word (a .«design-size») (o .fits .«design-size»))) .rows in
-    settles _ _ _ _ _ (unfit (fontOf (a .instructions .now) (a .kerns .now) (a .entries .now) b (a .«left-entry») (a .«design-size»)) cap (a .work .now) w (c .before .number .given .0 .0) p)
+    let p =
+    (lent-as (λ (f : Font) (r : Prepared). Prepares f cap (a .work .now) w r) (a .instructions .now) (a .kerns .now) (a .entries .now) b _
+    (a .«left-entry») _ (a .«design-size») (k .prepare .result) _ (k .prepare .ensures b) (c .before .number .given .1)
+    (number-word (a .«left-entry») (o .fits .«left-entry»)) (number-word (a .«design-size») (o .fits .«design-size»))) .rows in
+    settles _ _ _ _ _
+    (unfit (fontOf (a .instructions .now) (a .kerns .now) (a .entries .now) b (a .«left-entry») (a .«design-size»)) cap (a .work .now) w
+    (c .before .number .given .0 .0) p)
 
 same-length-2 : tie.Need-same-length-2
 same-length-2 c = search needs
@@ -56,8 +65,13 @@ returns-2 c = λ b.
     let a = o .args in
     let w = k .prepare .last .1 .1 .1 .1 .1 .0 in
     let cap = min (a .room) (length (a .work .now) / 16) in
-    let p = (lent-as (λ (f : Font) (r : Prepared). Prepares f cap (a .work .now) w r) (a .instructions .now) (a .kerns .now) (a .entries .now) b _ (a .«left-entry») _ (a .«design-size») (k .prepare .result) _ (k .prepare .ensures b) (g .1) (number-word (a .«left-entry») (o .fits .«left-entry»)) (number-word (a .«design-size») (o .fits .«design-size»))) .rows in
-    settles _ _ _ _ _ (settled (fontOf (a .instructions .now) (a .kerns .now) (a .entries .now) b (a .«left-entry») (a .«design-size»)) cap (a .work .now) w (g .0 .0) (g .0 .1 .0) (s .settle-rows .result) (g .0 .1 .1 .0) (s .settle-rows .last .0) p (s .settle-rows .ensures))
+    let p =
+    (lent-as (λ (f : Font) (r : Prepared). Prepares f cap (a .work .now) w r) (a .instructions .now) (a .kerns .now) (a .entries .now) b _
+    (a .«left-entry») _ (a .«design-size») (k .prepare .result) _ (k .prepare .ensures b) (g .1)
+    (number-word (a .«left-entry») (o .fits .«left-entry»)) (number-word (a .«design-size») (o .fits .«design-size»))) .rows in
+    settles _ _ _ _ _
+    (settled (fontOf (a .instructions .now) (a .kerns .now) (a .entries .now) b (a .«left-entry») (a .«design-size»)) cap (a .work .now) w (g .0 .0)
+    (g .0 .1 .0) (s .settle-rows .result) (g .0 .1 .1 .0) (s .settle-rows .last .0) p (s .settle-rows .ensures))
 
 pub settle-spec : {M : Type 1} → statement M
 settle-spec =

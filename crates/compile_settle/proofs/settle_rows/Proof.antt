@@ -44,8 +44,10 @@ loop-again c =
     let l = t .before in
     let a = l .before .before in
     ⊎-elim
-    (λ s. passed-new (a .args .n) (l .loop .m) (l .loop .k) (now (a .args .work)) (l .loop .work) (l .loop .inv) (t .loop-test .taken) (c .if1 .work) (s .2 .last .0) (c .if1 .m) (s .2 .result) (s .5) (s .6) (s .2 .ensures))
-    (λ s. passed-old (a .args .n) (l .loop .m) (l .loop .k) (now (a .args .work)) (l .loop .work) (l .loop .inv) (t .loop-test .taken) (c .if1 .work) (c .if1 .m) (s .1) (s .2) (λ e. s .0 .left (c .before .get .ensures ∙ e)))
+    (λ s. passed-new (a .args .n) (l .loop .m) (l .loop .k) (now (a .args .work)) (l .loop .work) (l .loop .inv) (t .loop-test .taken) (c .if1 .work)
+    (s .2 .last .0) (c .if1 .m) (s .2 .result) (s .5) (s .6) (s .2 .ensures))
+    (λ s. passed-old (a .args .n) (l .loop .m) (l .loop .k) (now (a .args .work)) (l .loop .work) (l .loop .inv) (t .loop-test .taken) (c .if1 .work)
+    (c .if1 .m) (s .1) (s .2) (λ e. s .0 .left (c .before .get .ensures ∙ e)))
     (c .if1 .came)
 
 same-length : tie.Need-same-length Inv-loop μ-loop

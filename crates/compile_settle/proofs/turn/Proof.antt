@@ -30,8 +30,10 @@ finish-requires : tie.Need-finish-requires
 finish-requires c κs =
     let g = c .before .before .before .before .before .before in
     let a = g .before .before .before in
-    let few = a .pre .0 .encoded .ascending .few in
-    (omega (arith, few, g .get .ensures, top-row (now (a .args .work)) (a .pre .0) (a .pre .1)), omega (arith, few, done-few (now (a .args .work)) (a .pre .0) (a .pre .1)))
+    let few = a .pre .0 .encoded .ascending .few in (
+      omega (arith, few, g .get .ensures, top-row (now (a .args .work)) (a .pre .0) (a .pre .1)),
+      omega (arith, few, done-few (now (a .args .work)) (a .pre .0) (a .pre .1)),
+    )
 
 sub-t21 : tie.Need-sub-t21
 sub-t21 c = search needs
@@ -49,8 +51,11 @@ wait-requires c κs =
     let j = c .before .before .j .given in
     let r = c .before .before .before .before in
     let g = r .before .before in
-    let a = g .before .before .before in
-    (a .pre .0, stuck (a .args .n) (a .args .p .done) (now (a .args .work)) (g .get .result) (r .by-rule .result) (r .by-rule .ensures) (a .args .p .path) (j .0 .0) (a .pre .1) (a .pre .0) (g .get .ensures) (j .1))
+    let a = g .before .before .before in (
+      a .pre .0,
+      stuck (a .args .n) (a .args .p .done) (now (a .args .work)) (g .get .result) (r .by-rule .result) (r .by-rule .ensures) (a .args .p .path) (j .0 .0)
+          (a .pre .1) (a .pre .0) (g .get .ensures) (j .1),
+    )
 
 same-length : tie.Need-same-length
 same-length c = search needs
@@ -62,7 +67,8 @@ returns c =
     let r = f .before .before .before .before .before in
     let g = r .before .before in
     let a = g .before .before .before in
-    turned-finish (a .args .n) (a .args .p .done) (now (a .args .work)) (g .get .result) (r .by-rule .result) (r .by-rule .ensures) (a .args .p .path) (v .0 .0) (v .0 .1 .0) (f .finish .last .0)
+    turned-finish (a .args .n) (a .args .p .done) (now (a .args .work)) (g .get .result) (r .by-rule .result) (r .by-rule .ensures) (a .args .p .path) (v .0 .0)
+    (v .0 .1 .0) (f .finish .last .0)
     (a .pre .1) (a .pre .0) (g .get .ensures) (v .1) (f .finish .ensures)
 
 same-length-2 : tie.Need-same-length-2

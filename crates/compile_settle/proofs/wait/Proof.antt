@@ -40,7 +40,8 @@ returns c =
     let o = c .before .before in
     let t = o .before .before in
     let a = t .before .before .before .before in
-    turned-open (a .args .n) (a .args .p .path) (a .args .p .done) (a .args .j) (now (a .args .work)) (o .open-row .last .0) (a .pre .0) (a .pre .1) (new t) (o .open-row .ensures)
+    turned-open (a .args .n) (a .args .p .path) (a .args .p .done) (a .args .j) (now (a .args .work)) (o .open-row .last .0) (a .pre .0) (a .pre .1) (new t)
+    (o .open-row .ensures)
 
 same-length-2 : tie.Need-same-length-2
 same-length-2 c = search needs

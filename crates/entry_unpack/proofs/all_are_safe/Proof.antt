@@ -29,7 +29,8 @@ returns : tie.Need-returns Inv-loop μ-loop
 returns c =
     let e = c .before .before .before in
     let a = e .before .args in
-    sym (every-fails (length (now (a .entries)) / 2) (e .loop .i) (entrySafe (now (a .instructions)) (now (a .entries))) (c .before .before .loop-test .taken) (sym (c .before .entry-is-safe .ensures) ∙ not-true _ (c .if1 .taken)))
+    sym (every-fails (length (now (a .entries)) / 2) (e .loop .i) (entrySafe (now (a .instructions)) (now (a .entries))) (c .before .before .loop-test .taken)
+    (sym (c .before .entry-is-safe .ensures) ∙ not-true _ (c .if1 .taken)))
 
 add-i : tie.Need-add-i Inv-loop μ-loop
 add-i c = omega arith
@@ -40,8 +41,11 @@ loop-less c = omega arith
 loop-again : tie.Need-loop-again Inv-loop μ-loop
 loop-again c =
     let e = c .before .before .before in
-    let a = e .before .args in
-    (omega arith, every-more (e .loop .i) (entrySafe (now (a .instructions)) (now (a .entries))) (e .loop .inv .1) (sym (c .before .entry-is-safe .ensures) ∙ not-false _ (c .if1 .left)))
+    let a = e .before .args in (
+      omega arith,
+      every-more (e .loop .i) (entrySafe (now (a .instructions)) (now (a .entries))) (e .loop .inv .1)
+          (sym (c .before .entry-is-safe .ensures) ∙ not-false _ (c .if1 .left)),
+    )
 
 returns-2 : tie.Need-returns-2 Inv-loop μ-loop
 returns-2 c =

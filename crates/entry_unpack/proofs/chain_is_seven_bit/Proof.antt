@@ -21,7 +21,9 @@ Inv-loop instructions entry at₀ at = allSevenBit instructions (chainOf instruc
 abbrev μ-loop : tie.MeasureT-loop
 μ-loop instructions entry at₀ at = count instructions - at
 
-step : (c : tie.After-known-told Inv-loop μ-loop) → let a = c .before .before .before .before in Stepped (count (now (a .before .args .instructions))) (instructionAt (now (a .before .args .instructions))) (a .loop .at) (c .before .i .given .0 .0) (c .before .i .given .0 .1 .0)
+step : (c : tie.After-known-told Inv-loop μ-loop) → let a = c .before .before .before .before in
+    Stepped (count (now (a .before .args .instructions))) (instructionAt (now (a .before .args .instructions))) (a .loop .at) (c .before .i .given .0 .0)
+    (c .before .i .given .0 .1 .0)
 step c = step-on _ _ _ _ _ (sym (c .before .before .before .next-instruction .ensures) ∙ c .before .i .given .1)
 
 loop-holds : tie.Need-loop-holds Inv-loop μ-loop
@@ -39,7 +41,8 @@ enum-told c = search needs
 returns : tie.Need-returns Inv-loop μ-loop
 returns c =
     let e = c .before .before .before in
-    sevens-end (now (e .before .args .instructions)) (e .before .args .entry) (e .loop .at) (e .loop .inv) (step-end _ _ _ (sym (c .before .before .next-instruction .ensures) ∙ c .enum-told .given .1))
+    sevens-end (now (e .before .args .instructions)) (e .before .args .entry) (e .loop .at) (e .loop .inv)
+    (step-end _ _ _ (sym (c .before .before .next-instruction .ensures) ∙ c .enum-told .given .1))
 
 inserts-seven-bit-requires : tie.Need-inserts-seven-bit-requires Inv-loop μ-loop
 inserts-seven-bit-requires c κs = search needs
@@ -47,7 +50,8 @@ inserts-seven-bit-requires c κs = search needs
 returns-2 : tie.Need-returns-2 Inv-loop μ-loop
 returns-2 c =
     let e = c .before .before .before .before .before .before in
-    sevens-fail (now (e .before .args .instructions)) (e .before .args .entry) (e .loop .at) (e .loop .inv) (step (c .before .before)) (c .before .inserts-seven-bit .ensures) (not-true _ (c .if1 .taken))
+    sevens-fail (now (e .before .args .instructions)) (e .before .args .entry) (e .loop .at) (e .loop .inv) (step (c .before .before))
+    (c .before .inserts-seven-bit .ensures) (not-true _ (c .if1 .taken))
 
 loop-less : tie.Need-loop-less Inv-loop μ-loop
 loop-less c = omega (arith, step (c .before .before) .inside, step (c .before .before) .ahead)
@@ -55,7 +59,8 @@ loop-less c = omega (arith, step (c .before .before) .inside, step (c .before .b
 loop-again : tie.Need-loop-again Inv-loop μ-loop
 loop-again c =
     let e = c .before .before .before .before .before .before in
-    sevens-more (now (e .before .args .instructions)) (e .before .args .entry) (e .loop .at) (e .loop .inv) (step (c .before .before)) (c .before .inserts-seven-bit .ensures) (not-false _ (c .if1 .left))
+    sevens-more (now (e .before .args .instructions)) (e .before .args .entry) (e .loop .at) (e .loop .inv) (step (c .before .before))
+    (c .before .inserts-seven-bit .ensures) (not-false _ (c .if1 .left))
 
 pub chain-is-seven-bit-spec : {M : Type 1} → statement M
 chain-is-seven-bit-spec =

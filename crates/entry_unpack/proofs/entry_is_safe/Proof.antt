@@ -14,7 +14,8 @@ word-at-requires : tie.Need-word-at-requires
 word-at-requires c κs = search needs
 
 returns : tie.Need-returns
-returns c = let a = c .before .before .args in sym (safe-above (now (a .instructions)) (now (a .entries)) (a .i) (c .before .word-at .ensures .is) (c .if1 .taken))
+returns c =
+    let a = c .before .before .args in sym (safe-above (now (a .instructions)) (now (a .entries)) (a .i) (c .before .word-at .ensures .is) (c .if1 .taken))
 
 mul-word-at-2 : tie.Need-mul-word-at-2
 mul-word-at-2 c = search needs

@@ -29,7 +29,8 @@ returns-3 : tie.Need-returns-3
 returns-3 c =
     let d = c .before .before .before in
     let a = d .before .before .args in
-    sym (inserts-one (now (a .instructions)) (a .i) (d .before .field-at .ensures .is) (d .if1 .left) (c .before .before .field-at2 .ensures .is) (c .before .if2 .left) (c .field-at3 .ensures .is))
+    sym (inserts-one (now (a .instructions)) (a .i) (d .before .field-at .ensures .is) (d .if1 .left) (c .before .before .field-at2 .ensures .is)
+    (c .before .if2 .left) (c .field-at3 .ensures .is))
 
 pub inserts-seven-bit-spec : {M : Type 1} → statement M
 inserts-seven-bit-spec =

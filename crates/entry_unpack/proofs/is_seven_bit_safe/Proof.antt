@@ -19,7 +19,9 @@ entries-refusal-requires : tie.Need-entries-refusal-requires
 entries-refusal-requires c κs = search needs
 
 returns-2 : tie.Need-returns-2
-returns-2 c = refused-reply _ (later-refusal (c .before .before .before .program-refusal .ensures) (c .before .before .if1 .left) (c .before .entries-refusal .ensures)) (c .if2 .taken)
+returns-2 c =
+    refused-reply _ (later-refusal (c .before .before .before .program-refusal .ensures) (c .before .before .if1 .left) (c .before .entries-refusal .ensures))
+    (c .if2 .taken)
 
 all-are-safe-requires : tie.Need-all-are-safe-requires
 all-are-safe-requires c κs = search needs
@@ -28,7 +30,9 @@ returns-3 : tie.Need-returns-3
 returns-3 c =
     let e = c .before in
     ap (λ (b : Bool). sevenBitReply (Safe b)) (c .all-are-safe .ensures)
-    ∙ taken-reply _ (sym (later-refusal (e .before .before .before .program-refusal .ensures) (e .before .before .if1 .left) (e .before .entries-refusal .ensures)) ∙ e .if2 .left)
+    ∙ taken-reply _
+    (sym (later-refusal (e .before .before .before .program-refusal .ensures) (e .before .before .if1 .left) (e .before .entries-refusal .ensures))
+    ∙ e .if2 .left)
 
 pub is-seven-bit-safe-spec : {M : Type 1} → statement M
 is-seven-bit-safe-spec =

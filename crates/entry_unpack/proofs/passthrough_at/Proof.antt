@@ -15,10 +15,12 @@ use borrow.Author.Needs.{needs}
 use Rattle.entry_unpack.proofs.passthrough_at.Statement.{statement}
 use Rattle.entry_unpack.proofs.passthrough_at.Tie as tie
 
-same : (c : tie.Joined1) → let a = c .before .before .args in passthroughAt (now (a .instructions)) (a .entry) (now (a .passthrough)) (a .i) ≡ cond (eqb (getD (now (a .passthrough)) (a .i) 0) 0) 0 1
+same : (c : tie.Joined1) → let a = c .before .before .args in
+    passthroughAt (now (a .instructions)) (a .entry) (now (a .passthrough)) (a .i) ≡ cond (eqb (getD (now (a .passthrough)) (a .i) 0) 0) 0 1
 same c =
     let a = c .before .before .args in
-    passthrough-same (now (a .instructions)) (a .entry) (now (a .passthrough)) (a .i) (⊎-elim (λ w. inr (sym (w .1 .ensures) ∙ w .2 .left)) (λ w. inl (w .left)) (c .if1 .came))
+    passthrough-same (now (a .instructions)) (a .entry) (now (a .passthrough)) (a .i)
+    (⊎-elim (λ w. inr (sym (w .1 .ensures) ∙ w .2 .left)) (λ w. inl (w .left)) (c .if1 .came))
 
 is-redirect-requires : tie.Need-is-redirect-requires
 is-redirect-requires c κs = search needs
@@ -26,7 +28,8 @@ is-redirect-requires c κs = search needs
 returns : tie.Need-returns
 returns c =
     let a = c .before .before .before .before .args in
-    sym (passthrough-redirect (now (a .instructions)) (a .entry) (now (a .passthrough)) (a .i) (c .before .before .if1 .taken) (sym (c .before .is-redirect .ensures) ∙ c .if2 .taken))
+    sym (passthrough-redirect (now (a .instructions)) (a .entry) (now (a .passthrough)) (a .i) (c .before .before .if1 .taken)
+    (sym (c .before .is-redirect .ensures) ∙ c .if2 .taken))
 
 u8-at-requires : tie.Need-u8-at-requires
 u8-at-requires c κs = search needs

@@ -22,10 +22,17 @@ abbrev μ-loop : tie.MeasureT-loop
 here : (c : tie.After-passthrough-at Inv-loop μ-loop) → c .before .before .loop .i < length (c .before .before .loop .out)
 here c =
     let a = c .before .before .before .before .before in
-    omega (arith, a .pre, filling-length (passthroughAt (now (a .args .instructions)) (a .args .entry) (now (a .args .passthrough))) (now (a .args .out)) (c .before .before .loop .inv .0), c .before .loop-test .taken)
+    omega (
+      arith,
+      a .pre,
+      filling-length (passthroughAt (now (a .args .instructions)) (a .args .entry) (now (a .args .passthrough))) (now (a .args .out))
+          (c .before .before .loop .inv .0),
+      c .before .loop-test .taken,
+    )
 
 loop-holds : tie.Need-loop-holds Inv-loop μ-loop
-loop-holds c = let a = c .before .before .args in (filling-none (passthroughAt (now (a .instructions)) (a .entry) (now (a .passthrough))) (now (a .out)), omega arith)
+loop-holds c =
+    let a = c .before .before .args in (filling-none (passthroughAt (now (a .instructions)) (a .entry) (now (a .passthrough))) (now (a .out)), omega arith)
 
 passthrough-at-requires : tie.Need-passthrough-at-requires Inv-loop μ-loop
 passthrough-at-requires c κs = search needs
@@ -41,11 +48,16 @@ loop-less c = omega arith
 
 loop-again : tie.Need-loop-again Inv-loop μ-loop
 loop-again c =
-    let a = c .before .before .before .before .before .args in
-    (rw (c .passthrough-at .ensures) (filling-more (passthroughAt (now (a .instructions)) (a .entry) (now (a .passthrough))) (now (a .out)) (c .before .before .loop .inv .0) (here c)), omega arith)
+    let a = c .before .before .before .before .before .args in (
+      rw (c .passthrough-at .ensures)
+          (filling-more (passthroughAt (now (a .instructions)) (a .entry) (now (a .passthrough))) (now (a .out)) (c .before .before .loop .inv .0) (here c)),
+      omega arith,
+    )
 
 same-length : tie.Need-same-length Inv-loop μ-loop
-same-length c = let a = c .before .before .before .before .args in filling-length (passthroughAt (now (a .instructions)) (a .entry) (now (a .passthrough))) (now (a .out)) (c .before .loop .inv .0)
+same-length c =
+    let a = c .before .before .before .before .args in
+    filling-length (passthroughAt (now (a .instructions)) (a .entry) (now (a .passthrough))) (now (a .out)) (c .before .loop .inv .0)
 
 returns : tie.Need-returns Inv-loop μ-loop
 returns c =

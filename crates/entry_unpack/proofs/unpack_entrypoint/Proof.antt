@@ -20,11 +20,13 @@ start r = r .before .before .before .before .before .before .before
 abbrev zeros : tie.After-unpack-refusal → List ℕ
 zeros r = r .before .before .before .zero-u8 .last .0
 
-asked : (r : tie.After-unpack-refusal) → r .unpack-refusal .result ≡ unpackRefusal (now (start r .args .instructions)) (start r .args .entry) (now (start r .args .passthrough)) (length (zeros r))
+asked : (r : tie.After-unpack-refusal) →
+    r .unpack-refusal .result ≡ unpackRefusal (now (start r .args .instructions)) (start r .args .entry) (now (start r .args .passthrough)) (length (zeros r))
 asked r =
     let s = start r in
     r .unpack-refusal .ensures
-    ∙ ap (λ (z : ℤ). unpackRefusal (now (s .args .instructions)) z (now (s .args .passthrough)) (length (zeros r))) (number-word (s .args .entry) (s .fits .entry))
+    ∙ ap (λ (z : ℤ). unpackRefusal (now (s .args .instructions)) z (now (s .args .passthrough)) (length (zeros r)))
+    (number-word (s .args .entry) (s .fits .entry))
 
 zero-u8-requires : tie.Need-zero-u8-requires
 zero-u8-requires c κs = search needs

@@ -19,14 +19,16 @@ range r =
     let s = r .before .before .before .before in
     r .range-refusal .ensures ∙ ap (rangeRefusal 255) (number-word (s .args .entry) (s .fits .entry))
 
-place : (r : tie.After-entry-refusal) → let s = start (r .before .before .before .before) in r .entry-refusal .result ≡ entryRefusal (s .args .instructions .now) (wordOf (s .args .entry))
+place : (r : tie.After-entry-refusal) → let s = start (r .before .before .before .before) in
+    r .entry-refusal .result ≡ entryRefusal (s .args .instructions .now) (wordOf (s .args .entry))
 place r =
     let s = start (r .before .before .before .before) in
     r .entry-refusal .ensures
     ∙ ap (entryRefusal (s .args .instructions .now)) (r .before .word-of .ensures ∙ ap wordOf (number-word (s .args .entry) (s .fits .entry)))
 
 -- where the first two refuse nothing, the answer is that of the rest
-after-range : (e : tie.Else2) {x n : ℕ} → x ≡ n → x ≡ orElse (programRefusal (start e .args .instructions .now)) (orElse (rangeRefusal 255 (start e .args .entry)) n)
+after-range : (e : tie.Else2) {x n : ℕ} → x ≡ n →
+    x ≡ orElse (programRefusal (start e .args .instructions .now)) (orElse (rangeRefusal 255 (start e .args .entry)) n)
 after-range e h =
     later-refusal (e .before .before .before .program-refusal .ensures) (e .before .before .if1 .left) (later-refusal (range (e .before)) (e .if2 .left) h)
 

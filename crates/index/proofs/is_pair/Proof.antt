@@ -16,7 +16,9 @@ word-at-requires : tie.Need-word-at-requires
 word-at-requires c κs = search needs
 
 returns : tie.Need-returns
-returns c = let a = c .before .before in other-right (now (a .args .pairs)) (a .args .k) (a .args .left) (a .args .right) (c .before .word-at .ensures) (a .fits .right .fits) (c .if1 .taken)
+returns c =
+    let a = c .before .before in
+    other-right (now (a .args .pairs)) (a .args .k) (a .args .left) (a .args .right) (c .before .word-at .ensures) (a .fits .right .fits) (c .if1 .taken)
 
 mul-word-at-2 : tie.Need-mul-word-at-2
 mul-word-at-2 c = search needs
@@ -31,7 +33,8 @@ returns-2 : tie.Need-returns-2
 returns-2 c =
     let d = c .before .before in
     let a = d .before .before .args in
-    rw (c .left-place .ensures) (left-decides (now (a .pairs)) (a .k) (a .left) (a .right) (d .before .word-at .ensures) (d .if1 .left) (c .before .word-at2 .ensures))
+    rw (c .left-place .ensures)
+    (left-decides (now (a .pairs)) (a .k) (a .left) (a .right) (d .before .word-at .ensures) (d .if1 .left) (c .before .word-at2 .ensures))
 
 pub is-pair-spec : {M : Type 1} → statement M
 is-pair-spec =

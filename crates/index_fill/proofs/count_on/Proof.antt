@@ -32,7 +32,11 @@ returns c =
     let l = c .before .before .before .before in
     let a = l .before in
     let p = place-read (c .before .before .number-at .ensures) (c .before .left-place .ensures) in
-    omega (arith, begins-by (now (a .args .pairs)) (a .pre .0) (a .args .left) (l .loop .k) (c .before .before .before .loop-test .taken) (omega (arith, p, c .if1 .taken)))
+    omega (
+      arith,
+      begins-by (now (a .args .pairs)) (a .pre .0) (a .args .left) (l .loop .k) (c .before .before .before .loop-test .taken)
+          (omega (arith, p, c .if1 .taken)),
+    )
 
 add-k : tie.Need-add-k Inv-loop μ-loop
 add-k c = omega arith

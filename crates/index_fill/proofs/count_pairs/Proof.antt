@@ -58,7 +58,8 @@ loop-again c =
     let n = c .count-on .ensures in (
       omega (arith, c .before .loop-test .taken),
       omega (arith, n, before-mono (now (a .args .pairs)) (a .pre .0 .1) (l .loop .left) (l .loop .left + 1) (omega arith)),
-      filled-left (now (a .args .pairs)) (pairCount (now (a .args .pairs))) (l .loop .left) (l .loop .inv .2) (omega (arith, c .before .loop-test .taken)) (room c) n refl,
+      filled-left (now (a .args .pairs)) (pairCount (now (a .args .pairs))) (l .loop .left) (l .loop .inv .2) (omega (arith, c .before .loop-test .taken))
+          (room c) n refl,
     )
 
 same-length : tie.Need-same-length Inv-loop μ-loop

@@ -42,7 +42,8 @@ module _ {pairs : List ℤ} {index z : List ℕ} {r : ℕ} (b : Begun pairs inde
 
   module _ (e : r ≡ 0) where
     parts : (unless 7 (both (eqb (length pairs % 6) 0) (every (pairCount pairs) (keyForm pairs))) ≡ 0) × (roomRefusal 1285 (length z) ≡ 0)
-    parts = orElse-none (unless 7 (both (eqb (length pairs % 6) 0) (every (pairCount pairs) (keyForm pairs)))) (roomRefusal 1285 (length z)) (sym (b .refusal) ∙ e)
+    parts =
+        orElse-none (unless 7 (both (eqb (length pairs % 6) 0) (every (pairCount pairs) (keyForm pairs)))) (roomRefusal 1285 (length z)) (sym (b .refusal) ∙ e)
 
     enough : 1285 ≤ length z
     enough = room-fits 1285 (length z) (parts .1)
@@ -57,10 +58,13 @@ module _ {pairs : List ℤ} {index z : List ℕ} {r : ℕ} (b : Begun pairs inde
         let n : length d ≡ length index = f .same ∙ b .same in
         record {
           answer = number-is;
-          list = filled-all pairs g (omega (arith, enough, f .same)) ∙ ap (λ (m : ℕ). padded 0 m (indexOfTable pairs)) n ∙ ap (λ (m : ℕ). listOf m 0 (length index) (indexOfTable pairs)) (sym (sym number-is ∙ e));
+          list =
+              filled-all pairs g (omega (arith, enough, f .same)) ∙ ap (λ (m : ℕ). padded 0 m (indexOfTable pairs)) n
+              ∙ ap (λ (m : ℕ). listOf m 0 (length index) (indexOfTable pairs)) (sym (sym number-is ∙ e));
         }
 
-begun : (c : tie.After-index-refusal) → Begun (now (c .before .before .before .before .before .before .args .pairs)) (now (c .before .before .before .before .before .before .args .index)) (c .before .before .before .zero-u64 .last .0) (c .index-refusal .result)
+begun : (c : tie.After-index-refusal) → let c6 = c .before .before .before .before .before .before in
+    Begun (now (c6 .args .pairs)) (now (c6 .args .index)) (c .before .before .before .zero-u64 .last .0) (c .index-refusal .result)
 begun c = let z = c .before .before .before .zero-u64 in record { zeros = z .ensures; same = z .kept .0; refusal = c .index-refusal .ensures }
 
 zero-u64-requires : tie.Need-zero-u64-requires
@@ -83,7 +87,11 @@ same-length : tie.Need-same-length
 same-length c = search needs
 
 returns : tie.Need-returns
-returns c = done (begun (c .before .before .before .before .before .before .before .before .before)) (c .before .before .before .before .before .before .before .before .if1 .taken) (c .before .before .before .before .before .before .set-bits .ensures) (c .before .before .count-pairs .ensures)
+returns c =
+    let c9 = c .before .before .before .before .before .before .before .before .before in
+    let c8 = c .before .before .before .before .before .before .before .before in
+    let c6 = c .before .before .before .before .before .before in
+    done (begun c9) (c8 .if1 .taken) (c6 .set-bits .ensures) (c .before .before .count-pairs .ensures)
 
 same-length-2 : tie.Need-same-length-2
 same-length-2 c = search needs

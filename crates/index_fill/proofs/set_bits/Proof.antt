@@ -42,7 +42,9 @@ record Read (pairs : List ℤ) (index : List ℕ) (k l r : ℕ) : Type 0 where
   right-in : r ≤ 255
   room : 1285 ≤ length index
 
-read : (c : tie.After-number-at2 Inv-loop μ-loop) → Read (now (c .before .before .before .before .before .before .before .args .pairs)) (c .before .before .before .before .before .loop .index) (c .before .before .before .before .before .loop .k) (c .before .left-place .result) (c .number-at2 .result)
+read : (c : tie.After-number-at2 Inv-loop μ-loop) → let c7 = c .before .before .before .before .before .before .before in
+    Read (now (c7 .args .pairs)) (c .before .before .before .before .before .loop .index) (c .before .before .before .before .before .loop .k)
+    (c .before .left-place .result) (c .number-at2 .result)
 read c =
     let l = c .before .before .before .before .before in
     let a = l .before .before in
@@ -72,7 +74,8 @@ loop-again c =
     let r = read n in
     let l = n .before .before .before .before .before in (
       omega (arith, n .before .before .before .before .loop-test .taken),
-      filled-pair (now (l .before .before .args .pairs)) (l .loop .k) (n .before .left-place .result) (n .number-at2 .result) (r .left-is) (r .right-is) (r .left-in) (r .right-in)
+      filled-pair (now (l .before .before .args .pairs)) (l .loop .k) (n .before .left-place .result) (n .number-at2 .result) (r .left-is) (r .right-is)
+          (r .left-in) (r .right-in)
           (l .loop .inv .1) (omega (arith, r .left-in, r .right-in, r .room)) (c .before .before .set-bit .ensures),
     )
 

@@ -23,10 +23,12 @@ abbrev μ-loop : tie.MeasureT-loop
 loop-holds : tie.Need-loop-holds Inv-loop μ-loop
 loop-holds c =
     let a = c .before .before in
-    plain-none (now (a .args .index)) (now (a .args .word)) (a .args .code) (a .args .read) (a .args .given) (a .args .k) (a .args .most) (now (a .args .items)) (a .pre .0)
+    plain-none (now (a .args .index)) (now (a .args .word)) (a .args .code) (a .args .read) (a .args .given) (a .args .k) (a .args .most) (now (a .args .items))
+    (a .pre .0)
 
 -- there is a letter, and room for its item
-inside : (c : tie.In-loop Inv-loop μ-loop) → let l = c .before in let a = l .before .before .before .args in (a .read + l .loop .n < length (a .word .now)) × (a .given + l .loop .n ≤ 65535) × (a .k + l .loop .n < length (l .loop .items) / 6) × (l .loop .c ≤ 255)
+inside : (c : tie.In-loop Inv-loop μ-loop) → let l = c .before in let a = l .before .before .before .args in
+    (a .read + l .loop .n < length (a .word .now)) × (a .given + l .loop .n ≤ 65535) × (a .k + l .loop .n < length (l .loop .items) / 6) × (l .loop .c ≤ 255)
 inside c =
     let i = c .before .loop .inv in
     let p = c .before .before .before .before .pre in
@@ -46,7 +48,11 @@ same-length : tie.Need-same-length Inv-loop μ-loop
 same-length c = c .before .before .before .loop .inv .same
 
 returns : tie.Need-returns Inv-loop μ-loop
-returns c = let a = c .before .before .before .before .before .before .args in plain-past (now (a .index)) (now (a .word)) (a .code) (a .read) (a .given) (a .k) (a .most) (now (a .items)) (c .before .before .before .loop .inv) refl (c .if1 .taken)
+returns c =
+    let c6 = c .before .before .before .before .before .before in
+    let a = c6 .args in
+    plain-past (now (a .index)) (now (a .word)) (a .code) (a .read) (a .given) (a .k) (a .most) (now (a .items)) (c .before .before .before .loop .inv) refl
+    (c .if1 .taken)
 
 add-has-bit : tie.Need-add-has-bit Inv-loop μ-loop
 add-has-bit c = omega (arith, inside (c .before .before) .3)
@@ -60,7 +66,8 @@ same-length-2 c = c .before .before .before .before .before .loop .inv .same
 returns-2 : tie.Need-returns-2 Inv-loop μ-loop
 returns-2 c =
     let a = c .before .before .before .before .before .before .before .before .args in
-    plain-bit (now (a .index)) (now (a .word)) (a .code) (a .read) (a .given) (a .k) (a .most) (now (a .items)) (c .before .before .before .before .before .loop .inv) refl (c .before .before .if1 .left) (sym (c .before .has-bit .ensures) ∙ c .if2 .taken)
+    plain-bit (now (a .index)) (now (a .word)) (a .code) (a .read) (a .given) (a .k) (a .most) (now (a .items))
+    (c .before .before .before .before .before .loop .inv) refl (c .before .before .if1 .left) (sym (c .before .has-bit .ensures) ∙ c .if2 .taken)
 
 add-put-six : tie.Need-add-put-six Inv-loop μ-loop
 add-put-six c = omega (arith, inside (c .before .before .before .before .before) .2, c .before .before .before .before .before .before .loop .inv .same)
@@ -93,14 +100,20 @@ loop-again c =
     let start = a .args .given + l .loop .n in
     let at = 6 * (a .args .k + l .loop .n) in
     let room : at + 6 ≤ length (l .loop .items) = omega (arith, i .2) in
-    plain-more (now (a .args .index)) (now (a .args .word)) (a .args .code) (a .args .read) (a .args .given) (a .args .k) (a .args .most) (now (a .args .items)) (l .loop .inv) (c .before .before .before .before .before .before .before .loop-test .taken) (a .pre .1) (a .pre .3) refl (e .if1 .left)
-    (sym (c .before .before .before .before .has-bit .ensures) ∙ c .before .before .before .if2 .left) (put-character (l .loop .items) (x .last .0) at refl (i .3, i .1) (six-there (l .loop .items) (x .last .0) at (numberOf 0 ∷ numberOf (l .loop .c) ∷ numberOf start ∷ numberOf 1 ∷ numberOf 0 ∷ numberOf 0 ∷ []) room (x .ensures)))
+    plain-more (now (a .args .index)) (now (a .args .word)) (a .args .code) (a .args .read) (a .args .given) (a .args .k) (a .args .most) (now (a .args .items))
+    (l .loop .inv) (c .before .before .before .before .before .before .before .loop-test .taken) (a .pre .1) (a .pre .3) refl (e .if1 .left)
+    (sym (c .before .before .before .before .has-bit .ensures) ∙ c .before .before .before .if2 .left)
+    (put-character (l .loop .items) (x .last .0) at refl (i .3, i .1)
+    (six-there (l .loop .items) (x .last .0) at (numberOf 0 ∷ numberOf (l .loop .c) ∷ numberOf start ∷ numberOf 1 ∷ numberOf 0 ∷ numberOf 0 ∷ []) room
+    (x .ensures)))
 
 same-length-3 : tie.Need-same-length-3 Inv-loop μ-loop
 same-length-3 c = c .before .loop .inv .same
 
 returns-3 : tie.Need-returns-3 Inv-loop μ-loop
-returns-3 c = let a = c .before .before .before .before .args in plain-end (now (a .index)) (now (a .word)) (a .code) (a .read) (a .given) (a .k) (a .most) (now (a .items)) (c .before .loop .inv) (c .loop-test .left)
+returns-3 c =
+    let a = c .before .before .before .before .args in
+    plain-end (now (a .index)) (now (a .word)) (a .code) (a .read) (a .given) (a .k) (a .most) (now (a .items)) (c .before .loop .inv) (c .loop-test .left)
 
 pub set-plain-spec : {M : Type 1} → statement M
 set-plain-spec =

@@ -1,6 +1,5 @@
--- `indexed_setting::set_from` meets its contract. The loop's invariant: the items of the steps so far are written, and those of the steps from the state on come
--- after them. The measure is the room that is left.
--- Assumes nothing.
+-- `indexed_setting::set_from` meets its contract. The loop's invariant: the items of the steps so far are written, and those of the steps from the state on
+-- come after them. The measure is the room that is left. Assumes nothing.
 use mathlib.Core.Path.{_≡_, sym, subst, _∙_}
 use Prim.Native.Nat.{_+_, _-_, _*_, _/_, _≤_}
 use native.Mathlib.Omega.{arith}
@@ -25,31 +24,54 @@ use Rattle.index_set_word.proofs.set_from.Statement.{statement}
 use Rattle.index_set_word.proofs.set_from.Tie as tie
 
 abbrev Inv-loop : tie.InvT-loop
-Inv-loop index pairs ops boundary word options items₀ s₀ k₀ items s k = Standing (indexedStepOf index pairs ops (numberOf boundary) word options) s₀ items₀ items s k
+Inv-loop index pairs ops boundary word options items₀ s₀ k₀ items s k =
+    Standing (indexedStepOf index pairs ops (numberOf boundary) word options) s₀ items₀ items s k
 
 abbrev μ-loop : tie.MeasureT-loop
 μ-loop index pairs ops boundary word options items₀ s₀ k₀ items s k = length items₀ / 6 - k
 
 -- where the run stands after the letters that have no pair
-stands : (c : tie.After-step-indexed Inv-loop μ-loop) → Standing (indexedStepOf (c .before .before .before .before .before .before .before .before .args .index .now) (c .before .before .before .before .before .before .before .before .args .pairs .now) (c .before .before .before .before .before .before .before .before .args .ops .now) (numberOf (wordOf (c .before .before .before .before .before .before .before .before .args .boundary))) (c .before .before .before .before .before .before .before .before .args .word .now) (c .before .before .before .before .before .before .before .before .args .options)) (c .before .before .before .before .before .before .before .before .args .state) (c .before .before .before .before .before .before .before .before .args .items .now) (c .before .before .before .set-letters .last .1 .1 .1 .1 .1 .1 .0) (c .before .before .before .set-letters .result .state) (c .before .before .before .set-letters .result .count)
-stands c = standing-runs (indexedStepOf (c .before .before .before .before .before .before .before .before .args .index .now) (c .before .before .before .before .before .before .before .before .args .pairs .now) (c .before .before .before .before .before .before .before .before .args .ops .now) (numberOf (wordOf (c .before .before .before .before .before .before .before .before .args .boundary))) (c .before .before .before .before .before .before .before .before .args .word .now) (c .before .before .before .before .before .before .before .before .args .options)) (c .before .before .before .before .before .before .before .before .args .state) (c .before .before .before .before .before .before .before .before .args .items .now) (c .before .before .before .set-letters .ensures .runs (c .before .before .before .before .before .before .before .before .args .pairs .now)) (c .before .before .before .before .before .loop .inv)
+stands : (c : tie.After-step-indexed Inv-loop μ-loop) → let c8 = c .before .before .before .before .before .before .before .before in
+    Standing
+    (indexedStepOf (c8 .args .index .now) (c8 .args .pairs .now) (c8 .args .ops .now) (numberOf (wordOf (c8 .args .boundary))) (c8 .args .word .now)
+    (c8 .args .options)) (c8 .args .state) (c8 .args .items .now) (c .before .before .before .set-letters .last .1 .1 .1 .1 .1 .1 .0)
+    (c .before .before .before .set-letters .result .state) (c .before .before .before .set-letters .result .count)
+stands c =
+    let c8 = c .before .before .before .before .before .before .before .before in
+    let c5 = c .before .before .before .before .before in
+    standing-runs
+    (indexedStepOf (c8 .args .index .now) (c8 .args .pairs .now) (c8 .args .ops .now) (numberOf (wordOf (c8 .args .boundary))) (c8 .args .word .now)
+    (c8 .args .options)) (c8 .args .state) (c8 .args .items .now) (c .before .before .before .set-letters .ensures .runs (c8 .args .pairs .now))
+    (c5 .loop .inv)
 
-held : (c : tie.After-step-indexed Inv-loop μ-loop) → length (c .before .before .before .set-letters .last .1 .1 .1 .1 .1 .1 .0) ≡ length (c .before .before .before .before .before .before .before .before .args .items .now)
+held : (c : tie.After-step-indexed Inv-loop μ-loop) →
+    length (c .before .before .before .set-letters .last .1 .1 .1 .1 .1 .1 .0)
+    ≡ length (c .before .before .before .before .before .before .before .before .args .items .now)
 held c = appending-length (c .before .before .before .before .before .before .before .before .args .items .now) (stands c .stored)
 
 up : (c : tie.After-step-indexed Inv-loop μ-loop) → c .before .before .before .before .before .loop .k ≤ c .before .before .before .set-letters .result .count
 up c = runs-up (c .before .before .before .set-letters .ensures .runs (c .before .before .before .before .before .before .before .before .args .pairs .now))
 
-step-is : (c : tie.After-step-indexed Inv-loop μ-loop) → c .step-indexed .result ≡ (indexedStepOf (c .before .before .before .before .before .before .before .before .args .index .now) (c .before .before .before .before .before .before .before .before .args .pairs .now) (c .before .before .before .before .before .before .before .before .args .ops .now) (numberOf (wordOf (c .before .before .before .before .before .before .before .before .args .boundary))) (c .before .before .before .before .before .before .before .before .args .word .now) (c .before .before .before .before .before .before .before .before .args .options)) (c .before .before .before .set-letters .result .state)
-step-is c = answered-is (c .before .before .before .before .before .before .before .before .args .index .now) (c .before .before .before .before .before .before .before .before .args .pairs .now) (c .before .before .before .before .before .before .before .before .args .ops .now) (numberOf (wordOf (c .before .before .before .before .before .before .before .before .args .boundary))) (c .before .before .before .before .before .before .before .before .args .word .now) (c .before .before .before .before .before .before .before .before .args .options) (c .before .before .before .set-letters .result .state) (c .step-indexed .ensures)
+step-is : (c : tie.After-step-indexed Inv-loop μ-loop) → let c8 = c .before .before .before .before .before .before .before .before in
+    c .step-indexed .result ≡ (indexedStepOf (c8 .args .index .now) (c8 .args .pairs .now) (c8 .args .ops .now) (numberOf (wordOf (c8 .args .boundary)))
+    (c8 .args .word .now) (c8 .args .options)) (c .before .before .before .set-letters .result .state)
+step-is c =
+    let c8 = c .before .before .before .before .before .before .before .before in
+    answered-is (c8 .args .index .now) (c8 .args .pairs .now) (c8 .args .ops .now) (numberOf (wordOf (c8 .args .boundary))) (c8 .args .word .now)
+    (c8 .args .options) (c .before .before .before .set-letters .result .state) (c .step-indexed .ensures)
 
 small : (c : tie.After-step-indexed Inv-loop μ-loop) → Small (c .step-indexed .result .answer)
-small c = subst (λ (t : Step). Small (t .answer)) (sym (step-is c)) (indexed-small (c .before .before .before .before .before .before .before .before .args .index .now) (c .before .before .before .before .before .before .before .before .args .pairs .now) (c .before .before .before .before .before .before .before .before .args .ops .now) (numberOf (wordOf (c .before .before .before .before .before .before .before .before .args .boundary))) (c .before .before .before .before .before .before .before .before .args .word .now) (c .before .before .before .before .before .before .before .before .args .options) (c .before .before .before .set-letters .result .state))
+small c =
+    let c8 = c .before .before .before .before .before .before .before .before in
+    subst (λ (t : Step). Small (t .answer)) (sym (step-is c))
+    (indexed-small (c8 .args .index .now) (c8 .args .pairs .now) (c8 .args .ops .now) (numberOf (wordOf (c8 .args .boundary))) (c8 .args .word .now)
+    (c8 .args .options) (c .before .before .before .set-letters .result .state))
 
 loop-holds : tie.Need-loop-holds Inv-loop μ-loop
 loop-holds c =
     let a = c .before .before .args in
-    standing-none (indexedStepOf (a .index .now) (a .pairs .now) (a .ops .now) (numberOf (wordOf (a .boundary))) (a .word .now) (a .options)) (a .state) (a .items .now)
+    standing-none (indexedStepOf (a .index .now) (a .pairs .now) (a .ops .now) (numberOf (wordOf (a .boundary))) (a .word .now) (a .options)) (a .state)
+    (a .items .now)
 
 set-letters-requires : tie.Need-set-letters-requires Inv-loop μ-loop
 set-letters-requires c κs = search needs
@@ -74,8 +96,13 @@ returns c =
     let st = l .before .before .before in
     let a = st .args in
     let y = c .before .stopped in
-    subst (λ (z : ℤ). Tells (itemsBy (indexedStepOf (a .index .now) (a .pairs .now) (a .ops .now) z (a .word .now) (a .options)) (length (a .items .now) / 6) (a .state)) (a .items .now) (y .result) (y .last .0)) (number-word (a .boundary) (st .fits .boundary))
-    (standing-stop (indexedStepOf (a .index .now) (a .pairs .now) (a .ops .now) (numberOf (wordOf (a .boundary))) (a .word .now) (a .options)) (a .state) (a .items .now) (x .last .1 .1 .1 .1 .1 .1 .0) (x .result .state) (x .result .count) (stands t) (t .step-indexed .result) (step-is t) (small t) (sym (c .before .before .before .before .is-item .ensures) ∙ not-true _ (c .before .before .before .if1 .taken)) (y .result) (y .last .0) (y .ensures) (st .pre))
+    subst (λ (z : ℤ). Tells
+    (itemsBy (indexedStepOf (a .index .now) (a .pairs .now) (a .ops .now) z (a .word .now) (a .options)) (length (a .items .now) / 6) (a .state))
+    (a .items .now) (y .result) (y .last .0)) (number-word (a .boundary) (st .fits .boundary))
+    (standing-stop (indexedStepOf (a .index .now) (a .pairs .now) (a .ops .now) (numberOf (wordOf (a .boundary))) (a .word .now) (a .options)) (a .state)
+    (a .items .now) (x .last .1 .1 .1 .1 .1 .1 .0) (x .result .state) (x .result .count) (stands t) (t .step-indexed .result) (step-is t) (small t)
+    (sym (c .before .before .before .before .is-item .ensures) ∙ not-true _ (c .before .before .before .if1 .taken)) (y .result) (y .last .0) (y .ensures)
+    (st .pre))
 
 stopped-requires-2 : tie.Need-stopped-requires-2 Inv-loop μ-loop
 stopped-requires-2 c κs = search needs
@@ -91,20 +118,36 @@ returns-2 c =
     let st = l .before .before .before in
     let a = st .args in
     let y = c .before .stopped2 in
-    subst (λ (z : ℤ). Tells (itemsBy (indexedStepOf (a .index .now) (a .pairs .now) (a .ops .now) z (a .word .now) (a .options)) (length (a .items .now) / 6) (a .state)) (a .items .now) (y .result) (y .last .0)) (number-word (a .boundary) (st .fits .boundary))
-    (standing-full (indexedStepOf (a .index .now) (a .pairs .now) (a .ops .now) (numberOf (wordOf (a .boundary))) (a .word .now) (a .options)) (a .state) (a .items .now) (x .last .1 .1 .1 .1 .1 .1 .0) (x .result .state) (x .result .count) (stands t) (t .step-indexed .result) (step-is t) (sym (c .before .before .before .before .before .is-item .ensures) ∙ not-false _ (c .before .before .before .before .if1 .left)) (c .before .before .before .if2 .taken) (y .result) (y .last .0) (y .ensures))
+    subst (λ (z : ℤ). Tells
+    (itemsBy (indexedStepOf (a .index .now) (a .pairs .now) (a .ops .now) z (a .word .now) (a .options)) (length (a .items .now) / 6) (a .state))
+    (a .items .now) (y .result) (y .last .0)) (number-word (a .boundary) (st .fits .boundary))
+    (standing-full (indexedStepOf (a .index .now) (a .pairs .now) (a .ops .now) (numberOf (wordOf (a .boundary))) (a .word .now) (a .options)) (a .state)
+    (a .items .now) (x .last .1 .1 .1 .1 .1 .1 .0) (x .result .state) (x .result .count) (stands t) (t .step-indexed .result) (step-is t)
+    (sym (c .before .before .before .before .before .is-item .ensures) ∙ not-false _ (c .before .before .before .before .if1 .left))
+    (c .before .before .before .if2 .taken) (y .result) (y .last .0) (y .ensures))
 
 mul-put-item : tie.Need-mul-put-item Inv-loop μ-loop
-mul-put-item c = omega (arith, c .before .if2 .left, held (c .before .before .before .before), c .before .before .before .before .before .before .before .before .before .before .before .before .good .1 .1 .1 .1 .1 .1 .1 .0 .0)
+mul-put-item c =
+    let c12 = c .before .before .before .before .before .before .before .before .before .before .before .before in
+    omega (arith, c .before .if2 .left, held (c .before .before .before .before), c12 .good .1 .1 .1 .1 .1 .1 .1 .0 .0)
 
 put-item-requires : tie.Need-put-item-requires Inv-loop μ-loop
 put-item-requires c κs = search needs
 
 add-k : tie.Need-add-k Inv-loop μ-loop
-add-k c = omega (arith, c .before .before .before .before .if2 .left, held (c .before .before .before .before .before .before .before), c .before .before .before .before .before .before .before .before .before .before .before .before .before .before .before .good .1 .1 .1 .1 .1 .1 .1 .0 .0)
+add-k c =
+    let c15 = c .before .before .before .before .before .before .before .before .before .before .before .before .before .before .before in
+    let c7 = c .before .before .before .before .before .before .before in
+    omega (arith, c .before .before .before .before .if2 .left, held c7, c15 .good .1 .1 .1 .1 .1 .1 .1 .0 .0)
 
 loop-less : tie.Need-loop-less Inv-loop μ-loop
-loop-less c = omega (arith, c .before .before .before .before .if2 .left, held (c .before .before .before .before .before .before .before), up (c .before .before .before .before .before .before .before))
+loop-less c =
+    omega (
+      arith,
+      c .before .before .before .before .if2 .left,
+      held (c .before .before .before .before .before .before .before),
+      up (c .before .before .before .before .before .before .before),
+    )
 
 loop-again : tie.Need-loop-again Inv-loop μ-loop
 loop-again c =
@@ -117,7 +160,11 @@ loop-again c =
     let d = x .last .1 .1 .1 .1 .1 .1 .0 in
     let k = x .result .count in
     let fits : 6 * k + 6 ≤ length d = omega (arith, c .before .before .before .before .if2 .left) in
-    standing-more (indexedStepOf (a .index .now) (a .pairs .now) (a .ops .now) (numberOf (wordOf (a .boundary))) (a .word .now) (a .options)) (a .state) (a .items .now) d (x .result .state) k (stands t) (t .step-indexed .result) (step-is t) (sym (c .before .before .before .before .before .before .is-item .ensures) ∙ not-false _ (c .before .before .before .before .before .if1 .left)) (c .before .before .before .before .if2 .left) (y .last .0) (item-there d (y .last .0) (6 * k) (t .step-indexed .result .answer) fits (small t) (y .ensures))
+    standing-more (indexedStepOf (a .index .now) (a .pairs .now) (a .ops .now) (numberOf (wordOf (a .boundary))) (a .word .now) (a .options)) (a .state)
+    (a .items .now) d (x .result .state) k (stands t) (t .step-indexed .result) (step-is t)
+    (sym (c .before .before .before .before .before .before .is-item .ensures) ∙ not-false _ (c .before .before .before .before .before .if1 .left))
+    (c .before .before .before .before .if2 .left) (y .last .0)
+    (item-there d (y .last .0) (6 * k) (t .step-indexed .result .answer) fits (small t) (y .ensures))
 
 pub set-from-spec : {M : Type 1} → statement M
 set-from-spec =

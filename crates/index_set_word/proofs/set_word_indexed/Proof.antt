@@ -43,8 +43,13 @@ returns c =
     let z = g .before .before in
     let s = z .before .before .before .before in
     let a = s .args in
-    subst (λ (y : ℤ). Tells (indexedReply (a .index .now) (a .pairs .now) (a .ops .now) y (a .word .now) (a .options) (length (a .items .now))) (a .items .now) (x .result) (x .last .1 .1 .1 .1 .1 .1 .1 .0)) (number-word (a .boundary) (s .fits .boundary))
-    (tells-run (indexedStepOf (a .index .now) (a .pairs .now) (a .ops .now) (numberOf (wordOf (a .boundary))) (a .word .now) (a .options)) (a .pairs .now) (a .ops .now) (numberOf (wordOf (a .boundary))) (a .word .now) (a .options) (a .items .now) (z .zero-i32 .last .0) (v .state .given .0 .0) (sym (v .state .given .1) ∙ begin-is (a .pairs .now) (a .ops .now) (numberOf (wordOf (a .boundary))) (a .word .now) (a .options) (g .begin .result) (g .begin .ensures)) (z .zero-i32 .kept .0) (x .result) (x .last .1 .1 .1 .1 .1 .1 .1 .0) (x .ensures))
+    subst (λ (y : ℤ). Tells (indexedReply (a .index .now) (a .pairs .now) (a .ops .now) y (a .word .now) (a .options) (length (a .items .now))) (a .items .now)
+    (x .result) (x .last .1 .1 .1 .1 .1 .1 .1 .0)) (number-word (a .boundary) (s .fits .boundary))
+    (tells-run (indexedStepOf (a .index .now) (a .pairs .now) (a .ops .now) (numberOf (wordOf (a .boundary))) (a .word .now) (a .options)) (a .pairs .now)
+    (a .ops .now) (numberOf (wordOf (a .boundary))) (a .word .now) (a .options) (a .items .now) (z .zero-i32 .last .0) (v .state .given .0 .0)
+    (sym (v .state .given .1)
+    ∙ begin-is (a .pairs .now) (a .ops .now) (numberOf (wordOf (a .boundary))) (a .word .now) (a .options) (g .begin .result) (g .begin .ensures))
+    (z .zero-i32 .kept .0) (x .result) (x .last .1 .1 .1 .1 .1 .1 .1 .0) (x .ensures))
 
 same-length-2 : tie.Need-same-length-2
 same-length-2 c = search needs
@@ -56,8 +61,13 @@ returns-2 c =
     let z = g .before .before in
     let s = z .before .before .before .before in
     let a = s .args in
-    subst (λ (y : ℤ). Tells (indexedReply (a .index .now) (a .pairs .now) (a .ops .now) y (a .word .now) (a .options) (length (a .items .now))) (a .items .now) (Refused (v .n .given .0 .0)) (z .zero-i32 .last .0)) (number-word (a .boundary) (s .fits .boundary))
-    (tells-no-run (indexedStepOf (a .index .now) (a .pairs .now) (a .ops .now) (numberOf (wordOf (a .boundary))) (a .word .now) (a .options)) (a .pairs .now) (a .ops .now) (numberOf (wordOf (a .boundary))) (a .word .now) (a .options) (a .items .now) (z .zero-i32 .last .0) (v .n .given .0 .0) (sym (v .n .given .1) ∙ begin-is (a .pairs .now) (a .ops .now) (numberOf (wordOf (a .boundary))) (a .word .now) (a .options) (g .begin .result) (g .begin .ensures)) (z .zero-i32 .ensures))
+    subst (λ (y : ℤ). Tells (indexedReply (a .index .now) (a .pairs .now) (a .ops .now) y (a .word .now) (a .options) (length (a .items .now))) (a .items .now)
+    (Refused (v .n .given .0 .0)) (z .zero-i32 .last .0)) (number-word (a .boundary) (s .fits .boundary))
+    (tells-no-run (indexedStepOf (a .index .now) (a .pairs .now) (a .ops .now) (numberOf (wordOf (a .boundary))) (a .word .now) (a .options)) (a .pairs .now)
+    (a .ops .now) (numberOf (wordOf (a .boundary))) (a .word .now) (a .options) (a .items .now) (z .zero-i32 .last .0) (v .n .given .0 .0)
+    (sym (v .n .given .1)
+    ∙ begin-is (a .pairs .now) (a .ops .now) (numberOf (wordOf (a .boundary))) (a .word .now) (a .options) (g .begin .result) (g .begin .ensures))
+    (z .zero-i32 .ensures))
 
 pub set-word-indexed-spec : {M : Type 1} → statement M
 set-word-indexed-spec =

@@ -14,11 +14,17 @@ use Rattle.index_step.proofs.step_indexed.Statement.{statement}
 use Rattle.index_step.proofs.step_indexed.Tie as tie
 
 -- an answer at the boundary character as it was passed on, its bits
-finish : (c : tie.Start) {r : Step} → r ≡ indexedStepOf (now (c .args .index)) (now (c .args .pairs)) (now (c .args .ops)) (numberOf (wordOf (c .args .boundary))) (now (c .args .word)) (c .args .options) (c .args .state) → IndexedStepped (now (c .args .index)) (now (c .args .pairs)) (now (c .args .ops)) (c .args .boundary) (now (c .args .word)) (c .args .options) (c .args .state) r
+finish : (c : tie.Start) {r : Step} →
+    r ≡ indexedStepOf (now (c .args .index)) (now (c .args .pairs)) (now (c .args .ops)) (numberOf (wordOf (c .args .boundary))) (now (c .args .word))
+    (c .args .options) (c .args .state) →
+    IndexedStepped (now (c .args .index)) (now (c .args .pairs)) (now (c .args .ops)) (c .args .boundary) (now (c .args .word)) (c .args .options)
+    (c .args .state) r
 finish c e =
     let a = c .args in
     answered-as (now (a .index)) (now (a .pairs)) (now (a .ops)) (a .boundary) (now (a .word)) (a .options) (a .state)
-    (e ∙ ap (λ (z : ℤ). indexedStepOf (now (a .index)) (now (a .pairs)) (now (a .ops)) z (now (a .word)) (a .options) (a .state)) (number-word (a .boundary) (c .fits .boundary)))
+    (e
+    ∙ ap (λ (z : ℤ). indexedStepOf (now (a .index)) (now (a .pairs)) (now (a .ops)) z (now (a .word)) (a .options) (a .state))
+    (number-word (a .boundary) (c .fits .boundary)))
 
 quick-left-requires : tie.Need-quick-left-requires
 quick-left-requires c κs = search needs
@@ -31,7 +37,9 @@ returns c =
     let q = c .before .before in
     let st = q .before .before .before in
     let a = st .args in
-    finish st (other-is (now (a .index)) (now (a .pairs)) (now (a .ops)) (numberOf (wordOf (a .boundary))) (now (a .word)) (a .options) (a .state) (q .quick-left .ensures) (c .before .if1 .taken) (c .kern-step .ensures))
+    finish st
+    (other-is (now (a .index)) (now (a .pairs)) (now (a .ops)) (numberOf (wordOf (a .boundary))) (now (a .word)) (a .options) (a .state)
+    (q .quick-left .ensures) (c .before .if1 .taken) (c .kern-step .ensures))
 
 u32-at-requires : tie.Need-u32-at-requires
 u32-at-requires c κs = search needs
@@ -63,7 +71,9 @@ returns-2 c =
     let q = e .before in
     let st = q .before .before .before in
     let a = st .args in
-    finish st (first-is (now (a .index)) (now (a .pairs)) (now (a .ops)) (numberOf (wordOf (a .boundary))) (now (a .word)) (a .options) (a .state) (q .quick-left .ensures) (e .if1 .left) (l .before .u32-at .ensures) (l .look-up .ensures)
+    finish st
+    (first-is (now (a .index)) (now (a .pairs)) (now (a .ops)) (numberOf (wordOf (a .boundary))) (now (a .word)) (a .options) (a .state)
+    (q .quick-left .ensures) (e .if1 .left) (l .before .u32-at .ensures) (l .look-up .ensures)
     (k .k .given .0 .0) (k .k .given .1) (b .is-ready .ensures) (c .before .if2 .taken) (c .quick-step2 .ensures))
 
 step-requires : tie.Need-step-requires
@@ -79,7 +89,9 @@ returns-3 c =
     let q = e .before in
     let st = q .before .before .before in
     let a = st .args in
-    finish st (missing-is (now (a .index)) (now (a .pairs)) (now (a .ops)) (numberOf (wordOf (a .boundary))) (now (a .word)) (a .options) (a .state) (q .quick-left .ensures) (e .if1 .left) (l .before .u32-at .ensures) (l .look-up .ensures)
+    finish st
+    (missing-is (now (a .index)) (now (a .pairs)) (now (a .ops)) (numberOf (wordOf (a .boundary))) (now (a .word)) (a .options) (a .state)
+    (q .quick-left .ensures) (e .if1 .left) (l .before .u32-at .ensures) (l .look-up .ensures)
     (c .before .enum-told .given .1) (c .quick-step .ensures))
 
 returns-4 : tie.Need-returns-4
@@ -91,7 +103,9 @@ returns-4 c =
     let q = e .before in
     let st = q .before .before .before in
     let a = st .args in
-    finish st (later-is (now (a .index)) (now (a .pairs)) (now (a .ops)) (numberOf (wordOf (a .boundary))) (now (a .word)) (a .options) (a .state) (q .quick-left .ensures) (e .if1 .left) (l .before .u32-at .ensures) (l .look-up .ensures)
+    finish st
+    (later-is (now (a .index)) (now (a .pairs)) (now (a .ops)) (numberOf (wordOf (a .boundary))) (now (a .word)) (a .options) (a .state)
+    (q .quick-left .ensures) (e .if1 .left) (l .before .u32-at .ensures) (l .look-up .ensures)
     (k .k .given .0 .0) (k .k .given .1) (b .is-ready .ensures) (c .before .if2 .left)
     (stepped-is (now (a .pairs)) (now (a .ops)) (numberOf (wordOf (a .boundary))) (now (a .word)) (a .options) (a .state) (c .step .ensures)))
 
@@ -102,7 +116,9 @@ returns-5 c =
     let q = e .before in
     let st = q .before .before .before in
     let a = st .args in
-    finish st (wrong-is (now (a .index)) (now (a .pairs)) (now (a .ops)) (numberOf (wordOf (a .boundary))) (now (a .word)) (a .options) (a .state) (q .quick-left .ensures) (e .if1 .left) (l .before .u32-at .ensures) (l .look-up .ensures)
+    finish st
+    (wrong-is (now (a .index)) (now (a .pairs)) (now (a .ops)) (numberOf (wordOf (a .boundary))) (now (a .word)) (a .options) (a .state)
+    (q .quick-left .ensures) (e .if1 .left) (l .before .u32-at .ensures) (l .look-up .ensures)
     (c .enum-told2 .given .1))
 
 pub step-indexed-spec : {M : Type 1} → statement M

@@ -12,7 +12,9 @@ use Rattle.pack.proofs.entry_number.Statement.{statement}
 use Rattle.pack.proofs.entry_number.Tie as tie
 
 -- the word that is read is an entry
-entered : (e : tie.Else1) → let a = e .before .before .before .args in pos (packedEntry (a .redirects) (a .offset) (a .labels .now) (e .before .word-at .result)) ≡ entryNumber (a .entries .now) (a .redirects) (a .offset) (a .labels .now) (a .j)
+entered : (e : tie.Else1) → let a = e .before .before .before .args in
+    pos (packedEntry (a .redirects) (a .offset) (a .labels .now) (e .before .word-at .result))
+    ≡ entryNumber (a .entries .now) (a .redirects) (a .offset) (a .labels .now) (a .j)
 entered e =
     let a = e .before .before .before .args in
     ap (λ (w : ℕ). pos (packedEntry (a .redirects) (a .offset) (a .labels .now) w)) (e .before .word-at .ensures .is)

@@ -35,13 +35,17 @@ asked : (r : tie.After-packable-refusal) → r .packable-refusal .result ≡ pac
 asked r =
     let s = start r in
     r .packable-refusal .ensures
-    ∙ ap packableRefusal (lent-font (s .args .instructions .now) (s .args .entries .now) (number-word (s .args .boundary) (s .fits .boundary)) (number-word (s .args .left-entry) (s .fits .left-entry)))
+    ∙ ap packableRefusal
+    (lent-font (s .args .instructions .now) (s .args .entries .now) (number-word (s .args .boundary) (s .fits .boundary))
+    (number-word (s .args .left-entry) (s .fits .left-entry)))
 
 -- by the words of the boundary character and of the left entry
-same : (w : tie.After-word-of2) → let s = start (w .before .before .before) in packable (s .args .instructions .now) (s .args .entries .now) (numberOf (w .before .word-of .result)) (numberOf (w .word-of2 .result)) ≡ font s
+same : (w : tie.After-word-of2) → let s = start (w .before .before .before) in
+    packable (s .args .instructions .now) (s .args .entries .now) (numberOf (w .before .word-of .result)) (numberOf (w .word-of2 .result)) ≡ font s
 same w =
     let s = start (w .before .before .before) in
-    lent-font (s .args .instructions .now) (s .args .entries .now) (lent-number (s .args .boundary) (s .fits .boundary) (w .before .word-of .ensures)) (lent-number (s .args .left-entry) (s .fits .left-entry) (w .word-of2 .ensures))
+    lent-font (s .args .instructions .now) (s .args .entries .now) (lent-number (s .args .boundary) (s .fits .boundary) (w .before .word-of .ensures))
+    (lent-number (s .args .left-entry) (s .fits .left-entry) (w .word-of2 .ensures))
 
 zero-i32-requires : tie.Need-zero-i32-requires
 zero-i32-requires c κs = search needs
@@ -64,8 +68,10 @@ returns c =
     let s = start r in
     let z = zeroed-is (s .args .out .now) (zeroed r) in
     let y = zeroed-is (s .args .entries-out .now) (zeroedOut r) in
-    packs-lengths (s .args .out .now) (zeros r) (s .args .entries-out .now) (zerosOut r) refl (zeroed-length (s .args .out .now) (zeroed r)) (zeroed-length (s .args .entries-out .now) (zeroedOut r))
-    (packs-refused (font s) (zeros r) (zerosOut r) z y (r .packable-refusal .result) (packing-first (font s) (length (zeros r)) (length (zerosOut r)) (asked r) (c .if1 .taken)) (c .if1 .taken))
+    packs-lengths (s .args .out .now) (zeros r) (s .args .entries-out .now) (zerosOut r) refl (zeroed-length (s .args .out .now) (zeroed r))
+    (zeroed-length (s .args .entries-out .now) (zeroedOut r))
+    (packs-refused (font s) (zeros r) (zerosOut r) z y (r .packable-refusal .result)
+    (packing-first (font s) (length (zeros r)) (length (zerosOut r)) (asked r) (c .if1 .taken)) (c .if1 .taken))
 
 word-of-requires : tie.Need-word-of-requires
 word-of-requires c κs = search needs
@@ -78,8 +84,10 @@ pack-font-requires c κs =
     let w = c .before .before in
     let e = w .before .before in
     let r = e .before in
-    let s = start r in
-    (ap packableRefusal (same w) ∙ sym (asked r) ∙ e .if1 .left, (zeroed-is (s .args .out .now) (zeroed r), zeroed-is (s .args .entries-out .now) (zeroedOut r)))
+    let s = start r in (
+      ap packableRefusal (same w) ∙ sym (asked r) ∙ e .if1 .left,
+      (zeroed-is (s .args .out .now) (zeroed r), zeroed-is (s .args .entries-out .now) (zeroedOut r)),
+    )
 
 same-length-3 : tie.Need-same-length-3
 same-length-3 c = search needs
@@ -93,7 +101,8 @@ returns-2 c =
     let w = p .before .before .before in
     let r = w .before .before .before in
     let s = start r in
-    packs-lengths (s .args .out .now) (zeros r) (s .args .entries-out .now) (zerosOut r) (same w) (zeroed-length (s .args .out .now) (zeroed r)) (zeroed-length (s .args .entries-out .now) (zeroedOut r))
+    packs-lengths (s .args .out .now) (zeros r) (s .args .entries-out .now) (zerosOut r) (same w) (zeroed-length (s .args .out .now) (zeroed r))
+    (zeroed-length (s .args .entries-out .now) (zeroedOut r))
     (p .pack-font .ensures)
 
 pub pack-entrypoints-spec : {M : Type 1} → statement M

@@ -11,7 +11,8 @@ use Rattle.words.specs.Words.{numberOf}
 use Rattle.pack_labels.proofs.Insertion.{label-le, label-front, label-redirects}
 use Rattle.pack.specs.Packing.{Packable, packable, packingRefusal}
 use Rattle.lang.proofs.Entered.{entries-few}
-use Rattle.pack.proofs.Packing.{Plan, Taken, taken, font-entered, plan-front, plan-few, plan-redirects, plan-offset, plan-offset-le, plan-offset-lt, plan-packed, plan-entries, plan-answer, plan-shifts, plan-refusal, packs-refused, packs-taken}
+use Rattle.pack.proofs.Packing.{Plan, Taken, taken, font-entered, plan-front, plan-few, plan-redirects, plan-offset, plan-offset-le, plan-offset-lt}
+use Rattle.pack.proofs.Packing.{plan-packed, plan-entries, plan-answer, plan-shifts, plan-refusal, packs-refused, packs-taken}
 use borrow.Author.Needs.{needs}
 use Rattle.pack.proofs.pack_font.Statement.{statement}
 use Rattle.pack.proofs.pack_font.Tie as tie
@@ -45,7 +46,8 @@ offset-lt : (l : tie.After-label) → l .label .result .offset < 65536
 offset-lt l = plan-offset-lt (plan l) (omega (arith, labels-length l, label-le (l .label .ensures), l .label .kept))
 
 -- what is refused
-asked : (r : tie.After-labels-refusal) → let l = r .before .before .before .before in r .labels-refusal .result ≡ packingRefusal (font (start l)) (length (start l .args .out .now)) (length (start l .args .entries-out .now))
+asked : (r : tie.After-labels-refusal) → let l = r .before .before .before .before in
+    r .labels-refusal .result ≡ packingRefusal (font (start l)) (length (start l .args .out .now)) (length (start l .args .entries-out .now))
 asked r =
     let p = r .before in
     let l = p .before .before .before in
@@ -54,10 +56,12 @@ asked r =
     ∙ plan-refusal (plan l) (length (s .args .out .now)) (length (s .args .entries-out .now)) (p .packed-size .result) (s .pre .0) (p .packed-size .ensures)
 
 -- nothing is
-accepted : (e : tie.Else1) → let l = e .before .before .before .before .before in packingRefusal (font (start l)) (length (start l .args .out .now)) (length (start l .args .entries-out .now)) ≡ 0
+accepted : (e : tie.Else1) → let l = e .before .before .before .before .before in
+    packingRefusal (font (start l)) (length (start l .args .out .now)) (length (start l .args .entries-out .now)) ≡ 0
 accepted e = sym (asked (e .before)) ∙ e .if1 .left
 
-packs : (e : tie.Else1) → let l = e .before .before .before .before .before in Taken (font (start l)) (length (start l .args .out .now)) (length (start l .args .entries-out .now))
+packs : (e : tie.Else1) → let l = e .before .before .before .before .before in
+    Taken (font (start l)) (length (start l .args .out .now)) (length (start l .args .entries-out .now))
 packs e =
     let s = start (e .before .before .before .before .before) in
     taken (font s) (length (s .args .out .now)) (length (s .args .entries-out .now)) (accepted e)

@@ -17,23 +17,28 @@ use Rattle.pack.proofs.put_instructions.Statement.{statement}
 use Rattle.pack.proofs.put_instructions.Tie as tie
 
 abbrev Inv-loop : tie.InvT-loop
-Inv-loop instructions boundary left labels redirects offset out₀ size j₀ out j = Filling (packedAt (numberOf boundary) redirects offset labels instructions (numberOf left)) out₀ out j × (j ≤ size)
+Inv-loop instructions boundary left labels redirects offset out₀ size j₀ out j =
+    Filling (packedAt (numberOf boundary) redirects offset labels instructions (numberOf left)) out₀ out j × (j ≤ size)
 
 abbrev μ-loop : tie.MeasureT-loop
 μ-loop instructions boundary left labels redirects offset out₀ size j₀ out j = size - j
 
 -- the size that is counted is that of the packed instructions
-size : (s : tie.At-loop Inv-loop μ-loop) → let a = s .before .before .before .args in s .before .packed-size .result ≡ length (front (numberOf (a .boundary)) (a .redirects) (a .offset) (a .labels .now) ++ a .instructions .now ++ back (numberOf (a .left)) (a .offset))
+size : (s : tie.At-loop Inv-loop μ-loop) → let a = s .before .before .before .args in
+    s .before .packed-size .result ≡ length
+    (front (numberOf (a .boundary)) (a .redirects) (a .offset) (a .labels .now) ++ a .instructions .now ++ back (numberOf (a .left)) (a .offset))
 size s =
     let t = s .before .before .before in
     let a = t .args in
     s .before .packed-size .ensures
-    ∙ sym (number-count (numberOf (a .boundary)) (a .redirects) (a .offset) (a .labels .now) (a .instructions .now) (numberOf (a .left)) (t .pre .0 .0) (t .pre .0 .1 .0))
+    ∙ sym (number-count (numberOf (a .boundary)) (a .redirects) (a .offset) (a .labels .now) (a .instructions .now) (numberOf (a .left)) (t .pre .0 .0)
+    (t .pre .0 .1 .0))
 
 kept : (s : tie.At-loop Inv-loop μ-loop) → length (s .loop .out) ≡ length (s .before .before .before .args .out .now)
 kept s =
     let a = s .before .before .before .args in
-    filling-length (packedAt (numberOf (a .boundary)) (a .redirects) (a .offset) (a .labels .now) (a .instructions .now) (numberOf (a .left))) (a .out .now) (s .loop .inv .0)
+    filling-length (packedAt (numberOf (a .boundary)) (a .redirects) (a .offset) (a .labels .now) (a .instructions .now) (numberOf (a .left))) (a .out .now)
+    (s .loop .inv .0)
 
 room : (c : tie.In-loop Inv-loop μ-loop) → c .before .loop .j < length (c .before .before .before .before .args .out .now)
 room c = omega (arith, size (c .before), c .before .before .before .before .pre .1, c .loop-test .taken)
@@ -64,7 +69,8 @@ loop-less c = omega arith
 loop-again : tie.Need-loop-again Inv-loop μ-loop
 loop-again c =
     let s = c .before .before .before .before .before in (
-      filling-put (s .loop .inv .0) (room (c .before .before .before .before)) (c .before .put-word .ensures) (c .before .before .before .packed-number .ensures),
+      filling-put (s .loop .inv .0) (room (c .before .before .before .before)) (c .before .put-word .ensures)
+          (c .before .before .before .packed-number .ensures),
       omega arith,
     )
 
@@ -75,7 +81,9 @@ returns : tie.Need-returns Inv-loop μ-loop
 returns c =
     let s = c .before in
     let a = s .before .before .before .args in
-    let e : s .loop .j ≡ length (front (numberOf (a .boundary)) (a .redirects) (a .offset) (a .labels .now) ++ a .instructions .now ++ back (numberOf (a .left)) (a .offset)) = omega (arith, size s, c .loop-test .left) in
+    let e : s .loop .j ≡ length
+    (front (numberOf (a .boundary)) (a .redirects) (a .offset) (a .labels .now) ++ a .instructions .now ++ back (numberOf (a .left)) (a .offset)) =
+    omega (arith, size s, c .loop-test .left) in
     filling-is
     (front (numberOf (a .boundary)) (a .redirects) (a .offset) (a .labels .now) ++ a .instructions .now ++ back (numberOf (a .left)) (a .offset)) (pos 0)
     (rw e at (s .loop .inv .0))

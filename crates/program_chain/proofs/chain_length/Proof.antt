@@ -19,7 +19,8 @@ Inv-loop instructions entry n₀ at₀ n at = n + length (chainOf instructions a
 abbrev μ-loop : tie.MeasureT-loop
 μ-loop instructions entry n₀ at₀ n at = count instructions - at
 
-step : (c : tie.After-known-told Inv-loop μ-loop) → let e = c .before .before .before .before in let s = now (e .before .args .instructions) in Stepped (count s) (instructionAt s) (e .loop .at) (c .before .on .given .0 .0) (c .before .on .given .0 .1 .0)
+step : (c : tie.After-known-told Inv-loop μ-loop) → let e = c .before .before .before .before in let s = now (e .before .args .instructions) in
+    Stepped (count s) (instructionAt s) (e .loop .at) (c .before .on .given .0 .0) (c .before .on .given .0 .1 .0)
 step c = step-on _ _ _ _ _ (sym (c .before .before .before .next-instruction .ensures) ∙ c .before .on .given .1)
 
 loop-holds : tie.Need-loop-holds Inv-loop μ-loop
@@ -38,12 +39,21 @@ returns : tie.Need-returns Inv-loop μ-loop
 returns c =
     let e = c .before .before .before in
     let s = now (e .before .args .instructions) in
-    omega (arith, e .loop .inv, ap length (step-end (count s) (instructionAt s) (e .loop .at) (sym (c .before .before .next-instruction .ensures) ∙ c .enum-told .given .1)))
+    omega (
+      arith,
+      e .loop .inv,
+      ap length (step-end (count s) (instructionAt s) (e .loop .at) (sym (c .before .before .next-instruction .ensures) ∙ c .enum-told .given .1)),
+    )
 
 add-n : tie.Need-add-n Inv-loop μ-loop
 add-n c =
     let a = c .before .before .before .before .before .args in
-    omega (arith, c .before .before .before .before .loop .inv, ap length (step c .rest), length-chain (count (now (a .instructions))) (count (now (a .instructions))) (instructionAt (now (a .instructions))) (a .entry))
+    omega (
+      arith,
+      c .before .before .before .before .loop .inv,
+      ap length (step c .rest),
+      length-chain (count (now (a .instructions))) (count (now (a .instructions))) (instructionAt (now (a .instructions))) (a .entry),
+    )
 
 loop-less : tie.Need-loop-less Inv-loop μ-loop
 loop-less c = omega (arith, step c .inside, step c .ahead)

@@ -24,7 +24,8 @@ use Rattle.program_chain.proofs.instructions_for_entrypoint.Statement.{
 use Rattle.program_chain.proofs.instructions_for_entrypoint.Tie as tie
 
 -- the list has been zeroed, and the refusal asked of the entry's bits and the list as it is then
-module _ (s : List ℤ) (entry : ℤ) (out zeroed : List ℕ) (f : SFits w32 entry) (z : zeroed ≡ replicate (length out) 0) (r : ℕ) (asked : r ≡ walkRefusal s (toZ w32 (ofZ w32 entry)) (length zeroed)) where
+module _ (s : List ℤ) (entry : ℤ) (out zeroed : List ℕ) (f : SFits w32 entry) (z : zeroed ≡ replicate (length out) 0) (r : ℕ)
+    (asked : r ≡ walkRefusal s (toZ w32 (ofZ w32 entry)) (length zeroed)) where
   refusal-is : r ≡ walkRefusal s entry (length out)
   refusal-is = asked ∙ rw (toZ-ofZ w32 entry f, z, length-replicate)
 
@@ -44,11 +45,14 @@ module _ (s : List ℤ) (entry : ℤ) (out zeroed : List ℕ) (f : SFits w32 ent
     nothing-refused = sym refusal-is ∙ taken
 
     few : count s ≤ 32767
-    few = program-size s (orElse-none (programRefusal s) (orElse (rangeRefusal 65535 entry) (roomRefusal (length (chainOf s (wordOf entry))) (length out))) nothing-refused .0)
+    few =
+        program-size s
+        (orElse-none (programRefusal s) (orElse (rangeRefusal 65535 entry) (roomRefusal (length (chainOf s (wordOf entry))) (length out))) nothing-refused .0)
 
     room : length (chainOf s w) ≤ length zeroed
     room =
-        let a = orElse-none (programRefusal s) (orElse (rangeRefusal 65535 entry) (roomRefusal (length (chainOf s (wordOf entry))) (length out))) nothing-refused in
+        let a = orElse-none (programRefusal s) (orElse (rangeRefusal 65535 entry) (roomRefusal (length (chainOf s (wordOf entry))) (length out)))
+        nothing-refused in
         let b = orElse-none (rangeRefusal 65535 entry) (roomRefusal (length (chainOf s (wordOf entry))) (length out)) (a .1) in
         rw (word-is, z, length-replicate) (room-fits (length (chainOf s (wordOf entry))) (length out) (b .1))
 
@@ -76,7 +80,8 @@ returns c =
     let e = c .before in
     let z = e .before .before .before in
     let a = z .before .before .before in
-    refused (now (a .args .instructions)) (a .args .entry) (now (a .args .out)) (z .zero-u32 .last .0) (a .fits .entry) (z .zero-u32 .ensures) (e .walk-refusal .result) (e .walk-refusal .ensures) (c .if1 .taken)
+    refused (now (a .args .instructions)) (a .args .entry) (now (a .args .out)) (z .zero-u32 .last .0) (a .fits .entry) (z .zero-u32 .ensures)
+    (e .walk-refusal .result) (e .walk-refusal .ensures) (c .if1 .taken)
 
 word-of-requires : tie.Need-word-of-requires
 word-of-requires c κs = search needs
@@ -90,7 +95,8 @@ write-chain-requires c κs =
     let e = w .before .before in
     let z = e .before .before .before in
     let a = z .before .before .before in
-    ready (now (a .args .instructions)) (a .args .entry) (now (a .args .out)) (z .zero-u32 .last .0) (a .fits .entry) (z .zero-u32 .ensures) (e .walk-refusal .result) (e .walk-refusal .ensures) (w .before .if1 .left) (w .word-of .result) (w .word-of .ensures)
+    ready (now (a .args .instructions)) (a .args .entry) (now (a .args .out)) (z .zero-u32 .last .0) (a .fits .entry) (z .zero-u32 .ensures)
+    (e .walk-refusal .result) (e .walk-refusal .ensures) (w .before .if1 .left) (w .word-of .result) (w .word-of .ensures)
 
 same-length-2 : tie.Need-same-length-2
 same-length-2 c = search needs
@@ -102,7 +108,9 @@ returns-2 c =
     let e = w .before .before in
     let z = e .before .before .before in
     let a = z .before .before .before in
-    written (now (a .args .instructions)) (a .args .entry) (now (a .args .out)) (z .zero-u32 .last .0) (a .fits .entry) (z .zero-u32 .ensures) (e .walk-refusal .result) (e .walk-refusal .ensures) (w .before .if1 .left) (w .word-of .result) (w .word-of .ensures) (x .write-chain .result) (x .write-chain .last .1 .1 .0) (x .write-chain .ensures .0) (x .write-chain .ensures .1)
+    written (now (a .args .instructions)) (a .args .entry) (now (a .args .out)) (z .zero-u32 .last .0) (a .fits .entry) (z .zero-u32 .ensures)
+    (e .walk-refusal .result) (e .walk-refusal .ensures) (w .before .if1 .left) (w .word-of .result) (w .word-of .ensures) (x .write-chain .result)
+    (x .write-chain .last .1 .1 .0) (x .write-chain .ensures .0) (x .write-chain .ensures .1)
 
 pub instructions-for-entrypoint-spec : {M : Type 1} → statement M
 instructions-for-entrypoint-spec =

@@ -23,7 +23,8 @@ use Rattle.program_chain.proofs.kern_of.Tie as tie
 past : (kerns : List ℤ) (i : ℕ) (operation : Operation) → operation ≡ KernAtIndex i → length kerns ≤ i → Kern (record { 0 = pos 0 }) ≡ kernOf kerns operation
 past kerns i operation e h = rw (e, List·getD-eq-default)
 
-there : (kerns : List ℤ) (i : ℕ) (operation : Operation) → operation ≡ KernAtIndex i → mag (getD kerns i (pos 0)) < 2 ^ 31 → Kern (record { 0 = toZ w32 (ofZ w32 (getD kerns i (pos 0))) }) ≡ kernOf kerns operation
+there : (kerns : List ℤ) (i : ℕ) (operation : Operation) → operation ≡ KernAtIndex i → mag (getD kerns i (pos 0)) < 2 ^ 31 →
+    Kern (record { 0 = toZ w32 (ofZ w32 (getD kerns i (pos 0))) }) ≡ kernOf kerns operation
 there kerns i operation e m = rw (e, toZ-ofZ w32 (getD kerns i (pos 0)) (record { sfits = m }))
 
 kept : (kerns : List ℤ) (operation : Operation) → OneOf (0 ∷ 2 ∷ 3 ∷ []) (tagOf the-type operation) → operation ≡ kernOf kerns operation
@@ -45,7 +46,9 @@ shared-slice-copy-out-k : tie.Need-shared-slice-copy-out-k
 shared-slice-copy-out-k c = search needs
 
 returns : tie.Need-returns
-returns c = let a = c .before .before .before .before .before .args in there (now (a .kerns)) _ (a .operation) (c .before .before .before .operation .given .1) (c .k .given)
+returns c =
+    let a = c .before .before .before .before .before .args in
+    there (now (a .kerns)) _ (a .operation) (c .before .before .before .operation .given .1) (c .k .given)
 
 returns-2 : tie.Need-returns-2
 returns-2 c = let a = c .before .before .before .before .args in past (now (a .kerns)) _ (a .operation) (c .before .before .operation .given .1) (c .if1 .left)

@@ -32,12 +32,14 @@ add-t11 c = search needs
 returns-2 : tie.Need-returns-2
 returns-2 c =
     let a = c .before .before .before .args in
-    step-to (count (now (a .instructions))) (instructionAt (now (a .instructions))) (a .at) (Skip (c .before .field-at .result % 256)) (c .before .before .if1 .left) (ap nextOf (read-pos (c .before .field-at .ensures) (c .if2 .taken)))
+    step-to (count (now (a .instructions))) (instructionAt (now (a .instructions))) (a .at) (Skip (c .before .field-at .result % 256))
+    (c .before .before .if1 .left) (ap nextOf (read-pos (c .before .field-at .ensures) (c .if2 .taken)))
 
 returns-3 : tie.Need-returns-3
 returns-3 c =
     let a = c .before .before .before .args in
-    step-to (count (now (a .instructions))) (instructionAt (now (a .instructions))) (a .at) Stop (c .before .before .if1 .left) (ap nextOf (read-neg (c .before .field-at .ensures) (c .if2 .left)))
+    step-to (count (now (a .instructions))) (instructionAt (now (a .instructions))) (a .at) Stop (c .before .before .if1 .left)
+    (ap nextOf (read-neg (c .before .field-at .ensures) (c .if2 .left)))
 
 pub next-instruction-spec : {M : Type 1} → statement M
 next-instruction-spec =

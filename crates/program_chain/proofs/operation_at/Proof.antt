@@ -21,7 +21,8 @@ returns : tie.Need-returns
 returns c =
     let a = c .before .before .before .args in
     c .kern-of .ensures
-    ∙ ap (kernOf (now (a .kerns))) (c .before .redirect .ensures ∙ ap (λ (x : Instruction). redirected (x .operation)) (c .before .before .instruction-at .ensures))
+    ∙ ap (kernOf (now (a .kerns)))
+    (c .before .redirect .ensures ∙ ap (λ (x : Instruction). redirected (x .operation)) (c .before .before .instruction-at .ensures))
 
 pub operation-at-spec : {M : Type 1} → statement M
 operation-at-spec =

@@ -15,7 +15,8 @@ use borrow.Author.Needs.{needs}
 use Rattle.program_chain.proofs.redirect.Statement.{statement}
 use Rattle.program_chain.proofs.redirect.Tie as tie
 
-turned : (operation : Operation) (t : ℕ) (f : Bool) (r : Operation) → operation ≡ EntrypointRedirect t f → r ≡ fromBytes (t / 256) (t % 256) → r ≡ redirected operation
+turned : (operation : Operation) (t : ℕ) (f : Bool) (r : Operation) → operation ≡ EntrypointRedirect t f → r ≡ fromBytes (t / 256) (t % 256) →
+    r ≡ redirected operation
 turned operation t f r e h = h ∙ rw e
 
 kept : (operation : Operation) → OneOf (0 ∷ 1 ∷ 2 ∷ []) (tagOf the-type operation) → operation ≡ redirected operation
@@ -37,7 +38,9 @@ lig-kern-operation-from-bytes-requires : tie.Need-lig-kern-operation-from-bytes-
 lig-kern-operation-from-bytes-requires c κs = search needs
 
 returns : tie.Need-returns
-returns c = turned (c .before .before .before .before .args .operation) _ _ (c .lig-kern-operation-from-bytes .result) (c .before .before .operation .given .1) (c .lig-kern-operation-from-bytes .ensures)
+returns c =
+    turned (c .before .before .before .before .args .operation) _ _ (c .lig-kern-operation-from-bytes .result) (c .before .before .operation .given .1)
+    (c .lig-kern-operation-from-bytes .ensures)
 
 returns-2 : tie.Need-returns-2
 returns-2 c = kept (c .before .args .operation) (c .match .keys2)

@@ -18,7 +18,8 @@ Inv-loop instructions entry right at₀ at = firstFor (instructionAt instruction
 abbrev μ-loop : tie.MeasureT-loop
 μ-loop instructions entry right at₀ at = count instructions - at
 
-step : (c : tie.After-known-told Inv-loop μ-loop) → let e = c .before .before .before .before in let s = now (e .before .args .instructions) in Stepped (count s) (instructionAt s) (e .loop .at) (c .before .i .given .0 .0) (c .before .i .given .0 .1 .0)
+step : (c : tie.After-known-told Inv-loop μ-loop) → let e = c .before .before .before .before in let s = now (e .before .args .instructions) in
+    Stepped (count s) (instructionAt s) (e .loop .at) (c .before .i .given .0 .0) (c .before .i .given .0 .1 .0)
 step c = step-on _ _ _ _ _ (sym (c .before .before .before .next-instruction .ensures) ∙ c .before .i .given .1)
 
 loop-holds : tie.Need-loop-holds Inv-loop μ-loop
@@ -36,7 +37,8 @@ enum-told c = search needs
 returns : tie.Need-returns Inv-loop μ-loop
 returns c =
     let e = c .before .before .before in
-    rule-nowhere _ _ (e .before .args .right) _ (e .loop .at) (step-end _ _ _ (sym (c .before .before .next-instruction .ensures) ∙ c .enum-told .given .1)) (e .loop .inv)
+    rule-nowhere _ _ (e .before .args .right) _ (e .loop .at) (step-end _ _ _ (sym (c .before .before .next-instruction .ensures) ∙ c .enum-told .given .1))
+    (e .loop .inv)
 
 field-at-requires : tie.Need-field-at-requires Inv-loop μ-loop
 field-at-requires c κs = search needs
@@ -44,7 +46,8 @@ field-at-requires c κs = search needs
 returns-2 : tie.Need-returns-2 Inv-loop μ-loop
 returns-2 c =
     let e = c .before .before .before .before .before .before in
-    rule-here _ _ (e .before .args .right) _ _ _ _ (step (c .before .before)) (e .loop .inv) (ap (λ (w : ℕ). w % 256) (sym (c .before .field-at .ensures .is)) ∙ c .if1 .taken)
+    rule-here _ _ (e .before .args .right) _ _ _ _ (step (c .before .before)) (e .loop .inv)
+    (ap (λ (w : ℕ). w % 256) (sym (c .before .field-at .ensures .is)) ∙ c .if1 .taken)
 
 loop-less : tie.Need-loop-less Inv-loop μ-loop
 loop-less c = omega (arith, step (c .before .before) .inside, step (c .before .before) .ahead)
@@ -52,7 +55,9 @@ loop-less c = omega (arith, step (c .before .before) .inside, step (c .before .b
 loop-again : tie.Need-loop-again Inv-loop μ-loop
 loop-again c =
     let e = c .before .before .before .before .before .before in
-    rule-later _ _ (e .before .args .right) _ _ _ _ (step (c .before .before)) (e .loop .inv) (λ (h : rightOf (now (e .before .args .instructions)) (c .before .before .before .i .given .0 .0) ≡ e .before .args .right). c .if1 .left (ap (λ (w : ℕ). w % 256) (c .before .field-at .ensures .is) ∙ h))
+    rule-later _ _ (e .before .args .right) _ _ _ _ (step (c .before .before)) (e .loop .inv)
+    (λ (h : rightOf (now (e .before .args .instructions)) (c .before .before .before .i .given .0 .0) ≡ e .before .args .right). c .if1 .left
+    (ap (λ (w : ℕ). w % 256) (c .before .field-at .ensures .is) ∙ h))
 
 pub rule-index-spec : {M : Type 1} → statement M
 rule-index-spec =

@@ -61,7 +61,8 @@ returns : tie.Need-returns
 returns c =
     let p = c .before in
     let a = p .before in
-    by-program (now (a .args .instructions)) (a .args .entry) (a .args .room) (a .fits .entry) (p .program-refusal .result) (p .program-refusal .ensures) (c .if1 .taken)
+    by-program (now (a .args .instructions)) (a .args .entry) (a .args .room) (a .fits .entry) (p .program-refusal .result) (p .program-refusal .ensures)
+    (c .if1 .taken)
 
 range-refusal-requires : tie.Need-range-refusal-requires
 range-refusal-requires c κs = search needs
@@ -71,7 +72,8 @@ returns-2 c =
     let q = c .before in
     let p = q .before .before in
     let a = p .before in
-    by-range (now (a .args .instructions)) (a .args .entry) (a .args .room) (a .fits .entry) (p .program-refusal .result) (p .program-refusal .ensures) (q .before .if1 .left) (q .range-refusal .result) (q .range-refusal .ensures) (c .if2 .taken)
+    by-range (now (a .args .instructions)) (a .args .entry) (a .args .room) (a .fits .entry) (p .program-refusal .result) (p .program-refusal .ensures)
+    (q .before .if1 .left) (q .range-refusal .result) (q .range-refusal .ensures) (c .if2 .taken)
 
 word-of-requires : tie.Need-word-of-requires
 word-of-requires c κs = search needs
@@ -89,7 +91,9 @@ returns-3 c =
     let q = w .before .before in
     let p = q .before .before in
     let a = p .before in
-    taken (now (a .args .instructions)) (a .args .entry) (a .args .room) (a .fits .entry) (p .program-refusal .result) (p .program-refusal .ensures) (q .before .if1 .left) (q .range-refusal .result) (q .range-refusal .ensures) (w .before .if2 .left) (w .word-of .result) (m .chain-length .result) (w .word-of .ensures) (m .chain-length .ensures) (omega arith)
+    taken (now (a .args .instructions)) (a .args .entry) (a .args .room) (a .fits .entry) (p .program-refusal .result) (p .program-refusal .ensures)
+    (q .before .if1 .left) (q .range-refusal .result) (q .range-refusal .ensures) (w .before .if2 .left) (w .word-of .result) (m .chain-length .result)
+    (w .word-of .ensures) (m .chain-length .ensures) (omega arith)
 
 returns-4 : tie.Need-returns-4
 returns-4 c =
@@ -98,7 +102,9 @@ returns-4 c =
     let q = w .before .before in
     let p = q .before .before in
     let a = p .before in
-    too-long (now (a .args .instructions)) (a .args .entry) (a .args .room) (a .fits .entry) (p .program-refusal .result) (p .program-refusal .ensures) (q .before .if1 .left) (q .range-refusal .result) (q .range-refusal .ensures) (w .before .if2 .left) (w .word-of .result) (m .chain-length .result) (w .word-of .ensures) (m .chain-length .ensures) (omega arith)
+    too-long (now (a .args .instructions)) (a .args .entry) (a .args .room) (a .fits .entry) (p .program-refusal .result) (p .program-refusal .ensures)
+    (q .before .if1 .left) (q .range-refusal .result) (q .range-refusal .ensures) (w .before .if2 .left) (w .word-of .result) (m .chain-length .result)
+    (w .word-of .ensures) (m .chain-length .ensures) (omega arith)
 
 pub walk-refusal-spec : {M : Type 1} → statement M
 walk-refusal-spec =

@@ -18,7 +18,8 @@ Inv-loop instructions entry out₀ n₀ at₀ out n at = Walking instructions en
 abbrev μ-loop : tie.MeasureT-loop
 μ-loop instructions entry out₀ n₀ at₀ out n at = count instructions - at
 
-step : (c : tie.After-known-told Inv-loop μ-loop) → let e = c .before .before .before .before in let s = now (e .before .before .args .instructions) in Stepped (count s) (instructionAt s) (e .loop .at) (c .before .i .given .0 .0) (c .before .i .given .0 .1 .0)
+step : (c : tie.After-known-told Inv-loop μ-loop) → let e = c .before .before .before .before in let s = now (e .before .before .args .instructions) in
+    Stepped (count s) (instructionAt s) (e .loop .at) (c .before .i .given .0 .0) (c .before .i .given .0 .1 .0)
 step c = step-on _ _ _ _ _ (sym (c .before .before .before .next-instruction .ensures) ∙ c .before .i .given .1)
 
 room : (c : tie.After-known-told Inv-loop μ-loop) → c .before .before .before .before .loop .n < length (c .before .before .before .before .loop .out)

@@ -17,12 +17,16 @@ is-absent-or-requires c κs = search needs
 returns : tie.Need-returns
 returns c =
     let b = c .before .before in
-    ap (unless 4) (sym (tested (absentOr (b .before .args .n)) (word-passed (b .before .fits .x) (b .word-of .ensures)) (c .before .is-absent-or .ensures) (c .if1 .taken)))
+    ap (unless 4)
+    (sym (tested (absentOr (b .before .args .n)) (word-passed (b .before .fits .x) (b .word-of .ensures)) (c .before .is-absent-or .ensures)
+    (c .if1 .taken)))
 
 returns-2 : tie.Need-returns-2
 returns-2 c =
     let b = c .before .before in
-    ap (unless 4) (sym (tested (absentOr (b .before .args .n)) (word-passed (b .before .fits .x) (b .word-of .ensures)) (c .before .is-absent-or .ensures) (c .if1 .left)))
+    ap (unless 4)
+    (sym (tested (absentOr (b .before .args .n)) (word-passed (b .before .fits .x) (b .word-of .ensures)) (c .before .is-absent-or .ensures)
+    (c .if1 .left)))
 
 pub absent-refusal-spec : {M : Type 1} → statement M
 absent-refusal-spec = tie.close (tie.spec word-of-requires is-absent-or-requires returns returns-2)

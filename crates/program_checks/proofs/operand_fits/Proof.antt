@@ -31,7 +31,8 @@ returns-4 c = rw (c .before .if4 .taken) (c .is-within3 .ensures)
 returns-5 : tie.Need-returns-5
 returns-5 c =
     let a = c .before .before .before .before .args in
-    sym (operand-none (a .kind) (numberOf (a .word)) (c .before .before .before .if1 .left) (c .before .before .if2 .left) (c .before .if3 .left) (c .if4 .left))
+    sym (operand-none (a .kind) (numberOf (a .word)) (c .before .before .before .if1 .left) (c .before .before .if2 .left) (c .before .if3 .left)
+    (c .if4 .left))
 
 pub operand-fits-spec : {M : Type 1} → statement M
 operand-fits-spec =

@@ -17,12 +17,14 @@ is-within-requires c κs = search needs
 returns : tie.Need-returns
 returns c =
     let b = c .before .before in
-    ap (unless 4) (sym (tested (within (b .before .args .n)) (word-passed (b .before .fits .x) (b .word-of .ensures)) (c .before .is-within .ensures) (c .if1 .taken)))
+    ap (unless 4)
+    (sym (tested (within (b .before .args .n)) (word-passed (b .before .fits .x) (b .word-of .ensures)) (c .before .is-within .ensures) (c .if1 .taken)))
 
 returns-2 : tie.Need-returns-2
 returns-2 c =
     let b = c .before .before in
-    ap (unless 4) (sym (tested (within (b .before .args .n)) (word-passed (b .before .fits .x) (b .word-of .ensures)) (c .before .is-within .ensures) (c .if1 .left)))
+    ap (unless 4)
+    (sym (tested (within (b .before .args .n)) (word-passed (b .before .fits .x) (b .word-of .ensures)) (c .before .is-within .ensures) (c .if1 .left)))
 
 pub range-refusal-spec : {M : Type 1} → statement M
 range-refusal-spec = tie.close (tie.spec word-of-requires is-within-requires returns returns-2)

@@ -29,7 +29,9 @@ returns : tie.Need-returns Inv-loop μ-loop
 returns c =
     let b = c .before .before .before in
     let s = b .before .args .instructions .now in
-    ap (unless 2) (sym (every-fails (count s) (b .loop .i) (isInstruction s) (c .before .before .loop-test .taken) (sym (c .before .is-instruction .ensures) ∙ not-true _ (c .if1 .taken))))
+    ap (unless 2)
+    (sym (every-fails (count s) (b .loop .i) (isInstruction s) (c .before .before .loop-test .taken)
+    (sym (c .before .is-instruction .ensures) ∙ not-true _ (c .if1 .taken))))
 
 add-i : tie.Need-add-i Inv-loop μ-loop
 add-i c = omega arith
@@ -39,8 +41,11 @@ loop-less c = omega arith
 
 loop-again : tie.Need-loop-again Inv-loop μ-loop
 loop-again c =
-    let b = c .before .before .before in
-    (omega arith, every-more (b .loop .i) (isInstruction (b .before .args .instructions .now)) (b .loop .inv .1) (sym (c .before .is-instruction .ensures) ∙ not-false _ (c .if1 .left)))
+    let b = c .before .before .before in (
+      omega arith,
+      every-more (b .loop .i) (isInstruction (b .before .args .instructions .now)) (b .loop .inv .1)
+          (sym (c .before .is-instruction .ensures) ∙ not-false _ (c .if1 .left)),
+    )
 
 returns-2 : tie.Need-returns-2 Inv-loop μ-loop
 returns-2 c =

@@ -8,10 +8,12 @@ use Rattle.program_checks.proofs.size_refusal.Statement.{statement}
 use Rattle.program_checks.proofs.size_refusal.Tie as tie
 
 returns : tie.Need-returns
-returns c = let s = now (c .before .before .args .instructions) in rw (eq-eqb (length s % 4) 0 (c .before .if1 .taken), le-leb (length s / 4) 32767 (c .if2 .taken))
+returns c =
+    let s = now (c .before .before .args .instructions) in rw (eq-eqb (length s % 4) 0 (c .before .if1 .taken), le-leb (length s / 4) 32767 (c .if2 .taken))
 
 returns-2 : tie.Need-returns-2
-returns-2 c = let s = now (c .before .before .args .instructions) in rw (eq-eqb (length s % 4) 0 (c .before .if1 .taken), lt-leb (length s / 4) 32767 (c .if2 .left))
+returns-2 c =
+    let s = now (c .before .before .args .instructions) in rw (eq-eqb (length s % 4) 0 (c .before .if1 .taken), lt-leb (length s / 4) 32767 (c .if2 .left))
 
 returns-3 : tie.Need-returns-3
 returns-3 c = let s = now (c .before .args .instructions) in rw (ne-eqb (length s % 4) 0 (c .if1 .left))

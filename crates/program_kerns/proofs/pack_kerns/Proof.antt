@@ -37,7 +37,8 @@ module _ {s kerns out z : List ℤ} {r : ℕ} (b : Begun s kerns out z r) where
   enough : r ≡ 0 → length s ≤ length z
   enough e =
       room-fits (length s) (length z)
-      (orElse-none (kernsRefusal kerns) (roomRefusal (length s) (length z)) (orElse-none (programRefusal s) (orElse (kernsRefusal kerns) (roomRefusal (length s) (length z))) (sym (b .refusal) ∙ e) .1) .1)
+      (orElse-none (kernsRefusal kerns) (roomRefusal (length s) (length z))
+      (orElse-none (programRefusal s) (orElse (kernsRefusal kerns) (roomRefusal (length s) (length z))) (sym (b .refusal) ∙ e) .1) .1)
 
   done : {out′ : List ℤ} → r ≡ 0 → out′ ≡ packed s kerns ++ drop (length s) z → PacksKerns s kerns out (Count (count s)) out′
   done e w =
@@ -46,7 +47,9 @@ module _ {s kerns out z : List ℤ} {r : ℕ} (b : Begun s kerns out z r) where
         list = written-list (pos 0) (length out) (length s) (changed s (isKind 1 s) (pos 0) (kernAt s kerns)) (sym number ∙ e) (b .zeros) w;
       }
 
-begun : (c : tie.After-pack-refusal) → Begun (now (c .before .before .before .before .args .instructions)) (now (c .before .before .before .before .args .kerns)) (now (c .before .before .before .before .args .out)) (c .before .before .zero-i32 .last .0) (c .pack-refusal .result)
+begun : (c : tie.After-pack-refusal) →
+    Begun (now (c .before .before .before .before .args .instructions)) (now (c .before .before .before .before .args .kerns))
+    (now (c .before .before .before .before .args .out)) (c .before .before .zero-i32 .last .0) (c .pack-refusal .result)
 begun c = let z = c .before .before .zero-i32 in record { zeros = z .ensures; same = z .kept .0; refusal = c .pack-refusal .ensures }
 
 zero-i32-requires : tie.Need-zero-i32-requires

@@ -24,7 +24,8 @@ use Rattle.program_kerns.proofs.unpack_kerns.Statement.{statement}
 use Rattle.program_kerns.proofs.unpack_kerns.Tie as tie
 
 -- zeros for both lists, whatever the refusal
-refused : {s out kerns out′ kerns′ : List ℤ} {r : ℕ} → out′ ≡ replicate (length out) (pos 0) → kerns′ ≡ replicate (length kerns) (pos 0) → r ≡ unpackKernsRefusal s (length out) (length kerns) → (r ≡ 0 → ⊥) → UnpacksKerns s out kerns (Refused r) out′ kerns′
+refused : {s out kerns out′ kerns′ : List ℤ} {r : ℕ} → out′ ≡ replicate (length out) (pos 0) → kerns′ ≡ replicate (length kerns) (pos 0) →
+    r ≡ unpackKernsRefusal s (length out) (length kerns) → (r ≡ 0 → ⊥) → UnpacksKerns s out kerns (Refused r) out′ kerns′
 refused {s} {out} {kerns} e f n h =
     record {
       answer = refused-answer (length (kernsOf s)) n h;
@@ -72,7 +73,8 @@ module _ {s out kerns z y : List ℤ} {r : ℕ} (b : Begun s out kerns z y r) wh
       refused-late : {kerns″ : List ℤ} → length kerns′ < m → kerns″ ≡ replicate (length kerns′) (pos 0) → UnpacksKerns s out kerns (Refused 15) z kerns″
       refused-late h zeros =
           let l : length y < m = omega (arith, e .kept) in
-          refused (b .out-zeros) (rw (← b .kerns-same, ← e .kept) zeros) (sym (late ∙ room-short (length (kernsOf s)) (length kerns) (omega (arith, e .counted .short l, b .kerns-same)))) (λ x. omega arith)
+          refused (b .out-zeros) (rw (← b .kerns-same, ← e .kept) zeros)
+          (sym (late ∙ room-short (length (kernsOf s)) (length kerns) (omega (arith, e .counted .short l, b .kerns-same)))) (λ x. omega arith)
 
       module _ (h : m ≤ length kerns′) where
         all : Gathered s (count s) (length y) kerns′ links m
@@ -81,22 +83,31 @@ module _ {s out kerns z y : List ℤ} {r : ℕ} (b : Begun s out kerns z y r) wh
         linked : Linked (take m kerns′) links
         linked = rw (gathered-front all) (all .linked)
 
-        done : {out′ : List ℤ} → out′ ≡ tabulate (length s) (changed s (isKind 0 s) (pos 1) (λ i. pos (kernPlace (field s i 3) (take m kerns′)))) ++ drop (length s) z → UnpacksKerns s out kerns (Count m) out′ kerns′
+        done : {out′ : List ℤ} →
+            out′ ≡ tabulate (length s) (changed s (isKind 0 s) (pos 1) (λ i. pos (kernPlace (field s i 3) (take m kerns′)))) ++ drop (length s) z →
+            UnpacksKerns s out kerns (Count m) out′ kerns′
         done w =
-            let none : unpackKernsRefusal s (length out) (length kerns) ≡ 0 = late ∙ room-is (length (kernsOf s)) (length kerns) (omega (arith, all .counted, e .kept, b .kerns-same)) in
+            let none : unpackKernsRefusal s (length out) (length kerns)
+            ≡ 0 = late ∙ room-is (length (kernsOf s)) (length kerns) (omega (arith, all .counted, e .kept, b .kerns-same)) in
             record {
               answer = rw (none, all .counted);
-              list = written-list (pos 0) (length out) (length s) (changed s (isKind 0 s) (pos 1) (λ i. pos (kernPlace (field s i 3) (kernsOf s)))) none (b .out-zeros) (rw (gathered-front all) at w);
+              list =
+                  written-list (pos 0) (length out) (length s) (changed s (isKind 0 s) (pos 1) (λ i. pos (kernPlace (field s i 3) (kernsOf s)))) none
+                  (b .out-zeros) (rw (gathered-front all) at w);
               shares = rw (none, ← b .kerns-same) (appending-rest (replicate (length y) (pos 0)) (pos 0) (length y) refl (all .stands));
             }
 
-begun : (c : tie.After-unpack-refusal) → Begun (now (c .before .before .before .before .before .before .before .args .instructions)) (now (c .before .before .before .before .before .before .before .args .out)) (now (c .before .before .before .before .before .before .before .args .kerns)) (c .before .before .before .before .before .zero-i32 .last .0) (c .before .before .zero-i322 .last .0) (c .unpack-refusal .result)
+begun : (c : tie.After-unpack-refusal) → let c7 = c .before .before .before .before .before .before .before in
+    Begun (now (c7 .args .instructions)) (now (c7 .args .out)) (now (c7 .args .kerns)) (c .before .before .before .before .before .zero-i32 .last .0)
+    (c .before .before .zero-i322 .last .0) (c .unpack-refusal .result)
 begun c =
     let z = c .before .before .before .before .before .zero-i32 in
     let y = c .before .before .zero-i322 in
     record { out-zeros = z .ensures; out-same = z .kept .0; kerns-zeros = y .ensures; kerns-same = y .kept .0; early = c .unpack-refusal .ensures }
 
-ended : (c : tie.After-gather) → Ended (now (c .before .before .before .before .before .before .before .before .before .before .before .args .instructions)) (c .before .before .before .before .before .before .zero-i322 .last .0) (c .gather .last .1 .0) (c .gather .last .1 .1 .0) (c .gather .result)
+ended : (c : tie.After-gather) → let c11 = c .before .before .before .before .before .before .before .before .before .before .before in
+    let c6 = c .before .before .before .before .before .before in
+    Ended (now (c11 .args .instructions)) (c6 .zero-i322 .last .0) (c .gather .last .1 .0) (c .gather .last .1 .1 .0) (c .gather .result)
 ended c = record { counted = c .gather .ensures; kept = c .gather .kept .1 .0 }
 
 zero-i32-requires : tie.Need-zero-i32-requires
@@ -132,7 +143,8 @@ same-length-4 c = search needs
 returns-2 : tie.Need-returns-2
 returns-2 c =
     let g = c .before .before .before .before .before in
-    refused-late (begun (g .before .before .before .before)) (g .before .before .before .if1 .left) (ended g) (c .before .before .before .if2 .taken) (c .before .zero-i323 .ensures)
+    refused-late (begun (g .before .before .before .before)) (g .before .before .before .if1 .left) (ended g) (c .before .before .before .if2 .taken)
+    (c .before .zero-i323 .ensures)
 
 slice-reshare-prefix-write-unpacked : tie.Need-slice-reshare-prefix-write-unpacked
 slice-reshare-prefix-write-unpacked c = search needs
@@ -155,7 +167,8 @@ same-length-6 c = search needs
 returns-3 : tie.Need-returns-3
 returns-3 c =
     let g = c .before .before .before .before .before .before .before in
-    done (begun (g .before .before .before .before)) (g .before .before .before .if1 .left) (ended g) (c .before .before .before .before .before .if2 .left) (c .before .write-unpacked .ensures)
+    done (begun (g .before .before .before .before)) (g .before .before .before .if1 .left) (ended g) (c .before .before .before .before .before .if2 .left)
+    (c .before .write-unpacked .ensures)
 
 pub unpack-kerns-spec : {M : Type 1} → statement M
 unpack-kerns-spec =

@@ -31,14 +31,16 @@ word-at-requires c κs = search needs
 returns : tie.Need-returns
 returns c =
     let a = c .before .before .before in
-    word-not (now (a .args .instructions)) (isKind 0 (now (a .args .instructions))) (pos 1) (λ i. pos (kernPlace (field (now (a .args .instructions)) i 3) (now (a .args .kerns)))) (a .args .j)
+    word-not (now (a .args .instructions)) (isKind 0 (now (a .args .instructions))) (pos 1)
+    (λ i. pos (kernPlace (field (now (a .args .instructions)) i 3) (now (a .args .kerns)))) (a .args .j)
     (kind-not 0 (now (a .args .instructions)) (a .args .j / 4) (c .before .before .field-at .ensures) (c .before .if1 .taken))
     (c .word-at .ensures)
 
 returns-2 : tie.Need-returns-2
 returns-2 c =
     let a = c .before .before .before in
-    word-kind (now (a .args .instructions)) (isKind 0 (now (a .args .instructions))) (pos 1) (λ i. pos (kernPlace (field (now (a .args .instructions)) i 3) (now (a .args .kerns)))) (a .args .j)
+    word-kind (now (a .args .instructions)) (isKind 0 (now (a .args .instructions))) (pos 1)
+    (λ i. pos (kernPlace (field (now (a .args .instructions)) i 3) (now (a .args .kerns)))) (a .args .j)
     (kind-is 0 (now (a .args .instructions)) (a .args .j / 4) (c .before .before .field-at .ensures) (c .before .if1 .left))
     (c .if2 .taken) (small-word 1 (lit< tt))
 
@@ -56,10 +58,13 @@ cast-result c =
 returns-3 : tie.Need-returns-3
 returns-3 c =
     let a = c .before .before .before .before .before .before in
-    word-operand (now (a .args .instructions)) (isKind 0 (now (a .args .instructions))) (pos 1) (λ i. pos (kernPlace (field (now (a .args .instructions)) i 3) (now (a .args .kerns)))) (a .args .j)
-    (kind-is 0 (now (a .args .instructions)) (a .args .j / 4) (c .before .before .before .before .before .field-at .ensures) (c .before .before .before .before .if1 .left))
+    word-operand (now (a .args .instructions)) (isKind 0 (now (a .args .instructions))) (pos 1)
+    (λ i. pos (kernPlace (field (now (a .args .instructions)) i 3) (now (a .args .kerns)))) (a .args .j)
+    (kind-is 0 (now (a .args .instructions)) (a .args .j / 4) (c .before .before .before .before .before .field-at .ensures)
+    (c .before .before .before .before .if1 .left))
     (c .before .before .if3 .taken)
-    (place-is (field (now (a .args .instructions)) (a .args .j / 4) 3) (now (a .args .kerns)) (c .before .field-at2 .result) (c .place-of .result) (a .pre .few) (c .before .field-at2 .ensures) (c .place-of .ensures))
+    (place-is (field (now (a .args .instructions)) (a .args .j / 4) 3) (now (a .args .kerns)) (c .before .field-at2 .result) (c .place-of .result)
+    (a .pre .few) (c .before .field-at2 .ensures) (c .place-of .ensures))
 
 word-at-requires-2 : tie.Need-word-at-requires-2
 word-at-requires-2 c κs = search needs
@@ -67,7 +72,8 @@ word-at-requires-2 c κs = search needs
 returns-4 : tie.Need-returns-4
 returns-4 c =
     let a = c .before .before .before .before .before in
-    word-other (now (a .args .instructions)) (isKind 0 (now (a .args .instructions))) (pos 1) (λ i. pos (kernPlace (field (now (a .args .instructions)) i 3) (now (a .args .kerns)))) (a .args .j)
+    word-other (now (a .args .instructions)) (isKind 0 (now (a .args .instructions))) (pos 1)
+    (λ i. pos (kernPlace (field (now (a .args .instructions)) i 3) (now (a .args .kerns)))) (a .args .j)
     (kind-is 0 (now (a .args .instructions)) (a .args .j / 4) (c .before .before .before .before .field-at .ensures) (c .before .before .before .if1 .left))
     (c .before .before .if2 .left) (c .before .if3 .left) (c .word-at2 .ensures)
 

@@ -47,7 +47,8 @@ loop-again c =
     let w = c .before .before .unpacked-word in
     let p = c .before .put-word in (
       omega (arith, c .before .before .before .before .loop-test .taken),
-      filling-put (l .inv .1) (omega (arith, c .before .before .before .before .loop-test .taken, a .pre .1)) (p .ensures) (number-is {z = unpackedAt (now (a .args .instructions)) (now (a .args .kerns)) (l .j)} (w .ensures)),
+      filling-put (l .inv .1) (omega (arith, c .before .before .before .before .loop-test .taken, a .pre .1)) (p .ensures)
+          (number-is {z = unpackedAt (now (a .args .instructions)) (now (a .args .kerns)) (l .j)} (w .ensures)),
     )
 
 same-length : tie.Need-same-length Inv-loop μ-loop

@@ -23,13 +23,17 @@ abbrev μ-loop : tie.MeasureT-loop
 μ-loop limit entries seen₀ i₀ seen i = length entries / 2 - i
 
 -- what the call of `entry_fits` answers is whether the entry fits
-answered : (c : tie.After-entry-fits Inv-loop μ-loop) → c .entry-fits .result ≡ entryFits (c .before .before .before .before .before .args .limit) (c .before .before .before .before .before .args .entries .now) (c .before .before .before .loop .i)
+answered : (c : tie.After-entry-fits Inv-loop μ-loop) →
+    c .entry-fits .result ≡ entryFits (c .before .before .before .before .before .args .limit) (c .before .before .before .before .before .args .entries .now)
+    (c .before .before .before .loop .i)
 answered c =
     let l = c .before .before .before in
     let a = l .before .before .args in
     c .entry-fits .ensures ∙ marks-fit (a .limit) (a .entries .now) (l .loop .seen) (l .loop .i) (l .loop .inv .2)
 
-fits : (c : tie.Else2 Inv-loop μ-loop) → entryFits (c .before .before .before .before .before .before .args .limit) (c .before .before .before .before .before .before .args .entries .now) (c .before .before .before .before .loop .i) ≡ true
+fits : (c : tie.Else2 Inv-loop μ-loop) →
+    entryFits (c .before .before .before .before .before .before .args .limit) (c .before .before .before .before .before .before .args .entries .now)
+    (c .before .before .before .before .loop .i) ≡ true
 fits c = sym (answered (c .before)) ∙ not-false _ (c .if2 .left)
 
 character : (c : tie.After-word-at Inv-loop μ-loop) → c .word-at .result < 256
@@ -53,7 +57,8 @@ returns-2 c =
     let a = l .before .before .args in
     rw (
       eq-eqb (length (a .entries .now) % 2) 0 (l .before .if1 .left),
-      every-fails (length (a .entries .now) / 2) (l .loop .i) (entryFits (a .limit) (a .entries .now)) (c .before .before .before .loop-test .taken) (sym (answered (c .before)) ∙ not-true _ (c .if2 .taken)),
+      every-fails (length (a .entries .now) / 2) (l .loop .i) (entryFits (a .limit) (a .entries .now)) (c .before .before .before .loop-test .taken)
+          (sym (answered (c .before)) ∙ not-true _ (c .if2 .taken)),
     )
 
 mul-word-at : tie.Need-mul-word-at Inv-loop μ-loop

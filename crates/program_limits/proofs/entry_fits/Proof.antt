@@ -41,7 +41,8 @@ word-at-requires c κs = search needs
 returns : tie.Need-returns
 returns c =
     let a = c .before .before .args in
-    no-character (a .limit) (now (a .seen)) (charAt (now (a .entries)) (a .i)) (entryAt (now (a .entries)) (a .i)) (c .before .word-at .result) 0 (c .before .word-at .ensures) (c .if1 .taken)
+    no-character (a .limit) (now (a .seen)) (charAt (now (a .entries)) (a .i)) (entryAt (now (a .entries)) (a .i)) (c .before .word-at .result) 0
+    (c .before .word-at .ensures) (c .if1 .taken)
 
 mul-word-at-2 : tie.Need-mul-word-at-2
 mul-word-at-2 c = search needs
@@ -56,7 +57,8 @@ returns-2 : tie.Need-returns-2
 returns-2 c =
     let d = c .before .before .before in
     let a = d .before .args in
-    no-entry (a .limit) (now (a .seen)) (charAt (now (a .entries)) (a .i)) (entryAt (now (a .entries)) (a .i)) (d .word-at .result) (c .before .word-at2 .result) (d .word-at .ensures)
+    no-entry (a .limit) (now (a .seen)) (charAt (now (a .entries)) (a .i)) (entryAt (now (a .entries)) (a .i)) (d .word-at .result)
+    (c .before .word-at2 .result) (d .word-at .ensures)
     (c .before .before .if1 .left) (d .before .fits .limit .fits) (c .before .word-at2 .ensures) (c .if2 .taken)
 
 cast-place : tie.Need-cast-place
@@ -70,7 +72,8 @@ returns-3 c =
     let b = c .before .before in
     let d = b .before .before in
     let a = d .before .args in
-    by-mark (a .limit) (now (a .seen)) (charAt (now (a .entries)) (a .i)) (entryAt (now (a .entries)) (a .i)) (d .word-at .result) (b .word-at2 .result) (d .word-at .ensures)
+    by-mark (a .limit) (now (a .seen)) (charAt (now (a .entries)) (a .i)) (entryAt (now (a .entries)) (a .i)) (d .word-at .result) (b .word-at2 .result)
+    (d .word-at .ensures)
     (b .before .if1 .left) (d .before .fits .limit .fits) (b .word-at2 .ensures) (c .before .if2 .left)
 
 pub entry-fits-spec : {M : Type 1} → statement M

@@ -17,7 +17,8 @@ enum-known-next c = search needs
 returns : tie.Need-returns
 returns c =
     let a = c .before .before .before .before .before .args in
-    skip-nothing (length (a .marks .now)) (a .marks .now) (a .next) (c .before .before .next .given .0 .0) (a .i) (c .before .before .next .given .1) (c .if1 .taken)
+    skip-nothing (length (a .marks .now)) (a .marks .now) (a .next) (c .before .before .next .given .0 .0) (a .i) (c .before .before .next .given .1)
+    (c .if1 .taken)
 
 add-if2 : tie.Need-add-if2
 add-if2 c = search needs
@@ -38,7 +39,9 @@ returns-2 : tie.Need-returns-2
 returns-2 c =
     let a = c .before .before .before .before .before .before .before .args in
     let k = c .before .before .before .before .next .given .0 .0 in
-    skip-counted (length (a .marks .now)) (a .marks .now) (a .next) k (a .i) _ (c .before .before .before .before .next .given .1) (c .before .before .if1 .left) (let l : k < 256 = omega (arith, c .before .before .before .known-told .given) in l) (c .before .if2 .taken) (c .marks-from .ensures)
+    skip-counted (length (a .marks .now)) (a .marks .now) (a .next) k (a .i) _ (c .before .before .before .before .next .given .1)
+    (c .before .before .if1 .left) (let l : k < 256 = omega (arith, c .before .before .before .known-told .given) in l) (c .before .if2 .taken)
+    (c .marks-from .ensures)
 
 returns-3 : tie.Need-returns-3
 returns-3 c =
@@ -48,7 +51,8 @@ returns-3 c =
 returns-4 : tie.Need-returns-4
 returns-4 c =
     let a = c .before .before .before .before .before .before .args in
-    skip-past (length (a .marks .now)) (a .marks .now) (a .next) (c .before .before .before .next .given .0 .0) (a .i) (c .before .before .before .next .given .1) (c .if2 .left)
+    skip-past (length (a .marks .now)) (a .marks .now) (a .next) (c .before .before .before .next .given .0 .0) (a .i)
+    (c .before .before .before .next .given .1) (c .if2 .left)
 
 pub adjusted-skip-spec : {M : Type 1} → statement M
 adjusted-skip-spec =

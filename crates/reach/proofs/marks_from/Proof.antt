@@ -38,8 +38,11 @@ loop-less c = omega arith
 loop-again : tie.Need-loop-again Inv-loop μ-loop
 loop-again c =
     let h = c .before .before .before in
-    let a = h .before .args in
-    (omega arith, ⊎-elim (λ w. w .1 ∙ counted-marked (a .marks .now) (a .i) (h .loop .j) (h .loop .found) (h .loop .inv .1) (w .0 .taken)) (λ w. w .1 ∙ counted-bare (a .marks .now) (a .i) (h .loop .j) (h .loop .found) (h .loop .inv .1) (w .0 .left)) (c .if1 .came))
+    let a = h .before .args in (
+      omega arith,
+      ⊎-elim (λ w. w .1 ∙ counted-marked (a .marks .now) (a .i) (h .loop .j) (h .loop .found) (h .loop .inv .1) (w .0 .taken))
+          (λ w. w .1 ∙ counted-bare (a .marks .now) (a .i) (h .loop .j) (h .loop .found) (h .loop .inv .1) (w .0 .left)) (c .if1 .came),
+    )
 
 returns : tie.Need-returns Inv-loop μ-loop
 returns c =

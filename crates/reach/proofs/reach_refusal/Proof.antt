@@ -14,15 +14,23 @@ use Rattle.reach.proofs.reach_refusal.Tie as tie
 after-program : (c : tie.Else1) (x n : ℕ) → x ≡ n → x ≡ orElse (programRefusal (c .before .before .before .args .instructions .now)) n
 after-program c x n e = later-refusal (c .before .program-refusal .ensures) (c .if1 .left) e
 
-after-entries : (c : tie.Else2) (x n : ℕ) → x ≡ n → x ≡ orElse (programRefusal (c .before .before .before .before .before .args .instructions .now)) (orElse (entriesRefusal 65535 (c .before .before .before .before .before .args .entries .now)) n)
+after-entries : (c : tie.Else2) (x n : ℕ) → x ≡ n →
+    x ≡ orElse (programRefusal (c .before .before .before .before .before .args .instructions .now))
+    (orElse (entriesRefusal 65535 (c .before .before .before .before .before .args .entries .now)) n)
 after-entries c x n e = after-program (c .before .before) x _ (later-refusal (c .before .entries-refusal .ensures) (c .if2 .left) e)
 
-left-refusal : (c : tie.After-absent-refusal) → c .absent-refusal .result ≡ absentRefusal 65535 (c .before .before .before .before .before .before .args .left-entry)
+left-refusal : (c : tie.After-absent-refusal) →
+    c .absent-refusal .result ≡ absentRefusal 65535 (c .before .before .before .before .before .before .args .left-entry)
 left-refusal c =
     c .absent-refusal .ensures
-    ∙ ap (λ (z : ℤ). absentRefusal 65535 z) (number-word (c .before .before .before .before .before .before .args .left-entry) (c .before .before .before .before .before .before .fits .left-entry))
+    ∙ ap (λ (z : ℤ). absentRefusal 65535 z)
+    (number-word (c .before .before .before .before .before .before .args .left-entry)
+    (c .before .before .before .before .before .before .fits .left-entry))
 
-after-left : (c : tie.Else3) (x n : ℕ) → x ≡ n → x ≡ orElse (programRefusal (c .before .before .before .before .before .before .before .args .instructions .now)) (orElse (entriesRefusal 65535 (c .before .before .before .before .before .before .before .args .entries .now)) (orElse (absentRefusal 65535 (c .before .before .before .before .before .before .before .args .left-entry)) n))
+after-left : (c : tie.Else3) (x n : ℕ) → let c7 = c .before .before .before .before .before .before .before in
+    x ≡ n →
+    x ≡ orElse (programRefusal (c7 .args .instructions .now))
+    (orElse (entriesRefusal 65535 (c7 .args .entries .now)) (orElse (absentRefusal 65535 (c7 .args .left-entry)) n))
 after-left c x n e = after-entries (c .before .before) x _ (later-refusal (left-refusal (c .before)) (c .if3 .left) e)
 
 program-refusal-requires : tie.Need-program-refusal-requires

@@ -20,12 +20,14 @@ u8-at-requires-2 c κs = search needs
 returns-2 : tie.Need-returns-2
 returns-2 c =
     let a = c .before .before .before .before .before .before .args in
-    state-through (a .marks .now) (a .passthrough .now) (a .i) (sym (c .before .before .before .u8-at .ensures) ∙ c .before .before .if1 .left) (λ e. c .if2 .taken (c .before .u8-at2 .ensures ∙ e))
+    state-through (a .marks .now) (a .passthrough .now) (a .i) (sym (c .before .before .before .u8-at .ensures) ∙ c .before .before .if1 .left)
+    (λ e. c .if2 .taken (c .before .u8-at2 .ensures ∙ e))
 
 returns-3 : tie.Need-returns-3
 returns-3 c =
     let a = c .before .before .before .before .before .before .args in
-    state-bare (a .marks .now) (a .passthrough .now) (a .i) (sym (c .before .before .before .u8-at .ensures) ∙ c .before .before .if1 .left) (sym (c .before .u8-at2 .ensures) ∙ c .if2 .left)
+    state-bare (a .marks .now) (a .passthrough .now) (a .i) (sym (c .before .before .before .u8-at .ensures) ∙ c .before .before .if1 .left)
+    (sym (c .before .u8-at2 .ensures) ∙ c .if2 .left)
 
 pub state-of-spec : {M : Type 1} → statement M
 state-of-spec = tie.close (tie.spec u8-at-requires returns u8-at-requires-2 returns-2 returns-3)

@@ -56,8 +56,15 @@ loop-again c =
     let h = c .before .before .before .before .before .before .before .before .before in
     let s = h .before .before .before in
     let a = s .args in
-    let l : 2 * h .loop .i + 1 < length (a .out .now) = omega (arith, s .pre .0, s .pre .1, c .before .before .before .before .before .before .before .before .loop-test .taken) in
-    (omega arith, written-more (a .instructions .now) (a .marks .now) (a .passthrough .now) (a .out .now) (h .loop .out) (c .before .before .before .before .before .put-word .last .0) (c .before .put-word2 .last .0) (h .loop .i) (c .before .before .before .before .before .before .state-of .result) (c .before .before .skip-of .result) (h .loop .inv .1) l (c .before .before .before .before .before .before .state-of .ensures) (c .before .before .skip-of .ensures) (c .before .before .before .before .before .put-word .ensures) (c .before .put-word2 .ensures))
+    let l : 2 * h .loop .i + 1 < length (a .out .now) =
+    omega (arith, s .pre .0, s .pre .1, c .before .before .before .before .before .before .before .before .loop-test .taken) in (
+      omega arith,
+      written-more (a .instructions .now) (a .marks .now) (a .passthrough .now) (a .out .now) (h .loop .out)
+          (c .before .before .before .before .before .put-word .last .0) (c .before .put-word2 .last .0) (h .loop .i)
+          (c .before .before .before .before .before .before .state-of .result) (c .before .before .skip-of .result) (h .loop .inv .1) l
+          (c .before .before .before .before .before .before .state-of .ensures) (c .before .before .skip-of .ensures)
+          (c .before .before .before .before .before .put-word .ensures) (c .before .put-word2 .ensures),
+    )
 
 same-length : tie.Need-same-length Inv-loop μ-loop
 same-length c =

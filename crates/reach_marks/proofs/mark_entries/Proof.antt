@@ -20,7 +20,11 @@ zero-u8-requires : tie.Need-zero-u8-requires Inv-loop μ-loop
 zero-u8-requires c κs = search needs
 
 loop-holds : tie.Need-loop-holds Inv-loop μ-loop
-loop-holds c = (omega arith, marked-none (length (c .before .before .before .before .before .args .marks .now)) (c .before .before .before .before .before .args .entries .now) _ (c .before .before .zero-u8 .ensures))
+loop-holds c = (
+  omega arith,
+  marked-none (length (c .before .before .before .before .before .args .marks .now)) (c .before .before .before .before .before .args .entries .now) _
+      (c .before .before .zero-u8 .ensures),
+)
 
 mul-word-at : tie.Need-mul-word-at Inv-loop μ-loop
 mul-word-at c = omega arith
@@ -46,21 +50,26 @@ loop-less c = omega arith
 loop-again : tie.Need-loop-again Inv-loop μ-loop
 loop-again c =
     let h = c .before .before .before .before .before .before in
-    let a = c .before .before .before .before .before .before .before .before .before .before .before .before .args in
-    (omega arith, marked-more (length (c .before .before .before .before .before .before .before .before .before .zero-u8 .last .0)) (a .entries .now) (h .loop .k) _ (h .loop .marks) _ (h .loop .inv .1) (c .before .before .before .before .word-at .ensures .is) (c .before .before .put-u8 .ensures))
+    let a = c .before .before .before .before .before .before .before .before .before .before .before .before .args in (
+      omega arith,
+      marked-more (length (c .before .before .before .before .before .before .before .before .before .zero-u8 .last .0)) (a .entries .now) (h .loop .k) _
+          (h .loop .marks) _ (h .loop .inv .1) (c .before .before .before .before .word-at .ensures .is) (c .before .before .put-u8 .ensures),
+    )
 
 same-length : tie.Need-same-length Inv-loop μ-loop
 same-length c =
     let h = c .before in
     let z = h .before .before .before in
-    ap length (h .loop .inv .1) ∙ length-entries (length (z .zero-u8 .last .0)) (z .before .before .before .args .entries .now) (h .loop .k) ∙ z .zero-u8 .kept .0
+    ap length (h .loop .inv .1) ∙ length-entries (length (z .zero-u8 .last .0)) (z .before .before .before .args .entries .now) (h .loop .k)
+    ∙ z .zero-u8 .kept .0
 
 returns : tie.Need-returns Inv-loop μ-loop
 returns c =
     let h = c .before in
     let z = h .before .before .before in
     let a = z .before .before .before .args in
-    marked-all (length (z .zero-u8 .last .0)) (length (a .marks .now)) (a .entries .now) (h .loop .k) (h .loop .marks) (h .loop .inv .1) (z .zero-u8 .kept .0) (h .loop .inv .0) (c .loop-test .left)
+    marked-all (length (z .zero-u8 .last .0)) (length (a .marks .now)) (a .entries .now) (h .loop .k) (h .loop .marks) (h .loop .inv .1) (z .zero-u8 .kept .0)
+    (h .loop .inv .0) (c .loop-test .left)
 
 pub mark-entries-spec : {M : Type 1} → statement M
 mark-entries-spec =

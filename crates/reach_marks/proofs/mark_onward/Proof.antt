@@ -33,7 +33,9 @@ same-length-2 c = search needs
 returns-2 : tie.Need-returns-2
 returns-2 c =
     let a = c .before .before .before .before .before .before .before .args in
-    absurd (step-ends (count (a .instructions .now)) (instructionAt (a .instructions .now)) (a .i) _ (c .before .before .before .before .before .before .before .pre) (c .before .before .next-instruction .ensures) (c .enum-told .given .1))
+    absurd
+    (step-ends (count (a .instructions .now)) (instructionAt (a .instructions .now)) (a .i) _
+    (c .before .before .before .before .before .before .before .pre) (c .before .before .next-instruction .ensures) (c .enum-told .given .1))
 
 put-u8-requires : tie.Need-put-u8-requires
 put-u8-requires c κs = search needs
@@ -45,8 +47,11 @@ returns-3 : tie.Need-returns-3
 returns-3 c =
     let a = c .before .before .before .before .before .before .before .before .before .before .before .before .args in
     pass-marked (a .instructions .now) (a .marks .now) _ (a .i) _
-    (λ e. c .before .before .before .before .before .before .before .before .if1 .left (c .before .before .before .before .before .before .before .before .before .u8-at .ensures ∙ e))
-    (step-onward (count (a .instructions .now)) (instructionAt (a .instructions .now)) (a .i) _ _ _ (c .before .before .before .before .before .before .before .before .before .before .before .before .pre) (c .before .before .before .before .before .before .before .next-instruction .ensures) (c .before .before .before .before .before .on .given .1))
+    (λ e. c .before .before .before .before .before .before .before .before .if1 .left
+    (c .before .before .before .before .before .before .before .before .before .u8-at .ensures ∙ e))
+    (step-onward (count (a .instructions .now)) (instructionAt (a .instructions .now)) (a .i) _ _ _
+    (c .before .before .before .before .before .before .before .before .before .before .before .before .pre)
+    (c .before .before .before .before .before .before .before .next-instruction .ensures) (c .before .before .before .before .before .on .given .1))
     (c .before .before .put-u8 .ensures)
 
 pub mark-onward-spec : {M : Type 1} → statement M

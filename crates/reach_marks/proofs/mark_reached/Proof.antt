@@ -28,8 +28,13 @@ mark-left-requires c κs = search needs
 
 loop-holds : tie.Need-loop-holds Inv-loop μ-loop
 loop-holds c =
-    let a = c .before .before .before .before .before .before .before .before .before .args in
-    (omega arith, pass-none (a .instructions .now) (a .entries .now) (numberOf (wordOf (a .left-entry))) (a .marks .now) (c .before .before .before .before .before .before .mark-entries .last .1 .0) (c .before .before .mark-left .last .1 .0) (c .before .before .before .before .before .before .before .before .before .pre) (c .before .before .before .before .before .before .mark-entries .ensures) (c .before .before .mark-left .ensures))
+    let a = c .before .before .before .before .before .before .before .before .before .args in (
+      omega arith,
+      pass-none (a .instructions .now) (a .entries .now) (numberOf (wordOf (a .left-entry))) (a .marks .now)
+          (c .before .before .before .before .before .before .mark-entries .last .1 .0) (c .before .before .mark-left .last .1 .0)
+          (c .before .before .before .before .before .before .before .before .before .pre)
+          (c .before .before .before .before .before .before .mark-entries .ensures) (c .before .before .mark-left .ensures),
+    )
 
 mark-onward-requires : tie.Need-mark-onward-requires Inv-loop μ-loop
 mark-onward-requires c κs = omega arith
@@ -43,14 +48,18 @@ loop-less c = omega arith
 loop-again : tie.Need-loop-again Inv-loop μ-loop
 loop-again c =
     let h = c .before .before .before .before .before in
-    let a = h .before .before .before .before .before .before .before .before .before .before .args in
-    (omega arith, pass-more (a .instructions .now) (a .entries .now) (numberOf (wordOf (a .left-entry))) (h .loop .i) (h .loop .marks) (c .before .before .mark-onward .last .1 .1 .0) (h .loop .inv .1) (c .before .before .mark-onward .ensures))
+    let a = h .before .before .before .before .before .before .before .before .before .before .args in (
+      omega arith,
+      pass-more (a .instructions .now) (a .entries .now) (numberOf (wordOf (a .left-entry))) (h .loop .i) (h .loop .marks)
+          (c .before .before .mark-onward .last .1 .1 .0) (h .loop .inv .1) (c .before .before .mark-onward .ensures),
+    )
 
 same-length : tie.Need-same-length Inv-loop μ-loop
 same-length c =
     let h = c .before in
     let s = h .before .before .before .before .before .before .before .before .before .before in
-    ap length (h .loop .inv .1) ∙ length-marks (s .args .instructions .now) (s .args .entries .now) (numberOf (wordOf (s .args .left-entry))) (h .loop .i) ∙ sym (s .pre)
+    ap length (h .loop .inv .1) ∙ length-marks (s .args .instructions .now) (s .args .entries .now) (numberOf (wordOf (s .args .left-entry))) (h .loop .i)
+    ∙ sym (s .pre)
 
 returns : tie.Need-returns Inv-loop μ-loop
 returns c =

@@ -19,7 +19,8 @@ same-length c = search needs
 returns : tie.Need-returns
 returns c =
     let a = c .before .before .before .before .before .before .args in
-    marks-off (a .instructions .now) (a .entries .now) (a .left-entry) (length (a .marks .now)) (c .before .before .before .before .if1 .taken) (c .before .before .zero-u8 .ensures)
+    marks-off (a .instructions .now) (a .entries .now) (a .left-entry) (length (a .marks .now)) (c .before .before .before .before .if1 .taken)
+    (c .before .before .zero-u8 .ensures)
 
 mark-reached-requires : tie.Need-mark-reached-requires
 mark-reached-requires c κs = search needs
@@ -32,7 +33,8 @@ returns-2 c =
     let s = c .before .before .before .before .before .before in
     let a = s .args in
     marks-fit (a .instructions .now) (a .entries .now) (a .left-entry) (length (a .marks .now)) (c .before .before .before .before .if1 .left)
-    (c .before .before .mark-reached .ensures ∙ ap (λ (z : ℤ). reachable (a .instructions .now) (a .entries .now) z) (number-word (a .left-entry) (s .fits .left-entry)))
+    (c .before .before .mark-reached .ensures
+    ∙ ap (λ (z : ℤ). reachable (a .instructions .now) (a .entries .now) z) (number-word (a .left-entry) (s .fits .left-entry)))
 
 pub reachable-array-spec : {M : Type 1} → statement M
 reachable-array-spec =

@@ -26,7 +26,8 @@ put-u8-requires : tie.Need-put-u8-requires Inv-loop μ-loop
 put-u8-requires c κs = search needs
 
 add-i : tie.Need-add-i Inv-loop μ-loop
-add-i c = let l = c .before .before .before .before .before .before in omega (arith, l .loop .inv .0, c .before .before .before .before .before .loop-test .taken)
+add-i c =
+    let l = c .before .before .before .before .before .before in omega (arith, l .loop .inv .0, c .before .before .before .before .before .loop-test .taken)
 
 loop-less : tie.Need-loop-less Inv-loop μ-loop
 loop-less c = omega (arith, c .before .before .before .before .before .loop-test .taken)
@@ -38,14 +39,17 @@ loop-again c =
     let l = c .before .before .before .before .before .before in
     let s = c .before .before .before .before .before .before .before .before .before in (
       omega (arith, c .before .before .before .before .before .loop-test .taken),
-      copied-more (s .args .from .now) (s .args .to .now) (l .loop .to) (p .put-u8 .last .0) (l .loop .i) _ _ (s .pre) (c .before .before .before .before .before .loop-test .taken) (p .put-u8 .ensures) (g .u8-at .ensures) (l .loop .inv .1),
+      copied-more (s .args .from .now) (s .args .to .now) (l .loop .to) (p .put-u8 .last .0) (l .loop .i) _ _ (s .pre)
+          (c .before .before .before .before .before .loop-test .taken) (p .put-u8 .ensures) (g .u8-at .ensures) (l .loop .inv .1),
     )
 
 same-length : tie.Need-same-length Inv-loop μ-loop
 same-length c = appending-length (c .before .before .before .before .args .to .now) (c .before .loop .inv .1)
 
 returns : tie.Need-returns Inv-loop μ-loop
-returns c = let s = c .before .before .before .before in let l = c .before in copied-all (s .args .from .now) (s .args .to .now) (l .loop .to) (l .loop .i) (c .loop-test .left) (l .loop .inv .1)
+returns c =
+    let s = c .before .before .before .before in let l = c .before in
+    copied-all (s .args .from .now) (s .args .to .now) (l .loop .to) (l .loop .i) (c .loop-test .left) (l .loop .inv .1)
 
 pub copy-bytes-spec : {M : Type 1} → statement M
 copy-bytes-spec =

@@ -39,14 +39,17 @@ loop-again c =
     let l = c .before .before .before .before .before in
     let s = c .before .before .before .before .before .before in (
       omega (arith, c .before .before .before .before .loop-test .taken),
-      copied-more (s .args .from .now) (s .args .to .now) (l .loop .to) (p .put-word .last .0) (l .loop .i) _ _ (s .pre) (c .before .before .before .before .loop-test .taken) (p .put-word .ensures) (number-is (g .word-at .ensures)) (l .loop .inv .1),
+      copied-more (s .args .from .now) (s .args .to .now) (l .loop .to) (p .put-word .last .0) (l .loop .i) _ _ (s .pre)
+          (c .before .before .before .before .loop-test .taken) (p .put-word .ensures) (number-is (g .word-at .ensures)) (l .loop .inv .1),
     )
 
 same-length : tie.Need-same-length Inv-loop μ-loop
 same-length c = appending-length (c .before .before .args .to .now) (c .before .loop .inv .1)
 
 returns : tie.Need-returns Inv-loop μ-loop
-returns c = let s = c .before .before in let l = c .before in copied-all (s .args .from .now) (s .args .to .now) (l .loop .to) (l .loop .i) (c .loop-test .left) (l .loop .inv .1)
+returns c =
+    let s = c .before .before in let l = c .before in
+    copied-all (s .args .from .now) (s .args .to .now) (l .loop .to) (l .loop .i) (c .loop-test .left) (l .loop .inv .1)
 
 pub copy-numbers-spec : {M : Type 1} → statement M
 copy-numbers-spec =

@@ -20,7 +20,9 @@ grouped a b c x = sym (orElse-assoc a (orElse b c) x) ∙ ap (orElse a) (sym (or
 
 -- all seven, as the function asks them
 asked : (s kerns entries : List ℤ) (boundary left replacement : ℤ) (existing passthrough : List ℕ) →
-    orElse (orElse (programRefusal s) (orElse (kernsRefusal kerns) (entriesRefusal 255 entries))) (orElse (orElse (absentRefusal 255 boundary) (orElse (absentRefusal 65535 left) (unless 4 (leb (wordOf replacement) 255)))) (passthroughRefusal passthrough s))
+    orElse (orElse (programRefusal s) (orElse (kernsRefusal kerns) (entriesRefusal 255 entries)))
+    (orElse (orElse (absentRefusal 255 boundary) (orElse (absentRefusal 65535 left) (unless 4 (leb (wordOf replacement) 255))))
+    (passthroughRefusal passthrough s))
     ≡ damagedRefusal (damagedOf s kerns entries boundary left replacement existing passthrough)
 asked s kerns entries boundary left replacement existing passthrough =
     ap (orElse (orElse (programRefusal s) (orElse (kernsRefusal kerns) (entriesRefusal 255 entries))))
@@ -28,7 +30,9 @@ asked s kerns entries boundary left replacement existing passthrough =
     ∙ grouped (programRefusal s) (kernsRefusal kerns) (entriesRefusal 255 entries) _
 
 -- of the boundary character, the left entry and the replacement as they were lent
-edges : (c : tie.After-edge-refusal) → let a = c .before .before .before .before .args in c .edge-refusal .result ≡ orElse (absentRefusal 255 (a .boundary)) (orElse (absentRefusal 65535 (a .«left-entry»)) (unless 4 (leb (wordOf (a .replacement)) 255)))
+edges : (c : tie.After-edge-refusal) → let a = c .before .before .before .before .args in
+    c .edge-refusal .result ≡ orElse (absentRefusal 255 (a .boundary))
+    (orElse (absentRefusal 65535 (a .«left-entry»)) (unless 4 (leb (wordOf (a .replacement)) 255)))
 edges c =
     let s = c .before .before .before .before in
     let x = number-word (s .args .boundary) (s .fits .boundary) in
@@ -42,7 +46,8 @@ lists-refusal-requires c κs = search needs
 returns : tie.Need-returns
 returns c = λ x.
     let a = c .before .before .before .args in
-    first-refusal _ (c .before .lists-refusal .ensures) (c .if1 .taken) ∙ asked (a .instructions .now) (a .kerns .now) (a .entries .now) (a .boundary) (a .«left-entry») (a .replacement) x (a .passthrough .now)
+    first-refusal _ (c .before .lists-refusal .ensures) (c .if1 .taken)
+    ∙ asked (a .instructions .now) (a .kerns .now) (a .entries .now) (a .boundary) (a .«left-entry») (a .replacement) x (a .passthrough .now)
 
 edge-refusal-requires : tie.Need-edge-refusal-requires
 edge-refusal-requires c κs = search needs
@@ -51,7 +56,8 @@ returns-2 : tie.Need-returns-2
 returns-2 c = λ x.
     let p = c .before .before in
     let a = p .before .before .before .args in
-    later-refusal (p .before .lists-refusal .ensures) (p .if1 .left) (first-refusal _ (edges (c .before)) (c .if2 .taken)) ∙ asked (a .instructions .now) (a .kerns .now) (a .entries .now) (a .boundary) (a .«left-entry») (a .replacement) x (a .passthrough .now)
+    later-refusal (p .before .lists-refusal .ensures) (p .if1 .left) (first-refusal _ (edges (c .before)) (c .if2 .taken))
+    ∙ asked (a .instructions .now) (a .kerns .now) (a .entries .now) (a .boundary) (a .«left-entry») (a .replacement) x (a .passthrough .now)
 
 passthrough-refusal-requires : tie.Need-passthrough-refusal-requires
 passthrough-refusal-requires c κs = search needs
@@ -61,7 +67,8 @@ returns-3 c = λ x.
     let k = c .before in
     let p = k .before .before in
     let a = p .before .before .before .args in
-    later-refusal (p .before .lists-refusal .ensures) (p .if1 .left) (later-refusal (edges (k .before)) (k .if2 .left) (c .passthrough-refusal .ensures)) ∙ asked (a .instructions .now) (a .kerns .now) (a .entries .now) (a .boundary) (a .«left-entry») (a .replacement) x (a .passthrough .now)
+    later-refusal (p .before .lists-refusal .ensures) (p .if1 .left) (later-refusal (edges (k .before)) (k .if2 .left) (c .passthrough-refusal .ensures))
+    ∙ asked (a .instructions .now) (a .kerns .now) (a .entries .now) (a .boundary) (a .«left-entry») (a .replacement) x (a .passthrough .now)
 
 pub damaged-refusal-spec : {M : Type 1} → statement M
 damaged-refusal-spec =

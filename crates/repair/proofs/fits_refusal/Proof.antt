@@ -27,14 +27,16 @@ returns-3 c =
     let k = c .before in
     let p = k .before .before in
     let a = p .before .before .args in
-    later-refusal (p .before .room-refusal .ensures) (p .if1 .left) (later-refusal (k .before .room-refusal2 .ensures) (k .if2 .left) (sym (room-is (4 * a .count) (a .warnings) (omega (arith, c .if3 .taken)))))
+    later-refusal (p .before .room-refusal .ensures) (p .if1 .left)
+    (later-refusal (k .before .room-refusal2 .ensures) (k .if2 .left) (sym (room-is (4 * a .count) (a .warnings) (omega (arith, c .if3 .taken)))))
 
 returns-4 : tie.Need-returns-4
 returns-4 c =
     let k = c .before in
     let p = k .before .before in
     let a = p .before .before .args in
-    later-refusal (p .before .room-refusal .ensures) (p .if1 .left) (later-refusal (k .before .room-refusal2 .ensures) (k .if2 .left) (sym (room-short (4 * a .count) (a .warnings) (omega (arith, c .if3 .left)))))
+    later-refusal (p .before .room-refusal .ensures) (p .if1 .left)
+    (later-refusal (k .before .room-refusal2 .ensures) (k .if2 .left) (sym (room-short (4 * a .count) (a .warnings) (omega (arith, c .if3 .left)))))
 
 pub fits-refusal-spec : {M : Type 1} → statement M
 fits-refusal-spec =

@@ -26,7 +26,8 @@ returns-3 : tie.Need-returns-3
 returns-3 c =
     let k = c .before in
     let p = k .before .before in
-    later-refusal (p .before .program-refusal .ensures) (p .if1 .left) (later-refusal (k .before .kerns-refusal .ensures) (k .if2 .left) (c .entries-refusal .ensures))
+    later-refusal (p .before .program-refusal .ensures) (p .if1 .left)
+    (later-refusal (k .before .kerns-refusal .ensures) (k .if2 .left) (c .entries-refusal .ensures))
 
 pub lists-refusal-spec : {M : Type 1} → statement M
 lists-refusal-spec =

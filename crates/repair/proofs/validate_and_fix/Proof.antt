@@ -34,7 +34,11 @@ front-long n m q l = omega (arith, length-append m (drop n q))
 
 module _ (c : tie.After-damaged-refusal) where
   abbrev font : Damaged
-  font = let a = c .before .before .before .before .before .before .before .before .before .before .before .before .before .before .args in damagedOf (a .instructions .now) (a .kerns .now) (a .entries .now) (a .boundary) (a .«left-entry») (a .replacement) (a .existing .now) (a .passthrough .now)
+  font =
+      let c14 = c .before .before .before .before .before .before .before .before .before .before .before .before .before .before in
+      let a = c14 .args in
+      damagedOf (a .instructions .now) (a .kerns .now) (a .entries .now) (a .boundary) (a .«left-entry») (a .replacement) (a .existing .now)
+      (a .passthrough .now)
 
   refusal-is : c .damaged-refusal .result ≡ damagedRefusal font
   refusal-is =
@@ -43,43 +47,76 @@ module _ (c : tie.After-damaged-refusal) where
       let x = number-word (a .boundary) (s .fits .boundary) in
       let y = number-word (a .«left-entry») (s .fits .«left-entry») in
       let z = number-word (a .replacement) (s .fits .replacement) in
-      c .damaged-refusal .ensures (a .existing .now) ∙ (λ i. damagedRefusal (damagedOf (a .instructions .now) (a .kerns .now) (a .entries .now) (x i) (y i) (z i) (a .existing .now) (a .passthrough .now)))
+      c .damaged-refusal .ensures (a .existing .now)
+      ∙ (λ i. damagedRefusal
+      (damagedOf (a .instructions .now) (a .kerns .now) (a .entries .now) (x i) (y i) (z i) (a .existing .now) (a .passthrough .now)))
 
 taken : (c : tie.Else1) → damagedRefusal (font (c .before)) ≡ 0
 taken c = sym (refusal-is (c .before)) ∙ c .if1 .left
 
-few : (c : tie.Else1) → count (c .before .before .before .before .before .before .before .before .before .before .before .before .before .before .before .args .instructions .now) ≤ 32767
+few : (c : tie.Else1) → let c15 = c .before .before .before .before .before .before .before .before .before .before .before .before .before .before .before in
+    count (c15 .args .instructions .now) ≤ 32767
 few c = size (font (c .before)) (taken c)
 
-programs-long : (c : tie.After-programs) → 4 * count (c .before .before .before .before .before .before .before .before .before .before .before .before .before .before .before .before .args .instructions .now) ≤ length (c .programs .result)
+programs-long : (c : tie.After-programs) →
+    let c16 = c .before .before .before .before .before .before .before .before .before .before .before .before .before .before .before .before in
+    4 * count (c16 .args .instructions .now) ≤ length (c .programs .result)
 programs-long c = omega (arith, few (c .before), c .programs .ensures)
 
-places-long : (c : tie.After-places) → count (c .before .before .before .before .before .before .before .before .before .before .before .before .before .before .before .before .before .args .instructions .now) ≤ length (c .places .result)
+places-long : (c : tie.After-places) →
+    let c17 = c .before .before .before .before .before .before .before .before .before .before .before .before .before .before .before .before .before in
+    count (c17 .args .instructions .now) ≤ length (c .places .result)
 places-long c = omega (arith, few (c .before .before), c .places .ensures)
 
 -- ---- what the passes leave
 
 module _ (c : tie.After-mend) where
-  program-length : length (c .mend .last .1 .1 .1 .1 .1 .1 .1 .1 .0) ≡ 4 * count (c .before .before .before .before .before .before .before .before .before .before .before .before .before .before .before .before .before .before .before .before .before .before .args .instructions .now)
-  program-length = c .mend .kept .1 .1 .1 .1 .1 .1 .1 .1 .0 ∙ length-take-le (4 * count (c .before .before .before .before .before .before .before .before .before .before .before .before .before .before .before .before .before .before .before .before .before .before .args .instructions .now)) (c .before .before .before .before .before .before .programs .result) (programs-long (c .before .before .before .before .before .before))
+  program-length : let c22 =
+      c .before .before .before .before .before .before .before .before .before .before .before .before .before .before .before .before .before .before
+      .before .before .before .before in length (c .mend .last .1 .1 .1 .1 .1 .1 .1 .1 .0) ≡ 4 * count (c22 .args .instructions .now)
+  program-length =
+      let c22 = c .before .before .before .before .before .before .before .before .before .before .before .before .before .before .before .before .before
+      .before .before .before .before .before in
+      let c6 = c .before .before .before .before .before .before in
+      c .mend .kept .1 .1 .1 .1 .1 .1 .1 .1 .0 ∙ length-take-le (4 * count (c22 .args .instructions .now)) (c6 .programs .result) (programs-long c6)
 
-  through-length : length (c .mend .last .1 .1 .1 .1 .1 .1 .1 .1 .1 .0) ≡ count (c .before .before .before .before .before .before .before .before .before .before .before .before .before .before .before .before .before .before .before .before .before .before .args .instructions .now)
-  through-length = c .mend .kept .1 .1 .1 .1 .1 .1 .1 .1 .1 .0 ∙ length-take-le (count (c .before .before .before .before .before .before .before .before .before .before .before .before .before .before .before .before .before .before .before .before .before .before .args .instructions .now)) (c .before .before .before .before .before .places .result) (places-long (c .before .before .before .before .before))
+  through-length : let c22 =
+      c .before .before .before .before .before .before .before .before .before .before .before .before .before .before .before .before .before .before
+      .before .before .before .before in length (c .mend .last .1 .1 .1 .1 .1 .1 .1 .1 .1 .0) ≡ count (c22 .args .instructions .now)
+  through-length =
+      let c22 = c .before .before .before .before .before .before .before .before .before .before .before .before .before .before .before .before .before
+      .before .before .before .before .before in
+      let c5 = c .before .before .before .before .before in
+      c .mend .kept .1 .1 .1 .1 .1 .1 .1 .1 .1 .0 ∙ length-take-le (count (c22 .args .instructions .now)) (c5 .places .result) (places-long c5)
 
-  mended : (r : Validated) → c .mend .result ≡ r → let u = c .mend .last .1 .1 .1 .1 .1 .1 .1 .1 in Mends (font (c .before .before .before .before .before .before .before .before)) (c .before .before .before .before .before .before .before .before .before .before .zero-i322 .last .0) (c .before .before .before .before .before .before .before .before .before .before .before .before .before .before .before .before .before .before .before .before .before .before .args .work .now) r (u .0) (u .1 .0) (u .1 .1 .0) (u .1 .1 .1 .0)
+  mended : (r : Validated) → c .mend .result ≡ r → let u = c .mend .last .1 .1 .1 .1 .1 .1 .1 .1 in
+      Mends (font (c .before .before .before .before .before .before .before .before))
+      (c .before .before .before .before .before .before .before .before .before .before .zero-i322 .last .0)
+      (c .before .before .before .before .before .before .before .before .before .before .before .before .before .before .before .before .before .before
+      .before .before .before .before .args .work .now) r (u .0) (u .1 .0) (u .1 .1 .0) (u .1 .1 .1 .0)
   mended r e =
-      let s = c .before .before .before .before .before .before .before .before .before .before .before .before .before .before .before .before .before .before .before .before .before .before in
+      let s =
+      c .before .before .before .before .before .before .before .before .before .before .before .before .before .before .before .before .before .before
+      .before .before .before .before in
       let a = s .args in
       let u = c .mend .last .1 .1 .1 .1 .1 .1 .1 .1 in
       let n = count (a .instructions .now) in
       let x = number-word (a .boundary) (s .fits .boundary) in
       let y = number-word (a .«left-entry») (s .fits .«left-entry») in
       let z = number-word (a .replacement) (s .fits .replacement) in
-      let d = damagedOf (a .instructions .now) (a .kerns .now) (a .entries .now) (numberOf (wordOf (a .boundary))) (numberOf (wordOf (a .«left-entry»))) (numberOf (wordOf (a .replacement))) (a .existing .now) (a .passthrough .now) in
-      let same : d ≡ font (c .before .before .before .before .before .before .before .before) = (λ i. damagedOf (a .instructions .now) (a .kerns .now) (a .entries .now) (x i) (y i) (z i) (a .existing .now) (a .passthrough .now)) in
-      let m = c .mend .ensures (ap damagedRefusal same ∙ taken (c .before .before .before .before .before .before .before)) (length-take-le (4 * n) (c .before .before .before .before .before .before .programs .result) (programs-long (c .before .before .before .before .before .before))) (length-take-le n (c .before .before .before .before .before .places .result) (places-long (c .before .before .before .before .before))) in
-      subst (λ (v : Validated). Mends (font (c .before .before .before .before .before .before .before .before)) (c .before .before .before .before .before .before .before .before .before .before .zero-i322 .last .0) (a .work .now) v (u .0) (u .1 .0) (u .1 .1 .0) (u .1 .1 .1 .0)) e
-      (subst (λ (f : Damaged). Mends f (c .before .before .before .before .before .before .before .before .before .before .zero-i322 .last .0) (a .work .now) (c .mend .result) (u .0) (u .1 .0) (u .1 .1 .0) (u .1 .1 .1 .0)) same m)
+      let d = damagedOf (a .instructions .now) (a .kerns .now) (a .entries .now) (numberOf (wordOf (a .boundary))) (numberOf (wordOf (a .«left-entry»)))
+      (numberOf (wordOf (a .replacement))) (a .existing .now) (a .passthrough .now) in
+      let same : d ≡ font (c .before .before .before .before .before .before .before .before) =
+      (λ i. damagedOf (a .instructions .now) (a .kerns .now) (a .entries .now) (x i) (y i) (z i) (a .existing .now) (a .passthrough .now)) in
+      let m = c .mend .ensures (ap damagedRefusal same ∙ taken (c .before .before .before .before .before .before .before))
+      (length-take-le (4 * n) (c .before .before .before .before .before .before .programs .result)
+      (programs-long (c .before .before .before .before .before .before)))
+      (length-take-le n (c .before .before .before .before .before .places .result) (places-long (c .before .before .before .before .before))) in
+      subst (λ (v : Validated). Mends (font (c .before .before .before .before .before .before .before .before))
+      (c .before .before .before .before .before .before .before .before .before .before .zero-i322 .last .0) (a .work .now) v (u .0) (u .1 .0)
+      (u .1 .1 .0) (u .1 .1 .1 .0)) e
+      (subst (λ (f : Damaged). Mends f (c .before .before .before .before .before .before .before .before .before .before .zero-i322 .last .0) (a .work .now)
+      (c .mend .result) (u .0) (u .1 .0) (u .1 .1 .0) (u .1 .1 .1 .0)) same m)
 
 zero-i32-requires : tie.Need-zero-i32-requires
 zero-i32-requires c κs = search needs
@@ -116,7 +153,9 @@ returns c =
     let zt = k .before .before .before .before .before .before .zero-u8 in
     let zw = k .before .before .zero-i322 in
     let zu = c .before .before .zero-u32 in
-    refuses (font k) (a .fixed .now) (a .through .now) (a .warnings .now) (a .work .now) (k .damaged-refusal .result) (zf .last .0) (zt .last .0) (zw .last .0) (zu .last .0) (first-refusal _ (refusal-is k) (c .before .before .before .before .if1 .taken)) (c .before .before .before .before .if1 .taken) (zf .ensures) (zt .ensures) (zw .ensures) (zu .ensures)
+    refuses (font k) (a .fixed .now) (a .through .now) (a .warnings .now) (a .work .now) (k .damaged-refusal .result) (zf .last .0) (zt .last .0) (zw .last .0)
+    (zu .last .0) (first-refusal _ (refusal-is k) (c .before .before .before .before .if1 .taken)) (c .before .before .before .before .if1 .taken)
+    (zf .ensures) (zt .ensures) (zw .ensures) (zu .ensures)
 
 programs-requires : tie.Need-programs-requires
 programs-requires c κs = search needs
@@ -155,22 +194,39 @@ mul-program-2 : tie.Need-mul-program-2
 mul-program-2 c = omega (arith, few (c .before .before .before .before .before .before .before .before .before .before .before .before .before .before .before))
 
 array-share-prefix-program : tie.Need-array-share-prefix-program
-array-share-prefix-program c = let m = c .before .before .before .before .before .before .before .before in front-long _ (m .mend .last .1 .1 .1 .1 .1 .1 .1 .1 .0) (m .before .before .before .before .before .before .programs .result) (program-length m)
+array-share-prefix-program c =
+    let c8 = c .before .before .before .before .before .before .before .before in
+    let m = c8 in
+    front-long _ (m .mend .last .1 .1 .1 .1 .1 .1 .1 .1 .0) (m .before .before .before .before .before .before .programs .result) (program-length m)
 
 slice-aggregate-finish : tie.Need-slice-aggregate-finish
-slice-aggregate-finish c = let m = c .before .before .before .before .before .before .before .before .before in sym (ap length (front _ (m .mend .last .1 .1 .1 .1 .1 .1 .1 .1 .0) (m .before .before .before .before .before .before .programs .result) (program-length m)) ∙ program-length m)
+slice-aggregate-finish c =
+    let c9 = c .before .before .before .before .before .before .before .before .before in
+    let m = c9 in
+    sym (ap length
+    (front _ (m .mend .last .1 .1 .1 .1 .1 .1 .1 .1 .0) (m .before .before .before .before .before .before .programs .result) (program-length m))
+    ∙ program-length m)
 
 array-share-prefix-passed : tie.Need-array-share-prefix-passed
-array-share-prefix-passed c = let m = c .before .before .before .before .before .before .before .before .before in front-long _ (m .mend .last .1 .1 .1 .1 .1 .1 .1 .1 .1 .0) (m .before .before .before .before .before .places .result) (through-length m)
+array-share-prefix-passed c =
+    let c9 = c .before .before .before .before .before .before .before .before .before in
+    let m = c9 in front-long _ (m .mend .last .1 .1 .1 .1 .1 .1 .1 .1 .1 .0) (m .before .before .before .before .before .places .result) (through-length m)
 
 slice-aggregate-finish-2 : tie.Need-slice-aggregate-finish-2
-slice-aggregate-finish-2 c = let m = c .before .before .before .before .before .before .before .before .before .before in sym (ap length (front _ (m .mend .last .1 .1 .1 .1 .1 .1 .1 .1 .1 .0) (m .before .before .before .before .before .places .result) (through-length m)) ∙ through-length m)
+slice-aggregate-finish-2 c =
+    let c10 = c .before .before .before .before .before .before .before .before .before .before in
+    let m = c10 in
+    sym (ap length (front _ (m .mend .last .1 .1 .1 .1 .1 .1 .1 .1 .1 .0) (m .before .before .before .before .before .places .result) (through-length m))
+    ∙ through-length m)
 
 finish-requires : tie.Need-finish-requires
 finish-requires c κs = search needs
 
 same-length-5 : tie.Need-same-length-5
-same-length-5 c = c .before .before .before .before .before .before .before .before .before .before .before .before .before .before .before .before .before .before .before .before .before .before .before .before .before .before .before .before .zero-i32 .kept .0
+same-length-5 c =
+    let c28 = c .before .before .before .before .before .before .before .before .before .before .before .before .before .before .before .before .before .before
+    .before .before .before .before .before .before .before .before .before .before in
+    c28 .zero-i32 .kept .0
 
 same-length-6 : tie.Need-same-length-6
 same-length-6 c = search needs
@@ -192,15 +248,23 @@ returns-2 c =
     let zw = k .before .before .zero-i322 in
     let z = c .before .zero-i323 in
     let g = mended m _ (c .before .before .before .before .number .given .1) in
-    let e = pairs-refused (font k) (a .fixed .now) (a .through .now) (a .warnings .now) (a .work .now) (taken (m .before .before .before .before .before .before .before)) _ (g .answer) in
+    let e = pairs-refused (font k) (a .fixed .now) (a .through .now) (a .warnings .now) (a .work .now)
+    (taken (m .before .before .before .before .before .before .before)) _ (g .answer) in
     let l : length (u .1 .1 .0) ≡ length (a .warnings .now) = m .mend .kept .1 .1 .1 .1 .1 .1 .1 .1 .1 .1 .0 ∙ zw .kept .0 in
-    refuses (font k) (a .fixed .now) (a .through .now) (a .warnings .now) (a .work .now) _ (zf .last .0) (zt .last .0) (z .last .0) (u .1 .1 .1 .0) (e .0) (e .1) (zf .ensures) (zt .ensures) (z .ensures ∙ ap (λ (j : ℕ). replicate j (pos 0)) l) (g .cleared)
+    refuses (font k) (a .fixed .now) (a .through .now) (a .warnings .now) (a .work .now) _ (zf .last .0) (zt .last .0) (z .last .0) (u .1 .1 .1 .0) (e .0)
+    (e .1) (zf .ensures) (zt .ensures) (z .ensures ∙ ap (λ (j : ℕ). replicate j (pos 0)) l) (g .cleared)
 
 same-length-9 : tie.Need-same-length-9
-same-length-9 c = c .before .before .before .before .finish .kept .1 .1 .1 .1 .0 ∙ c .before .before .before .before .before .before .before .before .before .before .before .before .before .before .before .before .before .before .before .before .before .before .before .before .before .before .before .before .before .before .before .before .before .before .before .zero-i32 .kept .0
+same-length-9 c =
+    let c35 = c .before .before .before .before .before .before .before .before .before .before .before .before .before .before .before .before .before .before
+    .before .before .before .before .before .before .before .before .before .before .before .before .before .before .before .before .before in
+    c .before .before .before .before .finish .kept .1 .1 .1 .1 .0 ∙ c35 .zero-i32 .kept .0
 
 same-length-10 : tie.Need-same-length-10
-same-length-10 c = c .before .before .before .before .finish .kept .1 .1 .1 .1 .1 .0 ∙ c .before .before .before .before .before .before .before .before .before .before .before .before .before .before .before .before .before .before .before .before .before .before .before .before .before .before .before .before .before .before .before .before .zero-u8 .kept .0
+same-length-10 c =
+    let c32 = c .before .before .before .before .before .before .before .before .before .before .before .before .before .before .before .before .before .before
+    .before .before .before .before .before .before .before .before .before .before .before .before .before .before in
+    c .before .before .before .before .finish .kept .1 .1 .1 .1 .1 .0 ∙ c32 .zero-u8 .kept .0
 
 same-length-11 : tie.Need-same-length-11
 same-length-11 c = search needs
@@ -223,7 +287,12 @@ returns-3 c =
     let e = passed-by _ _ _ _ _ (g .answer) in
     let program = front _ (u .0) (m .before .before .before .before .before .before .programs .result) (program-length m) ∙ g .instructions in
     let passed = front _ (u .1 .0) (m .before .before .before .before .before .places .result) (through-length m) ∙ g .passthrough in
-    finished (font k) (a .fixed .now) (a .through .now) (a .warnings .now) (a .work .now) (taken (m .before .before .before .before .before .before .before)) (e .0) (zf .last .0) (zt .last .0) (zw .last .0) (u .1 .1 .0) (u .1 .1 .1 .0) (zf .ensures) (zt .ensures) (zw .ensures) (g .cleared) (g .warned (e .0)) _ _ (left-handed (font k) _ (k .before .before .before .before .before .before .before .before .before .before .before .before .before .before .fits .«left-entry») (e .1)) (e .2) _ _ program passed (f .result) (y .0) (y .1 .0) (y .1 .1 .0) (f .ensures)
+    finished (font k) (a .fixed .now) (a .through .now) (a .warnings .now) (a .work .now) (taken (m .before .before .before .before .before .before .before))
+    (e .0) (zf .last .0) (zt .last .0) (zw .last .0) (u .1 .1 .0) (u .1 .1 .1 .0) (zf .ensures) (zt .ensures) (zw .ensures) (g .cleared) (g .warned (e .0))
+    _ _
+    (left-handed (font k) _
+    (k .before .before .before .before .before .before .before .before .before .before .before .before .before .before .fits .«left-entry») (e .1)) (e .2)
+    _ _ program passed (f .result) (y .0) (y .1 .0) (y .1 .1 .0) (f .ensures)
 
 pub validate-and-fix-spec : {M : Type 1} → statement M
 validate-and-fix-spec =

@@ -27,7 +27,8 @@ returns-2 : tie.Need-returns-2
 returns-2 c =
     let r = c .before .before .before .before .before in
     let a = r .before .before .before .before .args in
-    followed (a .instructions .now) (a .entry) (a .through .now) (r .before .before .entry-refusal .ensures) (r .before .if1 .left) (sym (r .is-redirect .ensures) ∙ c .before .before .before .before .if2 .taken) (c .before .before .put-u8 .ensures)
+    followed (a .instructions .now) (a .entry) (a .through .now) (r .before .before .entry-refusal .ensures) (r .before .if1 .left)
+    (sym (r .is-redirect .ensures) ∙ c .before .before .before .before .if2 .taken) (c .before .before .put-u8 .ensures)
 
 returns-3 : tie.Need-returns-3
 returns-3 c =

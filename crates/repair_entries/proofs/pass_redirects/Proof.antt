@@ -15,7 +15,8 @@ use Rattle.repair_entries.proofs.pass_redirects.Tie as tie
 
 abbrev Inv-loop : tie.InvT-loop
 Inv-loop instructions entries through₀ k₀ through k =
-    (k ≤ length entries / 2) × (length through ≡ length through₀) × ((d : Damaged) → Lends d instructions entries → (t : List ℕ) → through₀ ≡ sets t 0 (passthroughUpto d 0) → through ≡ sets t 0 (passthroughUpto d k))
+    (k ≤ length entries / 2) × (length through ≡ length through₀)
+    × ((d : Damaged) → Lends d instructions entries → (t : List ℕ) → through₀ ≡ sets t 0 (passthroughUpto d 0) → through ≡ sets t 0 (passthroughUpto d k))
 
 abbrev μ-loop : tie.MeasureT-loop
 μ-loop instructions entries through₀ k₀ through k = length entries / 2 - k
@@ -52,7 +53,8 @@ loop-again c =
     let a = h .before .before .args in (
       omega arith,
       ap length (p .pass-redirect .ensures) ∙ redirect-length (a .instructions .now) (w .word-at .result) (h .loop .through) ∙ h .loop .inv .1,
-      λ d l t e. passed-more d (a .instructions .now) (a .entries .now) l t (h .loop .k) (w .word-at .result) (w .word-at .ensures .is) (h .loop .inv .2 d l t e) (p .pass-redirect .ensures),
+      λ d l t e. passed-more d (a .instructions .now) (a .entries .now) l t (h .loop .k) (w .word-at .result) (w .word-at .ensures .is)
+          (h .loop .inv .2 d l t e) (p .pass-redirect .ensures),
     )
 
 same-length : tie.Need-same-length Inv-loop μ-loop

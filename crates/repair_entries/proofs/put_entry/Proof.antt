@@ -47,7 +47,10 @@ same-length c = search needs
 returns-2 : tie.Need-returns-2
 returns-2 c =
     let a = c .before .before .before .before .before .before .before .before .before .args in
-    placed (a .instructions .now) (a .c) (a .entry) (a .unpacked .now) _ _ (a .n) _ _ (c .before .before .before .before .before .before .before .before .entry-refusal .ensures) (c .before .before .before .before .before .before .before .if1 .left) (c .before .before .stands-for .ensures) (c .before .before .before .before .before .put-word .ensures) (c .before .put-word2 .ensures)
+    placed (a .instructions .now) (a .c) (a .entry) (a .unpacked .now) _ _ (a .n) _ _
+    (c .before .before .before .before .before .before .before .before .entry-refusal .ensures)
+    (c .before .before .before .before .before .before .before .if1 .left) (c .before .before .stands-for .ensures)
+    (c .before .before .before .before .before .put-word .ensures) (c .before .put-word2 .ensures)
 
 pub put-entry-spec : {M : Type 1} → statement M
 put-entry-spec =

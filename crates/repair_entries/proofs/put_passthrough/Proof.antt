@@ -37,11 +37,19 @@ loop-again : tie.Need-loop-again Inv-loop μ-loop
 loop-again c =
     let j = c .before .before .before .before in
     let h = j .before .before .before in
-    let a = h .before .before .before .args in
-    (omega arith, bits-more (a .passthrough .now) (a .through .now) (h .loop .i) _ (h .loop .inv .1) (⊎-elim (λ w. w .1 ∙ bit-clear (a .passthrough .now) (h .loop .i) (j .before .u8-at .ensures) (w .0 .taken)) (λ w. w .1 ∙ bit-set (a .passthrough .now) (h .loop .i) (j .before .u8-at .ensures) (w .0 .left)) (j .if1 .came)) (c .before .before .put-u8 .ensures))
+    let a = h .before .before .before .args in (
+      omega arith,
+      bits-more (a .passthrough .now) (a .through .now) (h .loop .i) _ (h .loop .inv .1)
+          (⊎-elim (λ w. w .1 ∙ bit-clear (a .passthrough .now) (h .loop .i) (j .before .u8-at .ensures) (w .0 .taken))
+          (λ w. w .1 ∙ bit-set (a .passthrough .now) (h .loop .i) (j .before .u8-at .ensures) (w .0 .left)) (j .if1 .came))
+          (c .before .before .put-u8 .ensures),
+    )
 
 same-length : tie.Need-same-length Inv-loop μ-loop
-same-length c = let h = c .before in ap length (h .loop .inv .1) ∙ length-sets (h .before .before .before .args .through .now) 0 (passthroughBits (h .before .before .before .args .passthrough .now) (h .loop .i))
+same-length c =
+    let h = c .before in
+    ap length (h .loop .inv .1)
+    ∙ length-sets (h .before .before .before .args .through .now) 0 (passthroughBits (h .before .before .before .args .passthrough .now) (h .loop .i))
 
 returns : tie.Need-returns Inv-loop μ-loop
 returns c =

@@ -53,8 +53,10 @@ returns c =
     let a = s .args in
     λ d is es ls ps few many.
     let l : Lends d (a .instructions .now) (a .entries .now) = record { instructions = is; entries = es } in
-    enters d (a .instructions .now) (a .entries .now) l ls ps few many (e .put-entries .ensures d l) (t .put-passthrough .ensures) (q .pass-redirects .ensures d l)
-    (f .left-goes .ensures ∙ ap (λ (z : ℤ). both (nonNeg z) (leb (count (a .instructions .now)) (wordOf z))) (number-word (a .left-entry) (s .fits .left-entry)))
+    enters d (a .instructions .now) (a .entries .now) l ls ps few many (e .put-entries .ensures d l) (t .put-passthrough .ensures)
+    (q .pass-redirects .ensures d l)
+    (f .left-goes .ensures
+    ∙ ap (λ (z : ℤ). both (nonNeg z) (leb (count (a .instructions .now)) (wordOf z))) (number-word (a .left-entry) (s .fits .left-entry)))
     (p .push-if .ensures) (w .warn-entries .ensures d l)
 
 pub unpack-entries-spec : {M : Type 1} → statement M

@@ -16,7 +16,8 @@ use Rattle.repair_entries.proofs.warn_entries.Tie as tie
 
 abbrev Inv-loop : tie.InvT-loop
 Inv-loop instructions entries warnings₀ n count₀ k₀ warnings count k =
-    (k ≤ length entries / 2) × (length warnings ≡ length warnings₀) × ((d : Damaged) → Lends d instructions entries → n ≤ 1 → length entries / 2 ≤ 256 → Pushed warnings₀ n (entryWarnings d k) warnings count)
+    (k ≤ length entries / 2) × (length warnings ≡ length warnings₀)
+    × ((d : Damaged) → Lends d instructions entries → n ≤ 1 → length entries / 2 ≤ 256 → Pushed warnings₀ n (entryWarnings d k) warnings count)
 
 abbrev μ-loop : tie.MeasureT-loop
 μ-loop instructions entries warnings₀ n count₀ k₀ warnings count k = length entries / 2 - k
@@ -64,7 +65,9 @@ loop-again c =
       omega arith,
       pushed-length (h .loop .warnings) (h .loop .count) _ _ _ (p .push-if .ensures) ∙ h .loop .inv .1,
       λ d l f m.
-          warned-more d (a .instructions .now) (a .entries .now) l (h .loop .k) (w .before .word-at .result) (w .word-at2 .result) (r .entry-refusal .result) (w .before .word-at .ensures) (w .word-at2 .ensures .is) (r .entry-refusal .ensures) (a .warnings .now) (h .loop .warnings) _ (a .n) (h .loop .count) _ f (omega (arith, m, w .before .before .loop-test .taken)) (h .loop .inv .2 d l f m) (p .push-if .ensures),
+          warned-more d (a .instructions .now) (a .entries .now) l (h .loop .k) (w .before .word-at .result) (w .word-at2 .result) (r .entry-refusal .result)
+          (w .before .word-at .ensures) (w .word-at2 .ensures .is) (r .entry-refusal .ensures) (a .warnings .now) (h .loop .warnings) _ (a .n)
+          (h .loop .count) _ f (omega (arith, m, w .before .before .loop-test .taken)) (h .loop .inv .2 d l f m) (p .push-if .ensures),
     )
 
 same-length : tie.Need-same-length Inv-loop μ-loop

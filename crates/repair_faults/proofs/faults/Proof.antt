@@ -33,8 +33,10 @@ returns c =
     let g = c .before .before .before in
     let e = g .before .before .before in
     let a = e .before .before .before in
-    faults-are (now (a .args .instructions)) (now (a .args .kerns)) (a .args .boundary) (now (a .args .existing)) (now (a .args .marks)) (now (a .args .passthrough)) (a .args .i)
-    (word-passed (a .fits .boundary) (e .word-of .ensures)) (g .before .before .skip-goes .ensures) (g .before .redirect-warns .ensures) (g .right-goes .ensures)
+    faults-are (now (a .args .instructions)) (now (a .args .kerns)) (a .args .boundary) (now (a .args .existing)) (now (a .args .marks))
+    (now (a .args .passthrough)) (a .args .i)
+    (word-passed (a .fits .boundary) (e .word-of .ensures)) (g .before .before .skip-goes .ensures) (g .before .redirect-warns .ensures)
+    (g .right-goes .ensures)
     (c .before .before .kern-goes .ensures) (c .before .product-goes .ensures) (c .tag-goes .ensures)
 
 pub faults-spec : {M : Type 1} → statement M

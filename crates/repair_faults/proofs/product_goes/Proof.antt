@@ -24,7 +24,8 @@ returns-2 : tie.Need-returns-2
 returns-2 c =
     let d = c .before .before in
     let a = d .before .before .args in
-    product-by (now (a .instructions)) (now (a .existing)) (a .i) (d .before .field-at .ensures .is) (d .if1 .left) (c .before .field-at2 .ensures .is) (c .exists .ensures)
+    product-by (now (a .instructions)) (now (a .existing)) (a .i) (d .before .field-at .ensures .is) (d .if1 .left) (c .before .field-at2 .ensures .is)
+    (c .exists .ensures)
 
 pub product-goes-spec : {M : Type 1} → statement M
 product-goes-spec =

@@ -24,7 +24,8 @@ returns-2 : tie.Need-returns-2
 returns-2 c =
     let d = c .before .before in
     let a = d .before .before .before .before .args in
-    redirect-followed (now (a .instructions)) (now (a .marks)) (now (a .passthrough)) (a .i) (d .before .field-at .ensures .is) (d .if1 .left) (c .before .field-at2 .ensures .is) (c .if2 .taken)
+    redirect-followed (now (a .instructions)) (now (a .marks)) (now (a .passthrough)) (a .i) (d .before .field-at .ensures .is) (d .if1 .left)
+    (c .before .field-at2 .ensures .is) (c .if2 .taken)
 
 u8-at-requires : tie.Need-u8-at-requires
 u8-at-requires c κs = search needs
@@ -34,7 +35,8 @@ returns-3 c =
     let e = c .before .before in
     let d = e .before .before in
     let a = d .before .before .before .before .args in
-    redirect-reached (now (a .instructions)) (now (a .marks)) (now (a .passthrough)) (a .i) (d .before .field-at .ensures .is) (d .if1 .left) (e .before .field-at2 .ensures .is) (e .if2 .left)
+    redirect-reached (now (a .instructions)) (now (a .marks)) (now (a .passthrough)) (a .i) (d .before .field-at .ensures .is) (d .if1 .left)
+    (e .before .field-at2 .ensures .is) (e .if2 .left)
     (c .before .u8-at .ensures) (c .if3 .taken)
 
 u8-at-requires-2 : tie.Need-u8-at-requires-2
@@ -45,7 +47,8 @@ returns-4 c =
     let e = c .before .before .before in
     let d = e .before .before in
     let a = d .before .before .before .before .args in
-    redirect-unreached (now (a .instructions)) (now (a .marks)) (now (a .passthrough)) (a .i) (d .before .field-at .ensures .is) (d .if1 .left) (e .before .field-at2 .ensures .is) (e .if2 .left)
+    redirect-unreached (now (a .instructions)) (now (a .marks)) (now (a .passthrough)) (a .i) (d .before .field-at .ensures .is) (d .if1 .left)
+    (e .before .field-at2 .ensures .is) (e .if2 .left)
     (c .before .before .u8-at .ensures) (c .before .if3 .left) (c .u8-at2 .ensures)
 
 pub redirect-warns-spec : {M : Type 1} → statement M

@@ -28,7 +28,8 @@ returns-3 c =
     let e = c .before in
     let d = e .before .before in
     let a = d .before .before .before .args in
-    skip-past (now (a .instructions)) (now (a .marks)) (a .i) (d .before .u8-at .ensures) (d .if1 .left) (e .before .field-at .ensures) (e .if2 .left) (c .if3 .taken)
+    skip-past (now (a .instructions)) (now (a .marks)) (a .i) (d .before .u8-at .ensures) (d .if1 .left) (e .before .field-at .ensures) (e .if2 .left)
+    (c .if3 .taken)
 
 sub-result : tie.Need-sub-result
 sub-result c = search needs
@@ -44,7 +45,8 @@ returns-4 c =
     let e = c .before in
     let d = e .before .before in
     let a = d .before .before .before .args in
-    skip-lands (now (a .instructions)) (now (a .marks)) (a .i) (d .before .u8-at .ensures) (d .if1 .left) (e .before .field-at .ensures) (e .if2 .left) (c .if3 .left)
+    skip-lands (now (a .instructions)) (now (a .marks)) (a .i) (d .before .u8-at .ensures) (d .if1 .left) (e .before .field-at .ensures) (e .if2 .left)
+    (c .if3 .left)
 
 pub skip-goes-spec : {M : Type 1} → statement M
 skip-goes-spec =

@@ -36,7 +36,8 @@ returns-4 c = λ e h l.
     let k = y .before .before .before .before in
     let s = k .before .before .before in
     let a = s .args in
-    fixes-whole (now (a .instructions)) (now (a .kerns)) (a .boundary) (a .replacement) (now (a .existing)) (now (a .marks)) (now (a .passthrough)) (s .fits .boundary)
+    fixes-whole (now (a .instructions)) (now (a .kerns)) (a .boundary) (a .replacement) (now (a .existing)) (now (a .marks)) (now (a .passthrough))
+    (s .fits .boundary)
     (y .warn-skips .ensures (a .replacement)) (x .fix-steps .ensures) e
 
 pub fix-program-spec : {M : Type 1} → statement M

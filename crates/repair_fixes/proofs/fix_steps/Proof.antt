@@ -19,13 +19,22 @@ use Rattle.repair_fixes.proofs.fix_steps.Tie as tie
 
 abbrev Inv-loop : tie.InvT-loop
 Inv-loop instructions kerns boundary replacement existing marks passthrough fixed₀ warnings₀ n at₀ i₀ fixed warnings at i =
-    (i ≤ count instructions) × FixesUpto (programBy instructions kerns (numberOf boundary) replacement existing marks passthrough) i n fixed₀ warnings₀ at fixed warnings × (length fixed ≡ length fixed₀)
+    (i ≤ count instructions)
+    × FixesUpto (programBy instructions kerns (numberOf boundary) replacement existing marks passthrough) i n fixed₀ warnings₀ at fixed warnings
+    × (length fixed ≡ length fixed₀)
 
 abbrev μ-loop : tie.MeasureT-loop
 μ-loop instructions kerns boundary replacement existing marks passthrough fixed₀ warnings₀ n at₀ i₀ fixed warnings at i = count instructions - i
 
 loop-holds : tie.Need-loop-holds Inv-loop μ-loop
-loop-holds c = let a = c .before .before .args in (omega arith, fixes-none (programBy (now (a .instructions)) (now (a .kerns)) (numberOf (wordOf (a .boundary))) (a .replacement) (now (a .existing)) (now (a .marks)) (now (a .passthrough))) (a .n) (now (a .fixed)) (now (a .warnings)), refl)
+loop-holds c =
+    let a = c .before .before .args in (
+      omega arith,
+      fixes-none
+          (programBy (now (a .instructions)) (now (a .kerns)) (numberOf (wordOf (a .boundary))) (a .replacement) (now (a .existing)) (now (a .marks))
+          (now (a .passthrough))) (a .n) (now (a .fixed)) (now (a .warnings)),
+      refl,
+    )
 
 faults-requires : tie.Need-faults-requires Inv-loop μ-loop
 faults-requires c κs = search needs
@@ -51,7 +60,9 @@ loop-again c =
     let s = l .before .before .before in
     let a = s .args in (
       omega (arith, f .before .loop-test .taken),
-      fixes-more (programBy (now (a .instructions)) (now (a .kerns)) (numberOf (wordOf (a .boundary))) (a .replacement) (now (a .existing)) (now (a .marks)) (now (a .passthrough))) (l .loop .i) (f .before .loop-test .taken) (f .faults .ensures (a .replacement))
+      fixes-more
+          (programBy (now (a .instructions)) (now (a .kerns)) (numberOf (wordOf (a .boundary))) (a .replacement) (now (a .existing)) (now (a .marks))
+          (now (a .passthrough))) (l .loop .i) (f .before .loop-test .taken) (f .faults .ensures (a .replacement))
           (l .loop .inv .1) (v .warn-step .ensures) (w .write-step .ensures),
       w .write-step .kept .1 .1 .1 .1 .0 ∙ l .loop .inv .2,
     )
@@ -70,7 +81,10 @@ returns c =
     let l = c .before in
     let s = l .before .before .before in
     let a = s .args in
-    at-end (λ (b : ℤ) (k : ℕ). FixesUpto (programBy (now (a .instructions)) (now (a .kerns)) b (a .replacement) (now (a .existing)) (now (a .marks)) (now (a .passthrough))) k (a .n) (now (a .fixed)) (now (a .warnings)) (l .loop .at) (l .loop .fixed) (l .loop .warnings)) (a .boundary)
+    at-end
+    (λ (b : ℤ) (k : ℕ). FixesUpto
+    (programBy (now (a .instructions)) (now (a .kerns)) b (a .replacement) (now (a .existing)) (now (a .marks)) (now (a .passthrough))) k (a .n)
+    (now (a .fixed)) (now (a .warnings)) (l .loop .at) (l .loop .fixed) (l .loop .warnings)) (a .boundary)
     (s .fits .boundary) (l .loop .inv .0) (c .loop-test .left) (l .loop .inv .1)
 
 pub fix-steps-spec : {M : Type 1} → statement M

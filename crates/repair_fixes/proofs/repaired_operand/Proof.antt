@@ -22,7 +22,8 @@ returns : tie.Need-returns
 returns c = λ t.
     let b = c .before .before in
     let a = b .before .before .args in
-    operand-other (now (a .instructions)) (a .replacement) (a .f) (a .i) (b .field-at2 .ensures .is) (b .before .field-at .ensures) (c .before .if1 .taken) (c .pick .ensures)
+    operand-other (now (a .instructions)) (a .replacement) (a .f) (a .i) (b .field-at2 .ensures .is) (b .before .field-at .ensures) (c .before .if1 .taken)
+    (c .pick .ensures)
 
 pick-requires-2 : tie.Need-pick-requires-2
 pick-requires-2 c κs = search needs
@@ -32,7 +33,14 @@ mul-result c =
     let d = c .before .before .before in
     let o = d .field-at .result in
     let a = d .before .args in
-    record { fits = omega (arith, read-lt (d .field-at .ensures), picked-most (a .f .tag) 0 (o / 256) 16777215 (c .pick2 .ensures) (omega arith) (omega (arith, read-lt (d .field-at .ensures)))) }
+    record {
+      fits =
+          omega (
+            arith,
+            read-lt (d .field-at .ensures),
+            picked-most (a .f .tag) 0 (o / 256) 16777215 (c .pick2 .ensures) (omega arith) (omega (arith, read-lt (d .field-at .ensures))),
+          );
+    }
 
 pick-requires-3 : tie.Need-pick-requires-3
 pick-requires-3 c κs = search needs
@@ -57,7 +65,8 @@ returns-2 c =
     let b = e .before in
     let s = b .before .before in
     let a = s .args in
-    operand-ligature (now (a .instructions)) (a .replacement) (a .f) (a .i) (b .field-at2 .ensures .is) (b .before .field-at .ensures) (e .if1 .left) (s .pre) (c .before .pick2 .ensures) (c .pick3 .ensures)
+    operand-ligature (now (a .instructions)) (a .replacement) (a .f) (a .i) (b .field-at2 .ensures .is) (b .before .field-at .ensures) (e .if1 .left) (s .pre)
+    (c .before .pick2 .ensures) (c .pick3 .ensures)
 
 pub repaired-operand-spec : {M : Type 1} → statement M
 repaired-operand-spec =

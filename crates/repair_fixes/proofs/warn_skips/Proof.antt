@@ -17,13 +17,20 @@ use Rattle.repair_fixes.proofs.warn_skips.Tie as tie
 
 abbrev Inv-loop : tie.InvT-loop
 Inv-loop instructions kerns boundary existing marks passthrough warnings₀ n at₀ i₀ warnings at i =
-    (i ≤ count instructions) × ((m : ℕ) → PushedUpTo i warnings₀ n (skipWarnings (programBy instructions kerns (numberOf boundary) m existing marks passthrough) i) warnings at)
+    (i ≤ count instructions)
+    × ((m : ℕ) → PushedUpTo i warnings₀ n (skipWarnings (programBy instructions kerns (numberOf boundary) m existing marks passthrough) i) warnings at)
 
 abbrev μ-loop : tie.MeasureT-loop
 μ-loop instructions kerns boundary existing marks passthrough warnings₀ n at₀ i₀ warnings at i = count instructions - i
 
 loop-holds : tie.Need-loop-holds Inv-loop μ-loop
-loop-holds c = let a = c .before .before .args in (omega arith, λ m. skips-none (programBy (now (a .instructions)) (now (a .kerns)) (numberOf (wordOf (a .boundary))) m (now (a .existing)) (now (a .marks)) (now (a .passthrough))) (now (a .warnings)) (a .n))
+loop-holds c =
+    let a = c .before .before .args in (
+      omega arith,
+      λ m. skips-none
+          (programBy (now (a .instructions)) (now (a .kerns)) (numberOf (wordOf (a .boundary))) m (now (a .existing)) (now (a .marks)) (now (a .passthrough)))
+          (now (a .warnings)) (a .n),
+    )
 
 faults-requires : tie.Need-faults-requires Inv-loop μ-loop
 faults-requires c κs = search needs
@@ -49,9 +56,11 @@ loop-again c =
     let a = s .args in (
       omega (arith, f .before .loop-test .taken),
       λ m.
-          let q = programBy (now (a .instructions)) (now (a .kerns)) (numberOf (wordOf (a .boundary))) m (now (a .existing)) (now (a .marks)) (now (a .passthrough)) in
+          let q = programBy (now (a .instructions)) (now (a .kerns)) (numberOf (wordOf (a .boundary))) m (now (a .existing)) (now (a .marks))
+          (now (a .passthrough)) in
           skips-more q (l .loop .i) (l .loop .inv .1 m)
-          (skip-pushed q (l .loop .i) (f .faults .ensures m) (omega (arith, s .pre .0, f .before .loop-test .taken)) (omega (arith, s .pre .0, s .pre .1, f .before .loop-test .taken, l .loop .inv .1 m .most)) (p .push-if .ensures)),
+          (skip-pushed q (l .loop .i) (f .faults .ensures m) (omega (arith, s .pre .0, f .before .loop-test .taken))
+          (omega (arith, s .pre .0, s .pre .1, f .before .loop-test .taken, l .loop .inv .1 m .most)) (p .push-if .ensures)),
     )
 
 same-length : tie.Need-same-length Inv-loop μ-loop
@@ -65,7 +74,10 @@ returns c = λ m.
     let l = c .before in
     let s = l .before .before .before in
     let a = s .args in
-    at-end (λ (b : ℤ) (k : ℕ). PushedUpTo k (now (a .warnings)) (a .n) (skipWarnings (programBy (now (a .instructions)) (now (a .kerns)) b m (now (a .existing)) (now (a .marks)) (now (a .passthrough))) k) (l .loop .warnings) (l .loop .at)) (a .boundary) (s .fits .boundary)
+    at-end
+    (λ (b : ℤ) (k : ℕ). PushedUpTo k (now (a .warnings)) (a .n)
+    (skipWarnings (programBy (now (a .instructions)) (now (a .kerns)) b m (now (a .existing)) (now (a .marks)) (now (a .passthrough))) k)
+    (l .loop .warnings) (l .loop .at)) (a .boundary) (s .fits .boundary)
     (l .loop .inv .0) (c .loop-test .left) (l .loop .inv .1 m)
 
 pub warn-skips-spec : {M : Type 1} → statement M

@@ -45,8 +45,10 @@ returns c =
     let a = b .before .before .before in
     let k = a .before .before in
     let s = k .before .before .before in
-    step-pushed (now (s .args .instructions)) (s .args .replacement) (s .args .f) (s .args .i) (s .pre .0) (s .pre .1) (k .right-warning .ensures) (k .before .before .field-at .ensures)
-    (k .before .field-at2 .ensures .is) (s .pre .2) (a .push-if .ensures) (b .push-if2 .ensures) (o .push-if3 .ensures) (d .push-if4 .ensures) (e .push-if5 .ensures)
+    step-pushed (now (s .args .instructions)) (s .args .replacement) (s .args .f) (s .args .i) (s .pre .0) (s .pre .1) (k .right-warning .ensures)
+    (k .before .before .field-at .ensures)
+    (k .before .field-at2 .ensures .is) (s .pre .2) (a .push-if .ensures) (b .push-if2 .ensures) (o .push-if3 .ensures) (d .push-if4 .ensures)
+    (e .push-if5 .ensures)
 
 pub warn-step-spec : {M : Type 1} → statement M
 warn-step-spec =

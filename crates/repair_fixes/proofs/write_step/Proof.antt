@@ -80,8 +80,10 @@ returns c = λ t.
     let n = r .before .before in
     let s = n .before .before in
     let a = s .args in
-    four-written (a .i) (now (a .fixed)) {v = operandBy (now (a .instructions)) (a .replacement) (a .f) (a .i)} (picked (a .f .skip) 4294967295 (n .before .field-at .result) refl (number-is (n .before .field-at .ensures)) (n .pick .ensures))
-    (picked (a .f .right) (a .replacement) (r .before .field-at2 .result) (number-pos (a .replacement) (omega (arith, s .pre .0))) (number-is (r .before .field-at2 .ensures)) (r .pick2 .ensures))
+    four-written (a .i) (now (a .fixed)) {v = operandBy (now (a .instructions)) (a .replacement) (a .f) (a .i)}
+    (picked (a .f .skip) 4294967295 (n .before .field-at .result) refl (number-is (n .before .field-at .ensures)) (n .pick .ensures))
+    (picked (a .f .right) (a .replacement) (r .before .field-at2 .result) (number-pos (a .replacement) (omega (arith, s .pre .0)))
+    (number-is (r .before .field-at2 .ensures)) (r .pick2 .ensures))
     (picked (a .f .kern) 0 (k .before .field-at3 .result) refl (number-is (k .before .field-at3 .ensures)) (k .pick3 .ensures)) (o .repaired-operand .ensures t)
     (w .put-word .ensures) (x .put-word2 .ensures) (y .put-word3 .ensures) (z .put-word4 .ensures)
 

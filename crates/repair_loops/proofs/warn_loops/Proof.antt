@@ -33,8 +33,13 @@ warn-rows-requires c κs =
     let o = k .before .before .before .before .before in
     let a = o .args in
     let w = k .find-loops .last .1 .1 .1 .1 .1 .0 in
-    let p = lent-as (λ (f : Font) (r : WalkedFont). FindsLoops f (min (length (a .work .now) / 16) (length (a .work .now) / 16)) (a .work .now) w r) (a .instructions .now) (a .kerns .now) (a .entries .now) (pos 0) _ (a .«left-entry») _ (pos 10485760) (k .find-loops .result) _ (k .find-loops .ensures (pos 0)) (g .1) (number-word (a .«left-entry») (o .fits .«left-entry»)) refl .rows in
-    (few (fontOf (a .instructions .now) (a .kerns .now) (a .entries .now) (pos 0) (a .«left-entry») (pos 10485760)) (a .n) (a .warnings .now) (a .work .now) w _ _ _ _ p, p .4 .listing)
+    let p = lent-as (λ (f : Font) (r : WalkedFont). FindsLoops f (min (length (a .work .now) / 16) (length (a .work .now) / 16)) (a .work .now) w r)
+    (a .instructions .now) (a .kerns .now) (a .entries .now) (pos 0) _ (a .«left-entry») _ (pos 10485760) (k .find-loops .result) _
+    (k .find-loops .ensures (pos 0)) (g .1) (number-word (a .«left-entry») (o .fits .«left-entry»)) refl .rows in (
+      few (fontOf (a .instructions .now) (a .kerns .now) (a .entries .now) (pos 0) (a .«left-entry») (pos 10485760)) (a .n) (a .warnings .now) (a .work .now) w
+          _ _ _ _ p,
+      p .4 .listing,
+    )
 
 zero-u32-requires : tie.Need-zero-u32-requires
 zero-u32-requires c κs = search needs
@@ -49,8 +54,11 @@ returns c = λ b h.
     let o = k .before .before .before .before .before in
     let a = o .args in
     let w = k .find-loops .last .1 .1 .1 .1 .1 .0 in
-    let p = lent-as (λ (f : Font) (r : WalkedFont). FindsLoops f (min (length (a .work .now) / 16) (length (a .work .now) / 16)) (a .work .now) w r) (a .instructions .now) (a .kerns .now) (a .entries .now) b _ (a .«left-entry») _ (pos 10485760) (k .find-loops .result) _ (k .find-loops .ensures b) (g .1) (number-word (a .«left-entry») (o .fits .«left-entry»)) refl .rows in
-    unfit (fontOf (a .instructions .now) (a .kerns .now) (a .entries .now) b (a .«left-entry») (pos 10485760)) (a .n) (a .warnings .now) (a .work .now) w (g .0 .0) p
+    let p = lent-as (λ (f : Font) (r : WalkedFont). FindsLoops f (min (length (a .work .now) / 16) (length (a .work .now) / 16)) (a .work .now) w r)
+    (a .instructions .now) (a .kerns .now) (a .entries .now) b _ (a .«left-entry») _ (pos 10485760) (k .find-loops .result) _ (k .find-loops .ensures b)
+    (g .1) (number-word (a .«left-entry») (o .fits .«left-entry»)) refl .rows in
+    unfit (fontOf (a .instructions .now) (a .kerns .now) (a .entries .now) b (a .«left-entry») (pos 10485760)) (a .n) (a .warnings .now) (a .work .now) w
+    (g .0 .0) p
 
 same-length-2 : tie.Need-same-length-2
 same-length-2 c = search needs
@@ -67,8 +75,11 @@ returns-2 c = λ b h.
     let o = k .before .before .before .before .before in
     let a = o .args in
     let w = k .find-loops .last .1 .1 .1 .1 .1 .0 in
-    let p = lent-as (λ (f : Font) (r : WalkedFont). FindsLoops f (min (length (a .work .now) / 16) (length (a .work .now) / 16)) (a .work .now) w r) (a .instructions .now) (a .kerns .now) (a .entries .now) b _ (a .«left-entry») _ (pos 10485760) (k .find-loops .result) _ (k .find-loops .ensures b) (g .1) (number-word (a .«left-entry») (o .fits .«left-entry»)) refl .rows in
-    listed (fontOf (a .instructions .now) (a .kerns .now) (a .entries .now) b (a .«left-entry») (pos 10485760)) (a .n) (a .warnings .now) (a .work .now) w _ _ _ _ p (t .last .1 .1 .0) (z .last .0) (t .result) (t .ensures h) (z .ensures)
+    let p = lent-as (λ (f : Font) (r : WalkedFont). FindsLoops f (min (length (a .work .now) / 16) (length (a .work .now) / 16)) (a .work .now) w r)
+    (a .instructions .now) (a .kerns .now) (a .entries .now) b _ (a .«left-entry») _ (pos 10485760) (k .find-loops .result) _ (k .find-loops .ensures b)
+    (g .1) (number-word (a .«left-entry») (o .fits .«left-entry»)) refl .rows in
+    listed (fontOf (a .instructions .now) (a .kerns .now) (a .entries .now) b (a .«left-entry») (pos 10485760)) (a .n) (a .warnings .now) (a .work .now) w _ _ _
+    _ p (t .last .1 .1 .0) (z .last .0) (t .result) (t .ensures h) (z .ensures)
 
 pub warn-loops-spec : {M : Type 1} → statement M
 warn-loops-spec =

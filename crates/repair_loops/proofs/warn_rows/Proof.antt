@@ -15,7 +15,8 @@ use Rattle.repair_loops.proofs.warn_rows.Statement.{statement}
 use Rattle.repair_loops.proofs.warn_rows.Tie as tie
 
 abbrev Inv-loop : tie.InvT-loop
-Inv-loop work r warnings₀ n count₀ i₀ warnings count i = (i ≤ r) × (n < 2147483648 → Pushed warnings₀ n (loopWarnings (tabulate i (listedPair work))) warnings count) × (length warnings ≡ length warnings₀)
+Inv-loop work r warnings₀ n count₀ i₀ warnings count i =
+    (i ≤ r) × (n < 2147483648 → Pushed warnings₀ n (loopWarnings (tabulate i (listedPair work))) warnings count) × (length warnings ≡ length warnings₀)
 
 abbrev μ-loop : tie.MeasureT-loop
 μ-loop work r warnings₀ n count₀ i₀ warnings count i = r - i
@@ -62,7 +63,9 @@ loop-again c =
     let s = l .before .before in (
       omega (arith, g .before .loop-test .taken),
       λ h.
-          one-more (s .args .work .now) (s .args .r) (s .args .warnings .now) (l .loop .warnings) (p .push-if .last .1 .0) (s .args .n) (l .loop .i) (g .get .result) (v .before .get2 .result) (v .get3 .result) (l .loop .count) (p .push-if .result) (s .pre .1) (g .before .loop-test .taken) (s .pre .0) h (g .get .ensures) (v .before .get2 .ensures) (v .get3 .ensures) (l .loop .inv .1 h) (p .push-if .ensures),
+          one-more (s .args .work .now) (s .args .r) (s .args .warnings .now) (l .loop .warnings) (p .push-if .last .1 .0) (s .args .n) (l .loop .i)
+          (g .get .result) (v .before .get2 .result) (v .get3 .result) (l .loop .count) (p .push-if .result) (s .pre .1) (g .before .loop-test .taken)
+          (s .pre .0) h (g .get .ensures) (v .before .get2 .ensures) (v .get3 .ensures) (l .loop .inv .1 h) (p .push-if .ensures),
       pushed-length (l .loop .warnings) (l .loop .count) _ (p .push-if .last .1 .0) (p .push-if .result) (p .push-if .ensures) ∙ l .loop .inv .2,
     )
 
@@ -73,7 +76,8 @@ returns : tie.Need-returns Inv-loop μ-loop
 returns c = λ h.
     let l = c .before in
     let s = l .before .before in
-    all-listed (s .args .work .now) (s .args .r) (l .loop .i) (s .args .warnings .now) (l .loop .warnings) (s .args .n) (l .loop .count) (l .loop .inv .0) (c .loop-test .left) (l .loop .inv .1 h)
+    all-listed (s .args .work .now) (s .args .r) (l .loop .i) (s .args .warnings .now) (l .loop .warnings) (s .args .n) (l .loop .count) (l .loop .inv .0)
+    (c .loop-test .left) (l .loop .inv .1 h)
 
 pub warn-rows-spec : {M : Type 1} → statement M
 warn-rows-spec =

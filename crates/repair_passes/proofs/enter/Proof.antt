@@ -19,7 +19,10 @@ use Rattle.repair_passes.proofs.enter.Statement.{statement}
 use Rattle.repair_passes.proofs.enter.Tie as tie
 
 -- what unpacking left, of any font that has what was lent
-entered : (c : tie.After-unpack-entries) (d : Damaged) → let s = c .before .before .before .before .before .before .before in EntersFrom d (s .args .instructions .now) (s .args .entries .now) (s .args .«left-entry») (s .args .passthrough .now) → Enters d (s .args .unpacked .now) (s .args .through .now) (s .args .warnings .now) (c .unpack-entries .result) (c .unpack-entries .last .1 .1 .1 .1 .0) (c .unpack-entries .last .1 .1 .1 .1 .1 .0) (c .unpack-entries .last .1 .1 .1 .1 .1 .1 .0)
+entered : (c : tie.After-unpack-entries) (d : Damaged) → let s = c .before .before .before .before .before .before .before in
+    EntersFrom d (s .args .instructions .now) (s .args .entries .now) (s .args .«left-entry») (s .args .passthrough .now) →
+    Enters d (s .args .unpacked .now) (s .args .through .now) (s .args .warnings .now) (c .unpack-entries .result) (c .unpack-entries .last .1 .1 .1 .1 .0)
+    (c .unpack-entries .last .1 .1 .1 .1 .1 .0) (c .unpack-entries .last .1 .1 .1 .1 .1 .1 .0)
 entered c d f =
     let s = c .before .before .before .before .before .before .before in
     c .unpack-entries .ensures d (f .instructions) (f .entries) (f .left-entry ∙ sym (number-word (s .args .«left-entry») (s .fits .«left-entry»))) (f .passed)
@@ -35,8 +38,10 @@ module _ (c : tie.After-unpack-entries) where
       let d = damagedOf (a .instructions .now) [] (a .entries .now) (pos 0) (a .«left-entry») (pos 0) [] (a .passthrough .now) in
       let g = entered c d (record { instructions = refl; entries = refl; left-entry = refl; passed = refl }) in
       let u = c .unpack-entries .last .1 .1 .1 .1 in (
-        entries-few d (s .pre .1) (a .unpacked .now) (u .0) (a .through .now) (u .1 .0) (a .warnings .now) (u .1 .1 .0) (c .unpack-entries .result) (s .pre .2) g,
-        entries-within d (s .pre .1) (a .unpacked .now) (u .0) (a .through .now) (u .1 .0) (a .warnings .now) (u .1 .1 .0) (c .unpack-entries .result) (s .pre .2) g,
+        entries-few d (s .pre .1) (a .unpacked .now) (u .0) (a .through .now) (u .1 .0) (a .warnings .now) (u .1 .1 .0) (c .unpack-entries .result) (s .pre .2)
+            g,
+        entries-within d (s .pre .1) (a .unpacked .now) (u .0) (a .through .now) (u .1 .0) (a .warnings .now) (u .1 .1 .0) (c .unpack-entries .result)
+            (s .pre .2) g,
       )
 
 unpack-entries-requires : tie.Need-unpack-entries-requires
@@ -52,7 +57,9 @@ slice-reshare-prefix-reachable-array : tie.Need-slice-reshare-prefix-reachable-a
 slice-reshare-prefix-reachable-array c = within (c .before .before .before .before .before .before) .1
 
 slice-aggregate-reachable-array : tie.Need-slice-aggregate-reachable-array
-slice-aggregate-reachable-array c = let k = c .before .before .before .before .before .before .before in sym (length-take-le (2 * k .unpack-entries .result .entries) (k .unpack-entries .last .1 .1 .1 .1 .0) (within k .1))
+slice-aggregate-reachable-array c =
+    let k = c .before .before .before .before .before .before .before in
+    sym (length-take-le (2 * k .unpack-entries .result .entries) (k .unpack-entries .last .1 .1 .1 .1 .0) (within k .1))
 
 reachable-array-requires : tie.Need-reachable-array-requires
 reachable-array-requires c κs = search needs
@@ -79,8 +86,13 @@ returns c = λ d f.
     let u = k .unpack-entries .last .1 .1 .1 .1 in
     let g = entered k d f in
     let few = subst (λ (x : List ℤ). length x / 2 ≤ 256) (sym (f .entries)) (s .pre .1) in
-    let es = entries-are d few (a .unpacked .now) (u .0) (a .through .now) (u .1 .0) (a .warnings .now) (u .1 .1 .0) (k .unpack-entries .result) (s .pre .2) g in
-    (g, marked d (a .instructions .now) _ _ (a .marks .now) (m .last .1 .1 .1 .0) _ (f .instructions) es (left-is d (a .instructions .now) (a .«left-entry») _ (l .result) (f .instructions) (f .left-entry) (s .fits .«left-entry») (number-word (a .«left-entry») (s .fits .«left-entry»)) (l .ensures)) (s .pre .3) (m .ensures))
+    let es = entries-are d few (a .unpacked .now) (u .0) (a .through .now) (u .1 .0) (a .warnings .now) (u .1 .1 .0) (k .unpack-entries .result) (s .pre .2) g
+    in (
+      g,
+      marked d (a .instructions .now) _ _ (a .marks .now) (m .last .1 .1 .1 .0) _ (f .instructions) es
+          (left-is d (a .instructions .now) (a .«left-entry») _ (l .result) (f .instructions) (f .left-entry) (s .fits .«left-entry»)
+          (number-word (a .«left-entry») (s .fits .«left-entry»)) (l .ensures)) (s .pre .3) (m .ensures),
+    )
 
 pub enter-spec : {M : Type 1} → statement M
 enter-spec =

@@ -20,7 +20,8 @@ use Rattle.repairs.specs.Repairs.{damagedOf, damagedRefusal}
 use Rattle.repair_entries.specs.Entering.{Enters}
 use Rattle.repair_passes.specs.Mending.{Mends}
 use Rattle.repair_passes.proofs.Sizes.{size, few-entries, small, program-taken}
-use Rattle.repair_passes.proofs.Laws.{HandedOn, refuses, counts, fitting, entries-within, entries-few, entries-are, passthrough-is, few-warned, left-is, steps-are, instructions-are, few-stepped, repair-warned, loops-are, mended}
+use Rattle.repair_passes.proofs.Laws.{HandedOn, refuses, counts, fitting, entries-within, entries-few, entries-are, passthrough-is, few-warned, left-is}
+use Rattle.repair_passes.proofs.Laws.{steps-are, instructions-are, few-stepped, repair-warned, loops-are, mended}
 use borrow.Author.Needs.{needs}
 use Rattle.repair_passes.proofs.mend.Statement.{statement}
 use Rattle.repair_passes.proofs.mend.Tie as tie
@@ -33,23 +34,35 @@ contrary : _≡_ {A = Bool} true false → ⊥
 contrary e = omega (arith, let z : _≡_ {A = ℕ} 1 0 = ap (λ (b : Bool). cond b 1 0) e in z)
 
 -- the lists fit
-sure : (c : tie.Else1) → let a = c .before .before .before .before .before .args in (count (a .instructions .now) ≤ 32767) × (length (a .entries .now) / 2 ≤ 256) × (length (a .program .now) ≡ 4 * count (a .instructions .now)) × (length (a .through .now) ≡ count (a .instructions .now))
+sure : (c : tie.Else1) → let a = c .before .before .before .before .before .args in
+    (count (a .instructions .now) ≤ 32767) × (length (a .entries .now) / 2 ≤ 256) × (length (a .program .now) ≡ 4 * count (a .instructions .now))
+    × (length (a .through .now) ≡ count (a .instructions .now))
 sure c =
     let a = c .before .before .before .before .before .args in
-    fitting (count (a .instructions .now)) (length (a .entries .now) / 2) (length (a .program .now)) (length (a .through .now)) (sym (c .before .lists-fit .ensures) ∙ not-false _ (c .if1 .left))
+    fitting (count (a .instructions .now)) (length (a .entries .now) / 2) (length (a .program .now)) (length (a .through .now))
+    (sym (c .before .lists-fit .ensures) ∙ not-false _ (c .if1 .left))
 
-places-long : (c : tie.After-mark-places) → count (c .before .before .before .before .before .before .before .args .instructions .now) ≤ length (c .mark-places .result)
+places-long : (c : tie.After-mark-places) →
+    count (c .before .before .before .before .before .before .before .args .instructions .now) ≤ length (c .mark-places .result)
 places-long c = omega (arith, c .mark-places .ensures, sure (c .before .before) .0)
 
 -- the font as it was lent, and what the first pass left of it
 module _ (c : tie.After-enter) where
   abbrev font : Damaged
-  font = let a = c .before .before .before .before .before .before .before .before .before .before .before .before .args in damagedOf (a .instructions .now) (a .kerns .now) (a .entries .now) (a .boundary) (a .«left-entry») (a .replacement) (a .existing .now) (a .passthrough .now)
+  font =
+      let c12 = c .before .before .before .before .before .before .before .before .before .before .before .before in
+      let a = c12 .args in
+      damagedOf (a .instructions .now) (a .kerns .now) (a .entries .now) (a .boundary) (a .«left-entry») (a .replacement) (a .existing .now)
+      (a .passthrough .now)
 
-  handed : let a = c .before .before .before .before .before .before .before .before .before .before .before .before .args in let u = c .enter .last .1 .1 .1 .1 in Enters font (c .before .before .before .before .before .before .entry-places .result) (a .through .now) (a .warnings .now) (c .enter .result) (u .0) (u .1 .1 .0) (u .1 .1 .1 .0) × (u .1 .0 ≡ reachable (a .instructions .now) (unpackedEntries font) (repairedLeft font))
+  handed : let a = c .before .before .before .before .before .before .before .before .before .before .before .before .args in
+      let u = c .enter .last .1 .1 .1 .1 in
+      Enters font (c .before .before .before .before .before .before .entry-places .result) (a .through .now) (a .warnings .now) (c .enter .result) (u .0)
+      (u .1 .1 .0) (u .1 .1 .1 .0) × (u .1 .0 ≡ reachable (a .instructions .now) (unpackedEntries font) (repairedLeft font))
   handed =
       let s = c .before .before .before .before .before .before .before .before .before .before .before .before in
-      c .enter .ensures font (record { instructions = refl; entries = refl; left-entry = sym (number-word (s .args .«left-entry») (s .fits .«left-entry»)); passed = refl })
+      c .enter .ensures font
+      (record { instructions = refl; entries = refl; left-entry = sym (number-word (s .args .«left-entry») (s .fits .«left-entry»)); passed = refl })
 
   few : length (c .before .before .before .before .before .before .before .before .before .before .before .before .args .entries .now) / 2 ≤ 256
   few = sure (c .before .before .before .before .before .before .before) .1
@@ -60,23 +73,48 @@ module _ (c : tie.After-enter) where
       let u = c .enter .last .1 .1 .1 .1 in
       let p = c .before .before .before .before .before .before .entry-places in (
         entries-few font few (p .result) (u .0) (a .through .now) (u .1 .1 .0) (a .warnings .now) (u .1 .1 .1 .0) (c .enter .result) (p .ensures) (handed .0),
-        entries-within font few (p .result) (u .0) (a .through .now) (u .1 .1 .0) (a .warnings .now) (u .1 .1 .1 .0) (c .enter .result) (p .ensures) (handed .0),
+        entries-within font few (p .result) (u .0) (a .through .now) (u .1 .1 .0) (a .warnings .now) (u .1 .1 .1 .0) (c .enter .result) (p .ensures)
+            (handed .0),
       )
 
   -- the marks: as many as there are instructions
-  marks-length : length (c .enter .last .1 .1 .1 .1 .1 .0) ≡ count (c .before .before .before .before .before .before .before .before .before .before .before .before .args .instructions .now)
-  marks-length = c .enter .kept .1 .1 .1 .1 .1 .0 ∙ length-take-le (count (c .before .before .before .before .before .before .before .before .before .before .before .before .args .instructions .now)) (c .before .before .before .before .before .mark-places .result) (places-long (c .before .before .before .before .before))
+  marks-length : let c12 = c .before .before .before .before .before .before .before .before .before .before .before .before in
+      length (c .enter .last .1 .1 .1 .1 .1 .0) ≡ count (c12 .args .instructions .now)
+  marks-length =
+      let c12 = c .before .before .before .before .before .before .before .before .before .before .before .before in
+      let c5 = c .before .before .before .before .before in
+      c .enter .kept .1 .1 .1 .1 .1 .0 ∙ length-take-le (count (c12 .args .instructions .now)) (c5 .mark-places .result) (places-long c5)
 
-  marks-front : let n = count (c .before .before .before .before .before .before .before .before .before .before .before .before .args .instructions .now) in take n (c .enter .last .1 .1 .1 .1 .1 .0 ++ drop n (c .before .before .before .before .before .mark-places .result)) ≡ c .enter .last .1 .1 .1 .1 .1 .0
-  marks-front = let n = count (c .before .before .before .before .before .before .before .before .before .before .before .before .args .instructions .now) in take-at (c .enter .last .1 .1 .1 .1 .1 .0) (drop n (c .before .before .before .before .before .mark-places .result)) n marks-length
+  marks-front : let n = count (c .before .before .before .before .before .before .before .before .before .before .before .before .args .instructions .now) in
+      take n (c .enter .last .1 .1 .1 .1 .1 .0 ++ drop n (c .before .before .before .before .before .mark-places .result)) ≡ c .enter .last .1 .1 .1 .1 .1 .0
+  marks-front =
+      let c12 = c .before .before .before .before .before .before .before .before .before .before .before .before in
+      let c5 = c .before .before .before .before .before in
+      let n = count (c12 .args .instructions .now) in take-at (c .enter .last .1 .1 .1 .1 .1 .0) (drop n (c5 .mark-places .result)) n marks-length
 
-  front-long : let n = count (c .before .before .before .before .before .before .before .before .before .before .before .before .args .instructions .now) in n ≤ length (c .enter .last .1 .1 .1 .1 .1 .0 ++ drop n (c .before .before .before .before .before .mark-places .result))
-  front-long = let n = count (c .before .before .before .before .before .before .before .before .before .before .before .before .args .instructions .now) in omega (arith, length-append (c .enter .last .1 .1 .1 .1 .1 .0) (drop n (c .before .before .before .before .before .mark-places .result)), marks-length)
+  front-long : let n = count (c .before .before .before .before .before .before .before .before .before .before .before .before .args .instructions .now) in
+      n ≤ length (c .enter .last .1 .1 .1 .1 .1 .0 ++ drop n (c .before .before .before .before .before .mark-places .result))
+  front-long =
+      let c12 = c .before .before .before .before .before .before .before .before .before .before .before .before in
+      let c5 = c .before .before .before .before .before in
+      let n = count (c12 .args .instructions .now) in
+      omega (arith, length-append (c .enter .last .1 .1 .1 .1 .1 .0) (drop n (c5 .mark-places .result)), marks-length)
 
 -- all passes are done
-whole : (c : tie.After-warn-loops) → let k = c .before .before .before .before .before .before .before .before .before .before .before .before .before .before .before .before .before .before .before .before in let a = k .before .before .before .before .before .before .before .before .before .before .before .before .args in let x = c .warn-loops .last .1 .1 .1 .1 in damagedRefusal (font k) ≡ 0 → length (a .program .now) ≡ 4 * count (a .instructions .now) → length (a .through .now) ≡ count (a .instructions .now) → (v : Validated) → HandedOn (numberOf (wordOf (c .before .before .before .before .before .before .repaired-left .result))) (c .warn-loops .result) v → Mends (font k) (a .warnings .now) (a .work .now) v (c .before .before .before .before .before .before .before .before .before .fix-program .last .1 .1 .1 .1 .1 .1 .1 .0) (k .enter .last .1 .1 .1 .1 .1 .1 .0) (x .0) (x .1 .1 .0)
+whole : (c : tie.After-warn-loops) →
+    let k =
+    c .before .before .before .before .before .before .before .before .before .before .before .before .before .before .before .before .before .before
+    .before .before in let a = k .before .before .before .before .before .before .before .before .before .before .before .before .args in
+    let x = c .warn-loops .last .1 .1 .1 .1 in
+    damagedRefusal (font k) ≡ 0 → length (a .program .now) ≡ 4 * count (a .instructions .now) → length (a .through .now) ≡ count (a .instructions .now) →
+    (v : Validated) → HandedOn (numberOf (wordOf (c .before .before .before .before .before .before .repaired-left .result))) (c .warn-loops .result) v →
+    Mends (font k) (a .warnings .now) (a .work .now) v
+    (c .before .before .before .before .before .before .before .before .before .fix-program .last .1 .1 .1 .1 .1 .1 .1 .0)
+    (k .enter .last .1 .1 .1 .1 .1 .1 .0) (x .0) (x .1 .1 .0)
 whole c ok p t v told =
-    let k = c .before .before .before .before .before .before .before .before .before .before .before .before .before .before .before .before .before .before .before .before in
+    let k =
+    c .before .before .before .before .before .before .before .before .before .before .before .before .before .before .before .before .before .before
+    .before .before in
     let s = k .before .before .before .before .before .before .before .before .before .before .before .before in
     let a = s .args in
     let d = font k in
@@ -92,16 +130,19 @@ whole c ok p t v told =
     let o = c .before .before .before .before .before .before .before .before .before .before .before .before .before .before .word-of in
     let replacement : o .result ≡ wordOf (a .replacement) = o .ensures ∙ ap wordOf (number-word (a .replacement) (s .fits .replacement)) in
     let in-range : o .result < 256 = omega (arith, replacement, small d ok) in
-    let h = steps-are d _ _ (e .warnings) (f .result) _ (u .1 .1 .0) (a .program .now) (u .1 .1 .1 .0) (y .0) (y .1 .0) (number-word (a .boundary) (s .fits .boundary)) replacement (marks-front k ∙ handed k .1) through (f .ensures (program-taken d ok) in-range warned) in
+    let h = steps-are d _ _ (e .warnings) (f .result) _ (u .1 .1 .0) (a .program .now) (u .1 .1 .1 .0) (y .0) (y .1 .0)
+    (number-word (a .boundary) (s .fits .boundary)) replacement (marks-front k ∙ handed k .1) through (f .ensures (program-taken d ok) in-range warned) in
     let program = instructions-are d ok (a .program .now) (y .0) (a .warnings .now) (u .1 .1 .1 .0) (y .1 .0) (e .warnings) (f .result) p (g .warned) h in
     let few-steps = few-stepped d ok (a .program .now) (y .0) (a .warnings .now) (u .1 .1 .1 .0) (y .1 .0) (e .warnings) (f .result) p (g .warned) h in
     let steps = repair-warned d ok (a .program .now) (y .0) (a .warnings .now) (u .1 .1 .1 .0) (y .1 .0) (e .warnings) (f .result) p (g .warned) h in
     let l = c .before .before .before .before .before .before .repaired-left in
-    let left = left-is d (a .instructions .now) (a .«left-entry») _ (l .result) refl refl (s .fits .«left-entry») (number-word (a .«left-entry») (s .fits .«left-entry»)) (l .ensures) in
+    let left = left-is d (a .instructions .now) (a .«left-entry») _ (l .result) refl refl (s .fits .«left-entry»)
+    (number-word (a .«left-entry») (s .fits .«left-entry»)) (l .ensures) in
     let w = c .warn-loops in
     let x = w .last .1 .1 .1 .1 in
     let loops = loops-are d _ _ _ (f .result) (y .1 .0) (x .0) (a .work .now) (x .1 .1 .0) (w .result) program es left (w .ensures (a .boundary) few-steps) in
-    mended d ok (a .warnings .now) (y .1 .0) (x .0) (f .result) steps (a .work .now) (x .1 .1 .0) (w .result) loops v _ (y .0) (u .1 .1 .0) told left program through
+    mended d ok (a .warnings .now) (y .1 .0) (x .0) (f .result) steps (a .work .now) (x .1 .1 .0) (w .result) loops v _ (y .0) (u .1 .1 .0) told left program
+    through
 
 lists-fit-requires : tie.Need-lists-fit-requires
 lists-fit-requires c κs = search needs
@@ -109,8 +150,12 @@ lists-fit-requires c κs = search needs
 returns : tie.Need-returns
 returns c = λ ok p t.
     let a = c .before .before .before .before .before .args in
-    let d = damagedOf (a .instructions .now) (a .kerns .now) (a .entries .now) (a .boundary) (a .«left-entry») (a .replacement) (a .existing .now) (a .passthrough .now) in
-    absurd (contrary (sym (unfitting (count (a .instructions .now)) (length (a .entries .now) / 2) (length (a .program .now)) (length (a .through .now)) (size d ok) (few-entries d ok) p t) ∙ sym (c .before .lists-fit .ensures) ∙ not-true _ (c .if1 .taken)))
+    let d = damagedOf (a .instructions .now) (a .kerns .now) (a .entries .now) (a .boundary) (a .«left-entry») (a .replacement) (a .existing .now)
+    (a .passthrough .now) in
+    absurd
+    (contrary
+    (sym (unfitting (count (a .instructions .now)) (length (a .entries .now) / 2) (length (a .program .now)) (length (a .through .now)) (size d ok)
+    (few-entries d ok) p t) ∙ sym (c .before .lists-fit .ensures) ∙ not-true _ (c .if1 .taken)))
 
 entry-places-requires : tie.Need-entry-places-requires
 entry-places-requires c κs = search needs
@@ -129,8 +174,13 @@ slice-aggregate-enter-2 c = sym (length-take-le _ (c .before .before .mark-place
 
 enter-requires : tie.Need-enter-requires
 enter-requires c κs =
-    let h = sure (c .before .before .before .before .before .before) in
-    (h .0, h .1, c .before .before .before .before .before .entry-places .ensures, length-take-le _ (c .before .before .before .before .mark-places .result) (places-long (c .before .before .before .before)), h .3)
+    let h = sure (c .before .before .before .before .before .before) in (
+      h .0,
+      h .1,
+      c .before .before .before .before .before .entry-places .ensures,
+      length-take-le _ (c .before .before .before .before .mark-places .result) (places-long (c .before .before .before .before)),
+      h .3,
+    )
 
 word-of-requires : tie.Need-word-of-requires
 word-of-requires c κs = search needs
@@ -148,13 +198,19 @@ repaired-left-requires : tie.Need-repaired-left-requires
 repaired-left-requires c κs = search needs
 
 mul-unpacked : tie.Need-mul-unpacked
-mul-unpacked c = let h = within (c .before .before .before .before .before .before .before .before .before .before .before .before .before .before .before .before) in omega (arith, h .0)
+mul-unpacked c =
+    let c16 = c .before .before .before .before .before .before .before .before .before .before .before .before .before .before .before .before in
+    let h = within c16 in omega (arith, h .0)
 
 array-share-prefix-unpacked : tie.Need-array-share-prefix-unpacked
-array-share-prefix-unpacked c = within (c .before .before .before .before .before .before .before .before .before .before .before .before .before .before .before .before) .1
+array-share-prefix-unpacked c =
+    let c16 = c .before .before .before .before .before .before .before .before .before .before .before .before .before .before .before .before in
+    within c16 .1
 
 slice-aggregate-warn-loops : tie.Need-slice-aggregate-warn-loops
-slice-aggregate-warn-loops c = let k = c .before .before .before .before .before .before .before .before .before .before .before .before .before .before .before .before .before in sym (length-take-le (2 * k .enter .result .entries) (k .enter .last .1 .1 .1 .1 .0) (within k .1))
+slice-aggregate-warn-loops c =
+    let c17 = c .before .before .before .before .before .before .before .before .before .before .before .before .before .before .before .before .before in
+    let k = c17 in sym (length-take-le (2 * k .enter .result .entries) (k .enter .last .1 .1 .1 .1 .0) (within k .1))
 
 warn-loops-requires : tie.Need-warn-loops-requires
 warn-loops-requires c κs = search needs

@@ -39,7 +39,8 @@ word-of-requires c κs = search needs
 returns : tie.Need-returns
 returns c =
     let s = c .before .before in
-    number-word (s .args .«left-entry») (s .fits .«left-entry») ∙ absent (s .args .n) (s .args .«left-entry») (c .before .word-of .result) (lent (c .before)) (c .if1 .taken)
+    number-word (s .args .«left-entry») (s .fits .«left-entry»)
+    ∙ absent (s .args .n) (s .args .«left-entry») (c .before .word-of .result) (lent (c .before)) (c .if1 .taken)
 
 cast-if2 : tie.Need-cast-if2
 cast-if2 c = search needs

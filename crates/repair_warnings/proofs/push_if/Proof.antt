@@ -92,7 +92,9 @@ returns-3 c =
     let t = s .before .before in
     let o = t .before .before in
     let a = o .args in
-    on (now (a .warnings)) (a .n) (a .test) (a .kind) _ _ _ (s .put-word .last .0) (r .put-word2 .last .0) (q .put-word3 .last .0) (p .put-word4 .last .0) _ (not-false (a .test) (t .before .if1 .left)) (t .if2 .left) (number-pos (a .kind) (omega (arith, o .fits .kind .fits))) (s .put-word .ensures) (r .put-word2 .ensures) (q .put-word3 .ensures) (p .put-word4 .ensures)
+    on (now (a .warnings)) (a .n) (a .test) (a .kind) _ _ _ (s .put-word .last .0) (r .put-word2 .last .0) (q .put-word3 .last .0) (p .put-word4 .last .0) _
+    (not-false (a .test) (t .before .if1 .left)) (t .if2 .left) (number-pos (a .kind) (omega (arith, o .fits .kind .fits))) (s .put-word .ensures)
+    (r .put-word2 .ensures) (q .put-word3 .ensures) (p .put-word4 .ensures)
 
 pub push-if-spec : {M : Type 1} → statement M
 push-if-spec =

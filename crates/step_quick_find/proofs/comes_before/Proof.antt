@@ -31,7 +31,8 @@ returns-2 c =
     let a = c .before .before .before .before .args in
     let w = c .before .before .word-in in
     let p = c .before .before .before .left-in in
-    rw (← p .ensures, ← w .ensures .is) (after-left (p .result) (w .result) (a .left) (a .right) (omega arith) (omega (arith, c .before .if1 .left, c .if2 .taken)))
+    rw (← p .ensures, ← w .ensures .is)
+    (after-left (p .result) (w .result) (a .left) (a .right) (omega arith) (omega (arith, c .before .if1 .left, c .if2 .taken)))
 
 mul-word-in-2 : tie.Need-mul-word-in-2
 mul-word-in-2 c = search needs
@@ -47,7 +48,8 @@ returns-3 c =
     let a = c .before .before .before .before .before .args in
     let w = c .word-in2 in
     let p = c .before .before .before .before .left-in in
-    rw (← p .ensures, ← w .ensures .is) (same-left (p .result) (w .result) (a .left) (a .right) (c .before .before .if1 .left) (omega (arith, c .before .if2 .left)))
+    rw (← p .ensures, ← w .ensures .is)
+    (same-left (p .result) (w .result) (a .left) (a .right) (c .before .before .if1 .left) (omega (arith, c .before .if2 .left)))
 
 pub comes-before-spec : {M : Type 1} → statement M
 comes-before-spec =

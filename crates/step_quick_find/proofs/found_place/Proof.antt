@@ -57,7 +57,8 @@ returns-4 c =
     let w = c .before .before .before .word-in in
     let l = c .before .left-in in
     found-there (now (a .pairs)) (a .left) (a .right) (p .result) (p .ensures) (c .before .before .before .before .if1 .left)
-    (ap (λ (i : ℕ). keyBy i (wordOf (number (now (a .pairs)) (p .result) 1))) (sym (l .ensures) ∙ c .if3 .left) ∙ ap (keyBy (a .left)) (sym (w .ensures .is) ∙ c .before .before .if2 .left))
+    (ap (λ (i : ℕ). keyBy i (wordOf (number (now (a .pairs)) (p .result) 1))) (sym (l .ensures) ∙ c .if3 .left)
+    ∙ ap (keyBy (a .left)) (sym (w .ensures .is) ∙ c .before .before .if2 .left))
 
 pub found-place-spec : {M : Type 1} → statement M
 found-place-spec =

@@ -36,7 +36,8 @@ loop-again c =
     let b = c .before .comes-before in
     let l = c .before .before .before in
     let a = l .before .args in
-    search-up (now (a .pairs)) (keyBy (a .left) (a .right)) (l .loop .lo) (l .loop .hi) (l .loop .inv) (c .before .before .loop-test .taken) (b .result) (b .ensures) (c .if1 .taken)
+    search-up (now (a .pairs)) (keyBy (a .left) (a .right)) (l .loop .lo) (l .loop .hi) (l .loop .inv) (c .before .before .loop-test .taken) (b .result)
+    (b .ensures) (c .if1 .taken)
 
 loop-less-2 : tie.Need-loop-less-2 Inv-loop μ-loop
 loop-less-2 c = omega arith
@@ -46,7 +47,8 @@ loop-again-2 c =
     let b = c .before .comes-before in
     let l = c .before .before .before in
     let a = l .before .args in
-    search-down (now (a .pairs)) (keyBy (a .left) (a .right)) (l .loop .lo) (l .loop .hi) (l .loop .inv) (c .before .before .loop-test .taken) (b .result) (b .ensures) (c .if1 .left)
+    search-down (now (a .pairs)) (keyBy (a .left) (a .right)) (l .loop .lo) (l .loop .hi) (l .loop .inv) (c .before .before .loop-test .taken) (b .result)
+    (b .ensures) (c .if1 .left)
 
 returns : tie.Need-returns Inv-loop μ-loop
 returns c =

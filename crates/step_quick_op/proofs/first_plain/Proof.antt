@@ -33,12 +33,14 @@ word-in-requires-2 c κs = search needs
 returns-3 : tie.Need-returns-3
 returns-3 c =
     let a = c .before .before .before .before .before .args in
-    first-code (now (a .ops)) (a .i) (a .n) (c .before .before .before .before .if1 .left) (c .before .before .before .word-in .ensures) (c .before .before .if2 .left) (c .before .word-in2 .ensures) (c .if3 .taken)
+    first-code (now (a .ops)) (a .i) (a .n) (c .before .before .before .before .if1 .left) (c .before .before .before .word-in .ensures)
+    (c .before .before .if2 .left) (c .before .word-in2 .ensures) (c .if3 .taken)
 
 returns-4 : tie.Need-returns-4
 returns-4 c =
     let a = c .before .before .before .before .before .before .args in
-    first-only (now (a .ops)) (a .i) (a .n) (c .before .before .before .before .before .if1 .left) (c .before .before .before .before .word-in .ensures) (c .before .before .before .if2 .left) (c .before .before .word-in2 .ensures) (c .before .if3 .left) (c .if4 .taken)
+    first-only (now (a .ops)) (a .i) (a .n) (c .before .before .before .before .before .if1 .left) (c .before .before .before .before .word-in .ensures)
+    (c .before .before .before .if2 .left) (c .before .before .word-in2 .ensures) (c .before .if3 .left) (c .if4 .taken)
 
 add-op-holds : tie.Need-add-op-holds
 add-op-holds c = search needs
@@ -49,7 +51,10 @@ op-holds-requires c κs = search needs
 returns-5 : tie.Need-returns-5
 returns-5 c =
     let a = c .before .before .before .before .before .before .before .args in
-    c .op-holds .ensures ∙ first-next (now (a .ops)) (a .i) (a .n) (c .before .before .before .before .before .before .if1 .left) (c .before .before .before .before .before .word-in .ensures) (c .before .before .before .before .if2 .left) (c .before .before .before .word-in2 .ensures) (c .before .before .if3 .left) (c .before .if4 .left)
+    c .op-holds .ensures
+    ∙ first-next (now (a .ops)) (a .i) (a .n) (c .before .before .before .before .before .before .if1 .left)
+    (c .before .before .before .before .before .word-in .ensures) (c .before .before .before .before .if2 .left)
+    (c .before .before .before .word-in2 .ensures) (c .before .before .if3 .left) (c .before .if4 .left)
 
 pub first-plain-spec : {M : Type 1} → statement M
 first-plain-spec =

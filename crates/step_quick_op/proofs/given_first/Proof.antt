@@ -46,7 +46,17 @@ word-at-requires c κs = search needs
 
 returns : tie.Need-returns
 returns c =
-    rw (c .before .moved-on .ensures, c .before .before .before .after-letter .ensures, c .before .before .less-one .ensures, add-one (c .before .before .before .before .before .before .before .number-in .result), c .word-at .ensures .is, c .before .before .before .before .before .before .before .number-in .ensures .is, c .before .before .before .before .before .before .number-in2 .ensures .is, c .before .before .before .before .before .number-in3 .ensures .is, c .before .before .before .before .number-in4 .ensures .is)
+    rw (
+      c .before .moved-on .ensures,
+      c .before .before .before .after-letter .ensures,
+      c .before .before .less-one .ensures,
+      add-one (c .before .before .before .before .before .before .before .number-in .result),
+      c .word-at .ensures .is,
+      c .before .before .before .before .before .before .before .number-in .ensures .is,
+      c .before .before .before .before .before .before .number-in2 .ensures .is,
+      c .before .before .before .before .before .number-in3 .ensures .is,
+      c .before .before .before .before .number-in4 .ensures .is,
+    )
 
 pub given-first-spec : {M : Type 1} → statement M
 given-first-spec =

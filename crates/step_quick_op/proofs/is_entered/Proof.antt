@@ -39,7 +39,9 @@ returns-2 c =
     let a = c .before .before .before .before .before .args in
     let f = c .before .before .number-in in
     let n = c .before .number-in2 in
-    rw (sym (record-ops (now (a .pairs)) (now (a .ops)) (a .k) (sym (c .before .before .before .before .last-fits .ensures) ∙ not-false _ (c .before .before .before .if1 .left)) (f .ensures) (n .ensures)) ∙ lt-leb (f .result + n .result) (opCount (now (a .ops))) (c .if2 .taken))
+    rw (sym (record-ops (now (a .pairs)) (now (a .ops)) (a .k)
+    (sym (c .before .before .before .before .last-fits .ensures) ∙ not-false _ (c .before .before .before .if1 .left)) (f .ensures) (n .ensures))
+    ∙ lt-leb (f .result + n .result) (opCount (now (a .ops))) (c .if2 .taken))
 
 first-plain-requires : tie.Need-first-plain-requires
 first-plain-requires c κs = search needs
@@ -49,7 +51,9 @@ returns-3 c =
     let a = c .before .before .before .before .before .before .args in
     let f = c .before .before .before .number-in in
     let n = c .before .before .number-in2 in
-    rw (sym (record-ops (now (a .pairs)) (now (a .ops)) (a .k) (sym (c .before .before .before .before .before .last-fits .ensures) ∙ not-false _ (c .before .before .before .before .if1 .left)) (f .ensures) (n .ensures)) ∙ le-leb (f .result + n .result) (opCount (now (a .ops))) (c .before .if2 .left))
+    rw (sym (record-ops (now (a .pairs)) (now (a .ops)) (a .k)
+    (sym (c .before .before .before .before .before .last-fits .ensures) ∙ not-false _ (c .before .before .before .before .if1 .left)) (f .ensures)
+    (n .ensures)) ∙ le-leb (f .result + n .result) (opCount (now (a .ops))) (c .before .if2 .left))
     (c .first-plain .ensures ∙ (λ i. firstPlain (now (a .ops)) (f .ensures .is i) (n .ensures .is i)))
 
 pub is-entered-spec : {M : Type 1} → statement M

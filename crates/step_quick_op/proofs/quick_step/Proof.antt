@@ -25,7 +25,9 @@ given-plain-requires : tie.Need-given-plain-requires
 given-plain-requires c κs = has (c .before)
 
 returns-2 : tie.Need-returns-2
-returns-2 c = let a = c .before .before .before .before .before .args in rw (has (c .before .before), le-ltb (a .k) (pairCount (now (a .pairs))) (c .before .if2 .taken)) (c .given-plain .ensures)
+returns-2 c =
+    let a = c .before .before .before .before .before .args in
+    rw (has (c .before .before), le-ltb (a .k) (pairCount (now (a .pairs))) (c .before .if2 .taken)) (c .given-plain .ensures)
 
 given-first-requires : tie.Need-given-first-requires
 given-first-requires c κs =
@@ -34,7 +36,9 @@ given-first-requires c κs =
     (c .if2 .left, omega (arith, l .0), l .1)
 
 returns-3 : tie.Need-returns-3
-returns-3 c = let a = c .before .before .before .before .before .args in rw (has (c .before .before), lt-ltb (a .k) (pairCount (now (a .pairs))) (c .before .if2 .left)) (c .given-first .ensures)
+returns-3 c =
+    let a = c .before .before .before .before .before .args in
+    rw (has (c .before .before), lt-ltb (a .k) (pairCount (now (a .pairs))) (c .before .if2 .left)) (c .given-first .ensures)
 
 pub quick-step-spec : {M : Type 1} → statement M
 quick-step-spec =

@@ -1,5 +1,5 @@
--- `turns::run_on` meets its contract. The loop's invariant: the state is within the word, and the turns that are left answer what those from the first state answer. The measure is the turns that are left.
--- Assumes nothing.
+-- `turns::run_on` meets its contract. The loop's invariant: the state is within the word, and the turns that are left answer what those from the first state
+-- answer. The measure is the turns that are left. Assumes nothing.
 use lib.ListN.{length}
 use denote.Ref.{now}
 use Rattle.words.specs.Words.{numberOf}
@@ -20,7 +20,9 @@ abbrev μ-loop : tie.MeasureT-loop
 loop-holds : tie.Need-loop-holds Inv-loop μ-loop
 loop-holds c =
     let a = c .before in
-    running-begin (length (now (a .args .word))) (opCount (now (a .args .ops))) (runOn (now (a .args .ops)) (turn (now (a .args .pairs)) (now (a .args .ops)) (orBoundary (numberOf (a .args .right))) (now (a .args .word)))) (a .args .s) (a .pre)
+    running-begin (length (now (a .args .word))) (opCount (now (a .args .ops)))
+    (runOn (now (a .args .ops)) (turn (now (a .args .pairs)) (now (a .args .ops)) (orBoundary (numberOf (a .args .right))) (now (a .args .word))))
+    (a .args .s) (a .pre)
 
 turn-once-requires : tie.Need-turn-once-requires Inv-loop μ-loop
 turn-once-requires c κs = c .loop .inv .inside
@@ -33,7 +35,8 @@ returns c =
     let o = c .before .before .before in
     let l = o .before in
     let a = l .before .before .args in
-    running-end (now (a .pairs)) (now (a .ops)) (orBoundary (numberOf (a .right))) (now (a .word)) (a .s) (l .loop .t) (l .loop .inv) (o .turn-once .result) (o .turn-once .ensures) (c .before .given .given .0 .0) (c .before .given .given .1)
+    running-end (now (a .pairs)) (now (a .ops)) (orBoundary (numberOf (a .right))) (now (a .word)) (a .s) (l .loop .t) (l .loop .inv) (o .turn-once .result)
+    (o .turn-once .ensures) (c .before .given .given .0 .0) (c .before .given .given .1)
 
 enum-known-next : tie.Need-enum-known-next Inv-loop μ-loop
 enum-known-next c = search needs
@@ -43,14 +46,16 @@ loop-less c =
     let o = c .before .before .before in
     let l = o .before in
     let a = l .before .before .args in
-    running-less (now (a .pairs)) (now (a .ops)) (orBoundary (numberOf (a .right))) (now (a .word)) (a .s) (l .loop .t) (l .loop .inv) (o .turn-once .result) (o .turn-once .ensures) (c .before .next .given .0 .0) (c .before .next .given .1)
+    running-less (now (a .pairs)) (now (a .ops)) (orBoundary (numberOf (a .right))) (now (a .word)) (a .s) (l .loop .t) (l .loop .inv) (o .turn-once .result)
+    (o .turn-once .ensures) (c .before .next .given .0 .0) (c .before .next .given .1)
 
 loop-again : tie.Need-loop-again Inv-loop μ-loop
 loop-again c =
     let o = c .before .before .before in
     let l = o .before in
     let a = l .before .before .args in
-    running-more (now (a .pairs)) (now (a .ops)) (orBoundary (numberOf (a .right))) (now (a .word)) (a .s) (l .loop .t) (l .loop .inv) (o .turn-once .result) (o .turn-once .ensures) (c .before .next .given .0 .0) (c .before .next .given .1)
+    running-more (now (a .pairs)) (now (a .ops)) (orBoundary (numberOf (a .right))) (now (a .word)) (a .s) (l .loop .t) (l .loop .inv) (o .turn-once .result)
+    (o .turn-once .ensures) (c .before .next .given .0 .0) (c .before .next .given .1)
 
 pub run-on-spec : {M : Type 1} → statement M
 run-on-spec =

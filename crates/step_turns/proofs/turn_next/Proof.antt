@@ -49,7 +49,8 @@ returns-3 : tie.Need-returns-3
 returns-3 c =
     let a = c .before .before .before .args in
     rw (c .turn .ensures)
-    (sym (looked (turn (now (a .pairs)) (now (a .ops)) (orBoundary (numberOf (a .right))) (now (a .word))) (a .s) (a .s .«next_left») (is-left (a .s .«next_left») (c .before .match .keys3))))
+    (sym (looked (turn (now (a .pairs)) (now (a .ops)) (orBoundary (numberOf (a .right))) (now (a .word))) (a .s) (a .s .«next_left»)
+    (is-left (a .s .«next_left») (c .before .match .keys3))))
 
 pub turn-next-spec : {M : Type 1} → statement M
 turn-next-spec =

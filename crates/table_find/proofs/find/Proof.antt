@@ -46,7 +46,8 @@ loop-again c =
     let t = c .before .before in
     let l = t .before in
     let a = l .before .args in
-    searching-up (now (a .pairs)) (keyBy (a .left) (a .right)) (l .loop .lo) (l .loop .hi) (l .loop .inv) (t .loop-test .taken) (omega (arith, c .if1 .taken, c .before .key-at .ensures))
+    searching-up (now (a .pairs)) (keyBy (a .left) (a .right)) (l .loop .lo) (l .loop .hi) (l .loop .inv) (t .loop-test .taken)
+    (omega (arith, c .if1 .taken, c .before .key-at .ensures))
 
 loop-less-2 : tie.Need-loop-less-2 Inv-loop μ-loop
 loop-less-2 c = omega arith
@@ -56,7 +57,8 @@ loop-again-2 c =
     let t = c .before .before in
     let l = t .before in
     let a = l .before .args in
-    searching-down (now (a .pairs)) (keyBy (a .left) (a .right)) (l .loop .lo) (l .loop .hi) (l .loop .inv) (t .loop-test .taken) (omega (arith, c .if1 .left, c .before .key-at .ensures))
+    searching-down (now (a .pairs)) (keyBy (a .left) (a .right)) (l .loop .lo) (l .loop .hi) (l .loop .inv) (t .loop-test .taken)
+    (omega (arith, c .if1 .left, c .before .key-at .ensures))
 
 key-at-requires-2 : tie.Need-key-at-requires-2 Inv-loop μ-loop
 key-at-requires-2 c κs = search needs
@@ -66,14 +68,16 @@ returns c =
     let t = c .before .before .before in
     let l = t .before in
     let a = l .before .args in
-    found (now (a .pairs)) (keyBy (a .left) (a .right)) (l .loop .lo) (l .loop .hi) (l .loop .inv) (t .loop-test .left) (c .before .before .if2 .taken) (sym (c .before .key-at2 .ensures) ∙ c .if3 .taken)
+    found (now (a .pairs)) (keyBy (a .left) (a .right)) (l .loop .lo) (l .loop .hi) (l .loop .inv) (t .loop-test .left) (c .before .before .if2 .taken)
+    (sym (c .before .key-at2 .ensures) ∙ c .if3 .taken)
 
 returns-2 : tie.Need-returns-2 Inv-loop μ-loop
 returns-2 c =
     let t = c .before .before .before in
     let l = t .before in
     let a = l .before .args in
-    other (now (a .pairs)) (keyBy (a .left) (a .right)) (l .loop .lo) (l .loop .hi) (l .loop .inv) (t .loop-test .left) (c .before .before .if2 .taken) (λ e. c .if3 .left (c .before .key-at2 .ensures ∙ e))
+    other (now (a .pairs)) (keyBy (a .left) (a .right)) (l .loop .lo) (l .loop .hi) (l .loop .inv) (t .loop-test .left) (c .before .before .if2 .taken)
+    (λ e. c .if3 .left (c .before .key-at2 .ensures ∙ e))
 
 returns-3 : tie.Need-returns-3 Inv-loop μ-loop
 returns-3 c =

@@ -26,7 +26,8 @@ returns-3 c =
     let b = c .before .before in
     let s = b .before .before in
     let a = s .args in
-    last-right (a .left) (a .right) (a .code) (a .flag) (s .fits .left .fits) (b .before .left-place .ensures) (b .if1 .left) (c .before .if2 .left) (c .if3 .taken)
+    last-right (a .left) (a .right) (a .code) (a .flag) (s .fits .left .fits) (b .before .left-place .ensures) (b .if1 .left) (c .before .if2 .left)
+    (c .if3 .taken)
 
 returns-4 : tie.Need-returns-4
 returns-4 c =
@@ -42,7 +43,8 @@ returns-5 c =
     let b = d .before in
     let s = b .before .before in
     let a = s .args in
-    last-other (a .left) (a .right) (a .code) (a .flag) (s .fits .left .fits) (b .before .left-place .ensures) (b .if1 .left) (d .if2 .left) (c .before .if3 .left) (c .if4 .left)
+    last-other (a .left) (a .right) (a .code) (a .flag) (s .fits .left .fits) (b .before .left-place .ensures) (b .if1 .left) (d .if2 .left)
+    (c .before .if3 .left) (c .if4 .left)
 
 pub codes-form-spec : {M : Type 1} → statement M
 codes-form-spec =

@@ -38,7 +38,8 @@ returns c =
     let l = c .before .before in
     let a = l .before .args in
     let s = now (a .pairs) in
-    key-read s (a .p / 6) (number-read s (a .p) (a .p) 0 (l .before .pre .1) (omega arith) (l .word-in .ensures)) (number-read s (a .p) (a .p + 1) 1 (l .before .pre .1) refl (c .word-in2 .ensures)) (c .before .left-place .ensures)
+    key-read s (a .p / 6) (number-read s (a .p) (a .p) 0 (l .before .pre .1) (omega arith) (l .word-in .ensures))
+    (number-read s (a .p) (a .p + 1) 1 (l .before .pre .1) refl (c .word-in2 .ensures)) (c .before .left-place .ensures)
 
 pub key-in-spec : {M : Type 1} → statement M
 key-in-spec =

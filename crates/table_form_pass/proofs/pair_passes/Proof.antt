@@ -23,7 +23,9 @@ module _ (c : tie.After-word-in4) where
   K = c .before .before .before .before .args .p / 6
 
   left : Word (number S K 0) (c .before .before .before .word-in .result)
-  left = let a = c .before .before .before .before in number-read S (a .args .p) (a .args .p) 0 (a .pre .0 .1) (omega arith) (c .before .before .before .word-in .ensures)
+  left =
+      let a = c .before .before .before .before in
+      number-read S (a .args .p) (a .args .p) 0 (a .pre .0 .1) (omega arith) (c .before .before .before .word-in .ensures)
 
   flag : Word (number S K 3) (c .before .before .word-in2 .result)
   flag = let a = c .before .before .before .before in number-read S (a .args .p) (a .args .p + 3) 3 (a .pre .0 .1) refl (c .before .before .word-in2 .ensures)
@@ -39,7 +41,8 @@ first c =
     let a = c .before .before .before .before .before .before .before in
     number-read (now (a .args .pairs)) (a .args .p) (a .args .p + 4) 4 (a .pre .0 .1) refl (c .word-in5 .ensures)
 
-count : (c : tie.After-word-in6) → Word (number (S (c .before .before .before .before .before)) (K (c .before .before .before .before .before)) 5) (c .word-in6 .result)
+count : (c : tie.After-word-in6) →
+    Word (number (S (c .before .before .before .before .before)) (K (c .before .before .before .before .before)) 5) (c .word-in6 .result)
 count c =
     let a = c .before .before .before .before .before .before .before .before .before in
     number-read (now (a .args .pairs)) (a .args .p) (a .args .p + 5) 5 (a .pre .0 .1) refl (c .word-in6 .ensures)
@@ -72,7 +75,8 @@ returns : tie.Need-returns
 returns c =
     let r = c .before .before in
     let a = r .before .before .before .before .args in
-    pair-codes (now (a .pairs)) (now (a .ops)) (a .p / 6) (a .at) (left r) (right r) (code r) (flag r) (sym (c .before .codes-form .ensures) ∙ not-true _ (c .if1 .taken))
+    pair-codes (now (a .pairs)) (now (a .ops)) (a .p / 6) (a .at) (left r) (right r) (code r) (flag r)
+    (sym (c .before .codes-form .ensures) ∙ not-true _ (c .if1 .taken))
 
 add-word-in-4 : tie.Need-add-word-in-4
 add-word-in-4 c = search needs
@@ -88,7 +92,8 @@ returns-2 c =
     let d = c .before .before in
     let r = d .before .before in
     let a = r .before .before .before .before .args in
-    pair-gap (now (a .pairs)) (now (a .ops)) (a .p / 6) (a .at) (left r) (right r) (code r) (flag r) (sym (d .before .codes-form .ensures) ∙ not-false _ (d .if1 .left)) (first (c .before)) (c .if2 .taken)
+    pair-gap (now (a .pairs)) (now (a .ops)) (a .p / 6) (a .at) (left r) (right r) (code r) (flag r)
+    (sym (d .before .codes-form .ensures) ∙ not-false _ (d .if1 .left)) (first (c .before)) (c .if2 .taken)
 
 add-word-in-5 : tie.Need-add-word-in-5
 add-word-in-5 c = search needs
@@ -108,7 +113,8 @@ returns-3 c =
     let d = g .before .before in
     let r = d .before .before in
     let a = r .before .before .before .before .args in
-    pair-over (now (a .pairs)) (now (a .ops)) (a .p / 6) (a .at) (left r) (right r) (code r) (flag r) (sym (d .before .codes-form .ensures) ∙ not-false _ (d .if1 .left)) (first (g .before)) (g .if2 .left) (count (c .before)) (c .if3 .taken)
+    pair-over (now (a .pairs)) (now (a .ops)) (a .p / 6) (a .at) (left r) (right r) (code r) (flag r)
+    (sym (d .before .codes-form .ensures) ∙ not-false _ (d .if1 .left)) (first (g .before)) (g .if2 .left) (count (c .before)) (c .if3 .taken)
 
 ops-pass-requires : tie.Need-ops-pass-requires
 ops-pass-requires c κs = search needs
@@ -120,7 +126,9 @@ returns-4 c =
     let d = g .before .before in
     let r = d .before .before in
     let a = r .before .before .before .before .args in
-    pair-ops (now (a .pairs)) (now (a .ops)) (a .p / 6) (a .at) (left r) (right r) (code r) (flag r) (sym (d .before .codes-form .ensures) ∙ not-false _ (d .if1 .left)) (first (g .before)) (g .if2 .left) (count (e .before)) (e .if3 .left) (c .ops-pass .ensures)
+    pair-ops (now (a .pairs)) (now (a .ops)) (a .p / 6) (a .at) (left r) (right r) (code r) (flag r)
+    (sym (d .before .codes-form .ensures) ∙ not-false _ (d .if1 .left)) (first (g .before)) (g .if2 .left) (count (e .before)) (e .if3 .left)
+    (c .ops-pass .ensures)
 
 pub pair-passes-spec : {M : Type 1} → statement M
 pair-passes-spec =

@@ -46,7 +46,12 @@ add-least c =
     let k = c .before .before .before in
     let l = k .before .before in
     let a = l .before .args in
-    omega (arith, k .key-in .ensures, key-small (now (a .pairs)) (now (a .ops)) (l .loop .p / 6) (l .loop .at) (passes (now (a .pairs)) (now (a .ops)) (l .loop .p / 6) (l .loop .at) (sym (c .before .pair-passes .ensures) ∙ not-false _ (c .if2 .left))))
+    omega (
+      arith,
+      k .key-in .ensures,
+      key-small (now (a .pairs)) (now (a .ops)) (l .loop .p / 6) (l .loop .at)
+          (passes (now (a .pairs)) (now (a .ops)) (l .loop .p / 6) (l .loop .at) (sym (c .before .pair-passes .ensures) ∙ not-false _ (c .if2 .left))),
+    )
 
 add-word-in : tie.Need-add-word-in Inv-loop μ-loop
 add-word-in c = omega arith
@@ -77,7 +82,9 @@ loop-again c =
     let e : (p + 6) / 6 ≡ p / 6 + 1 = omega arith in (
       omega arith,
       omega arith,
-      rw e (passed-more s (now (a .ops)) (l .loop .inv .2) (k .key-in .ensures) (d .before .before .if1 .left) (sym (d .before .pair-passes .ensures) ∙ not-false _ (d .if2 .left)) (number-read s p (p + 5) 5 (l .loop .inv .1) refl (c .word-in .ensures))),
+      rw e
+          (passed-more s (now (a .ops)) (l .loop .inv .2) (k .key-in .ensures) (d .before .before .if1 .left)
+          (sym (d .before .pair-passes .ensures) ∙ not-false _ (d .if2 .left)) (number-read s p (p + 5) 5 (l .loop .inv .1) refl (c .word-in .ensures))),
     )
 
 returns-3 : tie.Need-returns-3 Inv-loop μ-loop

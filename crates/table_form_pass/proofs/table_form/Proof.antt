@@ -28,7 +28,8 @@ pairs-form-requires : tie.Need-pairs-form-requires
 pairs-form-requires c κs =
     let a = c .before .before .args in
     let ops = now (a .ops) in
-    eqb-true (length (now (a .pairs)) % 6) 0 (both-left (eqb (length (now (a .pairs)) % 6) 0) (both (eqb (length ops % 2) 0) (leb (opCount ops) 2147483647)) (sizes c))
+    eqb-true (length (now (a .pairs)) % 6) 0
+    (both-left (eqb (length (now (a .pairs)) % 6) 0) (both (eqb (length ops % 2) 0) (leb (opCount ops) 2147483647)) (sizes c))
 
 returns-2 : tie.Need-returns-2
 returns-2 c = rw (sizes (c .before)) (c .pairs-form .ensures)

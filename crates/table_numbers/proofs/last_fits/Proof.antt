@@ -14,7 +14,8 @@ returns : tie.Need-returns
 returns c =
     let b = c .before in
     let a = b .before .args in
-    no-code (number (now (a .pairs)) (a .k) 2) (number (now (a .pairs)) (a .k) 3) (number (now (a .pairs)) (a .k) 1) (b .number-at .result) 0 0 (b .number-at .ensures) (c .if1 .taken)
+    no-code (number (now (a .pairs)) (a .k) 2) (number (now (a .pairs)) (a .k) 3) (number (now (a .pairs)) (a .k) 1) (b .number-at .result) 0 0
+    (b .number-at .ensures) (c .if1 .taken)
 
 number-at-requires-2 : tie.Need-number-at-requires-2
 number-at-requires-2 c κs = search needs
@@ -24,7 +25,8 @@ returns-2 c =
     let d = c .before in
     let b = d .before .before in
     let a = b .before .args in
-    no-flag (number (now (a .pairs)) (a .k) 2) (number (now (a .pairs)) (a .k) 3) (number (now (a .pairs)) (a .k) 1) (b .number-at .result) (d .number-at2 .result) 0 (b .number-at .ensures)
+    no-flag (number (now (a .pairs)) (a .k) 2) (number (now (a .pairs)) (a .k) 3) (number (now (a .pairs)) (a .k) 1) (b .number-at .result)
+    (d .number-at2 .result) 0 (b .number-at .ensures)
     (d .before .if1 .left) (d .number-at2 .ensures) (c .if2 .taken)
 
 returns-3 : tie.Need-returns-3
@@ -32,7 +34,8 @@ returns-3 c =
     let d = c .before .before in
     let b = d .before .before in
     let a = b .before .args in
-    flagged (number (now (a .pairs)) (a .k) 2) (number (now (a .pairs)) (a .k) 3) (number (now (a .pairs)) (a .k) 1) (b .number-at .result) (d .number-at2 .result) 0 (b .number-at .ensures)
+    flagged (number (now (a .pairs)) (a .k) 2) (number (now (a .pairs)) (a .k) 3) (number (now (a .pairs)) (a .k) 1) (b .number-at .result)
+    (d .number-at2 .result) 0 (b .number-at .ensures)
     (d .before .if1 .left) (d .number-at2 .ensures) (c .before .if2 .left) (c .if3 .taken)
 
 number-at-requires-3 : tie.Need-number-at-requires-3
@@ -43,7 +46,8 @@ returns-4 c =
     let d = c .before .before .before in
     let b = d .before .before in
     let a = b .before .args in
-    unflagged (number (now (a .pairs)) (a .k) 2) (number (now (a .pairs)) (a .k) 3) (number (now (a .pairs)) (a .k) 1) (b .number-at .result) (d .number-at2 .result) (c .number-at3 .result) (b .number-at .ensures)
+    unflagged (number (now (a .pairs)) (a .k) 2) (number (now (a .pairs)) (a .k) 3) (number (now (a .pairs)) (a .k) 1) (b .number-at .result)
+    (d .number-at2 .result) (c .number-at3 .result) (b .number-at .ensures)
     (d .before .if1 .left) (d .number-at2 .ensures) (c .before .before .if2 .left) (c .before .if3 .left) (c .number-at3 .ensures)
 
 pub last-fits-spec : {M : Type 1} → statement M

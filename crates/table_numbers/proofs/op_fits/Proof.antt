@@ -30,7 +30,8 @@ returns-2 c =
     let b = c .before .before in
     let a = b .before .before .args in
     rw (there (b .before))
-    (op-code (opKind (now (a .ops)) (a .i)) (opValue (now (a .ops)) (a .i)) (b .kind-at .result) (c .value-at .result) (b .kind-at .ensures) (c .before .if2 .taken) (c .value-at .ensures))
+    (op-code (opKind (now (a .ops)) (a .i)) (opValue (now (a .ops)) (a .i)) (b .kind-at .result) (c .value-at .result) (b .kind-at .ensures)
+    (c .before .if2 .taken) (c .value-at .ensures))
 
 returns-3 : tie.Need-returns-3
 returns-3 c =

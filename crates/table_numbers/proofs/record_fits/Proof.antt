@@ -35,7 +35,8 @@ returns-2 : tie.Need-returns-2
 returns-2 c =
     let d = c .before .before in
     let a = d .before .before .args in
-    record-ops (now (a .pairs)) (now (a .ops)) (a .k) (sym (d .before .last-fits .ensures) ∙ not-false _ (d .if1 .left)) (c .before .number-at .ensures) (c .number-at2 .ensures)
+    record-ops (now (a .pairs)) (now (a .ops)) (a .k) (sym (d .before .last-fits .ensures) ∙ not-false _ (d .if1 .left)) (c .before .number-at .ensures)
+    (c .number-at2 .ensures)
 
 pub record-fits-spec : {M : Type 1} → statement M
 record-fits-spec =

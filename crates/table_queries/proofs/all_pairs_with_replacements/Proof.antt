@@ -40,7 +40,8 @@ module _ {pairs out z : List ℤ} {r : ℕ} (b : Begun pairs out z r) where
   enough : r ≡ 0 → 2 * pairCount pairs ≤ length z
   enough e =
       room-fits (2 * pairCount pairs) (length z)
-      (orElse-none (unless 7 (both (eqb (length pairs % 6) 0) (every (pairCount pairs) (keyForm pairs)))) (roomRefusal (2 * pairCount pairs) (length z)) (sym (b .refusal) ∙ e) .1)
+      (orElse-none (unless 7 (both (eqb (length pairs % 6) 0) (every (pairCount pairs) (keyForm pairs)))) (roomRefusal (2 * pairCount pairs) (length z))
+      (sym (b .refusal) ∙ e) .1)
 
   done : {out′ : List ℤ} → r ≡ 0 → out′ ≡ keysOf pairs ++ drop (2 * pairCount pairs) z → ListsPairs pairs out (Count (pairCount pairs)) out′
   done e w =
@@ -49,7 +50,9 @@ module _ {pairs out z : List ℤ} {r : ℕ} (b : Begun pairs out z r) where
         list = written-list (pos 0) (length out) (2 * pairCount pairs) (λ j. number pairs (j / 2) (j % 2)) (sym number-is ∙ e) (b .zeros) w;
       }
 
-begun : (c : tie.After-keys-refusal) → Begun (now (c .before .before .before .before .args .pairs)) (now (c .before .before .before .before .args .out)) (c .before .before .zero-i32 .last .0) (c .keys-refusal .result)
+begun : (c : tie.After-keys-refusal) →
+    Begun (now (c .before .before .before .before .args .pairs)) (now (c .before .before .before .before .args .out)) (c .before .before .zero-i32 .last .0)
+    (c .keys-refusal .result)
 begun c = let z = c .before .before .zero-i32 in record { zeros = z .ensures; same = z .kept .0; refusal = c .keys-refusal .ensures }
 
 zero-i32-requires : tie.Need-zero-i32-requires

@@ -36,7 +36,8 @@ returns c =
     let r = t .before in
     let p = r .before in
     let a = p .before .before .args in
-    c .has-pair .ensures ∙ entry-right (now (a .pairs)) (a .boundary) (a .left) (a .right) (left-read (p .before)) (p .left-place .ensures) (right-read r) (t .if1 .taken)
+    c .has-pair .ensures
+    ∙ entry-right (now (a .pairs)) (a .boundary) (a .left) (a .right) (left-read (p .before)) (p .left-place .ensures) (right-read r) (t .if1 .taken)
 
 word-of-requires-3 : tie.Need-word-of-requires-3
 word-of-requires-3 c κs = search needs
@@ -52,7 +53,9 @@ returns-2 c =
     let r = f .before in
     let p = r .before in
     let a = p .before .before .args in
-    c .has-pair2 .ensures ∙ entry-edge (now (a .pairs)) (a .boundary) (a .left) (a .right) (left-read (p .before)) (p .left-place .ensures) (right-read r) (f .if1 .left) (edge-read e) (t .if2 .taken)
+    c .has-pair2 .ensures
+    ∙ entry-edge (now (a .pairs)) (a .boundary) (a .left) (a .right) (left-read (p .before)) (p .left-place .ensures) (right-read r) (f .if1 .left)
+    (edge-read e) (t .if2 .taken)
 
 returns-3 : tie.Need-returns-3
 returns-3 c =
@@ -61,7 +64,8 @@ returns-3 c =
     let r = f .before in
     let p = r .before in
     let a = p .before .before .args in
-    entry-none (now (a .pairs)) (a .boundary) (a .left) (a .right) (left-read (p .before)) (p .left-place .ensures) (right-read r) (f .if1 .left) (edge-read e) (c .if2 .left)
+    entry-none (now (a .pairs)) (a .boundary) (a .left) (a .right) (left-read (p .before)) (p .left-place .ensures) (right-read r) (f .if1 .left) (edge-read e)
+    (c .if2 .left)
 
 pub has-entry-spec : {M : Type 1} → statement M
 has-entry-spec =

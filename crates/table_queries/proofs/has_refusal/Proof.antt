@@ -24,7 +24,8 @@ second : (c : tie.After-absent-refusal3) → c .absent-refusal3 .result ≡ abse
 second c = absent-passed (c .before .before .before .before .before .fits .right) (c .absent-refusal3 .ensures)
 
 -- all three numbers are in range
-passed : (c : tie.Else3) → unless 7 (eqb (length (now (c .before .before .before .before .before .before .args .pairs)) % 6) 0) ≡ hasRefusal (now (c .before .before .before .before .before .before .args .pairs)) (c .before .before .before .before .before .before .args .boundary) (c .before .before .before .before .before .before .args .left) (c .before .before .before .before .before .before .args .right)
+passed : (c : tie.Else3) → let c6 = c .before .before .before .before .before .before in
+    unless 7 (eqb (length (now (c6 .args .pairs)) % 6) 0) ≡ hasRefusal (now (c6 .args .pairs)) (c6 .args .boundary) (c6 .args .left) (c6 .args .right)
 passed c =
     let f = c .before .before in
     let e = f .before .before in
@@ -55,11 +56,13 @@ returns-3 c =
 
 returns-4 : tie.Need-returns-4
 returns-4 c =
-    ap (unless 7) (sym (eq-eqb (length (now (c .before .before .before .before .before .before .before .args .pairs)) % 6) 0 (c .if4 .taken))) ∙ passed (c .before)
+    ap (unless 7) (sym (eq-eqb (length (now (c .before .before .before .before .before .before .before .args .pairs)) % 6) 0 (c .if4 .taken)))
+    ∙ passed (c .before)
 
 returns-5 : tie.Need-returns-5
 returns-5 c =
-    ap (unless 7) (sym (ne-eqb (length (now (c .before .before .before .before .before .before .before .args .pairs)) % 6) 0 (c .if4 .left))) ∙ passed (c .before)
+    ap (unless 7) (sym (ne-eqb (length (now (c .before .before .before .before .before .before .before .args .pairs)) % 6) 0 (c .if4 .left)))
+    ∙ passed (c .before)
 
 pub has-refusal-spec : {M : Type 1} → statement M
 has-refusal-spec =

@@ -10,15 +10,20 @@ use borrow.Author.Needs.{needs}
 use Rattle.table_queries.proofs.has_replacement.Statement.{statement}
 use Rattle.table_queries.proofs.has_replacement.Tie as tie
 
-refusal : (c : tie.After-has-refusal) → c .has-refusal .result ≡ hasRefusal (now (c .before .args .pairs)) (c .before .args .boundary) (c .before .args .left) (c .before .args .right)
+refusal : (c : tie.After-has-refusal) →
+    c .has-refusal .result ≡ hasRefusal (now (c .before .args .pairs)) (c .before .args .boundary) (c .before .args .left) (c .before .args .right)
 refusal c =
     let a = c .before in
-    rw (number-word (a .args .boundary) (a .fits .boundary), number-word (a .args .left) (a .fits .left), number-word (a .args .right) (a .fits .right)) at (c .has-refusal .ensures)
+    rw (number-word (a .args .boundary) (a .fits .boundary), number-word (a .args .left) (a .fits .left), number-word (a .args .right) (a .fits .right)) at
+    (c .has-refusal .ensures)
 
-entry : (c : tie.After-has-entry) → c .has-entry .result ≡ hasEntry (now (c .before .before .before .args .pairs)) (c .before .before .before .args .left) (rightItem (c .before .before .before .args .boundary) (c .before .before .before .args .right))
+entry : (c : tie.After-has-entry) →
+    c .has-entry .result ≡ hasEntry (now (c .before .before .before .args .pairs)) (c .before .before .before .args .left)
+    (rightItem (c .before .before .before .args .boundary) (c .before .before .before .args .right))
 entry c =
     let a = c .before .before .before in
-    rw (number-word (a .args .boundary) (a .fits .boundary), number-word (a .args .left) (a .fits .left), number-word (a .args .right) (a .fits .right)) at (c .has-entry .ensures)
+    rw (number-word (a .args .boundary) (a .fits .boundary), number-word (a .args .left) (a .fits .left), number-word (a .args .right) (a .fits .right)) at
+    (c .has-entry .ensures)
 
 has-refusal-requires : tie.Need-has-refusal-requires
 has-refusal-requires c κs = search needs

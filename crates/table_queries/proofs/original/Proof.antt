@@ -33,7 +33,8 @@ part-result-end-2 c = search needs
 
 returns-2 : tie.Need-returns-2
 returns-2 c =
-    let a = c .before .before .before .args in original-outside (now (a .word)) (a .start) (a .length) (omega (arith, c .before .if2 .taken, c .before .before .if1 .left))
+    let a = c .before .before .before .args in
+    original-outside (now (a .word)) (a .start) (a .length) (omega (arith, c .before .if2 .taken, c .before .before .if1 .left))
 
 add-result : tie.Need-add-result
 add-result c = search needs
@@ -52,7 +53,8 @@ part-result-end-3 c = search needs
 
 returns-3 : tie.Need-returns-3
 returns-3 c =
-    let a = c .before .before .before .args in original-inside (now (a .word)) (a .start) (a .length) (omega (arith, c .before .if2 .left, c .before .before .if1 .left))
+    let a = c .before .before .before .args in
+    original-inside (now (a .word)) (a .start) (a .length) (omega (arith, c .before .if2 .left, c .before .before .if1 .left))
 
 pub original-spec : {M : Type 1} → statement M
 original-spec =

@@ -33,7 +33,8 @@ returns : tie.Need-returns Inv-loop μ-loop
 returns c =
     let l = c .before .before .before in
     let a = l .before .args in
-    sym (every-fails (pairCount (now (a .pairs))) (l .loop .k) (pairIsSafe (now (a .pairs)) (now (a .ops))) (c .before .before .loop-test .taken) (sym (c .before .pair-is-safe .ensures) ∙ not-true _ (c .if1 .taken)))
+    sym (every-fails (pairCount (now (a .pairs))) (l .loop .k) (pairIsSafe (now (a .pairs)) (now (a .ops))) (c .before .before .loop-test .taken)
+    (sym (c .before .pair-is-safe .ensures) ∙ not-true _ (c .if1 .taken)))
 
 add-k : tie.Need-add-k Inv-loop μ-loop
 add-k c = omega arith
@@ -44,14 +45,18 @@ loop-less c = omega arith
 loop-again : tie.Need-loop-again Inv-loop μ-loop
 loop-again c =
     let l = c .before .before .before in
-    let a = l .before .args in
-    (omega arith, every-more (l .loop .k) (pairIsSafe (now (a .pairs)) (now (a .ops))) (l .loop .inv .1) (sym (c .before .pair-is-safe .ensures) ∙ not-false _ (c .if1 .left)))
+    let a = l .before .args in (
+      omega arith,
+      every-more (l .loop .k) (pairIsSafe (now (a .pairs)) (now (a .ops))) (l .loop .inv .1)
+          (sym (c .before .pair-is-safe .ensures) ∙ not-false _ (c .if1 .left)),
+    )
 
 returns-2 : tie.Need-returns-2 Inv-loop μ-loop
 returns-2 c =
     let l = c .before in
     let a = l .before .args in
-    sym (every-to (pairCount (now (a .pairs))) (l .loop .k) (pairIsSafe (now (a .pairs)) (now (a .ops))) (l .loop .inv .1) (l .loop .inv .0) (c .loop-test .left))
+    sym (every-to (pairCount (now (a .pairs))) (l .loop .k) (pairIsSafe (now (a .pairs)) (now (a .ops))) (l .loop .inv .1) (l .loop .inv .0)
+    (c .loop-test .left))
 
 pub all-are-safe-spec : {M : Type 1} → statement M
 all-are-safe-spec =

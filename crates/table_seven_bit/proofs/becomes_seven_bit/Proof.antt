@@ -13,7 +13,9 @@ use borrow.Author.Needs.{needs}
 use Rattle.table_seven_bit.proofs.becomes_seven_bit.Statement.{statement}
 use Rattle.table_seven_bit.proofs.becomes_seven_bit.Tie as tie
 
-ops-are : (c : tie.After-ops-are-seven-bit) → becomesSevenBit (now (c .before .before .before .args .pairs)) (now (c .before .before .before .args .ops)) (c .before .before .before .args .k) ≡ both (c .ops-are-seven-bit .result) (ltb (lastCode (now (c .before .before .before .args .pairs)) (c .before .before .before .args .k)) 128)
+ops-are : (c : tie.After-ops-are-seven-bit) →
+    becomesSevenBit (now (c .before .before .before .args .pairs)) (now (c .before .before .before .args .ops)) (c .before .before .before .args .k)
+    ≡ both (c .ops-are-seven-bit .result) (ltb (lastCode (now (c .before .before .before .args .pairs)) (c .before .before .before .args .k)) 128)
 ops-are c =
     let a = c .before .before .before .args in
     becomes-by (now (a .pairs)) (now (a .ops)) (a .k) (c .before .before .number-at .ensures) (c .before .number-at2 .ensures) (c .ops-are-seven-bit .ensures)
@@ -42,7 +44,8 @@ number-at-requires-3 : tie.Need-number-at-requires-3
 number-at-requires-3 c κs = search needs
 
 returns-2 : tie.Need-returns-2
-returns-2 c = sym (ops-are (c .before .before) ∙ rw (not-false (c .before .before .ops-are-seven-bit .result) (c .before .if1 .left), c .number-at3 .ensures .is))
+returns-2 c =
+    sym (ops-are (c .before .before) ∙ rw (not-false (c .before .before .ops-are-seven-bit .result) (c .before .if1 .left), c .number-at3 .ensures .is))
 
 pub becomes-seven-bit-spec : {M : Type 1} → statement M
 becomes-seven-bit-spec =

@@ -32,7 +32,8 @@ returns : tie.Need-returns Inv-loop μ-loop
 returns c =
     let l = c .before .before .before in
     let a = l .before .args in
-    sym (every-fails (a .count) (l .loop .i) (λ j. opIsSevenBit (now (a .ops)) (a .first + j)) (c .before .before .loop-test .taken) (sym (c .before .op-is-seven-bit .ensures) ∙ not-true _ (c .if1 .taken)))
+    sym (every-fails (a .count) (l .loop .i) (λ j. opIsSevenBit (now (a .ops)) (a .first + j)) (c .before .before .loop-test .taken)
+    (sym (c .before .op-is-seven-bit .ensures) ∙ not-true _ (c .if1 .taken)))
 
 add-i : tie.Need-add-i Inv-loop μ-loop
 add-i c = omega arith
@@ -43,8 +44,11 @@ loop-less c = omega arith
 loop-again : tie.Need-loop-again Inv-loop μ-loop
 loop-again c =
     let l = c .before .before .before in
-    let a = l .before .args in
-    (omega arith, every-more (l .loop .i) (λ j. opIsSevenBit (now (a .ops)) (a .first + j)) (l .loop .inv .1) (sym (c .before .op-is-seven-bit .ensures) ∙ not-false _ (c .if1 .left)))
+    let a = l .before .args in (
+      omega arith,
+      every-more (l .loop .i) (λ j. opIsSevenBit (now (a .ops)) (a .first + j)) (l .loop .inv .1)
+          (sym (c .before .op-is-seven-bit .ensures) ∙ not-false _ (c .if1 .left)),
+    )
 
 returns-2 : tie.Need-returns-2 Inv-loop μ-loop
 returns-2 c =

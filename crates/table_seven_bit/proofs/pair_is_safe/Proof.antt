@@ -27,7 +27,8 @@ returns-2 c =
     let f = c .before .before in
     let p = f .before in
     let a = p .before .before .args in
-    safe-right (now (a .pairs)) (now (a .ops)) (a .k) (p .before .number-at .ensures) (p .left-place .ensures) (f .if1 .left) (c .before .number-at2 .ensures) (c .if2 .taken)
+    safe-right (now (a .pairs)) (now (a .ops)) (a .k) (p .before .number-at .ensures) (p .left-place .ensures) (f .if1 .left) (c .before .number-at2 .ensures)
+    (c .if2 .taken)
 
 becomes-seven-bit-requires : tie.Need-becomes-seven-bit-requires
 becomes-seven-bit-requires c κs = search needs
@@ -38,7 +39,9 @@ returns-3 c =
     let f = s .before .before in
     let p = f .before in
     let a = p .before .before .args in
-    c .becomes-seven-bit .ensures ∙ safe-both (now (a .pairs)) (now (a .ops)) (a .k) (p .before .number-at .ensures) (p .left-place .ensures) (f .if1 .left) (s .before .number-at2 .ensures) (s .if2 .left)
+    c .becomes-seven-bit .ensures
+    ∙ safe-both (now (a .pairs)) (now (a .ops)) (a .k) (p .before .number-at .ensures) (p .left-place .ensures) (f .if1 .left)
+    (s .before .number-at2 .ensures) (s .if2 .left)
 
 pub pair-is-safe-spec : {M : Type 1} → statement M
 pair-is-safe-spec =

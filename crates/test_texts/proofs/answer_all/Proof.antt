@@ -59,7 +59,8 @@ answer-in-requires : tie.Need-answer-in-requires Inv-loop μ-loop
 answer-in-requires c κs = tt
 
 loop-less : tie.Need-loop-less Inv-loop μ-loop
-loop-less c = let e = c .before .before .before .before .before .before .before .before .before .before .line-end .ensures (omega arith) in omega (arith, e .0, e .1)
+loop-less c =
+    let e = c .before .before .before .before .before .before .before .before .before .before .line-end .ensures (omega arith) in omega (arith, e .0, e .1)
 
 loop-again : tie.Need-loop-again Inv-loop μ-loop
 loop-again c =

@@ -25,13 +25,16 @@ start t = t .before .before .before .before .before .before .before .before .bef
 
 -- what read_text answered
 read-as : (t : tie.After-read-text) (r : TextRead) → r ≡ t .read-text .result →
-    ReadsText (start t .args .text .now) r (t .read-text .last .1 .0) (t .read-text .last .1 .1 .0) (t .read-text .last .1 .1 .1 .0) (t .read-text .last .1 .1 .1 .1 .0)
+    ReadsText (start t .args .text .now) r (t .read-text .last .1 .0) (t .read-text .last .1 .1 .0) (t .read-text .last .1 .1 .1 .0)
+    (t .read-text .last .1 .1 .1 .1 .0)
 read-as t r e =
-    subst (λ (x : TextRead). ReadsText (start t .args .text .now) x (t .read-text .last .1 .0) (t .read-text .last .1 .1 .0) (t .read-text .last .1 .1 .1 .0) (t .read-text .last .1 .1 .1 .1 .0)) (sym e) (t .read-text .ensures)
+    subst (λ (x : TextRead). ReadsText (start t .args .text .now) x (t .read-text .last .1 .0) (t .read-text .last .1 .1 .0) (t .read-text .last .1 .1 .1 .0)
+    (t .read-text .last .1 .1 .1 .1 .0)) (sym e) (t .read-text .ensures)
 
 -- what the text says
 said : (v : tie.After-heads) → let t = v .before .before in
-    Said (start t .args .text .now) (v .heads .given .0 .0) (t .read-text .last .1 .0) (t .read-text .last .1 .1 .0) (t .read-text .last .1 .1 .1 .0) (t .read-text .last .1 .1 .1 .1 .0)
+    Said (start t .args .text .now) (v .heads .given .0 .0) (t .read-text .last .1 .0) (t .read-text .last .1 .1 .0) (t .read-text .last .1 .1 .1 .0)
+    (t .read-text .last .1 .1 .1 .1 .0)
 said v =
     let t = v .before .before in
     text-said (read-as t (text.Text (v .heads .given .0 .0)) (sym (v .heads .given .1)))
@@ -67,7 +70,8 @@ length-of-requires c κs = search needs
 counted : (l : tie.After-length-of) → l .length-of .result ≡ lettersIn (l .before .before .before .heads .given .0 .0 .letters)
 counted l =
     let k = l .before in
-    l .length-of .ensures ∙ ap lettersIn (number-word (k .before .before .heads .given .0 .0 .letters) (record { sfits = k .struct-told .given .1 .1 .1 .1 .1 .1 .0 .1 }))
+    l .length-of .ensures
+    ∙ ap lettersIn (number-word (k .before .before .heads .given .0 .0 .letters) (record { sfits = k .struct-told .given .1 .1 .1 .1 .1 .1 .0 .1 }))
 
 -- .. which is 64 at most
 few-letters : (l : tie.After-length-of) → l .length-of .result ≤ 64
@@ -75,7 +79,8 @@ few-letters l = omega (arith, counted l, said (l .before .before .before) .few-l
 
 -- the lists are as long as they were
 long : (v : tie.After-heads) → let t = v .before .before in
-    (length (t .read-text .last .1 .0) ≡ 2048) × (length (t .read-text .last .1 .1 .0) ≡ 512) × (length (t .read-text .last .1 .1 .1 .0) ≡ 5040) × (length (t .read-text .last .1 .1 .1 .1 .0) ≡ 64)
+    (length (t .read-text .last .1 .0) ≡ 2048) × (length (t .read-text .last .1 .1 .0) ≡ 512) × (length (t .read-text .last .1 .1 .1 .0) ≡ 5040)
+    × (length (t .read-text .last .1 .1 .1 .1 .0) ≡ 64)
 long v = v .before .before .read-text .ensures .long
 
 array-share-prefix-instructions : tie.Need-array-share-prefix-instructions
@@ -108,7 +113,8 @@ array-share-prefix-word c = let l = c .before .before .before in omega (arith, f
 slice-aggregate-answer-font-4 : tie.Need-slice-aggregate-answer-font-4
 slice-aggregate-answer-font-4 c =
     let l = c .before .before .before .before in
-    sym (length-take-le (l .length-of .result) (l .before .before .before .before .before .read-text .last .1 .1 .1 .1 .0) (omega (arith, few-letters l, long (l .before .before .before) .3)))
+    sym (length-take-le (l .length-of .result) (l .before .before .before .before .before .read-text .last .1 .1 .1 .1 .0)
+    (omega (arith, few-letters l, long (l .before .before .before) .3)))
 
 answer-font-requires : tie.Need-answer-font-requires
 answer-font-requires c κs = search needs
@@ -122,7 +128,8 @@ returns c =
     let t = c .before .before .before .before .before .before in
     let s = start t in
     let e = not-read (read-as t text.Unreadable (sym (c .before .before .before .before .enum-told .given .1))) in
-    refused-as (numberOfText (readText (s .args .text .now)) (length (s .args .reply .now))) 16 (ap (λ (o : Option Text). numberOfText o (length (s .args .reply .now))) e) (omega arith)
+    refused-as (numberOfText (readText (s .args .text .now)) (length (s .args .reply .now))) 16
+    (ap (λ (o : Option Text). numberOfText o (length (s .args .reply .now))) e) (omega arith)
     (refused 16 (s .args .reply .now) (x .last .0) (omega arith) (x .ensures))
 
 same-length-2 : tie.Need-same-length-2

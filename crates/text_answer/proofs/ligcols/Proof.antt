@@ -21,17 +21,20 @@ use Rattle.text_answer.proofs.ligcols.Tie as tie
 
 -- what was answered
 told : (a : tie.After-answer) (r : Written) → r ≡ a .answer .result → let s = a .before .before .before .before in
-    AnswersBytes (numberOfText (readText (s .args .text .now)) (length (s .args .reply .now))) (bytesOfText (readText (s .args .text .now))) (s .args .reply .now) r (a .answer .last .1 .0)
+    AnswersBytes (numberOfText (readText (s .args .text .now)) (length (s .args .reply .now))) (bytesOfText (readText (s .args .text .now)))
+    (s .args .reply .now) r (a .answer .last .1 .0)
 told a r e =
     let s = a .before .before .before .before in
-    subst (λ (x : Written). AnswersBytes (numberOfText (readText (s .args .text .now)) (length (s .args .reply .now))) (bytesOfText (readText (s .args .text .now))) (s .args .reply .now) x (a .answer .last .1 .0)) (sym e) (a .answer .ensures)
+    subst (λ (x : Written). AnswersBytes (numberOfText (readText (s .args .text .now)) (length (s .args .reply .now)))
+    (bytesOfText (readText (s .args .text .now))) (s .args .reply .now) x (a .answer .last .1 .0)) (sym e) (a .answer .ensures)
 
 counted : (v : tie.After-n) → let a = v .before .before .before .before in let s = a .before .before .before .before in
     (v .n .given .0 .0 ≤ 65536) × AnswersText (s .args .text .now) (s .args .reply .now) (pos (v .n .given .0 .0)) (a .answer .last .1 .0)
 counted v = length-answer (v .n .given .0 .0) (told (v .before .before .before .before) (written.Count (v .n .given .0 .0)) (sym (v .n .given .1)))
 
 refused : (v : tie.After-n2) → let a = v .before .before .before .before in let s = a .before .before .before .before in
-    (0 < v .n2 .given .0 .0) × (v .n2 .given .0 .0 ≤ 16) × AnswersText (s .args .text .now) (s .args .reply .now) (numberOf (4294967295 - (v .n2 .given .0 .0 - 1))) (a .answer .last .1 .0)
+    (0 < v .n2 .given .0 .0) × (v .n2 .given .0 .0 ≤ 16)
+    × AnswersText (s .args .text .now) (s .args .reply .now) (numberOf (4294967295 - (v .n2 .given .0 .0 - 1))) (a .answer .last .1 .0)
 refused v = number-answer (v .n2 .given .0 .0) (told (v .before .before .before .before) (written.Refused (v .n2 .given .0 .0)) (sym (v .n2 .given .1)))
 
 answer-requires : tie.Need-answer-requires
@@ -80,7 +83,8 @@ returns-2 c =
     let a = v .before .before .before .before in
     let s = a .before .before .before .before in
     let w = 4294967295 - (n - 1) in
-    let z : numberOf (ofZ w32 (c .number-of .result)) ≡ numberOf w = ap (λ (y : ℤ). numberOf (ofZ w32 y)) (c .number-of .ensures) ∙ number-word (numberOf w) (number-fits w (omega arith)) in
+    let z : numberOf (ofZ w32 (c .number-of .result))
+    ≡ numberOf w = ap (λ (y : ℤ). numberOf (ofZ w32 y)) (c .number-of .ensures) ∙ number-word (numberOf w) (number-fits w (omega arith)) in
     subst (λ (y : ℤ). AnswersText (s .args .text .now) (s .args .reply .now) y (a .answer .last .1 .0)) (sym z) (refused v .2)
 
 pub ligcols-spec : {M : Type 1} → statement M

@@ -8,28 +8,38 @@ use Rattle.text_digits.proofs.put_digits.Statement.{statement}
 use Rattle.text_digits.proofs.put_digits.Tie as tie
 
 -- what is written after each two digits
-after-one : (c : tie.After-put-low) → let s = c .before .before .before .before in Written (s .args .n) (s .args .end) (s .args .out .now) (c .put-low .last .0) (s .args .end - 2) (c .put-low .result)
+after-one : (c : tie.After-put-low) → let s = c .before .before .before .before in
+    Written (s .args .n) (s .args .end) (s .args .out .now) (c .put-low .last .0) (s .args .end - 2) (c .put-low .result)
 after-one c =
     let i = c .before .before in
     let s = i .before .before in
-    written-low (s .args .end - 2) (written-none (s .args .n) (s .args .end) (s .args .out .now) (s .fits .n .fits)) (s .pre .0) (i .if1 .left) (omega (arith, s .pre .0)) (c .put-low .ensures)
+    written-low (s .args .end - 2) (written-none (s .args .n) (s .args .end) (s .args .out .now) (s .fits .n .fits)) (s .pre .0) (i .if1 .left)
+    (omega (arith, s .pre .0)) (c .put-low .ensures)
 
-after-two : (c : tie.After-put-low2) → let s = c .before .before .before .before .before .before .before .before .before in Written (s .args .n) (s .args .end) (s .args .out .now) (c .put-low2 .last .0) (s .args .end - 4) (c .put-low2 .result)
+after-two : (c : tie.After-put-low2) → let s = c .before .before .before .before .before .before .before .before .before in
+    Written (s .args .n) (s .args .end) (s .args .out .now) (c .put-low2 .last .0) (s .args .end - 4) (c .put-low2 .result)
 after-two c =
     let i = c .before .before in
     let s = c .before .before .before .before .before .before .before .before .before in
     written-low (s .args .end - 4) (after-one (i .before .before .before)) (s .pre .0) (i .if2 .left) (omega (arith, s .pre .0)) (c .put-low2 .ensures)
 
-after-three : (c : tie.After-put-low3) → let s = c .before .before .before .before .before .before .before .before .before .before .before .before .before .before in Written (s .args .n) (s .args .end) (s .args .out .now) (c .put-low3 .last .0) (s .args .end - 6) (c .put-low3 .result)
+after-three : (c : tie.After-put-low3) →
+    let s = c .before .before .before .before .before .before .before .before .before .before .before .before .before .before in
+    Written (s .args .n) (s .args .end) (s .args .out .now) (c .put-low3 .last .0) (s .args .end - 6) (c .put-low3 .result)
 after-three c =
     let i = c .before .before in
     let s = c .before .before .before .before .before .before .before .before .before .before .before .before .before .before in
     written-low (s .args .end - 6) (after-two (i .before .before .before)) (s .pre .0) (i .if3 .left) (omega (arith, s .pre .0)) (c .put-low3 .ensures)
 
-after-four : (c : tie.After-put-low4) → let s = c .before .before .before .before .before .before .before .before .before .before .before .before .before .before .before .before .before .before .before in Written (s .args .n) (s .args .end) (s .args .out .now) (c .put-low4 .last .0) (s .args .end - 8) (c .put-low4 .result)
+after-four : (c : tie.After-put-low4) →
+    let s =
+    c .before .before .before .before .before .before .before .before .before .before .before .before .before .before .before .before .before .before
+    .before in Written (s .args .n) (s .args .end) (s .args .out .now) (c .put-low4 .last .0) (s .args .end - 8) (c .put-low4 .result)
 after-four c =
     let i = c .before .before in
-    let s = c .before .before .before .before .before .before .before .before .before .before .before .before .before .before .before .before .before .before .before in
+    let s =
+    c .before .before .before .before .before .before .before .before .before .before .before .before .before .before .before .before .before .before
+    .before in
     written-low (s .args .end - 8) (after-three (i .before .before .before)) (s .pre .0) (i .if4 .left) (omega (arith, s .pre .0)) (c .put-low4 .ensures)
 
 -- at most two digits are left

@@ -40,7 +40,8 @@ returns-3 c =
     let i = x .before .before .before in
     let a = i .before .before .before .args in
     let e = x .before .size-of .ensures .positive (c .if3 .taken) in
-    spells-positive (a .out .now) (a .at) (a .w) (c .if3 .taken) (x .put-digits .last .0) (x .put-digits .result) (rw e at (x .put-digits .ensures .0)) (rw e at (x .put-digits .ensures .1))
+    spells-positive (a .out .now) (a .at) (a .w) (c .if3 .taken) (x .put-digits .last .0) (x .put-digits .result) (rw e at (x .put-digits .ensures .0))
+    (rw e at (x .put-digits .ensures .1))
     ∙ sym (room-is (a .out .now) (a .at) (a .w) (room i))
 
 sub-out : tie.Need-sub-out
@@ -48,7 +49,8 @@ sub-out c =
     let x = c .before .before .before in
     let s = x .before .before .before .before .before .before in
     let e = x .before .size-of .ensures .negative (c .if3 .left) in
-    sign-place (s .args .out .now) (s .args .at) (s .args .w) (c .if3 .left) (s .fits .w .fits) (x .put-digits .last .0) (x .put-digits .result) (rw e at (x .put-digits .ensures .0)) .0
+    sign-place (s .args .out .now) (s .args .at) (s .args .w) (c .if3 .left) (s .fits .w .fits) (x .put-digits .last .0) (x .put-digits .result)
+    (rw e at (x .put-digits .ensures .0)) .0
 
 slice-write-out : tie.Need-slice-write-out
 slice-write-out c = search needs
@@ -63,7 +65,8 @@ returns-4 c =
     let s = i .before .before .before in
     let a = s .args in
     let e = x .before .size-of .ensures .negative (c .if3 .left) in
-    spells-negative (a .out .now) (a .at) (a .w) (c .if3 .left) (s .fits .w .fits) (x .put-digits .last .0) (x .put-digits .result) (rw e at (x .put-digits .ensures .0)) (rw e at (x .put-digits .ensures .1))
+    spells-negative (a .out .now) (a .at) (a .w) (c .if3 .left) (s .fits .w .fits) (x .put-digits .last .0) (x .put-digits .result)
+    (rw e at (x .put-digits .ensures .0)) (rw e at (x .put-digits .ensures .1))
     ∙ sym (room-is (a .out .now) (a .at) (a .w) (room i))
 
 pub put-long-spec : {M : Type 1} → statement M

@@ -54,8 +54,10 @@ returns-2 c =
     let s = i .before .before in
     let a = s .args in
     let e = top-two (a .n) (i .if1 .left) (s .pre .0) in
-    let tens : a .n / 10 % 10 ≡ a .n / 10 = omega (arith, s .pre .0) in
-    (omega (arith, ap length e, s .pre), x .put-low .ensures .1 ∙ (λ t. sets (a .out .now) (a .end - 2) ((48 + tens t) ∷ (48 + a .n % 10) ∷ [])) ∙ ap (sets (a .out .now) (a .end - 2)) (sym e))
+    let tens : a .n / 10 % 10 ≡ a .n / 10 = omega (arith, s .pre .0) in (
+      omega (arith, ap length e, s .pre),
+      x .put-low .ensures .1 ∙ (λ t. sets (a .out .now) (a .end - 2) ((48 + tens t) ∷ (48 + a .n % 10) ∷ [])) ∙ ap (sets (a .out .now) (a .end - 2)) (sym e),
+    )
 
 pub put-top-spec : {M : Type 1} → statement M
 put-top-spec =

@@ -32,7 +32,8 @@ returns-2 c =
     let s = i .before .before .before .before in
     c .with-sign .ensures
     ∙ ap (λ r. numberReply (withSign r)) (u .unsigned .ensures)
-    ∙ sym (ap numberReply (read-minus (s .args .text .now) (s .args .from) (s .args .end) (s .pre .part .inside) (omega (arith, i .before .before .if1 .left)) (i .if2 .taken)))
+    ∙ sym (ap numberReply
+    (read-minus (s .args .text .now) (s .args .from) (s .args .end) (s .pre .part .inside) (omega (arith, i .before .before .if1 .left)) (i .if2 .taken)))
 
 unsigned-requires-2 : tie.Need-unsigned-requires-2
 unsigned-requires-2 c κs = search needs
@@ -47,7 +48,9 @@ returns-3 c =
     let s = i .before .before .before .before in
     c .without-sign .ensures
     ∙ ap (λ r. numberReply (withoutSign r)) (u .unsigned2 .ensures)
-    ∙ sym (ap numberReply (read-plain (s .args .text .now) (s .args .from) (s .args .end) (s .pre .part .inside) (omega (arith, i .before .before .if1 .left)) (s .pre .other (omega (arith, i .before .before .if1 .left))) (i .if2 .left)))
+    ∙ sym (ap numberReply
+    (read-plain (s .args .text .now) (s .args .from) (s .args .end) (s .pre .part .inside) (omega (arith, i .before .before .if1 .left))
+    (s .pre .other (omega (arith, i .before .before .if1 .left))) (i .if2 .left)))
 
 pub read-number-spec : {M : Type 1} → statement M
 read-number-spec =

@@ -35,14 +35,22 @@ rows-at m = m .before .before .before .before .before .before
 
 -- what compile answered, of that font
 done : (m : tie.After-compile) (r : Compiled) → r ≡ m .compile .result → let w = m .before .before .before .before .before .before in
-    Compiles (font (start m)) (w .before .before .before .pair-list .result) (w .before .before .op-list .result) (w .before .loop-list .result) (w .rows .result) r (m .compile .last .1 .1 .1 .1 .1 .1 .0) (m .compile .last .1 .1 .1 .1 .1 .1 .1 .0) (m .compile .last .1 .1 .1 .1 .1 .1 .1 .1 .0) (m .compile .last .1 .1 .1 .1 .1 .1 .1 .1 .1 .0)
+    Compiles (font (start m)) (w .before .before .before .pair-list .result) (w .before .before .op-list .result) (w .before .loop-list .result)
+    (w .rows .result) r (m .compile .last .1 .1 .1 .1 .1 .1 .0) (m .compile .last .1 .1 .1 .1 .1 .1 .1 .0) (m .compile .last .1 .1 .1 .1 .1 .1 .1 .1 .0)
+    (m .compile .last .1 .1 .1 .1 .1 .1 .1 .1 .1 .0)
 done m r e =
     let s = start m in
     let a = s .args in
     let w = m .before .before .before .before .before .before in
-    subst (λ (x : Compiled). Compiles (font s) (w .before .before .before .pair-list .result) (w .before .before .op-list .result) (w .before .loop-list .result) (w .rows .result) x (m .compile .last .1 .1 .1 .1 .1 .1 .0) (m .compile .last .1 .1 .1 .1 .1 .1 .1 .0) (m .compile .last .1 .1 .1 .1 .1 .1 .1 .1 .0) (m .compile .last .1 .1 .1 .1 .1 .1 .1 .1 .1 .0)) (sym e)
-    (subst₃ (λ (b l d : ℤ). Compiles (fontOf (a .instructions .now) (a .kerns .now) (a .entries .now) b l d) (w .before .before .before .pair-list .result) (w .before .before .op-list .result) (w .before .loop-list .result) (w .rows .result) (m .compile .result) (m .compile .last .1 .1 .1 .1 .1 .1 .0) (m .compile .last .1 .1 .1 .1 .1 .1 .1 .0) (m .compile .last .1 .1 .1 .1 .1 .1 .1 .1 .0) (m .compile .last .1 .1 .1 .1 .1 .1 .1 .1 .1 .0))
-    (number-word (a .boundary) (s .fits .boundary)) (number-word (a .left-entry) (s .fits .left-entry)) (number-word (a .design-size) (s .fits .design-size)) (m .compile .ensures))
+    subst (λ (x : Compiled). Compiles (font s) (w .before .before .before .pair-list .result) (w .before .before .op-list .result)
+    (w .before .loop-list .result) (w .rows .result) x (m .compile .last .1 .1 .1 .1 .1 .1 .0) (m .compile .last .1 .1 .1 .1 .1 .1 .1 .0)
+    (m .compile .last .1 .1 .1 .1 .1 .1 .1 .1 .0) (m .compile .last .1 .1 .1 .1 .1 .1 .1 .1 .1 .0)) (sym e)
+    (subst₃
+    (λ (b l d : ℤ). Compiles (fontOf (a .instructions .now) (a .kerns .now) (a .entries .now) b l d) (w .before .before .before .pair-list .result)
+    (w .before .before .op-list .result) (w .before .loop-list .result) (w .rows .result) (m .compile .result) (m .compile .last .1 .1 .1 .1 .1 .1 .0)
+    (m .compile .last .1 .1 .1 .1 .1 .1 .1 .0) (m .compile .last .1 .1 .1 .1 .1 .1 .1 .1 .0) (m .compile .last .1 .1 .1 .1 .1 .1 .1 .1 .1 .0))
+    (number-word (a .boundary) (s .fits .boundary)) (number-word (a .left-entry) (s .fits .left-entry)) (number-word (a .design-size) (s .fits .design-size))
+    (m .compile .ensures))
 
 pair-list-requires : tie.Need-pair-list-requires
 pair-list-requires c κs = search needs
@@ -81,10 +89,14 @@ lower-of-requires : tie.Need-lower-of-requires
 lower-of-requires c κs = search needs
 
 -- where compile refused: its number
-refused-compile : (v : tie.After-n) → (v .n .given .0 .0 ≡ compileRefusal (font (start (v .before .before .before .before .before .before))) columnRoom) × (0 < v .n .given .0 .0)
+refused-compile : (v : tie.After-n) →
+    (v .n .given .0 .0 ≡ compileRefusal (font (start (v .before .before .before .before .before .before))) columnRoom) × (0 < v .n .given .0 .0)
 refused-compile v =
     let m = v .before .before .before .before .before .before in
-    not-compiled (font (start m)) (rows-at m .before .before .before .pair-list .result) (rows-at m .before .before .op-list .result) (rows-at m .before .loop-list .result) (rows-at m .rows .result) (rows-at m .before .before .before .pair-list .ensures) (rows-at m .before .before .op-list .ensures) (rows-at m .before .loop-list .ensures) (rows-at m .rows .ensures) (v .n .given .0 .0) (done m (compiled.Refused (v .n .given .0 .0)) (sym (v .n .given .1)))
+    not-compiled (font (start m)) (rows-at m .before .before .before .pair-list .result) (rows-at m .before .before .op-list .result)
+    (rows-at m .before .loop-list .result) (rows-at m .rows .result) (rows-at m .before .before .before .pair-list .ensures)
+    (rows-at m .before .before .op-list .ensures) (rows-at m .before .loop-list .ensures) (rows-at m .rows .ensures) (v .n .given .0 .0)
+    (done m (compiled.Refused (v .n .given .0 .0)) (sym (v .n .given .1)))
 
 lower-positive : (c : tie.After-lower-of) → 0 < c .lower-of .result
 lower-positive c =
@@ -109,26 +121,48 @@ abbrev compiled-at : tie.After-p → tie.After-compile
 compiled-at v = v .before .before .before .before .before .before
 
 tables : (v : tie.After-p) → let m = compiled-at v in
-    Compiles (font (start m)) (rows-at m .before .before .before .pair-list .result) (rows-at m .before .before .op-list .result) (rows-at m .before .loop-list .result) (rows-at m .rows .result) (compiled.Tables (v .p .given .0 .0) (v .p .given .0 .1 .0) (v .p .given .0 .1 .1 .0)) (m .compile .last .1 .1 .1 .1 .1 .1 .0) (m .compile .last .1 .1 .1 .1 .1 .1 .1 .0) (m .compile .last .1 .1 .1 .1 .1 .1 .1 .1 .0) (m .compile .last .1 .1 .1 .1 .1 .1 .1 .1 .1 .0)
+    Compiles (font (start m)) (rows-at m .before .before .before .pair-list .result) (rows-at m .before .before .op-list .result)
+    (rows-at m .before .loop-list .result) (rows-at m .rows .result) (compiled.Tables (v .p .given .0 .0) (v .p .given .0 .1 .0) (v .p .given .0 .1 .1 .0))
+    (m .compile .last .1 .1 .1 .1 .1 .1 .0) (m .compile .last .1 .1 .1 .1 .1 .1 .1 .0) (m .compile .last .1 .1 .1 .1 .1 .1 .1 .1 .0)
+    (m .compile .last .1 .1 .1 .1 .1 .1 .1 .1 .1 .0)
 tables v = done (compiled-at v) (compiled.Tables (v .p .given .0 .0) (v .p .given .0 .1 .0) (v .p .given .0 .1 .1 .0)) (sym (v .p .given .1))
 
 taken : (v : tie.After-p) → compileRefusal (font (start (compiled-at v))) columnRoom ≡ 0
-taken v = let m = compiled-at v in compiled-taken (font (start m)) (rows-at m .before .before .before .pair-list .result) (rows-at m .before .before .op-list .result) (rows-at m .before .loop-list .result) (rows-at m .rows .result) (rows-at m .before .before .before .pair-list .ensures) (rows-at m .before .before .op-list .ensures) (rows-at m .before .loop-list .ensures) (rows-at m .rows .ensures) (tables v)
+taken v =
+    let m = compiled-at v in
+    compiled-taken (font (start m)) (rows-at m .before .before .before .pair-list .result) (rows-at m .before .before .op-list .result)
+    (rows-at m .before .loop-list .result) (rows-at m .rows .result) (rows-at m .before .before .before .pair-list .ensures)
+    (rows-at m .before .before .op-list .ensures) (rows-at m .before .loop-list .ensures) (rows-at m .rows .ensures) (tables v)
 
 few-pairs : (v : tie.After-p) → (6 * v .p .given .0 .0 ≤ 3072) × (length (compiled-at v .compile .last .1 .1 .1 .1 .1 .1 .0) ≡ 3072)
 few-pairs v =
-    let m = compiled-at v in
-    (pairs-fit (font (start m)) (rows-at m .before .before .before .pair-list .result) (rows-at m .before .before .op-list .result) (rows-at m .before .loop-list .result) (rows-at m .rows .result) (rows-at m .before .before .before .pair-list .ensures) (rows-at m .before .before .op-list .ensures) (rows-at m .before .loop-list .ensures) (rows-at m .rows .ensures) (tables v) (m .compile .kept .1 .1 .1 .1 .1 .1 .0), omega (arith, m .compile .kept .1 .1 .1 .1 .1 .1 .0, rows-at m .before .before .before .pair-list .ensures))
+    let m = compiled-at v in (
+      pairs-fit (font (start m)) (rows-at m .before .before .before .pair-list .result) (rows-at m .before .before .op-list .result)
+          (rows-at m .before .loop-list .result) (rows-at m .rows .result) (rows-at m .before .before .before .pair-list .ensures)
+          (rows-at m .before .before .op-list .ensures) (rows-at m .before .loop-list .ensures) (rows-at m .rows .ensures) (tables v)
+          (m .compile .kept .1 .1 .1 .1 .1 .1 .0),
+      omega (arith, m .compile .kept .1 .1 .1 .1 .1 .1 .0, rows-at m .before .before .before .pair-list .ensures),
+    )
 
 few-ops : (v : tie.After-p) → (2 * v .p .given .0 .1 .0 ≤ 4096) × (length (compiled-at v .compile .last .1 .1 .1 .1 .1 .1 .1 .0) ≡ 4096)
 few-ops v =
-    let m = compiled-at v in
-    (ops-fit (font (start m)) (rows-at m .before .before .before .pair-list .result) (rows-at m .before .before .op-list .result) (rows-at m .before .loop-list .result) (rows-at m .rows .result) (rows-at m .before .before .before .pair-list .ensures) (rows-at m .before .before .op-list .ensures) (rows-at m .before .loop-list .ensures) (rows-at m .rows .ensures) (tables v) (m .compile .kept .1 .1 .1 .1 .1 .1 .1 .0), omega (arith, m .compile .kept .1 .1 .1 .1 .1 .1 .1 .0, rows-at m .before .before .op-list .ensures))
+    let m = compiled-at v in (
+      ops-fit (font (start m)) (rows-at m .before .before .before .pair-list .result) (rows-at m .before .before .op-list .result)
+          (rows-at m .before .loop-list .result) (rows-at m .rows .result) (rows-at m .before .before .before .pair-list .ensures)
+          (rows-at m .before .before .op-list .ensures) (rows-at m .before .loop-list .ensures) (rows-at m .rows .ensures) (tables v)
+          (m .compile .kept .1 .1 .1 .1 .1 .1 .1 .0),
+      omega (arith, m .compile .kept .1 .1 .1 .1 .1 .1 .1 .0, rows-at m .before .before .op-list .ensures),
+    )
 
 few-loops : (v : tie.After-p) → (2 * v .p .given .0 .1 .1 .0 ≤ 128) × (length (compiled-at v .compile .last .1 .1 .1 .1 .1 .1 .1 .1 .0) ≡ 128)
 few-loops v =
-    let m = compiled-at v in
-    (loops-fit (font (start m)) (rows-at m .before .before .before .pair-list .result) (rows-at m .before .before .op-list .result) (rows-at m .before .loop-list .result) (rows-at m .rows .result) (rows-at m .before .before .before .pair-list .ensures) (rows-at m .before .before .op-list .ensures) (rows-at m .before .loop-list .ensures) (rows-at m .rows .ensures) (tables v) (m .compile .kept .1 .1 .1 .1 .1 .1 .1 .1 .0), omega (arith, m .compile .kept .1 .1 .1 .1 .1 .1 .1 .1 .0, rows-at m .before .loop-list .ensures))
+    let m = compiled-at v in (
+      loops-fit (font (start m)) (rows-at m .before .before .before .pair-list .result) (rows-at m .before .before .op-list .result)
+          (rows-at m .before .loop-list .result) (rows-at m .rows .result) (rows-at m .before .before .before .pair-list .ensures)
+          (rows-at m .before .before .op-list .ensures) (rows-at m .before .loop-list .ensures) (rows-at m .rows .ensures) (tables v)
+          (m .compile .kept .1 .1 .1 .1 .1 .1 .1 .1 .0),
+      omega (arith, m .compile .kept .1 .1 .1 .1 .1 .1 .1 .1 .0, rows-at m .before .loop-list .ensures),
+    )
 
 returns : tie.Need-returns
 returns c =
@@ -214,9 +248,14 @@ returns-3 c =
     let ps = take (6 * v .p .given .0 .0) (m .compile .last .1 .1 .1 .1 .1 .1 .0) in
     let os = take (2 * v .p .given .0 .1 .0) (m .compile .last .1 .1 .1 .1 .1 .1 .1 .0) in
     let ls = take (2 * v .p .given .0 .1 .1 .0) (m .compile .last .1 .1 .1 .1 .1 .1 .1 .1 .0) in
-    font-set (font s) (a .letters) (a .word .now) (a .reply .now) (x .result) (x .last .1 .1 .1 .1 .1 .1 .0) (taken v) (sym (l .ensures) ∙ n) ps os ls (w .table) (w .op-table) (w .loop-table)
-    (subst (λ (z : ℤ). AnswersBytes (freshNumber ps os ls z (a .letters) (a .word .now) (length (a .reply .now))) (freshBytes ps os ls z (a .letters) (a .word .now)) (a .reply .now) (x .result) (x .last .1 .1 .1 .1 .1 .1 .0)) (number-word (a .boundary) (s .fits .boundary))
-    (subst (λ (z : ℤ). AnswersBytes (freshNumber ps os ls (numberOf (wordOf (a .boundary))) z (a .word .now) (length (a .reply .now))) (freshBytes ps os ls (numberOf (wordOf (a .boundary))) z (a .word .now)) (a .reply .now) (x .result) (x .last .1 .1 .1 .1 .1 .1 .0)) (number-word (a .letters) (s .fits .letters)) (x .ensures)))
+    font-set (font s) (a .letters) (a .word .now) (a .reply .now) (x .result) (x .last .1 .1 .1 .1 .1 .1 .0) (taken v) (sym (l .ensures) ∙ n) ps os ls
+    (w .table) (w .op-table) (w .loop-table)
+    (subst (λ (z : ℤ). AnswersBytes (freshNumber ps os ls z (a .letters) (a .word .now) (length (a .reply .now)))
+    (freshBytes ps os ls z (a .letters) (a .word .now)) (a .reply .now) (x .result) (x .last .1 .1 .1 .1 .1 .1 .0))
+    (number-word (a .boundary) (s .fits .boundary))
+    (subst (λ (z : ℤ). AnswersBytes (freshNumber ps os ls (numberOf (wordOf (a .boundary))) z (a .word .now) (length (a .reply .now)))
+    (freshBytes ps os ls (numberOf (wordOf (a .boundary))) z (a .word .now)) (a .reply .now) (x .result) (x .last .1 .1 .1 .1 .1 .1 .0))
+    (number-word (a .letters) (s .fits .letters)) (x .ensures)))
 
 pub answer-font-spec : {M : Type 1} → statement M
 answer-font-spec =

@@ -43,18 +43,25 @@ same-length c = search needs
 
 -- what is answered for a boundary's bits is answered for the boundary
 same : (s : tie.Start) (r : Written) (reply′ : List ℕ) → let a = s .args in
-    AnswersBytes (freshNumber (a .pairs .now) (a .ops .now) (a .loops .now) (numberOf (wordOf (a .boundary))) (a .letters) (a .word .now) (length (a .reply .now))) (freshBytes (a .pairs .now) (a .ops .now) (a .loops .now) (numberOf (wordOf (a .boundary))) (a .letters) (a .word .now)) (a .reply .now) r reply′ →
-    AnswersBytes (freshNumber (a .pairs .now) (a .ops .now) (a .loops .now) (a .boundary) (a .letters) (a .word .now) (length (a .reply .now))) (freshBytes (a .pairs .now) (a .ops .now) (a .loops .now) (a .boundary) (a .letters) (a .word .now)) (a .reply .now) r reply′
+    AnswersBytes
+    (freshNumber (a .pairs .now) (a .ops .now) (a .loops .now) (numberOf (wordOf (a .boundary))) (a .letters) (a .word .now) (length (a .reply .now)))
+    (freshBytes (a .pairs .now) (a .ops .now) (a .loops .now) (numberOf (wordOf (a .boundary))) (a .letters) (a .word .now)) (a .reply .now) r reply′ →
+    AnswersBytes (freshNumber (a .pairs .now) (a .ops .now) (a .loops .now) (a .boundary) (a .letters) (a .word .now) (length (a .reply .now)))
+    (freshBytes (a .pairs .now) (a .ops .now) (a .loops .now) (a .boundary) (a .letters) (a .word .now)) (a .reply .now) r reply′
 same s r reply′ h =
     let a = s .args in
-    subst (λ (z : ℤ). AnswersBytes (freshNumber (a .pairs .now) (a .ops .now) (a .loops .now) z (a .letters) (a .word .now) (length (a .reply .now))) (freshBytes (a .pairs .now) (a .ops .now) (a .loops .now) z (a .letters) (a .word .now)) (a .reply .now) r reply′) (number-word (a .boundary) (s .fits .boundary)) h
+    subst (λ (z : ℤ). AnswersBytes (freshNumber (a .pairs .now) (a .ops .now) (a .loops .now) z (a .letters) (a .word .now) (length (a .reply .now)))
+    (freshBytes (a .pairs .now) (a .ops .now) (a .loops .now) z (a .letters) (a .word .now)) (a .reply .now) r reply′)
+    (number-word (a .boundary) (s .fits .boundary)) h
 
 -- .. and so for the letters
 letters-passed : (s : tie.Start) (items : List ℤ) (r : Written) (reply′ : List ℕ) → let a = s .args in
-    WritesReply (replyBytes (a .pairs .now) (a .ops .now) (a .loops .now) (numberOf (wordOf (a .letters))) items) (a .reply .now) r reply′ → WritesReply (replyBytes (a .pairs .now) (a .ops .now) (a .loops .now) (a .letters) items) (a .reply .now) r reply′
+    WritesReply (replyBytes (a .pairs .now) (a .ops .now) (a .loops .now) (numberOf (wordOf (a .letters))) items) (a .reply .now) r reply′ →
+    WritesReply (replyBytes (a .pairs .now) (a .ops .now) (a .loops .now) (a .letters) items) (a .reply .now) r reply′
 letters-passed s items r reply′ h =
     let a = s .args in
-    subst (λ (z : ℤ). WritesReply (replyBytes (a .pairs .now) (a .ops .now) (a .loops .now) z items) (a .reply .now) r reply′) (number-word (a .letters) (s .fits .letters)) h
+    subst (λ (z : ℤ). WritesReply (replyBytes (a .pairs .now) (a .ops .now) (a .loops .now) z items) (a .reply .now) r reply′)
+    (number-word (a .letters) (s .fits .letters)) h
 
 returns : tie.Need-returns
 returns c =
@@ -63,7 +70,8 @@ returns c =
     let s = t .before .before .before .before .before in
     let a = s .args in
     same s (x .result) (x .last .1 .1 .1 .1 .1 .0)
-    (table-alone (a .reply .now) (x .result) (x .last .1 .1 .1 .1 .1 .0) (a .pairs .now) (a .ops .now) (a .loops .now) (numberOf (wordOf (a .boundary))) (a .word .now) (a .letters) (t .before .word-of .result) (word-passed (s .fits .letters) (t .before .word-of .ensures)) (t .if1 .taken)
+    (table-alone (a .reply .now) (x .result) (x .last .1 .1 .1 .1 .1 .0) (a .pairs .now) (a .ops .now) (a .loops .now) (numberOf (wordOf (a .boundary)))
+    (a .word .now) (a .letters) (t .before .word-of .result) (word-passed (s .fits .letters) (t .before .word-of .ensures)) (t .if1 .taken)
     (letters-passed s [] (x .result) (x .last .1 .1 .1 .1 .1 .0) (x .ensures)))
 
 slice-aggregate-set-fresh : tie.Need-slice-aggregate-set-fresh
@@ -76,16 +84,23 @@ enum-known-n : tie.Need-enum-known-n
 enum-known-n c = search needs
 
 -- what set_fresh told, of a list that is abstract but for its length
-run-as : (f : tie.After-set-fresh) (r : Written) → r ≡ f .set-fresh .result → let s = f .before .before .before .before .before .before .before in let a = s .args in
-    Tells (freshRun (a .pairs .now) (a .ops .now) (numberOf (wordOf (a .boundary))) (a .word .now)) (f .before .before .before .before .item-list .result) r (f .set-fresh .last .1 .1 .1 .1 .1 .0)
+run-as : (f : tie.After-set-fresh) (r : Written) → r ≡ f .set-fresh .result → let s = f .before .before .before .before .before .before .before in
+    let a = s .args in
+    Tells (freshRun (a .pairs .now) (a .ops .now) (numberOf (wordOf (a .boundary))) (a .word .now)) (f .before .before .before .before .item-list .result) r
+    (f .set-fresh .last .1 .1 .1 .1 .1 .0)
 run-as f r e =
     let i = f .before .before .before .before in
     let a = i .before .before .before .args in
-    subst (λ (x : Written). Tells (freshRun (a .pairs .now) (a .ops .now) (numberOf (wordOf (a .boundary))) (a .word .now)) (i .item-list .result) x (f .set-fresh .last .1 .1 .1 .1 .1 .0)) (sym e)
-    (subst (λ (n : ℕ). Tells (itemsFrom (a .pairs .now) (a .ops .now) (numberOf (wordOf (a .boundary))) (a .word .now) columnOptions (n / 6) (freshState (a .word .now) columnOptions)) (i .item-list .result) (f .set-fresh .result) (f .set-fresh .last .1 .1 .1 .1 .1 .0)) (sym (i .item-list .ensures)) (f .set-fresh .ensures))
+    subst (λ (x : Written). Tells (freshRun (a .pairs .now) (a .ops .now) (numberOf (wordOf (a .boundary))) (a .word .now)) (i .item-list .result) x
+    (f .set-fresh .last .1 .1 .1 .1 .1 .0)) (sym e)
+    (subst (λ (n : ℕ). Tells
+    (itemsFrom (a .pairs .now) (a .ops .now) (numberOf (wordOf (a .boundary))) (a .word .now) columnOptions (n / 6)
+    (freshState (a .word .now) columnOptions)) (i .item-list .result) (f .set-fresh .result) (f .set-fresh .last .1 .1 .1 .1 .1 .0))
+    (sym (i .item-list .ensures)) (f .set-fresh .ensures))
 
 told : (v : tie.After-n) → let f = v .before .before .before in let s = f .before .before .before .before .before .before .before in let a = s .args in
-    Tells (freshRun (a .pairs .now) (a .ops .now) (numberOf (wordOf (a .boundary))) (a .word .now)) (f .before .before .before .before .item-list .result) (written.Count (v .n .given .0 .0)) (f .set-fresh .last .1 .1 .1 .1 .1 .0)
+    Tells (freshRun (a .pairs .now) (a .ops .now) (numberOf (wordOf (a .boundary))) (a .word .now)) (f .before .before .before .before .item-list .result)
+    (written.Count (v .n .given .0 .0)) (f .set-fresh .last .1 .1 .1 .1 .1 .0)
 told v = run-as (v .before .before .before) (written.Count (v .n .given .0 .0)) (sym (v .n .given .1))
 
 kept : (f : tie.After-set-fresh) → length (f .set-fresh .last .1 .1 .1 .1 .1 .0) ≡ 5310
@@ -96,7 +111,8 @@ fits v =
     let f = v .before .before .before in
     let i = f .before .before .before .before in
     let a = i .before .before .before .args in
-    items-room (a .pairs .now) (a .ops .now) (numberOf (wordOf (a .boundary))) (a .word .now) (i .item-list .result) (f .set-fresh .last .1 .1 .1 .1 .1 .0) (i .item-list .ensures) (v .n .given .0 .0) (told v) (kept f)
+    items-room (a .pairs .now) (a .ops .now) (numberOf (wordOf (a .boundary))) (a .word .now) (i .item-list .result) (f .set-fresh .last .1 .1 .1 .1 .1 .0)
+    (i .item-list .ensures) (v .n .given .0 .0) (told v) (kept f)
 
 mul-items : tie.Need-mul-items
 mul-items c = omega (arith, fits (c .before))
@@ -142,7 +158,9 @@ returns-2 c =
     let k = v .n .given .0 .0 in
     let items = f .set-fresh .last .1 .1 .1 .1 .1 .0 in
     same s (x .result) (x .last .1 .1 .1 .1 .1 .0)
-    (table-set (a .reply .now) (x .result) (x .last .1 .1 .1 .1 .1 .0) (a .pairs .now) (a .ops .now) (a .loops .now) (numberOf (wordOf (a .boundary))) (a .word .now) (i .item-list .result) items (i .item-list .ensures) k (told v) (a .letters) (f .before .before .before .word-of .result) (word-passed (s .fits .letters) (f .before .before .before .word-of .ensures)) (f .before .before .if1 .left)
+    (table-set (a .reply .now) (x .result) (x .last .1 .1 .1 .1 .1 .0) (a .pairs .now) (a .ops .now) (a .loops .now) (numberOf (wordOf (a .boundary)))
+    (a .word .now) (i .item-list .result) items (i .item-list .ensures) k (told v) (a .letters) (f .before .before .before .word-of .result)
+    (word-passed (s .fits .letters) (f .before .before .before .word-of .ensures)) (f .before .before .if1 .left)
     (letters-passed s (take (6 * k) items) (x .result) (x .last .1 .1 .1 .1 .1 .0) (x .ensures)))
 
 same-length-3 : tie.Need-same-length-3
@@ -158,7 +176,10 @@ returns-3 c =
     let a = s .args in
     let k = v .n2 .given .0 .0 in
     same s (x .result) (x .last .0)
-    (table-refused (a .reply .now) (x .result) (x .last .0) (a .pairs .now) (a .ops .now) (a .loops .now) (numberOf (wordOf (a .boundary))) (a .word .now) (i .item-list .result) (f .set-fresh .last .1 .1 .1 .1 .1 .0) k (run-as f (written.Refused k) (sym (v .n2 .given .1))) (a .letters) (f .before .before .before .word-of .result) (word-passed (s .fits .letters) (f .before .before .before .word-of .ensures)) (f .before .before .if1 .left) (x .ensures))
+    (table-refused (a .reply .now) (x .result) (x .last .0) (a .pairs .now) (a .ops .now) (a .loops .now) (numberOf (wordOf (a .boundary))) (a .word .now)
+    (i .item-list .result) (f .set-fresh .last .1 .1 .1 .1 .1 .0) k (run-as f (written.Refused k) (sym (v .n2 .given .1))) (a .letters)
+    (f .before .before .before .word-of .result) (word-passed (s .fits .letters) (f .before .before .before .word-of .ensures))
+    (f .before .before .if1 .left) (x .ensures))
 
 pub answer-table-spec : {M : Type 1} → statement M
 answer-table-spec =

@@ -1,5 +1,5 @@
--- `justify::put_fields` meets its contract. The loop's invariant: the fields of the first j numbers are written, with blanks after them, and the next comes there.
--- Assumes nothing.
+-- `justify::put_fields` meets its contract. The loop's invariant: the fields of the first j numbers are written, with blanks after them, and the next comes
+-- there. Assumes nothing.
 use mathlib.Core.Path.{_≡_, sym, ap, _∙_}
 use mathlib.Core.Bool.{true, false}
 use mathlib.Core.List.{_++_}
@@ -31,10 +31,12 @@ kept l =
     ∙ b .put-blanks .kept .0
 
 -- the fields are taken; they are not
-fitting : (c : tie.Else1 Inv-loop μ-loop) → let a = c .before .before .before .args in fieldsFit 18446744073709551609 (a .from) (a .n) (a .at) (length (a .out .now)) ≡ true
+fitting : (c : tie.Else1 Inv-loop μ-loop) → let a = c .before .before .before .args in
+    fieldsFit 18446744073709551609 (a .from) (a .n) (a .at) (length (a .out .now)) ≡ true
 fitting c = sym (c .before .fields-fit .ensures) ∙ not-false _ (c .if1 .left)
 
-missing : (c : tie.Then1 Inv-loop μ-loop) → let a = c .before .before .before .args in fieldsFit 18446744073709551609 (a .from) (a .n) (a .at) (length (a .out .now)) ≡ false
+missing : (c : tie.Then1 Inv-loop μ-loop) → let a = c .before .before .before .args in
+    fieldsFit 18446744073709551609 (a .from) (a .n) (a .at) (length (a .out .now)) ≡ false
 missing c = sym (c .before .fields-fit .ensures) ∙ not-true _ (c .if1 .taken)
 
 room : (c : tie.Else1 Inv-loop μ-loop) → let a = c .before .before .before .args in Fit 18446744073709551609 (a .from) (a .n) (a .at) (length (a .out .now))
@@ -56,8 +58,11 @@ loop-holds : tie.Need-loop-holds Inv-loop μ-loop
 loop-holds c =
     let b = c .before .before in
     let a = b .before .before .before .before .before .args in
-    let d = b .put-blanks .last .0 in
-    (omega arith, omega arith, fields-none d (a .at) (a .numbers .now) (a .from) (a .n) (sets-there (replicate (12 * a .n) 32) (a .out .now) d (a .at) (b .put-blanks .ensures)))
+    let d = b .put-blanks .last .0 in (
+      omega arith,
+      omega arith,
+      fields-none d (a .at) (a .numbers .now) (a .from) (a .n) (sets-there (replicate (12 * a .n) 32) (a .out .now) d (a .at) (b .put-blanks .ensures)),
+    )
 
 add-word-at : tie.Need-add-word-at Inv-loop μ-loop
 add-word-at c =
@@ -92,8 +97,12 @@ loop-again c =
     let i = c .before .before .before .before .before in
     let l = i .before in
     let b = l .before .before .before in
-    let a = b .before .before .before .before .before .args in
-    (omega arith, omega arith, fields-more (b .put-blanks .last .0) (a .at) (a .numbers .now) (a .from) (a .n) (l .loop .j) (i .loop-test .taken) (l .loop .inv .1) (l .loop .inv .2) (w .ensures) (x .ensures))
+    let a = b .before .before .before .before .before .args in (
+      omega arith,
+      omega arith,
+      fields-more (b .put-blanks .last .0) (a .at) (a .numbers .now) (a .from) (a .n) (l .loop .j) (i .loop-test .taken) (l .loop .inv .1) (l .loop .inv .2)
+          (w .ensures) (x .ensures),
+    )
 
 same-length : tie.Need-same-length Inv-loop μ-loop
 same-length c = kept (c .before)

@@ -73,7 +73,15 @@ put-number-requires-2 c κs =
     let x₂ = x₃ .before .before .before .before .before in
     let x₁ = x₂ .before .before .before .before .before in
     let b = x₁ .before .before .before .before .before in
-    omega (arith, x₄ .put-number .kept .0, x₃ .put-character3 .kept .0, x₂ .put-character2 .kept .0, x₁ .put-character .kept .0, b .put-blanks .kept .0, b .before .before .before .pre)
+    omega (
+      arith,
+      x₄ .put-number .kept .0,
+      x₃ .put-character3 .kept .0,
+      x₂ .put-character2 .kept .0,
+      x₁ .put-character .kept .0,
+      b .put-blanks .kept .0,
+      b .before .before .before .pre,
+    )
 
 same-length : tie.Need-same-length
 same-length c = search needs

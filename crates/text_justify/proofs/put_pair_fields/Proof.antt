@@ -58,7 +58,8 @@ returns-2 c =
     let r = room i in
     let d = x .put-fields .last .1 .1 .1 .0 in
     let four = fit-is 18446744073709551609 (a .first) 4 (a .at) (length (a .out .now)) (omega arith) (omega (arith, r .first)) (omega (arith, r .place)) in
-    let one = fit-is 18446744073709551609 (a .first + 5) 1 (a .at + 48) (length d) (omega arith) (omega (arith, r .first)) (omega (arith, r .place, x .put-fields .kept .1 .1 .1 .0)) in
+    let one = fit-is 18446744073709551609 (a .first + 5) 1 (a .at + 48) (length d) (omega arith) (omega (arith, r .first))
+    (omega (arith, r .place, x .put-fields .kept .1 .1 .1 .0)) in
     where-fits (a .out .now) (a .at) (fiveFrom (a .pairs .now) (a .first)) (fitting i)
     (five-parts (a .pairs .now) (a .first) (a .out .now) (a .at)
     (fits-where (a .out .now) (a .at) (numbersFrom (a .pairs .now) (a .first) 4) four (x .put-fields .ensures))

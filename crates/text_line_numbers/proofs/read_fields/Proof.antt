@@ -4,7 +4,8 @@ use mathlib.Core.Path.{_≡_, sym, ap, _∙_}
 use Prim.Native.Nat.{_+_, _-_, _<_, _≤_}
 use lib.ListN.{length, drop}
 use Rattle.columns.specs.Scanned.{fieldReply}
-use Rattle.text_line_numbers.proofs.Storing.{Storing, plain, field-some, field-none, numbers-none, numbers-length, numbers-more, numbers-stop, numbers-all}
+use Rattle.text_line_numbers.proofs.Storing.{Storing, plain, field-some, field-none, numbers-none, numbers-length, numbers-more, numbers-stop}
+use Rattle.text_line_numbers.proofs.Storing.{numbers-all}
 use native.Mathlib.Omega.{arith}
 use borrow.Author.Needs.{needs}
 use Rattle.text_line_numbers.proofs.read_fields.Statement.{statement}
@@ -46,17 +47,24 @@ returns : tie.Need-returns Inv-loop μ-loop
 returns c =
     let l = c .before .before .before .before in
     let a = l .before .before .args in
-    numbers-stop (drop (a .at) (a .text .now)) (a .list .now) (a .place) (a .n) (l .loop .inv .1) (field-none (a .text .now) (a .at) (l .loop .j) (sym (c .before .before .read-field .ensures) ∙ ap fieldReply (c .enum-told .given .1))) (c .before .before .before .loop-test .taken)
+    numbers-stop (drop (a .at) (a .text .now)) (a .list .now) (a .place) (a .n) (l .loop .inv .1)
+    (field-none (a .text .now) (a .at) (l .loop .j) (sym (c .before .before .read-field .ensures) ∙ ap fieldReply (c .enum-told .given .1)))
+    (c .before .before .before .loop-test .taken)
 
 -- the place to which it is stored
-placed : (l : tie.At-loop Inv-loop μ-loop) → l .loop .j < l .before .before .args .n → l .before .before .args .place + l .loop .j < length (l .before .before .args .list .now)
+placed : (l : tie.At-loop Inv-loop μ-loop) → l .loop .j < l .before .before .args .n →
+    l .before .before .args .place + l .loop .j < length (l .before .before .args .list .now)
 placed l h = omega (arith, h, l .before .before .pre .1)
 
 add-z : tie.Need-add-z Inv-loop μ-loop
-add-z c = let l = c .before .before .before .before .before in omega (arith, placed l (c .before .before .before .before .loop-test .taken), l .before .before .good .1 .1 .1 .0 .0)
+add-z c =
+    let l = c .before .before .before .before .before in
+    omega (arith, placed l (c .before .before .before .before .loop-test .taken), l .before .before .good .1 .1 .1 .0 .0)
 
 mul-z : tie.Need-mul-z Inv-loop μ-loop
-mul-z c = let l = c .before .before .before .before .before in omega (arith, placed l (c .before .before .before .before .loop-test .taken), l .before .before .good .1 .1 .1 .0 .1)
+mul-z c =
+    let l = c .before .before .before .before .before in
+    omega (arith, placed l (c .before .before .before .before .loop-test .taken), l .before .before .good .1 .1 .1 .0 .1)
 
 slice-set-from-z : tie.Need-slice-set-from-z Inv-loop μ-loop
 slice-set-from-z c = let l = c .before .before .before .before .before in omega (arith, placed l (c .before .before .before .before .loop-test .taken), kept l)
@@ -74,7 +82,8 @@ loop-again c =
     let l = r .before .before in
     let a = l .before .before .args in (
       omega arith,
-      numbers-more (drop (a .at) (a .text .now)) (a .list .now) (a .place) (v .z .given .0 .0) (l .loop .inv .1) (field-some (a .text .now) (a .at) (l .loop .j) (v .z .given .0 .0) (sym (r .read-field .ensures) ∙ ap fieldReply (v .z .given .1))),
+      numbers-more (drop (a .at) (a .text .now)) (a .list .now) (a .place) (v .z .given .0 .0) (l .loop .inv .1)
+          (field-some (a .text .now) (a .at) (l .loop .j) (v .z .given .0 .0) (sym (r .read-field .ensures) ∙ ap fieldReply (v .z .given .1))),
     )
 
 same-length-2 : tie.Need-same-length-2 Inv-loop μ-loop

@@ -25,7 +25,8 @@ returns-2 c =
     let a = e .before .before .before .before .args in
     let bs = drop (a .at) (a .text .now) in
     let room = length (a .word .now) in
-    stores-none (wordsOf (numbersIn room (a .n) bs)) (a .word .now) (a .word .now) 0 (ap wordsOf (in-unended room (a .n) bs (sym (e .line-ends .ensures) ∙ not-true _ (c .if2 .taken))))
+    stores-none (wordsOf (numbersIn room (a .n) bs)) (a .word .now) (a .word .now) 0
+    (ap wordsOf (in-unended room (a .n) bs (sym (e .line-ends .ensures) ∙ not-true _ (c .if2 .taken))))
 
 read-words-requires : tie.Need-read-words-requires
 read-words-requires c κs =

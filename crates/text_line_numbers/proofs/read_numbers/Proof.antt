@@ -15,7 +15,8 @@ returns c =
     let a = c .before .before .args in
     let bs = drop (a .at) (a .text .now) in
     let long = length (a .list .now) in
-    stores-none (numbersAt long (a .place) (a .n) bs) (a .list .now) (a .list .now) (a .place) (at-past long (a .place) (a .n) bs (omega (arith, c .if1 .taken)))
+    stores-none (numbersAt long (a .place) (a .n) bs) (a .list .now) (a .list .now) (a .place)
+    (at-past long (a .place) (a .n) bs (omega (arith, c .if1 .taken)))
 
 sub-if2 : tie.Need-sub-if2
 sub-if2 c = search needs
@@ -26,7 +27,8 @@ returns-2 c =
     let a = i .before .before .args in
     let bs = drop (a .at) (a .text .now) in
     let long = length (a .list .now) in
-    stores-none (numbersAt long (a .place) (a .n) bs) (a .list .now) (a .list .now) (a .place) (at-past long (a .place) (a .n) bs (omega (arith, i .if1 .left, c .if2 .taken)))
+    stores-none (numbersAt long (a .place) (a .n) bs) (a .list .now) (a .list .now) (a .place)
+    (at-past long (a .place) (a .n) bs (omega (arith, i .if1 .left, c .if2 .taken)))
 
 line-ends-requires : tie.Need-line-ends-requires
 line-ends-requires c κs = search needs
@@ -62,7 +64,10 @@ returns-4 c =
     let a = i .before .before .args in
     let bs = drop (a .at) (a .text .now) in
     let long = length (a .list .now) in
-    rw (at-room long (a .place) (a .n) bs (i .if1 .left), in-is (long - a .place) (a .n) bs (e .before .if2 .left) (sym (e .line-ends .ensures) ∙ not-false _ (f .if3 .left)))
+    rw (
+      at-room long (a .place) (a .n) bs (i .if1 .left),
+      in-is (long - a .place) (a .n) bs (e .before .if2 .left) (sym (e .line-ends .ensures) ∙ not-false _ (f .if3 .left)),
+    )
     (c .before .read-fields .ensures)
 
 pub read-numbers-spec : {M : Type 1} → statement M

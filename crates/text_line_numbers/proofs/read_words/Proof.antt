@@ -4,7 +4,8 @@ use mathlib.Core.Path.{_≡_, sym, ap, _∙_}
 use Prim.Native.Nat.{_-_, _<_, _≤_}
 use lib.ListN.{length, drop}
 use Rattle.columns.specs.Scanned.{fieldReply}
-use Rattle.text_line_numbers.proofs.Storing.{Storing, worded, field-some, field-none, letters-none, letters-length, letters-more, letters-stop, letters-all}
+use Rattle.text_line_numbers.proofs.Storing.{Storing, worded, field-some, field-none, letters-none, letters-length, letters-more, letters-stop}
+use Rattle.text_line_numbers.proofs.Storing.{letters-all}
 use native.Mathlib.Omega.{arith}
 use borrow.Author.Needs.{needs}
 use Rattle.text_line_numbers.proofs.read_words.Statement.{statement}
@@ -44,7 +45,9 @@ returns : tie.Need-returns Inv-loop μ-loop
 returns c =
     let l = c .before .before .before .before in
     let a = l .before .before .before .args in
-    letters-stop (drop (a .at) (a .text .now)) (a .word .now) (a .n) (l .loop .inv .1) (field-none (a .text .now) (a .at) (l .loop .j) (sym (c .before .before .read-field .ensures) ∙ ap fieldReply (c .enum-told .given .1))) (c .before .before .before .loop-test .taken)
+    letters-stop (drop (a .at) (a .text .now)) (a .word .now) (a .n) (l .loop .inv .1)
+    (field-none (a .text .now) (a .at) (l .loop .j) (sym (c .before .before .read-field .ensures) ∙ ap fieldReply (c .enum-told .given .1)))
+    (c .before .before .before .loop-test .taken)
 
 word-of-requires : tie.Need-word-of-requires Inv-loop μ-loop
 word-of-requires c κs = tt
@@ -54,10 +57,13 @@ placed : (l : tie.At-loop Inv-loop μ-loop) → l .loop .j < l .before .before .
 placed l h = omega (arith, h, l .before .before .before .pre .1)
 
 mul-word : tie.Need-mul-word Inv-loop μ-loop
-mul-word c = let l = c .before .before .before .before .before .before in omega (arith, placed l (c .before .before .before .before .before .loop-test .taken), l .before .before .before .good .1 .1 .1 .0 .1)
+mul-word c =
+    let l = c .before .before .before .before .before .before in
+    omega (arith, placed l (c .before .before .before .before .before .loop-test .taken), l .before .before .before .good .1 .1 .1 .0 .1)
 
 slice-write-word : tie.Need-slice-write-word Inv-loop μ-loop
-slice-write-word c = let l = c .before .before .before .before .before .before in omega (arith, placed l (c .before .before .before .before .before .loop-test .taken), kept l)
+slice-write-word c =
+    let l = c .before .before .before .before .before .before in omega (arith, placed l (c .before .before .before .before .before .loop-test .taken), kept l)
 
 add-j : tie.Need-add-j Inv-loop μ-loop
 add-j c = omega arith
@@ -72,7 +78,9 @@ loop-again c =
     let l = r .before .before in
     let a = l .before .before .before .args in (
       omega arith,
-      letters-more (drop (a .at) (a .text .now)) (a .word .now) (v .z .given .0 .0) (c .word-of .result) (l .loop .inv .1) (field-some (a .text .now) (a .at) (l .loop .j) (v .z .given .0 .0) (sym (r .read-field .ensures) ∙ ap fieldReply (v .z .given .1))) (c .word-of .ensures),
+      letters-more (drop (a .at) (a .text .now)) (a .word .now) (v .z .given .0 .0) (c .word-of .result) (l .loop .inv .1)
+          (field-some (a .text .now) (a .at) (l .loop .j) (v .z .given .0 .0) (sym (r .read-field .ensures) ∙ ap fieldReply (v .z .given .1)))
+          (c .word-of .ensures),
     )
 
 same-length-2 : tie.Need-same-length-2 Inv-loop μ-loop

@@ -56,7 +56,8 @@ returns c =
     let s = c .before .before .before .before .before in
     let a = s .args in
     let l = set (a .out .now) (a .at) (a .letter) in
-    let fits = fit-is 18446744073709551609 (a .from) (a .n) (a .at + 1) (length l) (s .pre .0) (omega (arith, s .pre .1)) (omega (arith, length-set (a .out .now) (a .at) (a .letter), s .pre .2)) in
+    let fits = fit-is 18446744073709551609 (a .from) (a .n) (a .at + 1) (length l) (s .pre .0) (omega (arith, s .pre .1))
+    (omega (arith, length-set (a .out .now) (a .at) (a .letter), s .pre .2)) in
     line-puts (a .letter) (a .numbers .now) (a .from) (a .n) (a .out .now) (x .last .1 .1 .1 .0) (a .at)
     (fits-where l (a .at + 1) (numbersFrom (a .numbers .now) (a .from) (a .n)) fits (x .ensures))
 

@@ -33,7 +33,8 @@ lines-fit-requires c κs = tt
 returns : tie.Need-returns Inv-loop μ-loop
 returns c =
     let a = c .before .before .before .args in
-    where-left (linesFit (a .n) (a .k) (a .count) (a .at) (length (a .out .now))) (bytesOf (linesFrom (a .letter) (a .n) (a .numbers .now) (a .k) (a .count))) (a .out .now) (a .at) (missing c)
+    where-left (linesFit (a .n) (a .k) (a .count) (a .at) (length (a .out .now))) (bytesOf (linesFrom (a .letter) (a .n) (a .numbers .now) (a .k) (a .count)))
+    (a .out .now) (a .at) (missing c)
 
 loop-holds : tie.Need-loop-holds Inv-loop μ-loop
 loop-holds c = let a = c .before .before .before .args in (omega arith, lines-none (a .letter) (a .n) (a .numbers .now) (a .k) (a .out .now) (a .at))
@@ -44,14 +45,18 @@ place c =
     let l = c .before in
     let s = l .before .before .before .before in
     let a = s .args in
-    place-fits (a .letter) (a .n) (a .numbers .now) (a .k) (a .count) (a .out .now) (a .at) (fitting (l .before)) (omega (arith, s .good)) (l .loop .i) (c .loop-test .taken)
+    place-fits (a .letter) (a .n) (a .numbers .now) (a .k) (a .count) (a .out .now) (a .at) (fitting (l .before)) (omega (arith, s .good)) (l .loop .i)
+    (c .loop-test .taken)
 
 add-put-line : tie.Need-add-put-line Inv-loop μ-loop
 add-put-line c =
     let l = c .before in
     let s = l .before .before .before .before in
     let a = s .args in
-    record { fits = index-fits (a .letter) (a .n) (a .numbers .now) (a .k) (a .count) (a .out .now) (a .at) (fitting (l .before)) (omega (arith, s .good)) (l .loop .i) (c .loop-test .taken) }
+    record {
+      fits = index-fits (a .letter) (a .n) (a .numbers .now) (a .k) (a .count) (a .out .now) (a .at) (fitting (l .before)) (omega (arith, s .good))
+          (l .loop .i) (c .loop-test .taken);
+    }
 
 mul-put-line : tie.Need-mul-put-line Inv-loop μ-loop
 mul-put-line c = record { fits = omega (arith, place c) }
@@ -60,8 +65,12 @@ put-line-requires : tie.Need-put-line-requires Inv-loop μ-loop
 put-line-requires c κs =
     let i = c .before in
     let l = i .before in
-    let a = l .before .before .before .before .args in
-    (six-numbers (a .letter) (a .n) (a .numbers .now) (a .k) (a .count) (a .out .now) (a .at) (fitting (l .before)), place i, line-fits (a .letter) (a .n) (a .numbers .now) (a .k) (a .count) (a .out .now) (a .at) (fitting (l .before)) (l .loop .i) (i .loop-test .taken) (l .loop .inv .1))
+    let a = l .before .before .before .before .args in (
+      six-numbers (a .letter) (a .n) (a .numbers .now) (a .k) (a .count) (a .out .now) (a .at) (fitting (l .before)),
+      place i,
+      line-fits (a .letter) (a .n) (a .numbers .now) (a .k) (a .count) (a .out .now) (a .at) (fitting (l .before)) (l .loop .i) (i .loop-test .taken)
+          (l .loop .inv .1),
+    )
 
 add-i : tie.Need-add-i Inv-loop μ-loop
 add-i c = omega arith
@@ -85,7 +94,8 @@ returns-2 c =
     let a = l .before .before .before .before .args in
     let e : l .loop .i ≡ a .count = omega arith in
     where-taken (linesFit (a .n) (a .k) (a .count) (a .at) (length (a .out .now))) (fitting (l .before))
-    (subst (λ (j : ℕ). Puts (bytesOf (linesFrom (a .letter) (a .n) (a .numbers .now) (a .k) j)) (a .out .now) (a .at) (l .loop .next) (l .loop .out)) e (l .loop .inv .1))
+    (subst (λ (j : ℕ). Puts (bytesOf (linesFrom (a .letter) (a .n) (a .numbers .now) (a .k) j)) (a .out .now) (a .at) (l .loop .next) (l .loop .out)) e
+    (l .loop .inv .1))
 
 pub put-lines-spec : {M : Type 1} → statement M
 put-lines-spec =

@@ -30,7 +30,9 @@ lines-fit-requires : tie.Need-lines-fit-requires
 lines-fit-requires c κs = search needs
 
 returns : tie.Need-returns
-returns c = let a = c .before .before .before .args in where-left (linesFit 5 (a .k) 1 (a .at) (length (a .out .now))) (lineBytes (pairLine (a .pairs .now) (a .k))) (a .out .now) (a .at) (missing c)
+returns c =
+    let a = c .before .before .before .args in
+    where-left (linesFit 5 (a .k) 1 (a .at) (length (a .out .now))) (lineBytes (pairLine (a .pairs .now) (a .k))) (a .out .now) (a .at) (missing c)
 
 slice-write-out : tie.Need-slice-write-out
 slice-write-out c = omega (arith, room c)
@@ -69,7 +71,8 @@ returns-2 c =
     let i = x .before .before in
     let a = i .before .before .before .args in
     let l = set (a .out .now) (a .at) 80 in
-    let fits = fit-is 9223372036854775808 (6 * a .k) 5 (a .at + 1) (length l) (omega arith) (omega (arith, room i .1)) (omega (arith, room i .0, length-set (a .out .now) (a .at) 80)) in
+    let fits = fit-is 9223372036854775808 (6 * a .k) 5 (a .at + 1) (length l) (omega arith) (omega (arith, room i .1))
+    (omega (arith, room i .0, length-set (a .out .now) (a .at) 80)) in
     where-taken (linesFit 5 (a .k) 1 (a .at) (length (a .out .now))) (fitting i)
     (pair-puts (a .pairs .now) (a .k) (a .out .now) (x .put-pair-fields .last .1 .1 .0) (a .at)
     (fits-where l (a .at + 1) (fiveFrom (a .pairs .now) (6 * a .k)) fits (x .put-pair-fields .ensures)))

@@ -22,20 +22,26 @@ use Rattle.text_reply.proofs.write_reply.Tie as tie
 abbrev bytes : tie.After-word-of → List ℕ
 bytes c = let a = c .before .before .args in replyBytes (a .pairs .now) (a .ops .now) (a .loops .now) (numberOf (c .word-of .result)) (a .items .now)
 
-said : (c : tie.After-word-of) (r : Written) (d : List ℕ) → let a = c .before .before .args in WritesReply (bytes c) (a .reply .now) r d → WritesReply (replyBytes (a .pairs .now) (a .ops .now) (a .loops .now) (a .letters) (a .items .now)) (a .reply .now) r d
+said : (c : tie.After-word-of) (r : Written) (d : List ℕ) → let a = c .before .before .args in
+    WritesReply (bytes c) (a .reply .now) r d →
+    WritesReply (replyBytes (a .pairs .now) (a .ops .now) (a .loops .now) (a .letters) (a .items .now)) (a .reply .now) r d
 said c r d h =
     let s = c .before .before in
     let a = s .args in
-    subst (λ (z : ℤ). WritesReply (replyBytes (a .pairs .now) (a .ops .now) (a .loops .now) z (a .items .now)) (a .reply .now) r d) (number-is (word-passed (s .fits .letters) (c .word-of .ensures))) h
+    subst (λ (z : ℤ). WritesReply (replyBytes (a .pairs .now) (a .ops .now) (a .loops .now) z (a .items .now)) (a .reply .now) r d)
+    (number-is (word-passed (s .fits .letters) (c .word-of .ensures))) h
 
 -- where there is room: the reply's length is within it, and is the length that was counted
-roomy : (c : tie.Else1) → let w = c .before .before .before in (length (bytes w) ≤ length (w .before .before .args .reply .now)) × (c .before .before .reply-size .result ≡ length (bytes w))
+roomy : (c : tie.Else1) → let w = c .before .before .before in
+    (length (bytes w) ≤ length (w .before .before .args .reply .now)) × (c .before .before .reply-size .result ≡ length (bytes w))
 roomy c =
     let z = c .before .before in
     let w = z .before in
     let a = w .before .before .args in (
-      reply-fits (bytes w) (a .reply .now) (z .reply-size .result) (z .reply-size .ensures (a .ops .now)) (c .before .has-room .result) (c .before .has-room .ensures) (not-false _ (c .if1 .left)),
-      size-is (bytes w) (a .reply .now) (z .reply-size .result) (z .reply-size .ensures (a .ops .now)) (c .before .has-room .result) (c .before .has-room .ensures) (not-false _ (c .if1 .left)),
+      reply-fits (bytes w) (a .reply .now) (z .reply-size .result) (z .reply-size .ensures (a .ops .now)) (c .before .has-room .result)
+          (c .before .has-room .ensures) (not-false _ (c .if1 .left)),
+      size-is (bytes w) (a .reply .now) (z .reply-size .result) (z .reply-size .ensures (a .ops .now)) (c .before .has-room .result)
+          (c .before .has-room .ensures) (not-false _ (c .if1 .left)),
     )
 
 word-of-requires : tie.Need-word-of-requires
@@ -62,7 +68,8 @@ returns c =
     let w = z .before in
     let a = w .before .before .args in
     said w (Refused 15) (x .last .0)
-    (reply-refused (bytes w) (a .reply .now) (z .reply-size .result) (z .reply-size .ensures (a .ops .now)) (h .has-room .result) (h .has-room .ensures) (not-true _ (i .if1 .taken)) (x .last .0) (x .ensures))
+    (reply-refused (bytes w) (a .reply .now) (z .reply-size .result) (z .reply-size .ensures (a .ops .now)) (h .has-room .result) (h .has-room .ensures)
+    (not-true _ (i .if1 .taken)) (x .last .0) (x .ensures))
 
 put-reply-requires : tie.Need-put-reply-requires
 put-reply-requires c κs = roomy (c .before) .0
@@ -98,9 +105,11 @@ returns-2 c =
     let w = z .before in
     let a = w .before .before .args in
     let m = roomy i in
-    let d = rest-zeroed (bytes w) (a .reply .now) (x .put-reply .last .1 .1 .1 .1 .1 .0) (y .last .0) (z .reply-size .result) (m .0) (m .1) (x .put-reply .ensures) (y .ensures) in
+    let d = rest-zeroed (bytes w) (a .reply .now) (x .put-reply .last .1 .1 .1 .1 .1 .0) (y .last .0) (z .reply-size .result) (m .0) (m .1)
+    (x .put-reply .ensures) (y .ensures) in
     said w (Count (z .reply-size .result)) _
-    (reply-taken (bytes w) (a .reply .now) (z .reply-size .result) (z .reply-size .ensures (a .ops .now)) (h .has-room .result) (h .has-room .ensures) (not-false _ (i .if1 .left)) _ d)
+    (reply-taken (bytes w) (a .reply .now) (z .reply-size .result) (z .reply-size .ensures (a .ops .now)) (h .has-room .result) (h .has-room .ensures)
+    (not-false _ (i .if1 .left)) _ d)
 
 pub write-reply-spec : {M : Type 1} → statement M
 write-reply-spec =

@@ -30,7 +30,8 @@ returns-2 c =
     let x = u .before .before in
     let a = x .before .before .before .before .before .before .before .before .before .before .before .args in
     let y = c .zero-lists2 in
-    clears (a .text .now) (x .read-zeroed .result) (y .last .0) (y .last .1 .0) (y .last .1 .1 .0) (y .last .1 .1 .1 .0) (u .enum-told2 .given .1) (x .read-zeroed .ensures .stuck (u .enum-told2 .given .1)) (y .ensures)
+    clears (a .text .now) (x .read-zeroed .result) (y .last .0) (y .last .1 .0) (y .last .1 .1 .0) (y .last .1 .1 .1 .0) (u .enum-told2 .given .1)
+    (x .read-zeroed .ensures .stuck (u .enum-told2 .given .1)) (y .ensures)
 
 pub read-text-spec : {M : Type 1} → statement M
 read-text-spec =

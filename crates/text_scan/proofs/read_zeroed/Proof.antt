@@ -10,7 +10,8 @@ use Rattle.text_scan.proofs.read_zeroed.Tie as tie
 returns : tie.Need-returns
 returns c =
     let a = c .before .before .args in
-    reads-none (a .text .now) (a .instructions .now) (a .kerns .now) (a .entries .now) (a .word .now) whole.Unreadable (too-long (a .text .now) (c .if1 .taken)) refl
+    reads-none (a .text .now) (a .instructions .now) (a .kerns .now) (a .entries .now) (a .word .now) whole.Unreadable (too-long (a .text .now) (c .if1 .taken))
+    refl
 
 first-line-requires : tie.Need-first-line-requires
 first-line-requires c κs = search needs
@@ -25,7 +26,8 @@ returns-2 : tie.Need-returns-2
 returns-2 c =
     let x = c .before .before in
     let a = x .before .before .before .args in
-    reads-none (a .text .now) (a .instructions .now) (a .kerns .now) (a .entries .now) (a .word .now) whole.Unreadable (x .first-line .ensures .stuck (c .enum-told .given .1)) refl
+    reads-none (a .text .now) (a .instructions .now) (a .kerns .now) (a .entries .now) (a .word .now) whole.Unreadable
+    (x .first-line .ensures .stuck (c .enum-told .given .1)) refl
 
 read-lines-requires : tie.Need-read-lines-requires
 read-lines-requires c κs =
@@ -34,7 +36,8 @@ read-lines-requires c κs =
     let s = x .before .before .before in
     let a = s .args in (
       (x .before .if1 .left, s .pre .no-word),
-      starts (a .text .now) (v .first .given .0 .0) (a .instructions .now) (a .kerns .now) (a .entries .now) (a .word .now) (s .pre) (x .first-line .ensures .on (v .first .given .0 .0) (v .first .given .1)),
+      starts (a .text .now) (v .first .given .0 .0) (a .instructions .now) (a .kerns .now) (a .entries .now) (a .word .now) (s .pre)
+          (x .first-line .ensures .on (v .first .given .0 .0) (v .first .given .1)),
     )
 
 returns-3 : tie.Need-returns-3

@@ -24,7 +24,12 @@ mul-result-3 c = let s = c .before .before .before in omega (arith, byte-times (
 add-result-2 : tie.Need-add-result-2
 add-result-2 c =
     let s = c .before .before .before in
-    omega (arith, byte-times (s .args .m) (s .pre) (s .args .word / 65536), byte-times (s .args .m) (s .pre) (s .args .word / 256), byte-times (s .args .m) (s .pre) (s .args .word))
+    omega (
+      arith,
+      byte-times (s .args .m) (s .pre) (s .args .word / 65536),
+      byte-times (s .args .m) (s .pre) (s .args .word / 256),
+      byte-times (s .args .m) (s .pre) (s .args .word),
+    )
 
 div-result : tie.Need-div-result
 div-result c = search needs

@@ -24,7 +24,8 @@ returns c =
     let i = c .before .before .before .before in
     let a = i .before .args in
     x .ensures
-    ∙ ap (λ (b : Bool). cond b (sixAt (a .items .now) (a .at) (answerReply (a .answer) .values)) (a .items .now)) (sym (sym (i .is-small .ensures) ∙ c .before .before .before .if1 .taken))
+    ∙ ap (λ (b : Bool). cond b (sixAt (a .items .now) (a .at) (answerReply (a .answer) .values)) (a .items .now))
+    (sym (sym (i .is-small .ensures) ∙ c .before .before .before .if1 .taken))
 
 returns-2 : tie.Need-returns-2
 returns-2 c = rw (sym (c .before .is-small .ensures) ∙ c .if1 .left)

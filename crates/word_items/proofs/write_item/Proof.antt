@@ -72,7 +72,8 @@ returns-2 c =
     let r = c .before .before .bit2 in
     let v = c .before .before .before .before .before .before in
     let s = v .before .before in
-    six-as (s .args .items .now) (x .last .0) (s .args .at) (ligature-numbers (l .result) (r .result) (v .answer2 .given .1) (s .pre) (l .ensures) (r .ensures)) (x .ensures)
+    six-as (s .args .items .now) (x .last .0) (s .args .at) (ligature-numbers (l .result) (r .result) (v .answer2 .given .1) (s .pre) (l .ensures) (r .ensures))
+    (x .ensures)
 
 same-length-3 : tie.Need-same-length-3
 same-length-3 c = search needs
@@ -83,7 +84,9 @@ returns-3 c =
     let w = c .before .before .word-of in
     let v = c .before .before .before .before .before in
     let s = v .before .before in
-    six-as (s .args .items .now) (x .last .0) (s .args .at) (kern-numbers (w .result) (v .answer3 .given .1) (number-is (word-passed {x = v .answer3 .given .0 .0} (record { sfits = search needs }) (w .ensures)))) (x .ensures)
+    six-as (s .args .items .now) (x .last .0) (s .args .at)
+    (kern-numbers (w .result) (v .answer3 .given .1) (number-is (word-passed {x = v .answer3 .given .0 .0} (record { sfits = search needs }) (w .ensures))))
+    (x .ensures)
 
 returns-4 : tie.Need-returns-4
 returns-4 c = let a = c .before .before .args in rw (c .enum-told .given .1) (six-none (a .items .now) (a .at))

@@ -22,7 +22,9 @@ same-length : tie.Need-same-length
 same-length c = search needs
 
 returns : tie.Need-returns
-returns c = let a = c .before .args in ap (λ (v : ℤ). set (now (a .s)) (a .i) v) (number-stored (a .w) (c .number-of .result) (c .number-of .ensures) (c .before .fits .w .fits))
+returns c =
+    let a = c .before .args in
+    ap (λ (v : ℤ). set (now (a .s)) (a .i) v) (number-stored (a .w) (c .number-of .result) (c .number-of .ensures) (c .before .fits .w .fits))
 
 pub put-in-spec : {M : Type 1} → statement M
 put-in-spec = tie.close (tie.spec number-of-requires mul-x slice-set-from-x same-length returns)

@@ -24,7 +24,11 @@ same-length : tie.Need-same-length
 same-length c = search needs
 
 returns-3 : tie.Need-returns-3
-returns-3 c = let a = c .before .before .before .before .before .args in rw (le-leb (a .at + 6) (length (a .items .now)) (omega (arith, c .before .before .before .if2 .left, c .before .before .before .before .if1 .left))) (c .before .write-six .ensures)
+returns-3 c =
+    let c5 = c .before .before .before .before .before in
+    let a = c5 .args in
+    rw (le-leb (a .at + 6) (length (a .items .now)) (omega (arith, c .before .before .before .if2 .left, c .before .before .before .before .if1 .left)))
+    (c .before .write-six .ensures)
 
 pub put-six-spec : {M : Type 1} → statement M
 put-six-spec =

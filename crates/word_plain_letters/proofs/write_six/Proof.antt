@@ -44,14 +44,17 @@ same-length c = search needs
 
 returns : tie.Need-returns
 returns c =
-    let a = c .before .before .before .before .before .before .before .before .before .before .before .before .before .before .before .before .before .before .args in
+    let a =
+    c .before .before .before .before .before .before .before .before .before .before .before .before .before .before .before .before .before .before .args
+    in
     let p1 = c .before .before .before .before .before .before .before .before .before .before .before .before .before .before .before .before .put-in in
     let p2 = c .before .before .before .before .before .before .before .before .before .before .before .before .before .put-in2 in
     let p3 = c .before .before .before .before .before .before .before .before .before .before .put-in3 in
     let p4 = c .before .before .before .before .before .before .before .put-in4 in
     let p5 = c .before .before .before .before .put-in5 in
     let p6 = c .before .put-in6 in
-    tables.put-six (a .items .now) (p1 .last .0) (p2 .last .0) (p3 .last .0) (p4 .last .0) (p5 .last .0) (p6 .last .0) (a .at) (numberOf (a .kind)) (numberOf (a .value)) (numberOf (a .start)) (numberOf (a .count)) (numberOf (a .left)) (numberOf (a .right))
+    tables.put-six (a .items .now) (p1 .last .0) (p2 .last .0) (p3 .last .0) (p4 .last .0) (p5 .last .0) (p6 .last .0) (a .at) (numberOf (a .kind))
+    (numberOf (a .value)) (numberOf (a .start)) (numberOf (a .count)) (numberOf (a .left)) (numberOf (a .right))
     (p1 .ensures) (p2 .ensures) (p3 .ensures) (p4 .ensures) (p5 .ensures) (p6 .ensures)
 
 pub write-six-spec : {M : Type 1} → statement M

@@ -13,7 +13,9 @@ use Rattle.word_set.proofs.next_step.Statement.{statement}
 use Rattle.word_set.proofs.next_step.Tie as tie
 
 -- a boundary character that is passed as its bits
-passed : (c : tie.Start) → let a = c .args in stepOf (now (a .pairs)) (now (a .ops)) (numberOf (wordOf (a .boundary))) (now (a .word)) (a .options) (a .s) ≡ stepOf (now (a .pairs)) (now (a .ops)) (a .boundary) (now (a .word)) (a .options) (a .s)
+passed : (c : tie.Start) → let a = c .args in
+    stepOf (now (a .pairs)) (now (a .ops)) (numberOf (wordOf (a .boundary))) (now (a .word)) (a .options) (a .s)
+    ≡ stepOf (now (a .pairs)) (now (a .ops)) (a .boundary) (now (a .word)) (a .options) (a .s)
 passed c =
     let a = c .args in
     ap (λ (z : ℤ). stepOf (now (a .pairs)) (now (a .ops)) z (now (a .word)) (a .options) (a .s)) (number-word (a .boundary) (c .fits .boundary))
@@ -41,7 +43,9 @@ returns-3 c =
     let b = c .before .before .before .before .before in
     let a = b .args in
     let q = b .pre (c .before .before .before .if1 .left) in
-    c .quick-step .ensures ∙ sym (quick-steps (now (a .pairs)) (now (a .ops)) (a .boundary) (now (a .word)) (a .options) (a .s) (a .pair) (q .0) (q .1) (sym (c .before .before .is-ready .ensures) ∙ not-false _ (c .before .if2 .left)))
+    c .quick-step .ensures
+    ∙ sym (quick-steps (now (a .pairs)) (now (a .ops)) (a .boundary) (now (a .word)) (a .options) (a .s) (a .pair) (q .0) (q .1)
+    (sym (c .before .before .is-ready .ensures) ∙ not-false _ (c .before .if2 .left)))
 
 pub next-step-spec : {M : Type 1} → statement M
 next-step-spec =

@@ -36,8 +36,12 @@ returns c =
     let z = f .before .before in
     let s = z .before .before .before in
     let a = s .args in
-    subst (λ (y : ℤ). Tells (itemsFrom (a .pairs .now) (a .ops .now) y (a .word .now) (a .options) (length (a .items .now) / 6) (freshState (a .word .now) (a .options))) (a .items .now) (x .result) (x .last .1 .1 .1 .1 .1 .1 .0)) (number-word (a .boundary) (s .fits .boundary))
-    (tells-zeroed (stepOf (a .pairs .now) (a .ops .now) (numberOf (wordOf (a .boundary))) (a .word .now) (a .options)) (a .items .now) (z .zero-i32 .last .0) (f .fresh-state .result) (freshState (a .word .now) (a .options)) (f .fresh-state .ensures) (z .zero-i32 .kept .0) (x .result) (x .last .1 .1 .1 .1 .1 .1 .0) (x .ensures))
+    subst (λ (y : ℤ). Tells
+    (itemsFrom (a .pairs .now) (a .ops .now) y (a .word .now) (a .options) (length (a .items .now) / 6) (freshState (a .word .now) (a .options)))
+    (a .items .now) (x .result) (x .last .1 .1 .1 .1 .1 .1 .0)) (number-word (a .boundary) (s .fits .boundary))
+    (tells-zeroed (stepOf (a .pairs .now) (a .ops .now) (numberOf (wordOf (a .boundary))) (a .word .now) (a .options)) (a .items .now) (z .zero-i32 .last .0)
+    (f .fresh-state .result) (freshState (a .word .now) (a .options)) (f .fresh-state .ensures) (z .zero-i32 .kept .0) (x .result)
+    (x .last .1 .1 .1 .1 .1 .1 .0) (x .ensures))
 
 pub set-fresh-spec : {M : Type 1} → statement M
 set-fresh-spec = tie.close (tie.spec zero-i32-requires fresh-state-requires set-from-requires same-length returns)

@@ -41,8 +41,13 @@ returns c =
     let z = g .before .before in
     let s = z .before .before .before in
     let a = s .args in
-    subst (λ (y : ℤ). Sets (a .pairs .now) (a .ops .now) y (a .word .now) (a .options) (a .items .now) (x .result) (x .last .1 .1 .1 .1 .1 .1 .0)) (number-word (a .boundary) (s .fits .boundary))
-    (sets-run (a .pairs .now) (a .ops .now) (numberOf (wordOf (a .boundary))) (a .word .now) (a .options) (a .items .now) (z .zero-i32 .last .0) (v .state .given .0 .0) (sym (v .state .given .1) ∙ begin-is (a .pairs .now) (a .ops .now) (numberOf (wordOf (a .boundary))) (a .word .now) (a .options) (g .begin .result) (g .begin .ensures)) (z .zero-i32 .kept .0) (x .result) (x .last .1 .1 .1 .1 .1 .1 .0) (x .ensures))
+    subst (λ (y : ℤ). Sets (a .pairs .now) (a .ops .now) y (a .word .now) (a .options) (a .items .now) (x .result) (x .last .1 .1 .1 .1 .1 .1 .0))
+    (number-word (a .boundary) (s .fits .boundary))
+    (sets-run (a .pairs .now) (a .ops .now) (numberOf (wordOf (a .boundary))) (a .word .now) (a .options) (a .items .now) (z .zero-i32 .last .0)
+    (v .state .given .0 .0)
+    (sym (v .state .given .1)
+    ∙ begin-is (a .pairs .now) (a .ops .now) (numberOf (wordOf (a .boundary))) (a .word .now) (a .options) (g .begin .result) (g .begin .ensures))
+    (z .zero-i32 .kept .0) (x .result) (x .last .1 .1 .1 .1 .1 .1 .0) (x .ensures))
 
 same-length-2 : tie.Need-same-length-2
 same-length-2 c = search needs
@@ -54,8 +59,13 @@ returns-2 c =
     let z = g .before .before in
     let s = z .before .before .before in
     let a = s .args in
-    subst (λ (y : ℤ). Sets (a .pairs .now) (a .ops .now) y (a .word .now) (a .options) (a .items .now) (Refused (v .n .given .0 .0)) (z .zero-i32 .last .0)) (number-word (a .boundary) (s .fits .boundary))
-    (sets-refused (a .pairs .now) (a .ops .now) (numberOf (wordOf (a .boundary))) (a .word .now) (a .options) (a .items .now) (z .zero-i32 .last .0) (v .n .given .0 .0) (sym (v .n .given .1) ∙ begin-is (a .pairs .now) (a .ops .now) (numberOf (wordOf (a .boundary))) (a .word .now) (a .options) (g .begin .result) (g .begin .ensures)) (z .zero-i32 .ensures))
+    subst (λ (y : ℤ). Sets (a .pairs .now) (a .ops .now) y (a .word .now) (a .options) (a .items .now) (Refused (v .n .given .0 .0)) (z .zero-i32 .last .0))
+    (number-word (a .boundary) (s .fits .boundary))
+    (sets-refused (a .pairs .now) (a .ops .now) (numberOf (wordOf (a .boundary))) (a .word .now) (a .options) (a .items .now) (z .zero-i32 .last .0)
+    (v .n .given .0 .0)
+    (sym (v .n .given .1)
+    ∙ begin-is (a .pairs .now) (a .ops .now) (numberOf (wordOf (a .boundary))) (a .word .now) (a .options) (g .begin .result) (g .begin .ensures))
+    (z .zero-i32 .ensures))
 
 pub set-word-spec : {M : Type 1} → statement M
 set-word-spec =

@@ -36,7 +36,9 @@ returns : tie.Need-returns
 returns c = search needs
 
 returns-2 : tie.Need-returns-2
-returns-2 c = rw (back (c .before .args .w) (c .if1 .left) (c .before .fits .w .fits)) (number-word (numberOf (c .before .args .w)) (number-fits (c .before .args .w) (c .before .fits .w .fits)))
+returns-2 c =
+    rw (back (c .before .args .w) (c .if1 .left) (c .before .fits .w .fits))
+    (number-word (numberOf (c .before .args .w)) (number-fits (c .before .args .w) (c .before .fits .w .fits)))
 
 pub number-of-spec : {M : Type 1} → statement M
 number-of-spec =

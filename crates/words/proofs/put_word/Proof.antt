@@ -31,7 +31,9 @@ same-length : tie.Need-same-length
 same-length c = search needs
 
 returns : tie.Need-returns
-returns c = let a = c .before .before .args in ap (λ (v : ℤ). set (now (a .s)) (a .i) v) (stored (a .w) _ (c .before .number-of .ensures) (c .before .before .fits .w .fits))
+returns c =
+    let a = c .before .before .args in
+    ap (λ (v : ℤ). set (now (a .s)) (a .i) v) (stored (a .w) _ (c .before .number-of .ensures) (c .before .before .fits .w .fits))
 
 returns-2 : tie.Need-returns-2
 returns-2 c = let a = c .before .before .args in sym (set-out (now (a .s)) (a .i) (numberOf (a .w)) (c .if1 .left))

@@ -48,7 +48,8 @@ add-result : tie.Need-add-result
 add-result c = rw (sum (c .before .args .x) (c .before .fits .x) (c .if1 .taken)) (word-wide (c .before .args .x) (c .before .fits .x))
 
 cast-result-2 : tie.Need-cast-result-2
-cast-result-2 c = rw (wide-sum (c .before .args .x) (c .before .fits .x) (c .if1 .taken)) (tt, record { fits = word-lt (c .before .args .x) (c .before .fits .x) })
+cast-result-2 c =
+    rw (wide-sum (c .before .args .x) (c .before .fits .x) (c .if1 .taken)) (tt, record { fits = word-lt (c .before .args .x) (c .before .fits .x) })
 
 cast-result-3 : tie.Need-cast-result-3
 cast-result-3 c = natural (c .before .args .x) (c .before .fits .x) (c .if1 .left)

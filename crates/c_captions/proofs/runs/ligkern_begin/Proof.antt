@@ -12,12 +12,16 @@ use Rattle.c_captions.proofs.runs.ligkern_begin.Statement.{statement}
 use Rattle.c_captions.proofs.runs.ligkern_begin.Tie as tie
 
 -- begin is handed the boundary character and the override as they were lent
-begun : (c : tie.After-begin) → let a = c .before .before .before .before .before .before .before .args in c .begin .result ≡ beginOf (a .pairs .now) (a .ops .now) (a .boundary) (a .word .now) (optionsOf (a .«disable-left-boundary») (a .«right-boundary-override»))
+begun : (c : tie.After-begin) → let a = c .before .before .before .before .before .before .before .args in
+    c .begin .result ≡ beginOf (a .pairs .now) (a .ops .now) (a .boundary) (a .word .now)
+    (optionsOf (a .«disable-left-boundary») (a .«right-boundary-override»))
 begun c =
     let s = c .before .before .before .before .before .before .before in
     let a = s .args in
-    begin-is (a .pairs .now) (a .ops .now) (numberOf (wordOf (a .boundary))) (a .word .now) (optionsOf (a .«disable-left-boundary») (numberOf (wordOf (a .«right-boundary-override»)))) (c .begin .result) (c .begin .ensures)
-    ∙ (λ j. beginOf (a .pairs .now) (a .ops .now) (number-word (a .boundary) (s .fits .boundary) j) (a .word .now) (optionsOf (a .«disable-left-boundary») (number-word (a .«right-boundary-override») (s .fits .«right-boundary-override») j)))
+    begin-is (a .pairs .now) (a .ops .now) (numberOf (wordOf (a .boundary))) (a .word .now)
+    (optionsOf (a .«disable-left-boundary») (numberOf (wordOf (a .«right-boundary-override»)))) (c .begin .result) (c .begin .ensures)
+    ∙ (λ j. beginOf (a .pairs .now) (a .ops .now) (number-word (a .boundary) (s .fits .boundary) j) (a .word .now)
+    (optionsOf (a .«disable-left-boundary») (number-word (a .«right-boundary-override») (s .fits .«right-boundary-override») j)))
 
 zero-u64-requires : tie.Need-zero-u64-requires
 zero-u64-requires c κs = search needs
@@ -43,7 +47,8 @@ returns c =
     let z = g .before .before .before .zero-u64 in
     let a = g .before .before .before .before .before .before .before .args in
     let v = c .before .n .given in
-    begins-refused (a .pairs .now) (a .ops .now) (a .boundary) (a .word .now) (optionsOf (a .«disable-left-boundary») (a .«right-boundary-override»)) (a .state .now) (z .last .0) (z .ensures) (v .0 .0) (sym (v .1) ∙ begun g)
+    begins-refused (a .pairs .now) (a .ops .now) (a .boundary) (a .word .now) (optionsOf (a .«disable-left-boundary») (a .«right-boundary-override»))
+    (a .state .now) (z .last .0) (z .ensures) (v .0 .0) (sym (v .1) ∙ begun g)
 
 same-length-2 : tie.Need-same-length-2
 same-length-2 c = search needs
@@ -55,7 +60,8 @@ returns-2 c =
     let a = g .before .before .before .before .before .before .before .args in
     let v = c .before .before .before .before .before .fresh .given in
     let w = c .before .before .put-state in
-    begins-run (a .pairs .now) (a .ops .now) (a .boundary) (a .word .now) (optionsOf (a .«disable-left-boundary») (a .«right-boundary-override»)) (a .state .now) (z .last .0) (z .ensures) (v .0 .0) (sym (v .1) ∙ begun g) (w .result) (w .last .0) (w .ensures)
+    begins-run (a .pairs .now) (a .ops .now) (a .boundary) (a .word .now) (optionsOf (a .«disable-left-boundary») (a .«right-boundary-override»))
+    (a .state .now) (z .last .0) (z .ensures) (v .0 .0) (sym (v .1) ∙ begun g) (w .result) (w .last .0) (w .ensures)
 
 pub ligkern-begin-spec : {M : Type 1} → statement M
 ligkern-begin-spec =

@@ -15,14 +15,22 @@ use Rattle.c_captions.proofs.whole.ligkern_set_word.Statement.{statemen
 use Rattle.c_captions.proofs.whole.ligkern_set_word.Tie as tie
 
 -- set_word is handed the boundary character and the override as they were lent; what it answered is this
-was-set : (c : tie.After-set-word) (x : Written) → c .set-word .result ≡ x → let a = c .before .before .before .before .before .before .before .before .args in Tells (setReply (a .pairs .now) (a .ops .now) (a .boundary) (a .word .now) (optionsOf (a .«disable-left-boundary») (a .«right-boundary-override»)) (length (a .items .now))) (a .items .now) x (c .set-word .last .1 .1 .1 .1 .1 .0)
+was-set : (c : tie.After-set-word) (x : Written) → c .set-word .result ≡ x → let a = c .before .before .before .before .before .before .before .before .args in
+    Tells
+    (setReply (a .pairs .now) (a .ops .now) (a .boundary) (a .word .now) (optionsOf (a .«disable-left-boundary») (a .«right-boundary-override»))
+    (length (a .items .now))) (a .items .now) x (c .set-word .last .1 .1 .1 .1 .1 .0)
 was-set c x e =
     let s = c .before .before .before .before .before .before .before .before in
     let a = s .args in
-    let h : Sets (a .pairs .now) (a .ops .now) (a .boundary) (a .word .now) (optionsOf (a .«disable-left-boundary») (a .«right-boundary-override»)) (a .items .now) x (c .set-word .last .1 .1 .1 .1 .1 .0) =
-    subst (λ (y : Written). Sets (a .pairs .now) (a .ops .now) (a .boundary) (a .word .now) (optionsOf (a .«disable-left-boundary») (a .«right-boundary-override»)) (a .items .now) y (c .set-word .last .1 .1 .1 .1 .1 .0)) e
-    (subst (λ (y : ℤ). Sets (a .pairs .now) (a .ops .now) y (a .word .now) (optionsOf (a .«disable-left-boundary») (a .«right-boundary-override»)) (a .items .now) (c .set-word .result) (c .set-word .last .1 .1 .1 .1 .1 .0)) (number-word (a .boundary) (s .fits .boundary))
-    (subst (λ (y : ℤ). Sets (a .pairs .now) (a .ops .now) (numberOf (wordOf (a .boundary))) (a .word .now) (optionsOf (a .«disable-left-boundary») y) (a .items .now) (c .set-word .result) (c .set-word .last .1 .1 .1 .1 .1 .0)) (number-word (a .«right-boundary-override») (s .fits .«right-boundary-override»))
+    let h : Sets (a .pairs .now) (a .ops .now) (a .boundary) (a .word .now) (optionsOf (a .«disable-left-boundary») (a .«right-boundary-override»))
+    (a .items .now) x (c .set-word .last .1 .1 .1 .1 .1 .0) =
+    subst (λ (y : Written). Sets (a .pairs .now) (a .ops .now) (a .boundary) (a .word .now)
+    (optionsOf (a .«disable-left-boundary») (a .«right-boundary-override»)) (a .items .now) y (c .set-word .last .1 .1 .1 .1 .1 .0)) e
+    (subst (λ (y : ℤ). Sets (a .pairs .now) (a .ops .now) y (a .word .now) (optionsOf (a .«disable-left-boundary») (a .«right-boundary-override»))
+    (a .items .now) (c .set-word .result) (c .set-word .last .1 .1 .1 .1 .1 .0)) (number-word (a .boundary) (s .fits .boundary))
+    (subst (λ (y : ℤ). Sets (a .pairs .now) (a .ops .now) (numberOf (wordOf (a .boundary))) (a .word .now) (optionsOf (a .«disable-left-boundary») y)
+    (a .items .now) (c .set-word .result) (c .set-word .last .1 .1 .1 .1 .1 .0))
+    (number-word (a .«right-boundary-override») (s .fits .«right-boundary-override»))
     (c .set-word .ensures)))
     in
     record { answer = h .answer; list = h .list }
@@ -56,7 +64,10 @@ returns c =
     let d = g .set-word .last .1 .1 .1 .1 .1 .0 in
     let v = c .before .before .before .before .before .k .given in
     let w = c .before .zero-i32 in
-    caption-short (setReply (a .pairs .now) (a .ops .now) (a .boundary) (a .word .now) (optionsOf (a .«disable-left-boundary») (a .«right-boundary-override»)) (length (a .items .now))) (a .items .now) d (a .count .now) (z .last .0) (z .ensures) (v .0 .0) (was-set g _ (v .1)) (c .before .before .before .if1 .taken) (w .last .0) (w .ensures) (g .set-word .kept .1 .1 .1 .1 .1 .0)
+    caption-short
+    (setReply (a .pairs .now) (a .ops .now) (a .boundary) (a .word .now) (optionsOf (a .«disable-left-boundary») (a .«right-boundary-override»))
+    (length (a .items .now))) (a .items .now) d (a .count .now) (z .last .0) (z .ensures) (v .0 .0) (was-set g _ (v .1))
+    (c .before .before .before .if1 .taken) (w .last .0) (w .ensures) (g .set-word .kept .1 .1 .1 .1 .1 .0)
 
 slice-write-count : tie.Need-slice-write-count
 slice-write-count c = search needs
@@ -74,7 +85,9 @@ returns-2 c =
     let a = g .before .before .before .before .before .before .before .before .args in
     let d = g .set-word .last .1 .1 .1 .1 .1 .0 in
     let v = c .before .n .given in
-    caption-refused (setReply (a .pairs .now) (a .ops .now) (a .boundary) (a .word .now) (optionsOf (a .«disable-left-boundary») (a .«right-boundary-override»)) (length (a .items .now))) (a .items .now) d (a .count .now) (z .last .0) (z .ensures) (v .0 .0) (was-set g _ (v .1))
+    caption-refused
+    (setReply (a .pairs .now) (a .ops .now) (a .boundary) (a .word .now) (optionsOf (a .«disable-left-boundary») (a .«right-boundary-override»))
+    (length (a .items .now))) (a .items .now) d (a .count .now) (z .last .0) (z .ensures) (v .0 .0) (was-set g _ (v .1))
 
 same-length-5 : tie.Need-same-length-5
 same-length-5 c = search needs
@@ -89,7 +102,9 @@ returns-3 c =
     let a = g .before .before .before .before .before .before .before .before .args in
     let d = g .set-word .last .1 .1 .1 .1 .1 .0 in
     let v = c .before .before .k .given in
-    caption-taken (setReply (a .pairs .now) (a .ops .now) (a .boundary) (a .word .now) (optionsOf (a .«disable-left-boundary») (a .«right-boundary-override»)) (length (a .items .now))) (a .items .now) d (a .count .now) (z .last .0) (z .ensures) (v .0 .0) (was-set g _ (v .1)) (c .if1 .left)
+    caption-taken
+    (setReply (a .pairs .now) (a .ops .now) (a .boundary) (a .word .now) (optionsOf (a .«disable-left-boundary») (a .«right-boundary-override»))
+    (length (a .items .now))) (a .items .now) d (a .count .now) (z .last .0) (z .ensures) (v .0 .0) (was-set g _ (v .1)) (c .if1 .left)
 
 pub ligkern-set-word-spec : {M : Type 1} → statement M
 ligkern-set-word-spec =

@@ -17,13 +17,16 @@ font c = fontOf (c .args .instructions .now) (c .args .kerns .now) (c .args .ent
 compiled : (c : tie.After-compile) →
     let s = c .before .before .before .before .before .before .before .before .before .before .before in
     let o = c .compile .last .1 .1 .1 .1 .1 .1 in
-    Compiles (font s) (s .args .pairs .now) (s .args .ops .now) (s .args .loops .now) (s .args .work .now) (c .compile .result) (o .0) (o .1 .0) (o .1 .1 .0) (o .1 .1 .1 .0)
+    Compiles (font s) (s .args .pairs .now) (s .args .ops .now) (s .args .loops .now) (s .args .work .now) (c .compile .result) (o .0) (o .1 .0) (o .1 .1 .0)
+    (o .1 .1 .1 .0)
 compiled c =
     let s = c .before .before .before .before .before .before .before .before .before .before .before in
     let a = s .args in
     let o = c .compile .last .1 .1 .1 .1 .1 .1 in
-    subst (λ (f : Font). Compiles f (a .pairs .now) (a .ops .now) (a .loops .now) (a .work .now) (c .compile .result) (o .0) (o .1 .0) (o .1 .1 .0) (o .1 .1 .1 .0))
-    (λ j. fontOf (a .instructions .now) (a .kerns .now) (a .entries .now) (number-word (a .boundary) (s .fits .boundary) j) (number-word (a .«left-entry») (s .fits .«left-entry») j) (number-word (a .«design-size») (s .fits .«design-size») j))
+    subst (λ (f : Font). Compiles f (a .pairs .now) (a .ops .now) (a .loops .now) (a .work .now) (c .compile .result) (o .0) (o .1 .0) (o .1 .1 .0)
+    (o .1 .1 .1 .0))
+    (λ j. fontOf (a .instructions .now) (a .kerns .now) (a .entries .now) (number-word (a .boundary) (s .fits .boundary) j)
+    (number-word (a .«left-entry») (s .fits .«left-entry») j) (number-word (a .«design-size») (s .fits .«design-size») j))
     (c .compile .ensures)
 
 zero-u64-requires : tie.Need-zero-u64-requires
@@ -71,10 +74,14 @@ returns c =
     let o = x .compile .last .1 .1 .1 .1 .1 .1 in
     let v = c .before .before .before .before .before .before .before .before .before .before .before .p .given in
     let u = c .before .before .before .before .before .before .before .before .before in
-    counts-short (font s) (a .pairs .now) (a .ops .now) (a .loops .now) (a .work .now) (a .counts .now) (o .0) (o .1 .0) (o .1 .1 .0) (o .1 .1 .1 .0) (z .last .0) (z .ensures) (v .0 .0) (v .0 .1 .0) (v .0 .1 .1 .0)
-    (subst (λ (y : Compiled). Compiles (font s) (a .pairs .now) (a .ops .now) (a .loops .now) (a .work .now) y (o .0) (o .1 .0) (o .1 .1 .0) (o .1 .1 .1 .0)) (v .1) (compiled x)) (u .if1 .taken)
-    (c .before .before .before .before .before .before .before .zero-i32 .last .0) (c .before .before .before .before .zero-i322 .last .0) (c .before .zero-i323 .last .0)
-    (c .before .before .before .before .before .before .before .zero-i32 .ensures) (c .before .before .before .before .zero-i322 .ensures) (c .before .zero-i323 .ensures)
+    counts-short (font s) (a .pairs .now) (a .ops .now) (a .loops .now) (a .work .now) (a .counts .now) (o .0) (o .1 .0) (o .1 .1 .0) (o .1 .1 .1 .0)
+    (z .last .0) (z .ensures) (v .0 .0) (v .0 .1 .0) (v .0 .1 .1 .0)
+    (subst (λ (y : Compiled). Compiles (font s) (a .pairs .now) (a .ops .now) (a .loops .now) (a .work .now) y (o .0) (o .1 .0) (o .1 .1 .0) (o .1 .1 .1 .0))
+    (v .1) (compiled x)) (u .if1 .taken)
+    (c .before .before .before .before .before .before .before .zero-i32 .last .0) (c .before .before .before .before .zero-i322 .last .0)
+    (c .before .zero-i323 .last .0)
+    (c .before .before .before .before .before .before .before .zero-i32 .ensures) (c .before .before .before .before .zero-i322 .ensures)
+    (c .before .zero-i323 .ensures)
     (x .compile .kept .1 .1 .1 .1 .1 .1 .0) (x .compile .kept .1 .1 .1 .1 .1 .1 .1 .0) (x .compile .kept .1 .1 .1 .1 .1 .1 .1 .1 .0)
 
 put-three-requires : tie.Need-put-three-requires
@@ -103,8 +110,10 @@ returns-2 c =
     let a = s .args in
     let o = x .compile .last .1 .1 .1 .1 .1 .1 in
     let v = c .before .n .given in
-    counts-refused (font s) (a .pairs .now) (a .ops .now) (a .loops .now) (a .work .now) (a .counts .now) (o .0) (o .1 .0) (o .1 .1 .0) (o .1 .1 .1 .0) (z .last .0) (z .ensures) (v .0 .0)
-    (subst (λ (y : Compiled). Compiles (font s) (a .pairs .now) (a .ops .now) (a .loops .now) (a .work .now) y (o .0) (o .1 .0) (o .1 .1 .0) (o .1 .1 .1 .0)) (v .1) (compiled x))
+    counts-refused (font s) (a .pairs .now) (a .ops .now) (a .loops .now) (a .work .now) (a .counts .now) (o .0) (o .1 .0) (o .1 .1 .0) (o .1 .1 .1 .0)
+    (z .last .0) (z .ensures) (v .0 .0)
+    (subst (λ (y : Compiled). Compiles (font s) (a .pairs .now) (a .ops .now) (a .loops .now) (a .work .now) y (o .0) (o .1 .0) (o .1 .1 .0) (o .1 .1 .1 .0))
+    (v .1) (compiled x))
 
 same-length-11 : tie.Need-same-length-11
 same-length-11 c = search needs
@@ -130,8 +139,10 @@ returns-3 c =
     let o = x .compile .last .1 .1 .1 .1 .1 .1 in
     let v = c .before .before .before .before .before .before .p .given in
     let w = c .before .before .put-three in
-    counts-taken (font s) (a .pairs .now) (a .ops .now) (a .loops .now) (a .work .now) (a .counts .now) (o .0) (o .1 .0) (o .1 .1 .0) (o .1 .1 .1 .0) (z .last .0) (z .ensures) (v .0 .0) (v .0 .1 .0) (v .0 .1 .1 .0)
-    (subst (λ (y : Compiled). Compiles (font s) (a .pairs .now) (a .ops .now) (a .loops .now) (a .work .now) y (o .0) (o .1 .0) (o .1 .1 .0) (o .1 .1 .1 .0)) (v .1) (compiled x)) (c .before .before .before .before .if1 .left) (w .last .0) (w .ensures)
+    counts-taken (font s) (a .pairs .now) (a .ops .now) (a .loops .now) (a .work .now) (a .counts .now) (o .0) (o .1 .0) (o .1 .1 .0) (o .1 .1 .1 .0)
+    (z .last .0) (z .ensures) (v .0 .0) (v .0 .1 .0) (v .0 .1 .1 .0)
+    (subst (λ (y : Compiled). Compiles (font s) (a .pairs .now) (a .ops .now) (a .loops .now) (a .work .now) y (o .0) (o .1 .0) (o .1 .1 .0) (o .1 .1 .1 .0))
+    (v .1) (compiled x)) (c .before .before .before .before .if1 .left) (w .last .0) (w .ensures)
 
 pub ligkern-compile-spec : {M : Type 1} → statement M
 ligkern-compile-spec =

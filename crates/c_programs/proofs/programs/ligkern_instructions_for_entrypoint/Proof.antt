@@ -36,8 +36,11 @@ returns c =
     let s = w .before .before .before .before in
     let a = s .args in
     let y = numberOf (wordOf (a .entry)) in
-    subst (λ (e : ℤ). Gives 0 (walkReply (a .instructions .now) e (length (a .out .now))) (chainOf (a .instructions .now) (wordOf e)) (a .out .now) (a .values .now) (t .tell .result) (k .keep-u32 .last .1 .0) (t .tell .last .1 .0)) (number-word (a .entry) (s .fits .entry))
-    (gives 0 (walkRefusal (a .instructions .now) y (length (a .out .now))) (pos (length (chainOf (a .instructions .now) (wordOf y))) ∷ []) (chainOf (a .instructions .now) (wordOf y)) (a .out .now) (a .values .now) (w .instructions-for-entrypoint .ensures .answer) (t .tell .ensures) (w .instructions-for-entrypoint .ensures .list) (w .instructions-for-entrypoint .kept .1 .1 .0) (k .keep-u32 .ensures))
+    subst (λ (e : ℤ). Gives 0 (walkReply (a .instructions .now) e (length (a .out .now))) (chainOf (a .instructions .now) (wordOf e)) (a .out .now)
+    (a .values .now) (t .tell .result) (k .keep-u32 .last .1 .0) (t .tell .last .1 .0)) (number-word (a .entry) (s .fits .entry))
+    (gives 0 (walkRefusal (a .instructions .now) y (length (a .out .now))) (pos (length (chainOf (a .instructions .now) (wordOf y))) ∷ [])
+    (chainOf (a .instructions .now) (wordOf y)) (a .out .now) (a .values .now) (w .instructions-for-entrypoint .ensures .answer) (t .tell .ensures)
+    (w .instructions-for-entrypoint .ensures .list) (w .instructions-for-entrypoint .kept .1 .1 .0) (k .keep-u32 .ensures))
 
 pub ligkern-instructions-for-entrypoint-spec : {M : Type 1} → statement M
 ligkern-instructions-for-entrypoint-spec =

@@ -37,8 +37,13 @@ returns c =
     let s = w .before .before .before .before in
     let a = s .args in
     let y = numberOf (wordOf (a .«left-entry»)) in
-    subst (λ (e : ℤ). Gives (pos 0) (reachReply (a .instructions .now) (a .entries .now) e (a .passthrough .now) (length (a .out .now))) (reachList (a .instructions .now) (a .entries .now) e (a .passthrough .now)) (a .out .now) (a .values .now) (t .tell .result) (k .keep-i32 .last .1 .0) (t .tell .last .1 .0)) (number-word (a .«left-entry») (s .fits .«left-entry»))
-    (gives (pos 0) (reachRefusal (a .instructions .now) (a .entries .now) y (a .passthrough .now) (length (a .out .now))) (pos (count (a .instructions .now)) ∷ []) (reachList (a .instructions .now) (a .entries .now) y (a .passthrough .now)) (a .out .now) (a .values .now) (w .reachable-iter .ensures .answer) (t .tell .ensures) (w .reachable-iter .ensures .list) (w .reachable-iter .kept .1 .1 .1 .1 .0) (k .keep-i32 .ensures))
+    subst (λ (e : ℤ). Gives (pos 0) (reachReply (a .instructions .now) (a .entries .now) e (a .passthrough .now) (length (a .out .now)))
+    (reachList (a .instructions .now) (a .entries .now) e (a .passthrough .now)) (a .out .now) (a .values .now) (t .tell .result) (k .keep-i32 .last .1 .0)
+    (t .tell .last .1 .0)) (number-word (a .«left-entry») (s .fits .«left-entry»))
+    (gives (pos 0) (reachRefusal (a .instructions .now) (a .entries .now) y (a .passthrough .now) (length (a .out .now)))
+    (pos (count (a .instructions .now)) ∷ []) (reachList (a .instructions .now) (a .entries .now) y (a .passthrough .now)) (a .out .now) (a .values .now)
+    (w .reachable-iter .ensures .answer) (t .tell .ensures) (w .reachable-iter .ensures .list) (w .reachable-iter .kept .1 .1 .1 .1 .0)
+    (k .keep-i32 .ensures))
 
 pub ligkern-reachable-iter-spec : {M : Type 1} → statement M
 ligkern-reachable-iter-spec =

@@ -40,8 +40,13 @@ returns c =
     let s = w .before .before .before .before .before in
     let a = s .args in
     let y = numberOf (wordOf (a .entry)) in
-    subst (λ (e : ℤ). Gives 0 (unpackEntry (a .instructions .now) e (a .passthrough .now) (length (a .out .now))) (passthroughAfter (a .instructions .now) (wordOf e) (a .passthrough .now)) (a .out .now) (a .values .now) (t .tell .result) (k .keep-u8 .last .1 .0) (t .tell .last .1 .0)) (number-word (a .entry) (s .fits .entry))
-    (gives 0 (unpackRefusal (a .instructions .now) y (a .passthrough .now) (length (a .out .now))) (pos (standsFor (a .instructions .now) (wordOf y)) ∷ []) (passthroughAfter (a .instructions .now) (wordOf y) (a .passthrough .now)) (a .out .now) (a .values .now) (w .unpack-entrypoint .ensures .answer) (tells-as (o .entry-of .ensures) (t .tell .ensures)) (w .unpack-entrypoint .ensures .list) (w .unpack-entrypoint .kept .1 .1 .1 .0) (k .keep-u8 .ensures))
+    subst (λ (e : ℤ). Gives 0 (unpackEntry (a .instructions .now) e (a .passthrough .now) (length (a .out .now)))
+    (passthroughAfter (a .instructions .now) (wordOf e) (a .passthrough .now)) (a .out .now) (a .values .now) (t .tell .result) (k .keep-u8 .last .1 .0)
+    (t .tell .last .1 .0)) (number-word (a .entry) (s .fits .entry))
+    (gives 0 (unpackRefusal (a .instructions .now) y (a .passthrough .now) (length (a .out .now))) (pos (standsFor (a .instructions .now) (wordOf y)) ∷ [])
+    (passthroughAfter (a .instructions .now) (wordOf y) (a .passthrough .now)) (a .out .now) (a .values .now) (w .unpack-entrypoint .ensures .answer)
+    (tells-as (o .entry-of .ensures) (t .tell .ensures)) (w .unpack-entrypoint .ensures .list) (w .unpack-entrypoint .kept .1 .1 .1 .0)
+    (k .keep-u8 .ensures))
 
 pub ligkern-unpack-entrypoint-spec : {M : Type 1} → statement M
 ligkern-unpack-entrypoint-spec =

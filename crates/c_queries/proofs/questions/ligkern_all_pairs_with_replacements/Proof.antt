@@ -30,7 +30,9 @@ returns c =
     let t = k .before .before .before .before in
     let w = t .before .before .before in
     let a = w .before .before .before .args in
-    gives (pos 0) (keysRefusal (a .pairs .now) (length (a .out .now))) (pos (pairCount (a .pairs .now)) ∷ []) (keysOf (a .pairs .now)) (a .out .now) (a .values .now) (w .all-pairs-with-replacements .ensures .answer) (t .tell .ensures) (w .all-pairs-with-replacements .ensures .list) (w .all-pairs-with-replacements .kept .1 .0) (k .keep-i32 .ensures)
+    gives (pos 0) (keysRefusal (a .pairs .now) (length (a .out .now))) (pos (pairCount (a .pairs .now)) ∷ []) (keysOf (a .pairs .now)) (a .out .now)
+    (a .values .now) (w .all-pairs-with-replacements .ensures .answer) (t .tell .ensures) (w .all-pairs-with-replacements .ensures .list)
+    (w .all-pairs-with-replacements .kept .1 .0) (k .keep-i32 .ensures)
 
 pub ligkern-all-pairs-with-replacements-spec : {M : Type 1} → statement M
 ligkern-all-pairs-with-replacements-spec =

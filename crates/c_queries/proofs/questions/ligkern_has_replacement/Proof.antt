@@ -28,7 +28,8 @@ returns c =
     let q = o .before in
     let s = q .before .before in
     let a = s .args in
-    lent-three (λ (e f g : ℤ). TellsHost (hasReply (a .pairs .now) e f g) (a .values .now) (t .tell .result) (t .tell .last .1 .0)) (number-word (a .boundary) (s .fits .boundary)) (number-word (a .left) (s .fits .left)) (number-word (a .right) (s .fits .right))
+    lent-three (λ (e f g : ℤ). TellsHost (hasReply (a .pairs .now) e f g) (a .values .now) (t .tell .result) (t .tell .last .1 .0))
+    (number-word (a .boundary) (s .fits .boundary)) (number-word (a .left) (s .fits .left)) (number-word (a .right) (s .fits .right))
     (tells-as (o .reply-of .ensures ∙ q .has-replacement .ensures) (t .tell .ensures))
 
 pub ligkern-has-replacement-spec : {M : Type 1} → statement M

@@ -40,4 +40,7 @@ returns : tie.Need-returns
 returns c = search needs
 
 pub put-nine-spec : {M : Type 1} → statement M
-put-nine-spec = tie.close (tie.spec slice-write-s slice-write-s-2 slice-write-s-3 slice-write-s-4 slice-write-s-5 slice-write-s-6 slice-write-s-7 slice-write-s-8 slice-write-s-9 same-length returns)
+put-nine-spec =
+    tie.close
+    (tie.spec slice-write-s slice-write-s-2 slice-write-s-3 slice-write-s-4 slice-write-s-5 slice-write-s-6 slice-write-s-7 slice-write-s-8 slice-write-s-9
+    same-length returns)

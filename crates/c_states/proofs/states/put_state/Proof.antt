@@ -50,7 +50,9 @@ returns-2 c =
     let a = l .before .before .args in
     let s = a .s in
     let e = room-is 9 (length (a .list .now)) (l .if1 .left) in
-    let d : w .last .0 ≡ sets (a .list .now) 0 (numbersOf s) = w .ensures ∙ (λ j. sets (a .list .now) 0 (k .ensures j ∷ n .next-code .ensures j ∷ s .op ∷ s .ops ∷ s .read ∷ s .given ∷ s .pending ∷ f .ensures j ∷ y .ensures j ∷ [])) in
+    let d : w .last .0 ≡ sets (a .list .now) 0 (numbersOf s) = w .ensures
+    ∙ (λ j. sets (a .list .now) 0
+    (k .ensures j ∷ n .next-code .ensures j ∷ s .op ∷ s .ops ∷ s .read ∷ s .given ∷ s .pending ∷ f .ensures j ∷ y .ensures j ∷ [])) in
     record { number = sym e; stored = rw e (d ∙ sets-front (numbersOf s) (a .list .now) (l .if1 .left)); code = λ _. omega (arith, n .next-code .ensures) }
 
 pub put-state-spec : {M : Type 1} → statement M

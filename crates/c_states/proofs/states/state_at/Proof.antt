@@ -51,7 +51,16 @@ returns c =
     let f = c .before .before .before .before .before .before .before .flag-of in
     let n = c .before .before .before .before .before .before .before .before .before .next-of in
     let s = c .before .before .before .before .before .before .before .before .before .before .before .before .before .args .list .now in
-    λ j. record { «next_left» = n .ensures j; op = getD s 2 0; ops = getD s 3 0; read = getD s 4 0; given = getD s 5 0; pending = getD s 6 0; «pending_boundary» = f .ensures j; «consumes_left» = y .ensures j }
+    λ j. record {
+      «next_left» = n .ensures j;
+      op = getD s 2 0;
+      ops = getD s 3 0;
+      read = getD s 4 0;
+      given = getD s 5 0;
+      pending = getD s 6 0;
+      «pending_boundary» = f .ensures j;
+      «consumes_left» = y .ensures j;
+    }
 
 pub state-at-spec : {M : Type 1} → statement M
 state-at-spec =

@@ -10,7 +10,8 @@ is-state-requires : tie.Need-is-state-requires
 is-state-requires c κs = search needs
 
 state-at-requires : tie.Need-state-at-requires
-state-at-requires c κs = let i = c .before in let s = i .before .before .args .list .now in let e = sym (i .is-state .ensures) ∙ c .if1 .taken in (state-long s e, state-code s e)
+state-at-requires c κs =
+    let i = c .before in let s = i .before .before .args .list .now in let e = sym (i .is-state .ensures) ∙ c .if1 .taken in (state-long s e, state-code s e)
 
 returns : tie.Need-returns
 returns c = rw (sym (c .before .before .is-state .ensures) ∙ c .before .if1 .taken) (c .state-at .ensures)

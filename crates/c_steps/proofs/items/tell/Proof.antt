@@ -26,7 +26,8 @@ returns c =
     let i = c .before .before .before .before .before .before .before in
     let s = i .before in
     let a = s .args in
-    stored-told (a .item .now) (w .last .0) (p .last .0) (a .answer) (sym (i .is-item .ensures) ∙ c .before .before .before .before .before .before .if1 .taken) (s .pre .1) (w .ensures)
+    stored-told (a .item .now) (w .last .0) (p .last .0) (a .answer) (sym (i .is-item .ensures) ∙ c .before .before .before .before .before .before .if1 .taken)
+    (s .pre .1) (w .ensures)
     (λ r. item-there (w .last .0) (p .last .0) 1 (a .answer) r (s .pre .0) (p .ensures))
 
 returns-2 : tie.Need-returns-2

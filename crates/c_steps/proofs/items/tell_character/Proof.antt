@@ -18,7 +18,8 @@ put-word-requires : tie.Need-put-word-requires
 put-word-requires c κs = search needs
 
 cast-put-six : tie.Need-cast-put-six
-cast-put-six c = let v = c .before .before .before .before .before in record { fits = omega (arith, subst Small (v .answer .given .1) (v .before .before .pre .0) .1) }
+cast-put-six c =
+    let v = c .before .before .before .before .before in record { fits = omega (arith, subst Small (v .answer .given .1) (v .before .before .pre .0) .1) }
 
 put-six-requires : tie.Need-put-six-requires
 put-six-requires c κs = search needs
@@ -47,7 +48,8 @@ returns c =
     let a = s .args in
     let e = v .answer .given .1 in
     stored-told (a .item .now) (w .last .0) (p .last .0) (a .answer) (ap isItem e) (s .pre .1) (w .ensures)
-    (λ r. six-there (w .last .0) (p .last .0) 1 (answerReply (a .answer) .values) r (six-as (w .last .0) (p .last .0) 1 (character-numbers e (s .pre .0)) (p .ensures)))
+    (λ r. six-there (w .last .0) (p .last .0) 1 (answerReply (a .answer) .values) r
+    (six-as (w .last .0) (p .last .0) 1 (character-numbers e (s .pre .0)) (p .ensures)))
 
 returns-2 : tie.Need-returns-2
 returns-2 c = no (sym (ap isCharItem (c .enum-told .given .1)) ∙ c .before .before .pre .2)

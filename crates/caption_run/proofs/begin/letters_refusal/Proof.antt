@@ -43,12 +43,14 @@ loop-again c =
 returns : tie.Need-returns Inv-loop μ-loop
 returns c =
     let l = c .before .before in
-    letters-all (now (l .before .args .word)) (l .loop .i) (l .loop .all) _ (l .loop .inv .1) (l .loop .inv .0) (c .before .loop-test .left) (lt-leb (l .loop .all) 255 (c .if1 .taken))
+    letters-all (now (l .before .args .word)) (l .loop .i) (l .loop .all) _ (l .loop .inv .1) (l .loop .inv .0) (c .before .loop-test .left)
+    (lt-leb (l .loop .all) 255 (c .if1 .taken))
 
 returns-2 : tie.Need-returns-2 Inv-loop μ-loop
 returns-2 c =
     let l = c .before .before in
-    letters-all (now (l .before .args .word)) (l .loop .i) (l .loop .all) _ (l .loop .inv .1) (l .loop .inv .0) (c .before .loop-test .left) (le-leb (l .loop .all) 255 (c .if1 .left))
+    letters-all (now (l .before .args .word)) (l .loop .i) (l .loop .all) _ (l .loop .inv .1) (l .loop .inv .0) (c .before .loop-test .left)
+    (le-leb (l .loop .all) 255 (c .if1 .left))
 
 pub letters-refusal-spec : {M : Type 1} → statement M
 letters-refusal-spec =

@@ -12,7 +12,9 @@ use Rattle.caption_run.proofs.steps.kern_step.Statement.{statement}
 use Rattle.caption_run.proofs.steps.kern_step.Tie as tie
 
 -- a boundary character that is passed as its bits
-passed : (c : tie.Start) → let a = c .args in stepOf (now (a .pairs)) (now (a .ops)) (numberOf (wordOf (a .boundary))) (now (a .word)) (a .options) (a .state) ≡ stepOf (now (a .pairs)) (now (a .ops)) (a .boundary) (now (a .word)) (a .options) (a .state)
+passed : (c : tie.Start) → let a = c .args in
+    stepOf (now (a .pairs)) (now (a .ops)) (numberOf (wordOf (a .boundary))) (now (a .word)) (a .options) (a .state)
+    ≡ stepOf (now (a .pairs)) (now (a .ops)) (a .boundary) (now (a .word)) (a .options) (a .state)
 passed c =
     let a = c .args in
     ap (λ (z : ℤ). stepOf (now (a .pairs)) (now (a .ops)) z (now (a .word)) (a .options) (a .state)) (number-word (a .boundary) (c .fits .boundary))
@@ -26,7 +28,9 @@ give-kern-requires c κs = search needs
 returns : tie.Need-returns
 returns c =
     let a = c .before .before .before .before .args in
-    c .give-kern .ensures ∙ sym (quick-kerns (now (a .pairs)) (now (a .ops)) (numberOf (wordOf (a .boundary))) (now (a .word)) (a .options) (a .state) (sym (c .before .before .is-kern .ensures) ∙ c .before .if1 .taken)) ∙ passed (c .before .before .before .before)
+    c .give-kern .ensures
+    ∙ sym (quick-kerns (now (a .pairs)) (now (a .ops)) (numberOf (wordOf (a .boundary))) (now (a .word)) (a .options) (a .state)
+    (sym (c .before .before .is-kern .ensures) ∙ c .before .if1 .taken)) ∙ passed (c .before .before .before .before)
 
 turned-step-requires : tie.Need-turned-step-requires
 turned-step-requires c κs = search needs

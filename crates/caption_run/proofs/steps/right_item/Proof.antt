@@ -20,7 +20,8 @@ returns c =
 returns-2 : tie.Need-returns-2
 returns-2 c =
     let a = c .before .before .before in
-    right-boundary (word-passed (a .fits .over) (c .before .before .word-of .ensures)) (c .before .if1 .left) (word-passed (a .fits .boundary) (c .word-of2 .ensures))
+    right-boundary (word-passed (a .fits .over) (c .before .before .word-of .ensures)) (c .before .if1 .left)
+    (word-passed (a .fits .boundary) (c .word-of2 .ensures))
 
 pub right-item-spec : {M : Type 1} → statement M
 right-item-spec = tie.close (tie.spec word-of-requires word-of-requires-2 returns returns-2)

@@ -19,19 +19,26 @@ use Rattle.caption_run.proofs.steps.step.Statement.{statement}
 use Rattle.caption_run.proofs.steps.step.Tie as tie
 
 -- what is `stepOf` with the boundary character passed as its bits
-answered : (c : tie.Start) → let a = c .args in (r : Step) → r ≡ stepOf (now (a .pairs)) (now (a .ops)) (numberOf (wordOf (a .boundary))) (now (a .word)) (a .options) (a .state) → Stepped (now (a .pairs)) (now (a .ops)) (a .boundary) (now (a .word)) (a .options) (a .state) r
+answered : (c : tie.Start) → let a = c .args in
+    (r : Step) → r ≡ stepOf (now (a .pairs)) (now (a .ops)) (numberOf (wordOf (a .boundary))) (now (a .word)) (a .options) (a .state) →
+    Stepped (now (a .pairs)) (now (a .ops)) (a .boundary) (now (a .word)) (a .options) (a .state) r
 answered c r e =
     let a = c .args in
     stepped-as (now (a .pairs)) (now (a .ops)) (a .boundary) (now (a .word)) (a .options) (a .state)
     (e ∙ ap (λ (z : ℤ). stepOf (now (a .pairs)) (now (a .ops)) z (now (a .word)) (a .options) (a .state)) (number-word (a .boundary) (c .fits .boundary)))
 
-quick : (c : tie.Else1) → let a = c .before .before .before .args in (isQuick (now (a .ops)) (numberOf (wordOf (a .boundary))) (now (a .word)) (a .options) (a .state) ≡ true) × (c .before .quick-left .result ≡ suc (plainCode (a .state .«next_left»)))
+quick : (c : tie.Else1) → let a = c .before .before .before .args in
+    (isQuick (now (a .ops)) (numberOf (wordOf (a .boundary))) (now (a .word)) (a .options) (a .state) ≡ true)
+    × (c .before .quick-left .result ≡ suc (plainCode (a .state .«next_left»)))
 quick c =
     let a = c .before .before .before .args in
-    left-quick (now (a .ops)) (numberOf (wordOf (a .boundary))) (now (a .word)) (a .options) (a .state) (c .before .quick-left .result) (c .before .quick-left .ensures) (c .if1 .left)
+    left-quick (now (a .ops)) (numberOf (wordOf (a .boundary))) (now (a .word)) (a .options) (a .state) (c .before .quick-left .result)
+    (c .before .quick-left .ensures) (c .if1 .left)
 
 there : (c : tie.Else1) → let a = c .before .before .before .args in a .state .read < length (now (a .word))
-there c = let a = c .before .before .before .args in quick-is (now (a .ops)) (numberOf (wordOf (a .boundary))) (now (a .word)) (a .options) (a .state) (quick c .0) .there
+there c =
+    let a = c .before .before .before .args in
+    quick-is (now (a .ops)) (numberOf (wordOf (a .boundary))) (now (a .word)) (a .options) (a .state) (quick c .0) .there
 
 quick-left-requires : tie.Need-quick-left-requires
 quick-left-requires c κs = search needs
@@ -63,7 +70,10 @@ returns-2 c =
     let q = quick (c .before .before .before .before .before) in
     answered (c .before .before .before .before .before .before .before .before) (c .quick-step .result)
     (c .quick-step .ensures
-    ∙ sym (quick-steps (now (a .pairs)) (now (a .ops)) (numberOf (wordOf (a .boundary))) (now (a .word)) (a .options) (a .state) (c .before .before .before .found-place .result) (q .0) (c .before .before .before .found-place .ensures ∙ ap (λ (l : ℕ). foundPlace (now (a .pairs)) l (nextLetter (now (a .word)) (a .state))) (q .1)) (sym (c .before .before .is-ready .ensures) ∙ c .before .if2 .taken)))
+    ∙ sym (quick-steps (now (a .pairs)) (now (a .ops)) (numberOf (wordOf (a .boundary))) (now (a .word)) (a .options) (a .state)
+    (c .before .before .before .found-place .result) (q .0)
+    (c .before .before .before .found-place .ensures ∙ ap (λ (l : ℕ). foundPlace (now (a .pairs)) l (nextLetter (now (a .word)) (a .state))) (q .1))
+    (sym (c .before .before .is-ready .ensures) ∙ c .before .if2 .taken)))
 
 turned-step-requires : tie.Need-turned-step-requires
 turned-step-requires c κs = search needs

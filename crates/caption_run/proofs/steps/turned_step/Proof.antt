@@ -10,10 +10,13 @@ use borrow.Author.Needs.{needs}
 use Rattle.caption_run.proofs.steps.turned_step.Statement.{statement}
 use Rattle.caption_run.proofs.steps.turned_step.Tie as tie
 
-right : (c : tie.After-right-item) → let a = c .before .before .before .before .before .before .before .args in orBoundary (numberOf (c .right-item .result)) ≡ rightItem (a .boundary) (a .options .«right_boundary_override»)
+right : (c : tie.After-right-item) → let a = c .before .before .before .before .before .before .before .args in
+    orBoundary (numberOf (c .right-item .result)) ≡ rightItem (a .boundary) (a .options .«right_boundary_override»)
 right c =
     let a = c .before .before .before .before .before .before .before in
-    c .right-item .ensures ∙ (λ i. rightItem (number-word (a .args .boundary) (a .fits .boundary) i) (number-word (a .args .options .«right_boundary_override») (record { sfits = search needs }) i))
+    c .right-item .ensures
+    ∙ (λ i. rightItem (number-word (a .args .boundary) (a .fits .boundary) i)
+    (number-word (a .args .options .«right_boundary_override») (record { sfits = search needs }) i))
 
 edges-refusal-requires : tie.Need-edges-refusal-requires
 edges-refusal-requires c κs = search needs
@@ -22,7 +25,8 @@ returns : tie.Need-returns
 returns c =
     let e = c .before in
     let a = e .before .before in
-    refused-edges (now (a .args .pairs)) (now (a .args .ops)) (a .args .boundary) (now (a .args .word)) (a .args .options) (a .args .state) (a .fits .boundary) (e .edges-refusal .result) (e .edges-refusal .ensures) (c .if1 .taken)
+    refused-edges (now (a .args .pairs)) (now (a .args .ops)) (a .args .boundary) (now (a .args .word)) (a .args .options) (a .args .state) (a .fits .boundary)
+    (e .edges-refusal .result) (e .edges-refusal .ensures) (c .if1 .taken)
 
 word-refusal-requires : tie.Need-word-refusal-requires
 word-refusal-requires c κs = search needs
@@ -32,7 +36,8 @@ returns-2 c =
     let w = c .before in
     let e = w .before .before in
     let a = e .before .before in
-    refused-word (now (a .args .pairs)) (now (a .args .ops)) (a .args .boundary) (now (a .args .word)) (a .args .options) (a .args .state) (a .fits .boundary) (e .edges-refusal .result) (e .edges-refusal .ensures)
+    refused-word (now (a .args .pairs)) (now (a .args .ops)) (a .args .boundary) (now (a .args .word)) (a .args .options) (a .args .state) (a .fits .boundary)
+    (e .edges-refusal .result) (e .edges-refusal .ensures)
     (w .before .if1 .left) (w .word-refusal .result) (w .word-refusal .ensures) (c .if2 .taken)
 
 right-item-requires : tie.Need-right-item-requires
@@ -51,8 +56,10 @@ returns-3 c =
     let e = w .before .before in
     let a = e .before .before in
     rw (c .hand-back .ensures)
-    (step-given (now (a .args .pairs)) (now (a .args .ops)) (a .args .boundary) (now (a .args .word)) (a .args .options) (a .args .state) (a .fits .boundary) (e .edges-refusal .result) (e .edges-refusal .ensures)
-    (w .before .if1 .left) (w .word-refusal .result) (w .word-refusal .ensures) (orBoundary (numberOf (i .right-item .result))) (c .before .run .result) (i .before .before .if2 .left) (right i) (c .before .run .ensures))
+    (step-given (now (a .args .pairs)) (now (a .args .ops)) (a .args .boundary) (now (a .args .word)) (a .args .options) (a .args .state) (a .fits .boundary)
+    (e .edges-refusal .result) (e .edges-refusal .ensures)
+    (w .before .if1 .left) (w .word-refusal .result) (w .word-refusal .ensures) (orBoundary (numberOf (i .right-item .result))) (c .before .run .result)
+    (i .before .before .if2 .left) (right i) (c .before .run .ensures))
 
 pub turned-step-spec : {M : Type 1} → statement M
 turned-step-spec =

@@ -22,12 +22,16 @@ cast-t8 : tie.Need-cast-t8
 cast-t8 c = search needs
 
 returns : tie.Need-returns
-returns c = let a = c .before .before .before .before in kern-effect-is (a .args .design-size) _ (a .args .operation) _ (c .kern-effect .result) (number-word (a .args .design-size) (a .fits .design-size)) (c .before .before .operation .given .1) (c .kern-effect .ensures)
+returns c =
+    let a = c .before .before .before .before in
+    kern-effect-is (a .args .design-size) _ (a .args .operation) _ (c .kern-effect .result) (number-word (a .args .design-size) (a .fits .design-size))
+    (c .before .before .operation .given .1) (c .kern-effect .ensures)
 
 returns-2 : tie.Need-returns-2
 returns-2 c =
     let a = c .before .before .before .before .before in
-    ligature-effect (a .args .design-size) (a .args .operation) _ _ _ (c .before .op-byte .result) (c .before .before .before .operation2 .given .1) (c .before .op-byte .ensures)
+    ligature-effect (a .args .design-size) (a .args .operation) _ _ _ (c .before .op-byte .result) (c .before .before .before .operation2 .given .1)
+    (c .before .op-byte .ensures)
 
 returns-3 : tie.Need-returns-3
 returns-3 c = let a = c .before in other-effect (a .args .design-size) (a .args .operation) (c .match .keys3)

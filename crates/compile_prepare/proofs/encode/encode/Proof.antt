@@ -58,7 +58,10 @@ loop-again c =
     let t = g .before .before in
     let e = t .before in
     let a = e .before .before in
-    encoding-step (now (a .args .instructions)) (now (a .args .kerns)) (numberOf (wordOf (a .args .design-size))) (a .args .n) (now (a .args .work)) (e .loop .work) (p .put .last .0) (q .put2 .last .0) (e .loop .k) (e .loop .scaled) (e .loop .inv) (t .loop-test .taken) (a .pre .room) (g .get .result) (x .before .operation-at .result) (x .effect-of .result) (g .get .ensures) (x .before .operation-at .ensures) (x .effect-of .ensures) (p .put .ensures) (q .put2 .ensures) (c .both .result) (c .both .ensures)
+    encoding-step (now (a .args .instructions)) (now (a .args .kerns)) (numberOf (wordOf (a .args .design-size))) (a .args .n) (now (a .args .work))
+    (e .loop .work) (p .put .last .0) (q .put2 .last .0) (e .loop .k) (e .loop .scaled) (e .loop .inv) (t .loop-test .taken) (a .pre .room) (g .get .result)
+    (x .before .operation-at .result) (x .effect-of .result) (g .get .ensures) (x .before .operation-at .ensures) (x .effect-of .ensures) (p .put .ensures)
+    (q .put2 .ensures) (c .both .result) (c .both .ensures)
 
 same-length : tie.Need-same-length Inv-loop μ-loop
 same-length c = c .before .loop .inv .same-length
@@ -67,7 +70,9 @@ returns : tie.Need-returns Inv-loop μ-loop
 returns c =
     let e = c .before in
     let a = e .before .before in
-    encoding-end (now (a .args .instructions)) (now (a .args .kerns)) (numberOf (wordOf (a .args .design-size))) (a .args .n) (now (a .args .work)) (e .loop .work) (e .loop .k) (e .loop .scaled) (e .loop .inv) (c .loop-test .left) (a .args .design-size) (a .fits .design-size) (number-word (a .args .design-size) (a .fits .design-size))
+    encoding-end (now (a .args .instructions)) (now (a .args .kerns)) (numberOf (wordOf (a .args .design-size))) (a .args .n) (now (a .args .work))
+    (e .loop .work) (e .loop .k) (e .loop .scaled) (e .loop .inv) (c .loop-test .left) (a .args .design-size) (a .fits .design-size)
+    (number-word (a .args .design-size) (a .fits .design-size))
 
 pub encode-spec : {M : Type 1} → statement M
 encode-spec =

@@ -33,7 +33,8 @@ returns : tie.Need-returns
 returns c =
     let a = c .before .before .before .before .before in
     let f : SFits w32 (c .before .before .v .given .0 .0) = record { sfits = c .before .known-told .given .0 .1 } in
-    kern-scaled (c .before .before .before .before .to-scaled .result) (c .before .before .v .given .0 .0) (c .word-of .result) (c .before .before .v .given .1) (c .word-of .ensures ∙ ap wordOf (number-word (c .before .before .v .given .0 .0) f))
+    kern-scaled (c .before .before .before .before .to-scaled .result) (c .before .before .v .given .0 .0) (c .word-of .result) (c .before .before .v .given .1)
+    (c .word-of .ensures ∙ ap wordOf (number-word (c .before .before .v .given .0 .0) f))
     ∙ ap kernEffect (scaled (c .before .before .before .before))
 
 returns-2 : tie.Need-returns-2

@@ -33,7 +33,8 @@ cast-c : tie.Need-cast-c Inv-loop μ-loop
 cast-c c = omega (arith, read-lt (c .word-at .ensures))
 
 slice-aggregate-put-word : tie.Need-slice-aggregate-put-word Inv-loop μ-loop
-slice-aggregate-put-word c = let e = c .before .before .before in sym (ap length (e .loop .inv .1) ∙ length-entered (now (e .before .args .entries)) (e .loop .i))
+slice-aggregate-put-word c =
+    let e = c .before .before .before in sym (ap length (e .loop .inv .1) ∙ length-entered (now (e .before .args .entries)) (e .loop .i))
 
 mul-word-at-2 : tie.Need-mul-word-at-2 Inv-loop μ-loop
 mul-word-at-2 c = omega arith
@@ -57,8 +58,13 @@ loop-again : tie.Need-loop-again Inv-loop μ-loop
 loop-again c =
     let w = c .before .before in
     let d = w .before .before in
-    let e = d .before .before in
-    (omega arith, c .before .put-word .ensures ∙ rw (e .loop .inv .1) (entered-more (now (e .before .args .entries)) (e .loop .i) (d .word-at .result) (w .word-at2 .result) (d .word-at .ensures) (w .word-at2 .ensures)))
+    let e = d .before .before in (
+      omega arith,
+      c .before .put-word .ensures
+          ∙ rw (e .loop .inv .1)
+          (entered-more (now (e .before .args .entries)) (e .loop .i) (d .word-at .result) (w .word-at2 .result) (d .word-at .ensures)
+          (w .word-at2 .ensures)),
+    )
 
 array-set-from-table : tie.Need-array-set-from-table Inv-loop μ-loop
 array-set-from-table c = search needs
@@ -67,7 +73,8 @@ returns : tie.Need-returns Inv-loop μ-loop
 returns c =
     let e = c .before in
     let a = e .before in
-    entered-all (now (a .args .entries)) (e .loop .table) (a .args .left-entry) (e .loop .i) (a .fits .left-entry) (e .loop .inv .1) (e .loop .inv .0) (c .loop-test .left)
+    entered-all (now (a .args .entries)) (e .loop .table) (a .args .left-entry) (e .loop .i) (a .fits .left-entry) (e .loop .inv .1) (e .loop .inv .0)
+    (c .loop-test .left)
 
 pub entries-table-spec : {M : Type 1} → statement M
 entries-table-spec =

@@ -31,7 +31,8 @@ returns : tie.Need-returns
 returns c =
     let d = c .before .before .before .before in
     let e = d .before in
-    instruction-is (now (e .before .args .instructions)) (e .before .args .i) (d .field-at2 .result) (e .field-at .result) (c .before .before .field-at3 .result) (c .before .field-at4 .result)
+    instruction-is (now (e .before .args .instructions)) (e .before .args .i) (d .field-at2 .result) (e .field-at .result)
+    (c .before .before .field-at3 .result) (c .before .field-at4 .result)
     (d .field-at2 .ensures) (e .field-at .ensures) (c .before .before .field-at3 .ensures) (c .before .field-at4 .ensures)
     (c .before .before .before .next-of .result) (c .operation-of .result) (c .before .before .before .next-of .ensures) (c .operation-of .ensures)
 

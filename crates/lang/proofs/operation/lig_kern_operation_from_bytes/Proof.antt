@@ -1,6 +1,5 @@
--- `lang::operation::lig_kern_operation_from_bytes` meets its contract: below 128 the table's place stands for the op byte's operation; from there on the two bytes
--- are a kern index.
--- Assumes nothing.
+-- `lang::operation::lig_kern_operation_from_bytes` meets its contract: below 128 the table's place stands for the op byte's operation; from there on the two
+-- bytes are a kern index. Assumes nothing.
 use mathlib.Core.Path.{_∙_, sym}
 use native.Mathlib.Omega.{arith}
 use Rattle.lang.proofs.Standard.{by-place, kern-index}

@@ -33,7 +33,9 @@ returns : tie.Need-returns Inv-loop μ-loop
 returns c =
     let a = c .before .before .before .before .before .before .before in
     let l = c .before .before .before .before .before .before .loop in
-    counted-short (rw (l .inv .1) at (c .before .before .share-kern .ensures)) (omega (arith, c .if1 .taken, c .before .before .share-kern .kept .1 .1 .0, l .inv .1)) (count (now (a .args .instructions))) (omega (arith, c .before .before .before .before .before .loop-test .taken))
+    counted-short (rw (l .inv .1) at (c .before .before .share-kern .ensures))
+    (omega (arith, c .if1 .taken, c .before .before .share-kern .kept .1 .1 .0, l .inv .1)) (count (now (a .args .instructions)))
+    (omega (arith, c .before .before .before .before .before .loop-test .taken))
 
 add-i : tie.Need-add-i Inv-loop μ-loop
 add-i c = omega (arith, c .before .before .before .before .before .loop-test .taken, c .before .before .before .before .before .before .before .pre .0)

@@ -1,5 +1,5 @@
--- `kerns::share::share_kern` meets its contract: the instruction has no kern value, or one that is there, or a new one, which is stored, and linked in the slot at
--- which the search for it ended. Assumes nothing.
+-- `kerns::share::share_kern` meets its contract: the instruction has no kern value, or one that is there, or a new one, which is stored, and linked in the slot
+-- at which the search for it ended. Assumes nothing.
 use mathlib.Core.Path.{sym}
 use mathlib.Core.List.{List}
 use Prim.Native.Nat.{ℕ, _<_}
@@ -65,7 +65,8 @@ returns-2 c =
     let r = p .before .before .before in
     let a = r .before .before .before in
     let s = now (a .args .instructions) in
-    counted-there (a .pre .1) (r .field-at2 .ensures) (kind-is 0 s (a .args .i) (r .before .before .field-at .ensures) (r .before .if1 .left)) (among (a .pre .1) (p .slot-of .ensures)) (c .if2 .taken)
+    counted-there (a .pre .1) (r .field-at2 .ensures) (kind-is 0 s (a .args .i) (r .before .before .field-at .ensures) (r .before .if1 .left))
+    (among (a .pre .1) (p .slot-of .ensures)) (c .if2 .taken)
 
 put-word-requires : tie.Need-put-word-requires
 put-word-requires c κs = search needs
@@ -77,10 +78,14 @@ cast-links : tie.Need-cast-links
 cast-links c = search needs
 
 mul-links : tie.Need-mul-links
-mul-links c = let p = c .before .before .before .before .before in omega (arith, slot-lt (p .before .before .before .before .before .before .pre .1) (p .slot-of .ensures))
+mul-links c =
+    let p = c .before .before .before .before .before in
+    omega (arith, slot-lt (p .before .before .before .before .before .before .pre .1) (p .slot-of .ensures))
 
 element-write-links : tie.Need-element-write-links
-element-write-links c = let p = c .before .before .before .before .before in omega (arith, slot-lt (p .before .before .before .before .before .before .pre .1) (p .slot-of .ensures))
+element-write-links c =
+    let p = c .before .before .before .before .before in
+    omega (arith, slot-lt (p .before .before .before .before .before .before .pre .1) (p .slot-of .ensures))
 
 add-result : tie.Need-add-result
 add-result c = search needs
@@ -95,7 +100,8 @@ returns-3 c =
     let a = r .before .before .before in
     let s = now (a .args .instructions) in
     rw (c .before .put-word .ensures)
-    (counted-more (a .pre .1) (r .field-at2 .ensures) (kind-is 0 s (a .args .i) (r .before .before .field-at .ensures) (r .before .if1 .left)) (among (a .pre .1) (p .slot-of .ensures)) (c .before .before .before .if2 .left) (few (a .pre .1) (a .pre .0)))
+    (counted-more (a .pre .1) (r .field-at2 .ensures) (kind-is 0 s (a .args .i) (r .before .before .field-at .ensures) (r .before .if1 .left))
+    (among (a .pre .1) (p .slot-of .ensures)) (c .before .before .before .if2 .left) (few (a .pre .1) (a .pre .0)))
 
 pub share-kern-spec : {M : Type 1} → statement M
 share-kern-spec =

@@ -79,7 +79,8 @@ returns c =
 bit-lt-at : (c : tie.Else2 Inv-loop μ-loop) → c .before .before .before .before .before .loop .bit < 32
 bit-lt-at c =
     let l = c .before .before .before .before .before in
-    bit-lt (l .before .pre) (l .loop .inv) (c .before .before .before .if1 .taken) (c .before .word-at .ensures .is) (c .if2 .left) (l .before .fits .word .fits)
+    bit-lt (l .before .pre) (l .loop .inv) (c .before .before .before .if1 .taken) (c .before .word-at .ensures .is) (c .if2 .left)
+    (l .before .fits .word .fits)
 
 mul-slot : tie.Need-mul-slot Inv-loop μ-loop
 mul-slot c =

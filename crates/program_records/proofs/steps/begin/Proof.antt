@@ -47,7 +47,9 @@ returns-2 : tie.Need-returns-2
 returns-2 c =
     let e = c .before .before in
     let a = e .before in
-    ap begun (taken (a .args .n) (a .args .entry) (e .early-refusal .result) (a .fits .entry) (e .early-refusal .ensures) (c .before .if1 .left) (c .word-of .result) (c .word-of .ensures))
+    ap begun
+    (taken (a .args .n) (a .args .entry) (e .early-refusal .result) (a .fits .entry) (e .early-refusal .ensures) (c .before .if1 .left)
+    (c .word-of .result) (c .word-of .ensures))
 
 pub begin-spec : {M : Type 1} → statement M
 begin-spec = tie.close (tie.spec early-refusal-requires returns word-of-requires cast-t5 returns-2)

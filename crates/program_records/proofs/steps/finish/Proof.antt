@@ -22,36 +22,40 @@ use Rattle.program_records.proofs.steps.finish.Statement.{statement}
 use Rattle.program_records.proofs.steps.finish.Tie as tie
 
 -- the entry was passed on as its 32 bits
-module _ (n : ℕ) (entry : ℤ) (count : ℕ) (out : List ℕ) (f : SFits w32 entry) (r : ℕ) (asked : r ≡ refusalBy n (toZ w32 (ofZ w32 entry)) count (length out)) where
-  refusal-is : r ≡ refusalBy n entry count (length out)
-  refusal-is = asked ∙ rw (toZ-ofZ w32 entry f)
+module _ (n : ℕ) (entry : ℤ) (count : ℕ) (out : List ℕ) (f : SFits w32 entry) (r : ℕ) (asked : r ≡ refusalBy n (toZ w32 (ofZ w32 entry)) count (length out))
+  where
+    refusal-is : r ≡ refusalBy n entry count (length out)
+    refusal-is = asked ∙ rw (toZ-ofZ w32 entry f)
 
-  refused : (r ≡ 0 → ⊥) → (out′ : List ℕ) → out′ ≡ replicate (length out) 0 → FinishesWalk n entry count out (Refused r) out′
-  refused h out′ z =
-      record {
-        answer = refused-answer count refusal-is h;
-        list = refused-list 0 (length out) (take count out) refusal-is h z;
-      }
-
-  module _ (taken : r ≡ 0) where
-    nothing-refused : refusalBy n entry count (length out) ≡ 0
-    nothing-refused = sym refusal-is ∙ taken
-
-    room : count ≤ length out
-    room = room-fits count (length out) (orElse-none (earlyRefusal n entry) (roomRefusal count (length out)) nothing-refused .1)
-
-    -- the part from `count` on is zeroed
-    zeroed : (z : List ℕ) → z ≡ replicate (length (take (length out - count) (drop count out))) 0 → putMid count (length out - count) out z ≡ take count out ++ replicate (length out - length (take count out)) 0
-    zeroed z e =
-        let l : length (take (length out - count) (drop count out)) ≡ length out - count = length-take-le (length out - count) (drop count out) (rw (length-drop count out) (omega arith)) in
-        rw (post-is count (length out) out room, drop-of-length-le out {i = length out} (omega arith), append-nil z, e, l, length-take-le count out room)
-
-    written : (z : List ℕ) → z ≡ replicate (length (take (length out - count) (drop count out))) 0 → FinishesWalk n entry count out (Count count) (putMid count (length out - count) out z)
-    written z e =
+    refused : (r ≡ 0 → ⊥) → (out′ : List ℕ) → out′ ≡ replicate (length out) 0 → FinishesWalk n entry count out (Refused r) out′
+    refused h out′ z =
         record {
-          answer = taken-answer count nothing-refused;
-          list = rw nothing-refused (zeroed z e);
+          answer = refused-answer count refusal-is h;
+          list = refused-list 0 (length out) (take count out) refusal-is h z;
         }
+
+    module _ (taken : r ≡ 0) where
+      nothing-refused : refusalBy n entry count (length out) ≡ 0
+      nothing-refused = sym refusal-is ∙ taken
+
+      room : count ≤ length out
+      room = room-fits count (length out) (orElse-none (earlyRefusal n entry) (roomRefusal count (length out)) nothing-refused .1)
+
+      -- the part from `count` on is zeroed
+      zeroed : (z : List ℕ) → z ≡ replicate (length (take (length out - count) (drop count out))) 0 →
+          putMid count (length out - count) out z ≡ take count out ++ replicate (length out - length (take count out)) 0
+      zeroed z e =
+          let l : length (take (length out - count) (drop count out))
+          ≡ length out - count = length-take-le (length out - count) (drop count out) (rw (length-drop count out) (omega arith)) in
+          rw (post-is count (length out) out room, drop-of-length-le out {i = length out} (omega arith), append-nil z, e, l, length-take-le count out room)
+
+      written : (z : List ℕ) → z ≡ replicate (length (take (length out - count) (drop count out))) 0 →
+          FinishesWalk n entry count out (Count count) (putMid count (length out - count) out z)
+      written z e =
+          record {
+            answer = taken-answer count nothing-refused;
+            list = rw nothing-refused (zeroed z e);
+          }
 
 refusal-requires : tie.Need-refusal-requires
 refusal-requires c κs = search needs
@@ -68,7 +72,8 @@ returns c =
     let t = z .before .before in
     let e = t .before in
     let a = e .before .before in
-    refused (a .args .n) (a .args .entry) (a .args .count) (now (a .args .out)) (a .fits .entry) (e .refusal .result) (e .refusal .ensures) (t .if1 .taken) (z .zero-u32 .last .0) (z .zero-u32 .ensures)
+    refused (a .args .n) (a .args .entry) (a .args .count) (now (a .args .out)) (a .fits .entry) (e .refusal .result) (e .refusal .ensures) (t .if1 .taken)
+    (z .zero-u32 .last .0) (z .zero-u32 .ensures)
 
 within : (c : tie.Else1) → c .before .before .before .args .count ≤ length (now (c .before .before .before .args .out))
 within c =
@@ -100,7 +105,8 @@ returns-2 c =
     let t = z .before .before in
     let e = t .before in
     let a = e .before .before in
-    written (a .args .n) (a .args .entry) (a .args .count) (now (a .args .out)) (a .fits .entry) (e .refusal .result) (e .refusal .ensures) (t .if1 .left) (z .zero-u322 .last .0) (z .zero-u322 .ensures)
+    written (a .args .n) (a .args .entry) (a .args .count) (now (a .args .out)) (a .fits .entry) (e .refusal .result) (e .refusal .ensures) (t .if1 .left)
+    (z .zero-u322 .last .0) (z .zero-u322 .ensures)
 
 pub finish-spec : {M : Type 1} → statement M
 finish-spec =

@@ -17,7 +17,8 @@ module _ (walk : ChainWalk) (next : Next) (i on : ℕ) (e : next ≡ At i on) wh
   fits : stepIndex next < 2 ^ 32 → i < 2 ^ 32
   fits h = rw e at h
 
-  written : (out out′ : List ℕ) → out′ ≡ set out (walk .count) i → (_≡_ {A = ChainWalk} (record { at = on; count = walk .count + 1 }) (movedBy walk next)) × (out′ ≡ putBy walk next out)
+  written : (out out′ : List ℕ) → out′ ≡ set out (walk .count) i →
+      (_≡_ {A = ChainWalk} (record { at = on; count = walk .count + 1 }) (movedBy walk next)) × (out′ ≡ putBy walk next out)
   written out out′ h = (rw e, rw e h)
 
 enum-known-next : tie.Need-enum-known-next
@@ -46,7 +47,8 @@ returns c =
     let p = c .before .before in
     let k = p .before .before .before in
     let a = k .before .before .before in
-    written (a .args .walk) (a .args .next) (k .next .given .0 .0) (k .next .given .0 .1 .0) (k .next .given .1) (now (a .args .out)) (p .put-u32 .last .0) (p .put-u32 .ensures)
+    written (a .args .walk) (a .args .next) (k .next .given .0 .0) (k .next .given .0 .1 .0) (k .next .given .1) (now (a .args .out)) (p .put-u32 .last .0)
+    (p .put-u32 .ensures)
 
 returns-2 : tie.Need-returns-2
 returns-2 c = search needs

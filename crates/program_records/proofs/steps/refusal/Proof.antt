@@ -15,19 +15,22 @@ early-refusal-requires c κs = search needs
 returns : tie.Need-returns
 returns c =
     let a = c .before .before in
-    first-refusal (roomRefusal (a .args .count) (a .args .room)) (early-passed (a .args .n) (a .args .entry) (c .before .early-refusal .result) (a .fits .entry) (c .before .early-refusal .ensures)) (c .if1 .taken)
+    first-refusal (roomRefusal (a .args .count) (a .args .room))
+    (early-passed (a .args .n) (a .args .entry) (c .before .early-refusal .result) (a .fits .entry) (c .before .early-refusal .ensures)) (c .if1 .taken)
 
 returns-2 : tie.Need-returns-2
 returns-2 c =
     let e = c .before .before in
     let a = e .before in
-    later-refusal (early-passed (a .args .n) (a .args .entry) (e .early-refusal .result) (a .fits .entry) (e .early-refusal .ensures)) (c .before .if1 .left) (sym (room-short (a .args .count) (a .args .room) (omega arith)))
+    later-refusal (early-passed (a .args .n) (a .args .entry) (e .early-refusal .result) (a .fits .entry) (e .early-refusal .ensures)) (c .before .if1 .left)
+    (sym (room-short (a .args .count) (a .args .room) (omega arith)))
 
 returns-3 : tie.Need-returns-3
 returns-3 c =
     let e = c .before .before in
     let a = e .before in
-    later-refusal (early-passed (a .args .n) (a .args .entry) (e .early-refusal .result) (a .fits .entry) (e .early-refusal .ensures)) (c .before .if1 .left) (sym (room-is (a .args .count) (a .args .room) (omega arith)))
+    later-refusal (early-passed (a .args .n) (a .args .entry) (e .early-refusal .result) (a .fits .entry) (e .early-refusal .ensures)) (c .before .if1 .left)
+    (sym (room-is (a .args .count) (a .args .room) (omega arith)))
 
 pub refusal-spec : {M : Type 1} → statement M
 refusal-spec = tie.close (tie.spec early-refusal-requires returns returns-2 returns-3)

@@ -28,7 +28,8 @@ returns-3 : tie.Need-returns-3
 returns-3 c =
     let i = c .before .before .before .before .before in
     let a = i .before .args in
-    sym (ends-many (now (a .ops)) (a .s) (sym (i .is-none .ensures) ∙ not-false (i .is-none .result) (c .before .before .before .before .if1 .left)) (c .before .before .if2 .left) (λ e. omega (arith, e)))
+    sym (ends-many (now (a .ops)) (a .s) (sym (i .is-none .ensures) ∙ not-false (i .is-none .result) (c .before .before .before .before .if1 .left))
+    (c .before .before .if2 .left) (λ e. omega (arith, e)))
 
 kind-at-requires : tie.Need-kind-at-requires
 kind-at-requires c κs = search needs
@@ -38,7 +39,8 @@ returns-4 c =
     let i = c .before .before .before .before .before .before in
     let a = i .before .args in
     rw (c .kind-at .ensures .is)
-    (sym (ends-kern (now (a .ops)) (a .s) (sym (i .is-none .ensures) ∙ not-false (i .is-none .result) (c .before .before .before .before .before .if1 .left)) (c .before .before .before .if2 .left) (omega arith)))
+    (sym (ends-kern (now (a .ops)) (a .s) (sym (i .is-none .ensures) ∙ not-false (i .is-none .result) (c .before .before .before .before .before .if1 .left))
+    (c .before .before .before .if2 .left) (omega arith)))
 
 pub ends-word-spec : {M : Type 1} → statement M
 ends-word-spec =

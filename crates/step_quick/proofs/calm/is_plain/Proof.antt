@@ -24,7 +24,8 @@ returns-2 : tie.Need-returns-2
 returns-2 c =
     let a = c .before .before .before .before in
     rw (sym (c .before .before .is-calm .ensures) ∙ not-false _ (c .before .if1 .left))
-    (c .is-taken .ensures ∙ ap (λ (z : ℤ). eqb (stepRefusal z (now (a .args .word)) (a .args .options)) 0) (number-word (a .args .boundary) (a .fits .boundary)))
+    (c .is-taken .ensures
+    ∙ ap (λ (z : ℤ). eqb (stepRefusal z (now (a .args .word)) (a .args .options)) 0) (number-word (a .args .boundary) (a .fits .boundary)))
 
 pub is-plain-spec : {M : Type 1} → statement M
 is-plain-spec = tie.close (tie.spec is-calm-requires returns is-taken-requires returns-2)

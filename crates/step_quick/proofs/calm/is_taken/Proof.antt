@@ -16,8 +16,11 @@ edge : (c : tie.After-absent-refusal) → c .absent-refusal .result ≡ absentRe
 edge c = absent-passed (c .before .before .fits .boundary) (c .absent-refusal .ensures)
 
 -- the override of the options that were passed is an i32
-override : (c : tie.After-absent-refusal2) → c .absent-refusal2 .result ≡ absentRefusal 255 (c .before .before .before .before .before .args .options .«right_boundary_override»)
-override c = absent-passed {z = c .before .before .before .before .before .args .options .«right_boundary_override»} (record { sfits = c .before .struct-told .given .1 .0 .1 }) (c .absent-refusal2 .ensures)
+override : (c : tie.After-absent-refusal2) →
+    c .absent-refusal2 .result ≡ absentRefusal 255 (c .before .before .before .before .before .args .options .«right_boundary_override»)
+override c =
+    absent-passed {z = c .before .before .before .before .before .args .options .«right_boundary_override»}
+    (record { sfits = c .before .struct-told .given .1 .0 .1 }) (c .absent-refusal2 .ensures)
 
 absent-refusal-requires : tie.Need-absent-refusal-requires
 absent-refusal-requires c κs = search needs
@@ -26,7 +29,8 @@ returns : tie.Need-returns
 returns c =
     let a = c .before .before .before .args in
     let e = edge (c .before) in
-    first-refused (absentRefusal 255 (a .boundary)) (absentRefusal 255 (a .options .«right_boundary_override»)) (wordRefusal (now (a .word))) (λ h. c .if1 .taken (e ∙ h))
+    first-refused (absentRefusal 255 (a .boundary)) (absentRefusal 255 (a .options .«right_boundary_override»)) (wordRefusal (now (a .word)))
+    (λ h. c .if1 .taken (e ∙ h))
 
 absent-refusal-requires-2 : tie.Need-absent-refusal-requires-2
 absent-refusal-requires-2 c κs = search needs
@@ -36,14 +40,16 @@ returns-2 c =
     let a = c .before .before .before .before .before .before .args in
     let e = edge (c .before .before .before .before) in
     let f = override (c .before) in
-    second-refused (absentRefusal 255 (a .boundary)) (absentRefusal 255 (a .options .«right_boundary_override»)) (wordRefusal (now (a .word))) (sym e ∙ c .before .before .before .if1 .left) (λ h. c .if2 .taken (f ∙ h))
+    second-refused (absentRefusal 255 (a .boundary)) (absentRefusal 255 (a .options .«right_boundary_override»)) (wordRefusal (now (a .word)))
+    (sym e ∙ c .before .before .before .if1 .left) (λ h. c .if2 .taken (f ∙ h))
 
 returns-3 : tie.Need-returns-3
 returns-3 c =
     let a = c .before .before .before .before .before .before .args in
     let e = edge (c .before .before .before .before) in
     let f = override (c .before) in
-    neither-refused (absentRefusal 255 (a .boundary)) (absentRefusal 255 (a .options .«right_boundary_override»)) (leb (length (now (a .word))) 65535) (sym e ∙ c .before .before .before .if1 .left) (sym f ∙ c .if2 .left)
+    neither-refused (absentRefusal 255 (a .boundary)) (absentRefusal 255 (a .options .«right_boundary_override»)) (leb (length (now (a .word))) 65535)
+    (sym e ∙ c .before .before .before .if1 .left) (sym f ∙ c .if2 .left)
 
 pub is-taken-spec : {M : Type 1} → statement M
 is-taken-spec =

@@ -30,7 +30,11 @@ returns-2 : tie.Need-returns-2
 returns-2 c =
     let o = c .before in
     let a = o .before .before .args in
-    rw (lt-ltb (a .s .op) (opCount (now (a .ops))) (o .before .if1 .left), number-word (opValue (now (a .ops)) (a .s .op)) (record { sfits = c .value .given }), o .after-op .ensures)
+    rw (
+      lt-ltb (a .s .op) (opCount (now (a .ops))) (o .before .if1 .left),
+      number-word (opValue (now (a .ops)) (a .s .op)) (record { sfits = c .value .given }),
+      o .after-op .ensures,
+    )
 
 pub give-kern-spec : {M : Type 1} → statement M
 give-kern-spec =

@@ -16,19 +16,26 @@ use borrow.Author.Needs.{needs}
 use Rattle.step_quick.proofs.kern.is_kern.Statement.{statement}
 use Rattle.step_quick.proofs.kern.is_kern.Tie as tie
 
-tested : (c : tie.After-is-plain) → let a = c .before .before .before .before .args in c .is-plain .result ≡ isPlain (now (a .ops)) (a .boundary) (now (a .word)) (a .options) (a .s)
+tested : (c : tie.After-is-plain) → let a = c .before .before .before .before .args in
+    c .is-plain .result ≡ isPlain (now (a .ops)) (a .boundary) (now (a .word)) (a .options) (a .s)
 tested c =
     let b = c .before .before .before .before in
     let a = b .args in
     c .is-plain .ensures ∙ ap (λ (z : ℤ). isPlain (now (a .ops)) z (now (a .word)) (a .options) (a .s)) (number-word (a .boundary) (b .fits .boundary))
 
-plain : (c : tie.Else2) → let a = c .before .before .before .before .before .args in isPlain (now (a .ops)) (a .boundary) (now (a .word)) (a .options) (a .s) ≡ true
+plain : (c : tie.Else2) → let a = c .before .before .before .before .before .args in
+    isPlain (now (a .ops)) (a .boundary) (now (a .word)) (a .options) (a .s) ≡ true
 plain c = sym (tested (c .before)) ∙ not-false _ (c .if2 .left)
 
 there : (c : tie.Else2) → let a = c .before .before .before .before .before .args in a .s .op < opCount (now (a .ops))
 there c =
     let a = c .before .before .before .before .before .args in
-    omega (arith, c .before .before .if1 .left, placed-among (now (a .ops)) (a .boundary) (now (a .word)) (a .options) (a .s) (calm-is (now (a .ops)) (a .boundary) (now (a .word)) (a .options) (a .s) (plain c)))
+    omega (
+      arith,
+      c .before .before .if1 .left,
+      placed-among (now (a .ops)) (a .boundary) (now (a .word)) (a .options) (a .s)
+          (calm-is (now (a .ops)) (a .boundary) (now (a .word)) (a .options) (a .s) (plain c)),
+    )
 
 returns : tie.Need-returns
 returns c = rw (ne-eqb (c .before .before .before .args .s .ops) 1 (c .if1 .taken))
@@ -37,7 +44,11 @@ is-plain-requires : tie.Need-is-plain-requires
 is-plain-requires c κs = search needs
 
 returns-2 : tie.Need-returns-2
-returns-2 c = rw (eq-eqb (c .before .before .before .before .before .args .s .ops) 1 (c .before .before .if1 .left), sym (tested (c .before)) ∙ not-true _ (c .if2 .taken))
+returns-2 c =
+    rw (
+      eq-eqb (c .before .before .before .before .before .args .s .ops) 1 (c .before .before .if1 .left),
+      sym (tested (c .before)) ∙ not-true _ (c .if2 .taken),
+    )
 
 mul-kind : tie.Need-mul-kind
 mul-kind c = omega (arith, there c)

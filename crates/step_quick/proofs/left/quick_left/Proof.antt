@@ -14,7 +14,8 @@ use borrow.Author.Needs.{needs}
 use Rattle.step_quick.proofs.left.quick_left.Statement.{statement}
 use Rattle.step_quick.proofs.left.quick_left.Tie as tie
 
-tested : (c : tie.After-is-quick) → let a = c .before .before .args in c .is-quick .result ≡ isQuick (now (a .ops)) (a .boundary) (now (a .word)) (a .options) (a .s)
+tested : (c : tie.After-is-quick) → let a = c .before .before .args in
+    c .is-quick .result ≡ isQuick (now (a .ops)) (a .boundary) (now (a .word)) (a .options) (a .s)
 tested c =
     let b = c .before .before in
     let a = b .args in
@@ -33,7 +34,9 @@ plain-code-requires : tie.Need-plain-code-requires
 plain-code-requires c κs = search needs
 
 add-result : tie.Need-add-result
-add-result c = let a = c .before .before .before .before .args in omega (arith, c .plain-code .ensures, quick-is (now (a .ops)) (a .boundary) (now (a .word)) (a .options) (a .s) (quick (c .before)) .calm .code)
+add-result c =
+    let a = c .before .before .before .before .args in
+    omega (arith, c .plain-code .ensures, quick-is (now (a .ops)) (a .boundary) (now (a .word)) (a .options) (a .s) (quick (c .before)) .calm .code)
 
 returns-2 : tie.Need-returns-2
 returns-2 c = rw (quick (c .before), add-one (c .plain-code .result), c .plain-code .ensures)

@@ -36,7 +36,8 @@ returns-4 c =
     let e = f .before .before in
     let a = e .before .before .before .args in
     let o = c .before .ops-placed in
-    sym (placed-ops (now (a .ops)) (now (a .word)) (a .s) (e .if1 .left) (f .if2 .left) (g .if3 .left) (sym (o .ensures) ∙ not-true (o .result) (c .if4 .taken)))
+    sym (placed-ops (now (a .ops)) (now (a .word)) (a .s) (e .if1 .left) (f .if2 .left) (g .if3 .left)
+    (sym (o .ensures) ∙ not-true (o .result) (c .if4 .taken)))
 
 next-fits-requires : tie.Need-next-fits-requires
 next-fits-requires c κs = search needs
@@ -48,7 +49,9 @@ returns-5 c =
     let e = f .before .before in
     let a = e .before .before .before .args in
     let o = c .before .before .ops-placed in
-    c .next-fits .ensures ∙ sym (placed-next (now (a .ops)) (now (a .word)) (a .s) (e .if1 .left) (f .if2 .left) (g .if3 .left) (sym (o .ensures) ∙ not-false (o .result) (c .before .if4 .left)))
+    c .next-fits .ensures
+    ∙ sym (placed-next (now (a .ops)) (now (a .word)) (a .s) (e .if1 .left) (f .if2 .left) (g .if3 .left)
+    (sym (o .ensures) ∙ not-false (o .result) (c .before .if4 .left)))
 
 pub placed-spec : {M : Type 1} → statement M
 placed-spec =

@@ -32,7 +32,18 @@ left-consumed-requires : tie.Need-left-consumed-requires
 left-consumed-requires c κs = search needs
 
 returns : tie.Need-returns
-returns c = rw (c .before .before .after-right .ensures, c .before .read-on .ensures, c .left-consumed .ensures, c .before .before .before .number-at4 .ensures .is, c .before .before .before .before .number-at3 .ensures .is, c .before .before .before .before .before .number-at2 .ensures .is, c .before .before .before .before .before .before .number-at .ensures .is)
+returns c =
+    let c6 = c .before .before .before .before .before .before in
+    let c5 = c .before .before .before .before .before in
+    rw (
+      c .before .before .after-right .ensures,
+      c .before .read-on .ensures,
+      c .left-consumed .ensures,
+      c .before .before .before .number-at4 .ensures .is,
+      c .before .before .before .before .number-at3 .ensures .is,
+      c5 .number-at2 .ensures .is,
+      c6 .number-at .ensures .is,
+    )
 
 pub entered-spec : {M : Type 1} → statement M
 entered-spec =

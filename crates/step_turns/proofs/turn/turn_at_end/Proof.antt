@@ -25,7 +25,8 @@ returns c =
     let i = c .before .before in
     let a = i .before .args in
     rw (c .ends .ensures)
-    (sym (end-empty (now (a .pairs)) (now (a .ops)) (a .s) (orBoundary (numberOf (a .right))) (a .x) (sym (i .is-character .ensures) ∙ not-true (i .is-character .result) (c .before .if1 .taken))))
+    (sym (end-empty (now (a .pairs)) (now (a .ops)) (a .s) (orBoundary (numberOf (a .right))) (a .x)
+    (sym (i .is-character .ensures) ∙ not-true (i .is-character .result) (c .before .if1 .taken))))
 
 turn-with-requires : tie.Need-turn-with-requires
 turn-with-requires c κs = search needs
@@ -47,7 +48,8 @@ returns-3 c =
     let l = c .before .before in
     let e = l .before in
     let a = e .before .before .args in
-    rw (c .give-left .ensures, c .before .with-next .ensures) (sym (end-free (now (a .pairs)) (now (a .ops)) (a .s) (a .right) (a .x) (character e) (l .if2 .left)))
+    rw (c .give-left .ensures, c .before .with-next .ensures)
+    (sym (end-free (now (a .pairs)) (now (a .ops)) (a .s) (a .right) (a .x) (character e) (l .if2 .left)))
 
 pub turn-at-end-spec : {M : Type 1} → statement M
 turn-at-end-spec =

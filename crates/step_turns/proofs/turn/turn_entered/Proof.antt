@@ -23,7 +23,10 @@ returns : tie.Need-returns
 returns c =
     let f = c .before .before in
     let a = f .before .args in
-    rw (c .refuses .ensures, unread (now (a .pairs)) (now (a .ops)) (a .x) (a .k) (sym (f .record-fits .ensures) ∙ not-true (f .record-fits .result) (c .before .if1 .taken)))
+    rw (
+      c .refuses .ensures,
+      unread (now (a .pairs)) (now (a .ops)) (a .x) (a .k) (sym (f .record-fits .ensures) ∙ not-true (f .record-fits .result) (c .before .if1 .taken)),
+    )
 
 swallows-requires : tie.Need-swallows-requires
 swallows-requires c κs = search needs

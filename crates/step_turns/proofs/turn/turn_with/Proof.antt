@@ -18,7 +18,8 @@ key c =
     c .find .ensures ∙ ap (λ (l : ℕ). foundAt (find (now (a .pairs)) (keyBy l (a .y)))) (c .before .left-place-of .ensures)
 
 -- the pair that was found
-inside : (c : tie.After-k) → let a = c .before .before .before .before .args in find (now (a .pairs)) (keyBy (leftPlaceOf (a .x)) (a .y)) ≡ some (c .k .given .0 .0)
+inside : (c : tie.After-k) → let a = c .before .before .before .before .args in
+    find (now (a .pairs)) (keyBy (leftPlaceOf (a .x)) (a .y)) ≡ some (c .k .given .0 .0)
 inside c =
     let f = c .before .before in
     let a = f .before .before .args in
@@ -47,7 +48,8 @@ returns c =
     let f = c .before .before .before in
     let a = f .before .before .args in
     rw (c .turn-free .ensures)
-    (sym (turn-none (now (a .pairs)) (now (a .ops)) (a .s) (a .x) (a .letter) (a .y) (found-none (find (now (a .pairs)) (keyBy (leftPlaceOf (a .x)) (a .y))) (sym (key f) ∙ c .before .enum-told .given .1))))
+    (sym (turn-none (now (a .pairs)) (now (a .ops)) (a .s) (a .x) (a .letter) (a .y)
+    (found-none (find (now (a .pairs)) (keyBy (leftPlaceOf (a .x)) (a .y))) (sym (key f) ∙ c .before .enum-told .given .1))))
 
 returns-2 : tie.Need-returns-2
 returns-2 c =

@@ -50,7 +50,8 @@ returns c =
     λ code.
     let x = item (eqb (a .args .flag) 1) code in
     sym (t .before .loop .inv x
-    ∙ pass-character (now (a .args .ops)) (t .before .loop .i) (a .args .end) (t .loop-test .taken) (k .word-in .ensures) x (v .word-in2 .ensures) (a .args .left) (a .fits .left .fits) (v .before .if1 .taken)
+    ∙ pass-character (now (a .args .ops)) (t .before .loop .i) (a .args .end) (t .loop-test .taken) (k .word-in .ensures) x (v .word-in2 .ensures)
+    (a .args .left) (a .fits .left .fits) (v .before .if1 .taken)
     ∙ rw (sym (c .before .op-passes .ensures) ∙ not-true _ (c .if2 .taken)))
 
 add-later-pass : tie.Need-add-later-pass Inv-loop μ-loop
@@ -69,7 +70,8 @@ returns-2 c =
     λ code.
     let x = item (eqb (a .args .flag) 1) code in
     sym (t .before .loop .inv x
-    ∙ pass-character (now (a .args .ops)) (t .before .loop .i) (a .args .end) (t .loop-test .taken) (k .word-in .ensures) x (v .word-in2 .ensures) (a .args .left) (a .fits .left .fits) (v .before .if1 .taken)
+    ∙ pass-character (now (a .args .ops)) (t .before .loop .i) (a .args .end) (t .loop-test .taken) (k .word-in .ensures) x (v .word-in2 .ensures)
+    (a .args .left) (a .fits .left .fits) (v .before .if1 .taken)
     ∙ rw (sym (o .before .op-passes .ensures) ∙ not-false _ (o .if2 .left)) (sym (c .later-pass .ensures x)))
 
 add-i : tie.Need-add-i Inv-loop μ-loop
@@ -83,7 +85,8 @@ loop-again c =
     let k = c .before in
     let t = k .before in
     let a = t .before .before .args in
-    λ x. t .before .loop .inv x ∙ pass-kern (now (a .ops)) (t .before .loop .i) (a .end) (t .loop-test .taken) (k .word-in .ensures) x (leftBy (a .left)) (c .if1 .left)
+    λ x. t .before .loop .inv x
+    ∙ pass-kern (now (a .ops)) (t .before .loop .i) (a .end) (t .loop-test .taken) (k .word-in .ensures) x (leftBy (a .left)) (c .if1 .left)
 
 returns-3 : tie.Need-returns-3 Inv-loop μ-loop
 returns-3 c =
@@ -92,7 +95,8 @@ returns-3 c =
     λ code.
     let x = item (eqb (a .flag) 1) code in
     eq-eqb (a .left) 4294967295 (c .if3 .taken)
-    ∙ sym (t .before .loop .inv x ∙ none-pass (now (a .ops)) (t .before .loop .i) (a .end) (leftBy (a .left)) x (t .loop-test .left) ∙ takes-none (a .left) x (c .if3 .taken))
+    ∙ sym (t .before .loop .inv x ∙ none-pass (now (a .ops)) (t .before .loop .i) (a .end) (leftBy (a .left)) x (t .loop-test .left)
+    ∙ takes-none (a .left) x (c .if3 .taken))
 
 returns-4 : tie.Need-returns-4 Inv-loop μ-loop
 returns-4 c =

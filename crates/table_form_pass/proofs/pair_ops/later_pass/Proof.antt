@@ -45,7 +45,10 @@ returns c =
     let v = c .before .before in
     let t = v .before .before in
     let a = t .before .before .args in
-    λ x. sym (t .before .loop .inv x ∙ pass-later (now (a .ops)) (t .before .loop .i) (a .end) (t .loop-test .taken) (v .before .word-in .ensures) x (v .word-in2 .ensures) ∙ rw (sym (c .before .op-passes .ensures) ∙ not-true _ (c .if1 .taken)))
+    λ x.
+    sym (t .before .loop .inv x
+    ∙ pass-later (now (a .ops)) (t .before .loop .i) (a .end) (t .loop-test .taken) (v .before .word-in .ensures) x (v .word-in2 .ensures)
+    ∙ rw (sym (c .before .op-passes .ensures) ∙ not-true _ (c .if1 .taken)))
 
 add-i : tie.Need-add-i Inv-loop μ-loop
 add-i c = omega arith
@@ -58,7 +61,9 @@ loop-again c =
     let v = c .before .before in
     let t = v .before .before in
     let a = t .before .before .args in
-    λ x. t .before .loop .inv x ∙ pass-later (now (a .ops)) (t .before .loop .i) (a .end) (t .loop-test .taken) (v .before .word-in .ensures) x (v .word-in2 .ensures) ∙ rw (sym (c .before .op-passes .ensures) ∙ not-false _ (c .if1 .left))
+    λ x. t .before .loop .inv x
+    ∙ pass-later (now (a .ops)) (t .before .loop .i) (a .end) (t .loop-test .taken) (v .before .word-in .ensures) x (v .word-in2 .ensures)
+    ∙ rw (sym (c .before .op-passes .ensures) ∙ not-false _ (c .if1 .left))
 
 returns-2 : tie.Need-returns-2 Inv-loop μ-loop
 returns-2 c =

@@ -47,7 +47,8 @@ returns c =
     let a = k .before .before in
     λ code.
     c .op-passes .ensures
-    ∙ pass-two (now (a .args .ops)) (a .args .start) (a .args .end) (k .before .if1 .taken) (k .word-in .ensures) (v .word-in3 .ensures) (n .word-in2 .ensures) (n .before .if2 .taken) (v .before .if3 .taken) (item (eqb (a .args .flag) 1) code) (a .args .left) (a .fits .left .fits)
+    ∙ pass-two (now (a .args .ops)) (a .args .start) (a .args .end) (k .before .if1 .taken) (k .word-in .ensures) (v .word-in3 .ensures) (n .word-in2 .ensures)
+    (n .before .if2 .taken) (v .before .if3 .taken) (item (eqb (a .args .flag) 1) code) (a .args .left) (a .fits .left .fits)
 
 all-pass-requires : tie.Need-all-pass-requires
 all-pass-requires c κs = search needs

@@ -15,7 +15,9 @@ use Rattle.table_queries.proofs.keys.keys_refusal.Statement.{statement}
 use Rattle.table_queries.proofs.keys.keys_refusal.Tie as tie
 
 -- the numbers are in sixes, and every pair's left and right are of the form
-passed : (c : tie.Else2) → both (eqb (length (now (c .before .before .before .args .pairs)) % 6) 0) (every (pairCount (now (c .before .before .before .args .pairs))) (keyForm (now (c .before .before .before .args .pairs)))) ≡ true
+passed : (c : tie.Else2) →
+    both (eqb (length (now (c .before .before .before .args .pairs)) % 6) 0)
+    (every (pairCount (now (c .before .before .before .args .pairs))) (keyForm (now (c .before .before .before .args .pairs)))) ≡ true
 passed c =
     let s = now (c .before .before .before .args .pairs) in
     rw (eq-eqb (length s % 6) 0 (c .before .before .if1 .left), sym (c .before .keys-form .ensures) ∙ not-false _ (c .if2 .left))

@@ -17,13 +17,17 @@ same-length : tie.Need-same-length
 same-length c = search needs
 
 returns : tie.Need-returns
-returns c = let b = c .before .before in let a = b .before .before .args in put-next (now (a .out)) (a .at) (a .word) (b .put-word .last .0) (b .put-word .ensures) (omega arith)
+returns c =
+    let b = c .before .before in let a = b .before .before .args in
+    put-next (now (a .out)) (a .at) (a .word) (b .put-word .last .0) (b .put-word .ensures) (omega arith)
 
 same-length-2 : tie.Need-same-length-2
 same-length-2 c = search needs
 
 returns-2 : tie.Need-returns-2
-returns-2 c = let b = c .before .before in let a = b .before .before .args in put-stays (now (a .out)) (a .at) (a .word) (b .put-word .last .0) (b .put-word .ensures) (omega arith)
+returns-2 c =
+    let b = c .before .before in let a = b .before .before .args in
+    put-stays (now (a .out)) (a .at) (a .word) (b .put-word .last .0) (b .put-word .ensures) (omega arith)
 
 pub put-one-spec : {M : Type 1} → statement M
 put-one-spec =

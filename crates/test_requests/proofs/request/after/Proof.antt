@@ -26,7 +26,9 @@ sub-if2-2 : tie.Need-sub-if2-2
 sub-if2-2 c = search needs
 
 returns-2 : tie.Need-returns-2
-returns-2 c = let a = c .before .before .before .args in after-past (a .width) (now (a .numbers)) (a .at) (c .before .word-at .result) (c .before .word-at .ensures .is) (omega arith) (omega arith)
+returns-2 c =
+    let a = c .before .before .before .args in
+    after-past (a .width) (now (a .numbers)) (a .at) (c .before .word-at .result) (c .before .word-at .ensures .is) (omega arith) (omega arith)
 
 add-result : tie.Need-add-result
 add-result c = search needs
@@ -35,7 +37,9 @@ add-result-2 : tie.Need-add-result-2
 add-result-2 c = search needs
 
 returns-3 : tie.Need-returns-3
-returns-3 c = let a = c .before .before .before .args in after-is (a .width) (now (a .numbers)) (a .at) (c .before .word-at .result) (c .before .word-at .ensures .is) (omega arith) (omega arith)
+returns-3 c =
+    let a = c .before .before .before .args in
+    after-is (a .width) (now (a .numbers)) (a .at) (c .before .word-at .result) (c .before .word-at .ensures .is) (omega arith) (omega arith)
 
 pub after-spec : {M : Type 1} → statement M
 after-spec =

@@ -25,7 +25,8 @@ part-requires c κs = search needs
 returns-2 : tie.Need-returns-2
 returns-2 c =
     let a = c .before .before .before .args in
-    items-are (a .width) (now (a .numbers)) (a .at) (now (c .part .result)) (c .before .after .result) (omega arith) (c .before .after .ensures) (c .part .ensures)
+    items-are (a .width) (now (a .numbers)) (a .at) (now (c .part .result)) (c .before .after .result) (omega arith) (c .before .after .ensures)
+    (c .part .ensures)
 
 pub items-spec : {M : Type 1} → statement M
 items-spec =

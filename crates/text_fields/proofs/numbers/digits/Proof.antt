@@ -24,14 +24,16 @@ returns : tie.Need-returns Inv-loop μ-loop
 returns c =
     let l = c .before .before .before in
     let s = l .before .before in
-    sym (counting-low (s .args .text .now) (s .args .from) (s .args .end) (s .pre .few) (s .pre .inside) (l .loop .inv) (c .before .before .loop-test .taken) (c .if1 .taken))
+    sym (counting-low (s .args .text .now) (s .args .from) (s .args .end) (s .pre .few) (s .pre .inside) (l .loop .inv) (c .before .before .loop-test .taken)
+    (c .if1 .taken))
 
 returns-2 : tie.Need-returns-2 Inv-loop μ-loop
 returns-2 c =
     let e = c .before in
     let l = e .before .before .before in
     let s = l .before .before in
-    sym (counting-high (s .args .text .now) (s .args .from) (s .args .end) (s .pre .few) (s .pre .inside) (l .loop .inv) (e .before .before .loop-test .taken) (e .if1 .left) (c .if2 .taken))
+    sym (counting-high (s .args .text .now) (s .args .from) (s .args .end) (s .pre .few) (s .pre .inside) (l .loop .inv) (e .before .before .loop-test .taken)
+    (e .if1 .left) (c .if2 .taken))
 
 -- less than a field of 12 columns can hold
 few : (l : tie.At-loop Inv-loop μ-loop) → l .loop .n < 1000000000000
@@ -55,7 +57,8 @@ loop-again c =
     let l = e .before .before .before in
     let s = l .before .before in
     rw (c .with-digit .ensures)
-    (counting-more (s .args .text .now) (s .args .from) (s .args .end) (s .pre .few) (s .pre .inside) (l .loop .inv) (e .before .before .loop-test .taken) (e .if1 .left) (f .if2 .left))
+    (counting-more (s .args .text .now) (s .args .from) (s .args .end) (s .pre .few) (s .pre .inside) (l .loop .inv) (e .before .before .loop-test .taken)
+    (e .if1 .left) (f .if2 .left))
 
 returns-3 : tie.Need-returns-3 Inv-loop μ-loop
 returns-3 c =

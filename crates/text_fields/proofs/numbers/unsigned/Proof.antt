@@ -27,7 +27,8 @@ returns-3 : tie.Need-returns-3
 returns-3 c =
     let i = c .before in
     let s = i .before .before .before .before in
-    sym (unsigned-zeros (s .args .text .now) (s .args .from) (s .args .end) (s .pre .inside) (two-at-least (s .args .from) (s .args .end) (s .pre .order) (i .before .before .if1 .left) (c .if3 .left)) (i .if2 .taken))
+    sym (unsigned-zeros (s .args .text .now) (s .args .from) (s .args .end) (s .pre .inside)
+    (two-at-least (s .args .from) (s .args .end) (s .pre .order) (i .before .before .if1 .left) (c .if3 .left)) (i .if2 .taken))
 
 digits-requires : tie.Need-digits-requires
 digits-requires c κs = search needs

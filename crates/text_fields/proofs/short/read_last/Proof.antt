@@ -60,7 +60,8 @@ returns-3 : tie.Need-returns-3
 returns-3 c =
     let i = c .before in
     let s = i .before .before .before .before .before in
-    c .three-digits .ensures ∙ sym (ap numberReply (blank-one (s .args .text .now) (s .args .from) (i .if3 .taken) .reads (s .args .end) (omega (arith, s .pre .0)) (s .pre .1)))
+    c .three-digits .ensures
+    ∙ sym (ap numberReply (blank-one (s .args .text .now) (s .args .from) (i .if3 .taken) .reads (s .args .end) (omega (arith, s .pre .0)) (s .pre .1)))
 
 read-part-requires : tie.Need-read-part-requires
 read-part-requires c κs = search needs

@@ -51,8 +51,16 @@ with-digit-requires-3 c κs =
     let x = c .before in
     let i = x .before in
     let j = i .before .before in
-    let k = j .before .before in
-    (omega (arith, c .with-digit2 .ensures, x .with-digit .ensures, k .before .digit-from .ensures (k .if1 .taken), j .before .digit-from2 .ensures (j .if2 .taken)), i .before .digit-from3 .ensures (i .if3 .taken) .0)
+    let k = j .before .before in (
+      omega (
+        arith,
+        c .with-digit2 .ensures,
+        x .with-digit .ensures,
+        k .before .digit-from .ensures (k .if1 .taken),
+        j .before .digit-from2 .ensures (j .if2 .taken),
+      ),
+      i .before .digit-from3 .ensures (i .if3 .taken) .0,
+    )
 
 without-sign-requires : tie.Need-without-sign-requires
 without-sign-requires c κs = search needs
@@ -75,7 +83,9 @@ returns c =
     ∙ ap (λ (n : ℕ). numberReply (withoutSign (some n)))
     (z .with-digit3 .ensures
     ∙ ap (λ (n : ℕ). 10 * n + (third - 48)) (y .with-digit2 .ensures ∙ ap (λ (n : ℕ). 10 * n + (second - 48)) (x .with-digit .ensures)))
-    ∙ sym (ap numberReply (read-three (s .args .text .now) (s .args .from) (s .args .end) (s .pre .1) (omega (arith, s .pre .0)) (a .0) (a .1) (s .pre .0) (b .0) (b .1) (d .0) (d .1)))
+    ∙ sym (ap numberReply
+    (read-three (s .args .text .now) (s .args .from) (s .args .end) (s .pre .1) (omega (arith, s .pre .0)) (a .0) (a .1) (s .pre .0) (b .0) (b .1) (d .0)
+    (d .1)))
 
 read-part-requires : tie.Need-read-part-requires
 read-part-requires c κs = search needs

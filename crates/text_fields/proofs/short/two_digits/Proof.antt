@@ -52,7 +52,8 @@ returns c =
     let second = getD (s .args .text .now) (s .args .from + 1) 0 in
     c .without-sign .ensures
     ∙ ap (λ (n : ℕ). numberReply (withoutSign (some n))) (y .with-digit2 .ensures ∙ ap (λ (n : ℕ). 10 * n + (second - 48)) (x .with-digit .ensures))
-    ∙ sym (ap numberReply (read-two (s .args .text .now) (s .args .from) (s .args .end) (s .pre .1) (omega (arith, s .pre .0)) (a .0) (a .1) (s .pre .0) (b .0) (b .1)))
+    ∙ sym (ap numberReply
+    (read-two (s .args .text .now) (s .args .from) (s .args .end) (s .pre .1) (omega (arith, s .pre .0)) (a .0) (a .1) (s .pre .0) (b .0) (b .1)))
 
 read-part-requires : tie.Need-read-part-requires
 read-part-requires c κs = search needs

@@ -34,7 +34,8 @@ loop-less : tie.Need-loop-less Inv-loop μ-loop
 loop-less c = omega arith
 
 loop-again : tie.Need-loop-again Inv-loop μ-loop
-loop-again c = (omega arith, let a = c .before .before .args in sets-same (c .before .loop .i) 32 (a .out .now) (c .before .loop .out) (a .at) (c .before .loop .inv .1))
+loop-again c =
+    (omega arith, let a = c .before .before .args in sets-same (c .before .loop .i) 32 (a .out .now) (c .before .loop .out) (a .at) (c .before .loop .inv .1))
 
 same-length : tie.Need-same-length Inv-loop μ-loop
 same-length c = kept (c .before)

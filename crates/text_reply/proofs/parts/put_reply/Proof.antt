@@ -18,13 +18,20 @@ put-table-requires c κs =
     omega (arith, parts-fit (a .pairs .now) (a .ops .now) (a .loops .now) (numberOf (a .letters)) (a .items .now) (a .out .now) (s .pre))
 
 -- the table and the loops after it are written
-front : (c : tie.After-put-lines) → let a = c .before .before .before .before .before .before .before .args in Puts (tableBytes (a .pairs .now) (a .ops .now) ++ loopBytes (a .loops .now)) (a .out .now) 0 (c .put-lines .result) (c .put-lines .last .1 .1 .1 .1 .1 .0)
+front : (c : tie.After-put-lines) → let a = c .before .before .before .before .before .before .before .args in
+    Puts (tableBytes (a .pairs .now) (a .ops .now) ++ loopBytes (a .loops .now)) (a .out .now) 0 (c .put-lines .result) (c .put-lines .last .1 .1 .1 .1 .1 .0)
 front c =
     let x = c .before .before .before .before in
     let s = x .before .before .before in
     let a = s .args in
     let p = x .put-table .ensures in
-    let q = loops-put (a .loops .now) (omega (arith, parts-fit (a .pairs .now) (a .ops .now) (a .loops .now) (numberOf (a .letters)) (a .items .now) (a .out .now) (s .pre), p .next, puts-length p)) (c .put-lines .ensures) in
+    let q = loops-put (a .loops .now)
+    (omega (
+      arith,
+      parts-fit (a .pairs .now) (a .ops .now) (a .loops .now) (numberOf (a .letters)) (a .items .now) (a .out .now) (s .pre),
+      p .next,
+      puts-length p,
+    )) (c .put-lines .ensures) in
     puts-both p q
 
 put-lines-requires : tie.Need-put-lines-requires

@@ -31,7 +31,9 @@ returns c =
     let g = x .before .before .before .number-of in
     let i = x .before .before .before .before in
     let s = i .before .before in
-    word-put (s .args .letters) (s .args .items .now) (i .if1 .taken) (s .args .out .now) (s .args .at) (s .pre) (numberOf (wordOf (g .result))) (number-stored (s .args .letters) (g .result) (g .ensures) (s .fits .letters .fits)) (x .put-lines .last .1 .1 .1 .1 .1 .0) (x .put-lines .result) (x .put-lines .ensures) (y .last .1 .1 .1 .1 .1 .0) (y .result) (y .ensures)
+    word-put (s .args .letters) (s .args .items .now) (i .if1 .taken) (s .args .out .now) (s .args .at) (s .pre) (numberOf (wordOf (g .result)))
+    (number-stored (s .args .letters) (g .result) (g .ensures) (s .fits .letters .fits)) (x .put-lines .last .1 .1 .1 .1 .1 .0) (x .put-lines .result)
+    (x .put-lines .ensures) (y .last .1 .1 .1 .1 .1 .0) (y .result) (y .ensures)
 
 returns-2 : tie.Need-returns-2
 returns-2 c =

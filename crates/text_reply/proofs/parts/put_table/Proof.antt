@@ -68,7 +68,9 @@ loop-again c =
     let s = l .before .before in
     let a = s .args in (
       omega arith,
-      pair-more (a .pairs .now) (a .ops .now) (a .out .now) (a .at) (l .loop .k) (l .loop .next) (l .loop .out) (i .loop-test .taken) (s .pre) (l .loop .inv .1) (omega (arith, s .good)) (x .put-pair .result) (x .put-pair .last .1 .1 .0) (x .put-pair .ensures) (f .word-at .result) (n .word-at2 .result) (f .word-at .ensures) (n .word-at2 .ensures) (y .put-lines .result) (y .put-lines .last .1 .1 .1 .1 .1 .0) (y .put-lines .ensures),
+      pair-more (a .pairs .now) (a .ops .now) (a .out .now) (a .at) (l .loop .k) (l .loop .next) (l .loop .out) (i .loop-test .taken) (s .pre) (l .loop .inv .1)
+          (omega (arith, s .good)) (x .put-pair .result) (x .put-pair .last .1 .1 .0) (x .put-pair .ensures) (f .word-at .result) (n .word-at2 .result)
+          (f .word-at .ensures) (n .word-at2 .ensures) (y .put-lines .result) (y .put-lines .last .1 .1 .1 .1 .1 .0) (y .put-lines .ensures),
     )
 
 same-length : tie.Need-same-length Inv-loop μ-loop

@@ -24,8 +24,11 @@ with-lines-requires c κs =
 with-lines-requires-2 : tie.Need-with-lines-requires-2
 with-lines-requires-2 c κs =
     let x = c .before in
-    let t = x .before in
-    (subst (λ (n : ℕ). n ≤ 65537) (sym (x .with-lines .ensures)) (cappedSize-most (t .table-size .result + length (t .before .args .loops .now) / 2 * 26)), omega arith, omega arith)
+    let t = x .before in (
+      subst (λ (n : ℕ). n ≤ 65537) (sym (x .with-lines .ensures)) (cappedSize-most (t .table-size .result + length (t .before .args .loops .now) / 2 * 26)),
+      omega arith,
+      omega arith,
+    )
 
 with-lines-requires-3 : tie.Need-with-lines-requires-3
 with-lines-requires-3 c κs =
@@ -39,14 +42,17 @@ returns c =
     let x = i .before in
     let t = x .before in
     let a = t .before .args in
-    λ ops. size-word (a .pairs .now) ops (a .loops .now) (numberOf (a .letters)) (a .items .now) (t .table-size .result) (x .with-lines .result) (t .table-size .ensures ops) (x .with-lines .ensures) (a .letters) (number-pos (a .letters) (i .if1 .taken)) (y .with-lines2 .result) (c .with-lines3 .result) (y .with-lines2 .ensures) (c .with-lines3 .ensures)
+    λ ops. size-word (a .pairs .now) ops (a .loops .now) (numberOf (a .letters)) (a .items .now) (t .table-size .result) (x .with-lines .result)
+    (t .table-size .ensures ops) (x .with-lines .ensures) (a .letters) (number-pos (a .letters) (i .if1 .taken)) (y .with-lines2 .result)
+    (c .with-lines3 .result) (y .with-lines2 .ensures) (c .with-lines3 .ensures)
 
 returns-2 : tie.Need-returns-2
 returns-2 c =
     let x = c .before in
     let t = x .before in
     let a = t .before .args in
-    λ ops. size-plain (a .pairs .now) ops (a .loops .now) (numberOf (a .letters)) (a .items .now) (t .table-size .result) (x .with-lines .result) (t .table-size .ensures ops) (x .with-lines .ensures) (2 ^ 32 - suc (a .letters)) (number-neg (a .letters) (c .if1 .left))
+    λ ops. size-plain (a .pairs .now) ops (a .loops .now) (numberOf (a .letters)) (a .items .now) (t .table-size .result) (x .with-lines .result)
+    (t .table-size .ensures ops) (x .with-lines .ensures) (2 ^ 32 - suc (a .letters)) (number-neg (a .letters) (c .if1 .left))
 
 pub reply-size-spec : {M : Type 1} → statement M
 reply-size-spec =

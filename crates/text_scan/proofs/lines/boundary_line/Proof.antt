@@ -27,7 +27,8 @@ returns-2 c =
     let x = c .before .before in
     let i = x .before .before in
     let a = i .before .before .args in
-    head-none (a .text .now) (a .p) (a .p .bounded) (pastBoundary (a .p)) (i .if1 .left) (sym (x .read-number .ensures) ∙ ap fieldReply (c .enum-told .given .1))
+    head-none (a .text .now) (a .p) (a .p .bounded) (pastBoundary (a .p)) (i .if1 .left)
+    (sym (x .read-number .ensures) ∙ ap fieldReply (c .enum-told .given .1))
 
 add-q : tie.Need-add-q
 add-q c = search needs
@@ -41,7 +42,8 @@ returns-3 c =
     let x = v .before .before in
     let i = x .before .before in
     let a = i .before .before .args in
-    head-some (a .text .now) (a .p) (a .p .bounded) (pastBoundary (a .p)) (v .z .given .0 .0) (c .word-of .result) (i .if1 .left) (sym (x .read-number .ensures) ∙ ap fieldReply (v .z .given .1)) (c .word-of .ensures)
+    head-some (a .text .now) (a .p) (a .p .bounded) (pastBoundary (a .p)) (v .z .given .0 .0) (c .word-of .result) (i .if1 .left)
+    (sym (x .read-number .ensures) ∙ ap fieldReply (v .z .given .1)) (c .word-of .ensures)
 
 pub boundary-line-spec : {M : Type 1} → statement M
 boundary-line-spec =

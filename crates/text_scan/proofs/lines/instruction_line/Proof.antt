@@ -20,7 +20,8 @@ returns c =
     let l = c .before .before .read-numbers-arg in
     let t = c .before .before .before .before .before in
     let a = t .args in
-    takes-none (drop (a .p .at + 1) (a .text .now)) 4 2048 (a .p .instructions) (pastInstruction (a .p)) (a .instructions .now) (x .last .1 .1 .1 .0) (l .given .0 .1) (t .pre .1) (x .result) (x .ensures) (not-true _ (c .if1 .taken))
+    takes-none (drop (a .p .at + 1) (a .text .now)) 4 2048 (a .p .instructions) (pastInstruction (a .p)) (a .instructions .now) (x .last .1 .1 .1 .0)
+    (l .given .0 .1) (t .pre .1) (x .result) (x .ensures) (not-true _ (c .if1 .taken))
 
 add-q : tie.Need-add-q
 add-q c = search needs
@@ -35,7 +36,8 @@ returns-2 c =
     let l = i .before .before .read-numbers-arg in
     let t = i .before .before .before .before .before in
     let a = t .args in
-    takes-some (drop (a .p .at + 1) (a .text .now)) 4 2048 (a .p .instructions) (pastInstruction (a .p)) (a .instructions .now) (x .last .1 .1 .1 .0) (l .given .0 .1) (t .pre .1) (x .result) (x .ensures) (not-false _ (i .if1 .left))
+    takes-some (drop (a .p .at + 1) (a .text .now)) 4 2048 (a .p .instructions) (pastInstruction (a .p)) (a .instructions .now) (x .last .1 .1 .1 .0)
+    (l .given .0 .1) (t .pre .1) (x .result) (x .ensures) (not-false _ (i .if1 .left))
 
 pub instruction-line-spec : {M : Type 1} → statement M
 instruction-line-spec =

@@ -41,7 +41,8 @@ returns-3 c =
     let x = v .before .before in
     let i = x .before .before in
     let a = i .before .before .args in
-    head-some (a .text .now) (a .p) (a .p .entered) (pastLeft (a .p)) (v .z .given .0 .0) (c .word-of .result) (i .if1 .left) (sym (x .read-number .ensures) ∙ ap fieldReply (v .z .given .1)) (c .word-of .ensures)
+    head-some (a .text .now) (a .p) (a .p .entered) (pastLeft (a .p)) (v .z .given .0 .0) (c .word-of .result) (i .if1 .left)
+    (sym (x .read-number .ensures) ∙ ap fieldReply (v .z .given .1)) (c .word-of .ensures)
 
 pub left-line-spec : {M : Type 1} → statement M
 left-line-spec =

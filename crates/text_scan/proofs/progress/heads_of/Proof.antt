@@ -30,7 +30,8 @@ returns c =
     let d : numberOf (wordOf (x .result)) ≡ numberOf (p .design) = number-word (x .result) (record { sfits = x .ok }) ∙ x .ensures in
     let b : numberOf (wordOf (y .result)) ≡ numberOf (p .boundary) = number-word (y .result) (record { sfits = y .ok }) ∙ y .ensures in
     let l : numberOf (wordOf (z .result)) ≡ numberOf (p .left) = number-word (z .result) (record { sfits = z .ok }) ∙ z .ensures in
-    let n : numberOf (wordOf (w .result)) ≡ numberOf (c .before .before .before .before .args .letters) = number-word (w .result) (record { sfits = w .ok }) ∙ w .ensures in
+    let n : numberOf (wordOf (w .result))
+    ≡ numberOf (c .before .before .before .before .args .letters) = number-word (w .result) (record { sfits = w .ok }) ∙ w .ensures in
     (λ i. d i ∷ b i ∷ l i ∷ pos (p .instructions) ∷ pos (p .kerns) ∷ pos (p .entries) ∷ n i ∷ [])
 
 pub heads-of-spec : {M : Type 1} → statement M

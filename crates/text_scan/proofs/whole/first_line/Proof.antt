@@ -29,7 +29,8 @@ returns-2 c =
     let n = c .before .before in
     let x = n .before .before in
     let s = x .before .before in
-    opens-none (s .args .text .now) (s .pre) (sym (x .u8-at .ensures) ∙ n .before .if1 .left) (sym (n .read-number .ensures) ∙ ap fieldReply (c .enum-told .given .1))
+    opens-none (s .args .text .now) (s .pre) (sym (x .u8-at .ensures) ∙ n .before .if1 .left)
+    (sym (n .read-number .ensures) ∙ ap fieldReply (c .enum-told .given .1))
 
 word-of-requires : tie.Need-word-of-requires
 word-of-requires c κs = search needs
@@ -40,7 +41,8 @@ returns-3 c =
     let n = v .before .before in
     let x = n .before .before in
     let s = x .before .before in
-    opens-some (s .args .text .now) (s .pre) (v .z .given .0 .0) (c .word-of .result) (sym (x .u8-at .ensures) ∙ n .before .if1 .left) (sym (n .read-number .ensures) ∙ ap fieldReply (v .z .given .1)) (c .word-of .ensures)
+    opens-some (s .args .text .now) (s .pre) (v .z .given .0 .0) (c .word-of .result) (sym (x .u8-at .ensures) ∙ n .before .if1 .left)
+    (sym (n .read-number .ensures) ∙ ap fieldReply (v .z .given .1)) (c .word-of .ensures)
 
 pub first-line-spec : {M : Type 1} → statement M
 first-line-spec =

@@ -1,5 +1,5 @@
--- `scan::whole::read_lines` meets its contract. The loop's invariant: the lines passed are read, and nothing is in the word's list. The measure is what is left of
--- the text. Assumes nothing.
+-- `scan::whole::read_lines` meets its contract. The loop's invariant: the lines passed are read, and nothing is in the word's list. The measure is what is left
+-- of the text. Assumes nothing.
 use mathlib.Core.Path.{_≡_, refl}
 use Prim.Native.Nat.{_-_}
 use lib.ListN.{length}
@@ -35,7 +35,8 @@ returns c =
     let i = c .before .before in
     let n = i .before .before in
     let l = n .before .before in
-    ends-word (l .before .before .args .text .now) (l .loop .p) (l .loop .instructions) (l .loop .kerns) (l .loop .entries) (l .loop .inv .1) (stands n) (i .if2 .taken) (c .word-line .result) (l .loop .word) (c .word-line .last .1 .1 .0) (l .loop .inv .0) (c .word-line .ensures)
+    ends-word (l .before .before .args .text .now) (l .loop .p) (l .loop .instructions) (l .loop .kerns) (l .loop .entries) (l .loop .inv .1) (stands n)
+    (i .if2 .taken) (c .word-line .result) (l .loop .word) (c .word-line .last .1 .1 .0) (l .loop .inv .0) (c .word-line .ensures)
 
 next-line-requires : tie.Need-next-line-requires Inv-loop μ-loop
 next-line-requires c κs =
@@ -54,7 +55,8 @@ returns-2 c =
     let x = c .before .before in
     let l = x .before .before .before .before .before .before .before .before in
     let y = x .next-line in
-    reads-none (l .before .before .args .text .now) (y .last .1 .1 .0) (y .last .1 .1 .1 .0) (y .last .1 .1 .1 .1 .0) (l .loop .word) whole.Unreadable (y .ensures .stuck (c .enum-told .given .1)) refl
+    reads-none (l .before .before .args .text .now) (y .last .1 .1 .0) (y .last .1 .1 .1 .0) (y .last .1 .1 .1 .1 .0) (l .loop .word) whole.Unreadable
+    (y .ensures .stuck (c .enum-told .given .1)) refl
 
 loop-less : tie.Need-loop-less Inv-loop μ-loop
 loop-less c =
@@ -77,7 +79,8 @@ returns-3 : tie.Need-returns-3 Inv-loop μ-loop
 returns-3 c =
     let e = c .before in
     let l = e .before .before in
-    ends-plain (l .before .before .args .text .now) (l .loop .p) (l .loop .instructions) (l .loop .kerns) (l .loop .entries) (l .loop .inv .1) (c .heads-of .result) (l .loop .word) (e .if1 .left) (c .heads-of .ensures) (l .loop .inv .0)
+    ends-plain (l .before .before .args .text .now) (l .loop .p) (l .loop .instructions) (l .loop .kerns) (l .loop .entries) (l .loop .inv .1)
+    (c .heads-of .result) (l .loop .word) (e .if1 .left) (c .heads-of .ensures) (l .loop .inv .0)
 
 pub read-lines-spec : {M : Type 1} → statement M
 read-lines-spec =

@@ -26,7 +26,8 @@ returns-2 c =
     let g = y .before in
     let i = g .before in
     let a = i .before .before .before .args in
-    word-unread (a .text .now) (a .p) (a .word .now) (y .read-letters .last .1 .1 .1 .0) (omega (arith, i .if1 .left)) (g .read-letters-arg .given .0 .1) (y .read-letters .result) (y .read-letters .ensures) (not-true _ (c .if2 .taken))
+    word-unread (a .text .now) (a .p) (a .word .now) (y .read-letters .last .1 .1 .1 .0) (omega (arith, i .if1 .left)) (g .read-letters-arg .given .0 .1)
+    (y .read-letters .result) (y .read-letters .ensures) (not-true _ (c .if2 .taken))
 
 cast-heads-of : tie.Need-cast-heads-of
 cast-heads-of c = record { fits = omega (arith, c .before .before .before .before .before .before .pre .short) }
@@ -41,7 +42,8 @@ returns-3 c =
     let g = y .before in
     let i = g .before in
     let a = i .before .before .before .args in
-    word-all (a .text .now) (a .p) (a .word .now) (y .read-letters .last .1 .1 .1 .0) (omega (arith, i .if1 .left)) (g .read-letters-arg .given .0 .1) (y .read-letters .result) (y .read-letters .ensures) (not-false _ (h .if2 .left)) (c .heads-of .result) (c .heads-of .ensures)
+    word-all (a .text .now) (a .p) (a .word .now) (y .read-letters .last .1 .1 .1 .0) (omega (arith, i .if1 .left)) (g .read-letters-arg .given .0 .1)
+    (y .read-letters .result) (y .read-letters .ensures) (not-false _ (h .if2 .left)) (c .heads-of .result) (c .heads-of .ensures)
 
 pub word-line-spec : {M : Type 1} → statement M
 word-line-spec =

@@ -21,7 +21,12 @@ loop-holds c = filling-none (λ (_ : ℕ). pos 0) (c .args .s .now)
 
 mul-s : tie.Need-mul-s Inv-loop μ-loop
 mul-s c =
-    omega (arith, c .before .before .good .0 .1, filling-length (λ (_ : ℕ). pos 0) (c .before .before .args .s .now) (c .before .loop .inv), c .loop-test .taken)
+    omega (
+      arith,
+      c .before .before .good .0 .1,
+      filling-length (λ (_ : ℕ). pos 0) (c .before .before .args .s .now) (c .before .loop .inv),
+      c .loop-test .taken,
+    )
 
 slice-set-of-s : tie.Need-slice-set-of-s Inv-loop μ-loop
 slice-set-of-s c = omega arith
