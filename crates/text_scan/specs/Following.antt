@@ -1,4 +1,4 @@
--- The lines of the rest of a text, added to what was read; and the line of a word. A line of n numbers: text_line_numbers/specs/LineNumbers.
+-- Lines of the rest of a text, added to what was read; and the line of a word. A line of n numbers: text_line_numbers/specs/LineNumbers.
 use mathlib.Core.Bool.{cond}
 use mathlib.Core.List.{List, [], _∷_}
 use mathlib.Core.Option.{Option, none, some}
@@ -13,6 +13,7 @@ use Rattle.columns.specs.Texts.{Text, addLines}
 
 -- ---- the rest of a text
 
+-- lines added to what was read; none where the bytes are no lines
 abbrev pub addAll : Option (List (List ℕ)) → Option Text → Option Text
 addAll none r = none
 addAll (some ls) r = addLines ls r
