@@ -22,6 +22,7 @@ use Rattle.captions.specs.Replies.{nextKind, nextCode, consumesNumber}
 abbrev pub optionsOf : Bool → ℤ → RunOptions
 optionsOf without over = record { «disable_left_boundary» = without; «right_boundary_override» = over }
 
+-- a flag as a number: 1 where it is set, else 0
 abbrev pub flagBit : Bool → ℕ
 flagBit false = 0
 flagBit true = 1
@@ -35,6 +36,7 @@ numbersOf s =
 
 -- ---- back
 
+-- what is next, by its kind, as `nextKind` numbers it, and its code; a kind past 4 reads as 4, nothing
 abbrev pub nextLeftOf : ℕ → ℕ → NextLeft
 nextLeftOf zero c = next.Boundary
 nextLeftOf (suc zero) c = next.Char c
@@ -42,10 +44,12 @@ nextLeftOf (suc (suc zero)) c = next.Lig c
 nextLeftOf (suc (suc (suc zero))) c = next.FinalLig c
 nextLeftOf (suc (suc (suc (suc k)))) c = next.None
 
+-- a flag by its number: set where that is not 0
 abbrev pub flagOf : ℕ → Bool
 flagOf zero = false
 flagOf (suc n) = true
 
+-- what is taken in of a pair's left, by its number: 0 nothing, 1 a letter, any other the left boundary
 abbrev pub consumesOf : ℕ → Consumes
 consumesOf zero = consumes.Nothing
 consumesOf (suc zero) = consumes.Letter
@@ -73,6 +77,7 @@ isState ns =
     (both (leb (getD ns 1 0) 4294967295)
     (both (leb (getD ns 7 0) 1) (leb (getD ns 8 0) 2))))
 
+-- the state at the front of a list; none where its first nine numbers are no state's
 abbrev pub stateRead : List ℕ → Option State
 stateRead ns = cond (isState ns) (some (stateAt ns)) none
 
@@ -90,6 +95,7 @@ outside =
       «consumes_left» = consumes.Nothing;
     }
 
+-- the state that was read, or `outside` where none was
 abbrev pub orOutside : Option State → State
 orOutside none = outside
 orOutside (some s) = s

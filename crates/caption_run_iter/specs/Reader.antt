@@ -23,10 +23,11 @@ use Rattle.caption_run_iter.specs.declared.RunIter.{RunIter}
 
 -- ---- a call
 
--- what a call answers, of a reader with this word at this state, and the state that it leaves
+-- what a call answers, of a reader with this word at this state
 abbrev pub nextAnswer : List ℤ → List ℤ → ℤ → List ℕ → RunOptions → State → Answer
 nextAnswer pairs ops boundary word options s = stepOf pairs ops boundary word options s .answer
 
+-- .. and the state in which it leaves the reader
 abbrev pub nextState : List ℤ → List ℤ → ℤ → List ℕ → RunOptions → State → State
 nextState pairs ops boundary word options s = stepOf pairs ops boundary word options s .state
 

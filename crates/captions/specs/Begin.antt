@@ -18,7 +18,7 @@ use Rattle.captions.specs.declared.Begun.the-variants.{Run, Refused}
 use Rattle.captions.specs.Form.{tableRefusal}
 use Rattle.captions.specs.Replies.{stateNumbers}
 
--- the boundary character and the options that go with a word
+-- 4: the boundary character, or the override of the options, out of range
 abbrev pub edgesRefusal : ℤ → RunOptions → ℕ
 edgesRefusal boundary options = orElse (absentRefusal 255 boundary) (absentRefusal 255 (options .«right_boundary_override»))
 
@@ -54,6 +54,7 @@ abbrev pub withoutBoundary : List ℕ → State
 withoutBoundary [] = fresh next.None 0
 withoutBoundary (c ∷ cs) = fresh (next.Char c) 1
 
+-- where a run begins: at the left boundary, or, where the options turn that off, at the first letter
 abbrev pub freshState : List ℕ → RunOptions → State
 freshState word options = cond (options .«disable_left_boundary») (withoutBoundary word) (fresh next.Boundary 0)
 
@@ -61,10 +62,11 @@ freshState word options = cond (options .«disable_left_boundary») (withoutBoun
 abbrev pub beginReply : List ℤ → List ℤ → ℤ → List ℕ → RunOptions → Reply
 beginReply pairs ops boundary word options = replyOf (beginRefusal pairs ops boundary word options) (stateNumbers (freshState word options))
 
--- .. and as a value of its type, which that determines
+-- by the refusal: the state, or its number
 abbrev pub begunBy : ℕ → State → Begun
 begunBy zero s = Run s
 begunBy (suc n) s = Refused (suc n)
 
+-- what begin answers as a value of its type, which its reply determines: a fresh state, or the number of a refusal
 abbrev pub beginOf : List ℤ → List ℤ → ℤ → List ℕ → RunOptions → Begun
 beginOf pairs ops boundary word options = begunBy (beginRefusal pairs ops boundary word options) (freshState word options)

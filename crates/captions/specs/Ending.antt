@@ -12,7 +12,7 @@ use Rattle.captions.specs.declared.Answer.the-variants.{End}
 use Rattle.captions.specs.Steps.{stepOf}
 use Rattle.captions.specs.Runs.{answers}
 
--- the end, once answered from the state s
+-- once a step from the state s answers the end: it leaves s as it is, and every step after it answers the end too
 pub record EndStays (pairs ops : List ℤ) (boundary : ℤ) (word : List ℕ) (options : RunOptions) (s : State) : Type 0 where
   pub unmoved : stepOf pairs ops boundary word options s .state ≡ s
   pub again : stepOf pairs ops boundary word options (stepOf pairs ops boundary word options s .state) .answer ≡ End

@@ -39,7 +39,7 @@ pairForm pairs ops k =
 abbrev pub sizesForm : List ℤ → List ℤ → Bool
 sizesForm pairs ops = both (eqb (length pairs % 6) 0) (both (eqb (length ops % 2) 0) (leb (opCount ops) 2147483647))
 
--- no op is left over
+-- the whole form: the sizes, every op, every pair, and no op is left over
 abbrev pub tableForm : List ℤ → List ℤ → Bool
 tableForm pairs ops =
     both (sizesForm pairs ops)

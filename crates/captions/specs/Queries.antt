@@ -22,7 +22,9 @@ use Rattle.captions.specs.Form.{keyForm, tableRefusal}
 use Rattle.captions.specs.Replies.{bitNumber}
 use Rattle.captions.specs.Steps.{rightItem}
 
--- ---- a word can be parted here: no op is to be given, and the next left is no ligature
+-- ---- is_separation_point: whether a word can be parted here
+
+-- the next left is no ligature: it is the boundary, a character, or nothing
 abbrev pub notLigature : NextLeft → Bool
 notLigature next.Boundary = true
 notLigature (next.Char c) = true
@@ -30,19 +32,24 @@ notLigature (next.Lig c) = false
 notLigature (next.FinalLig c) = false
 notLigature next.None = true
 
+-- no op is to be given, and the next left is no ligature
 abbrev pub isSeparationPoint : State → Bool
 isSeparationPoint s = cond (eqb (s .ops) 0) (notLigature (s .«next_left»)) false
 
--- ---- the original of an item: that part of the word, and nothing where it is no part of it
+-- ---- the original of an item
+
+-- n letters of the word from `start` on; nothing where the word does not hold them all
 abbrev pub originalOf : List ℕ → ℕ → ℕ → List ℕ
 originalOf word start n = cond (leb (start + n) (length word)) (take n (drop start word)) []
 
 -- ---- has_replacement: whether a left (-1 the boundary) and a right (-1 the boundary character) have an entry
 
+-- a pair was found
 abbrev pub isFound : Option ℕ → Bool
 isFound none = false
 isFound (some k) = true
 
+-- a left and a right item have a pair in the table; without a right item they have none
 abbrev pub hasEntry : List ℤ → ℤ → Option ℕ → Bool
 hasEntry pairs left none = false
 hasEntry pairs left (some r) = isFound (find pairs (keyBy (leftPlace left) r))
@@ -60,6 +67,7 @@ hasReply pairs boundary left right =
 
 -- ---- all_pairs_with_replacements: left and right of every pair, in order
 
+-- two numbers a pair: its left (-1 the boundary) and its right
 abbrev pub keysOf : List ℤ → List ℤ
 keysOf pairs = tabulate (2 * pairCount pairs) (λ j. number pairs (j / 2) (j % 2))
 
@@ -75,13 +83,16 @@ pub record ListsPairs (pairs out : List ℤ) (r : Written) (out′ : List ℤ) :
 
 -- ---- is_seven_bit_safe: what any pair of seven-bit characters (the left boundary among them) becomes is of seven-bit characters
 
+-- op i is a kern, or gives a code below 128
 abbrev pub opIsSevenBit : List ℤ → ℕ → Bool
 opIsSevenBit ops i = cond (eqb (wordOf (opKind ops i)) 2) true (ltb (wordOf (opValue ops i)) 128)
 
+-- every op of pair k is so, and the code of its last is below 128
 abbrev pub becomesSevenBit : List ℤ → List ℤ → ℕ → Bool
 becomesSevenBit pairs ops k =
     both (every (countOf pairs k) (λ i. opIsSevenBit ops (firstOp pairs k + i))) (ltb (lastCode pairs k) 128)
 
+-- pair k becomes seven-bit characters, or its left or its right is above 127
 abbrev pub pairIsSafe : List ℤ → List ℤ → ℕ → Bool
 pairIsSafe pairs ops k =
     cond (both (leb (leftPlace (number pairs k 0)) 128) (ltb (wordOf (number pairs k 1)) 128)) (becomesSevenBit pairs ops k) true

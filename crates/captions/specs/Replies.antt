@@ -17,12 +17,14 @@ use Rattle.captions.specs.declared.Answer.the-variants.{Char, Ligature, 
 use Rattle.captions.specs.declared.Told.{Told}
 use Rattle.captions.specs.declared.Told.the-variants as told
 
+-- a flag as a number: 1 where it is set, else 0
 abbrev pub bitNumber : Bool → ℤ
 bitNumber false = pos 0
 bitNumber true = pos 1
 
 -- ---- begin: the state
 
+-- the kind of what is next: 0 the left boundary, 1 a character, 2 a ligature, 3 a last ligature, given as it stands, 4 nothing
 abbrev pub nextKind : NextLeft → ℕ
 nextKind next.Boundary = 0
 nextKind (next.Char c) = 1
@@ -30,6 +32,7 @@ nextKind (next.Lig c) = 2
 nextKind (next.FinalLig c) = 3
 nextKind next.None = 4
 
+-- the code of what is next; 0 for the boundary and for nothing
 abbrev pub nextCode : NextLeft → ℕ
 nextCode next.Boundary = 0
 nextCode (next.Char c) = c
@@ -37,6 +40,7 @@ nextCode (next.Lig c) = c
 nextCode (next.FinalLig c) = c
 nextCode next.None = 0
 
+-- what the next ligature takes in of its pair's left: 0 nothing, 1 its letter, 2 the left boundary
 abbrev pub consumesNumber : Consumes → ℕ
 consumesNumber consumes.Nothing = 0
 consumesNumber consumes.Letter = 1
@@ -49,12 +53,14 @@ stateNumbers s =
     ∷ pos (s .op) ∷ pos (s .ops) ∷ pos (s .read) ∷ pos (s .given)
     ∷ pos (s .pending) ∷ bitNumber (s .«pending_boundary») ∷ pos (consumesNumber (s .«consumes_left»)) ∷ []
 
+-- what begin answers: the nine numbers of the state, or its refusal alone
 abbrev pub begunReply : Begun → Reply
 begunReply (begun.Run s) = record { number = 0; values = stateNumbers s }
 begunReply (begun.Refused n) = record { number = n; values = [] }
 
 -- ---- step: the six numbers of an item as a T line has them, and no value at the end
 
+-- kind (0 character, 1 ligature, 2 kern), code or scaled kern, the original's start and length, left and right boundary flags
 abbrev pub answerReply : Answer → Reply
 answerReply (Char c start) = record { number = 0; values = pos 0 ∷ pos c ∷ pos start ∷ pos 1 ∷ pos 0 ∷ pos 0 ∷ [] }
 answerReply (Ligature c start n left right) =
@@ -73,6 +79,7 @@ isEnd (Refused n) = false
 
 -- ---- a question about a table: 1 or 0
 
+-- the answer to such a question, or its refusal alone
 abbrev pub toldReply : Told → Reply
 toldReply (told.Is b) = record { number = 0; values = bitNumber b ∷ [] }
 toldReply (told.Refused n) = record { number = n; values = [] }

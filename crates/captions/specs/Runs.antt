@@ -23,6 +23,7 @@ pub data Shown : Type 0 where
   ends : Shown
   refuses : ℕ → Shown
 
+-- what is shown of an answer: the item without its original, the end, or a refusal's number
 abbrev pub shown : Answer → Shown
 shown (Char c p) = shows (glyph (plain c))
 shown (Ligature c p n a b) = shows (glyph (inserted c))

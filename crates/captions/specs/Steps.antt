@@ -27,6 +27,7 @@ use Rattle.captions.specs.Tables.{opCount, opKind, opValue, keyBy, find,
 use Rattle.captions.specs.Replies.{answerReply, isEnd}
 use Rattle.captions.specs.Begin.{edgesRefusal, wordRefusal}
 
+-- a refused step: its number, and the state that it leaves
 abbrev pub refused : ℕ → State → Step
 refused n s = record { answer = Refused n; state = s }
 
@@ -36,21 +37,23 @@ ended s = record { answer = End; state = s }
 
 -- ---- giving an item
 
--- what a ligature takes in of its pair's left
+-- how many letters a ligature takes in of its pair's left: 1 or none
 abbrev pub leftLetters : Consumes → ℕ
 leftLetters consumes.Nothing = 0
 leftLetters consumes.Letter = 1
 leftLetters consumes.Boundary = 0
 
+-- whether it takes in the left boundary as its pair's left
 abbrev pub leftBoundary : Consumes → Bool
 leftBoundary consumes.Nothing = false
 leftBoundary consumes.Letter = false
 leftBoundary consumes.Boundary = true
 
--- what it takes in in all: what a pending ligature had taken in, and the left
+-- how many letters it takes in in all: those that a pending ligature had taken in, and that of the left
 abbrev pub taken : State → ℕ
 taken s = s .pending + leftLetters (s .«consumes_left»)
 
+-- whether it takes in the left boundary: a pending ligature had, or the left is it
 abbrev pub takesBoundary : State → Bool
 takesBoundary s = cond (s .«pending_boundary») true (leftBoundary (s .«consumes_left»))
 
@@ -99,6 +102,7 @@ afterOp s =
       «consumes_left» = s .«consumes_left»;
     }
 
+-- nothing is next
 abbrev pub isNone : NextLeft → Bool
 isNone next.Boundary = false
 isNone (next.Char c) = false
@@ -110,6 +114,7 @@ isNone next.None = true
 abbrev pub endsWord : List ℤ → State → Bool
 endsWord ops s = both (isNone (s .«next_left»)) (cond (eqb (s .ops) 0) true (both (eqb (s .ops) 1) (eqb (wordOf (opKind ops (s .op))) 2)))
 
+-- the next op by its kind: 0 a character, 1 a ligature, any other a scaled kern
 abbrev pub giveOp : List ℤ → State → Step
 giveOp ops s =
     cond (eqb (wordOf (opKind ops (s .op))) 0) (giveCharacter (wordOf (opValue ops (s .op))) (afterOp s))
@@ -120,6 +125,7 @@ giveOp ops s =
 abbrev pub opsFit : List ℤ → State → Bool
 opsFit ops s = both (opFits ops (s .op)) (cond (leb 2 (s .ops)) (opFits ops (suc (s .op))) true)
 
+-- the next op is given, where the ops that are read fit; else 7
 abbrev pub readOp : List ℤ → State → Step
 readOp ops s = cond (opsFit ops s) (giveOp ops s) (refused 7 s)
 
@@ -151,6 +157,7 @@ gathered (next.Lig c) s = longer s
 gathered (next.FinalLig c) s = s
 gathered next.None s = s
 
+-- a left's place in the order of pairs: 0 the boundary, 1 + c the code c, and 0 where nothing is next
 abbrev pub leftPlaceOf : NextLeft → ℕ
 leftPlaceOf next.Boundary = 0
 leftPlaceOf (next.Char c) = suc c
@@ -158,6 +165,7 @@ leftPlaceOf (next.Lig c) = suc c
 leftPlaceOf (next.FinalLig c) = suc c
 leftPlaceOf next.None = 0
 
+-- what a ligature among a pair's ops takes in of this left: its letter, or the boundary; nothing of a ligature, whose letters are pending
 abbrev pub leftConsumed : NextLeft → Consumes
 leftConsumed next.Boundary = consumes.Boundary
 leftConsumed (next.Char c) = consumes.Letter
@@ -177,6 +185,7 @@ abbrev pub readOn : Bool → ℕ → ℕ
 readOn true n = suc n
 readOn false n = n
 
+-- the state with another next left and r letters read, and nothing to be taken in of a left
 abbrev pub withNext : NextLeft → ℕ → State → State
 withNext n r s =
     record {
@@ -232,18 +241,21 @@ swallows pairs x k = both (isCharacter x) (givesNothing pairs k)
 abbrev pub entryReads : List ℤ → List ℤ → NextLeft → ℕ → Bool
 entryReads pairs ops x k = both (recordFits pairs ops k) (not (swallows pairs x k))
 
+-- a left and a right y by their pair's place: without one the left is given, with one its ops are next; 7 where the entry does not read
 abbrev pub turnBy : List ℤ → List ℤ → NextLeft → Bool → ℕ → State → Option ℕ → Turned
 turnBy pairs ops x letter y s none = giveLeft x (withNext (afterRight letter (plain y)) (readOn letter (s .read)) s)
 turnBy pairs ops x letter y s (some k) = cond (entryReads pairs ops x k) (Goes (enteredAt pairs x letter s k)) (Gives (refused 7 s))
 
+-- a left and a right y, their pair looked up in the table; `letter` is whether y is a letter of the word
 abbrev pub turnWith : List ℤ → List ℤ → NextLeft → Bool → ℕ → State → Turned
 turnWith pairs ops x letter y s = turnBy pairs ops x letter y s (find pairs (keyBy (leftPlaceOf x) y))
 
--- the right item of a word: the override, else the boundary character
+-- the boundary character, where there is one
 abbrev pub orBoundary : ℤ → Option ℕ
 orBoundary (pos c) = some c
 orBoundary (negsuc n) = none
 
+-- the right item of a word: the override, else the boundary character; none where both are absent
 abbrev pub rightItem : ℤ → ℤ → Option ℕ
 rightItem boundary (pos c) = some c
 rightItem boundary (negsuc n) = orBoundary boundary
@@ -271,6 +283,7 @@ turn pairs ops right word x s =
 
 -- ---- the step
 
+-- a turn that answers is the step; after any other the step goes on
 abbrev pub goesOn : (State → Step) → Turned → Step
 goesOn go (Gives t) = t
 goesOn go (Goes s) = go s
@@ -297,15 +310,16 @@ byNext look go s (next.Lig c) = goesOn go (look (next.Lig c) s)
 byNext look go s (next.FinalLig c) = giveLigature c true (withNothingNext s)
 byNext look go s next.None = ended s
 
+-- one turn: an op, where any is to be given, else what is next
 abbrev pub stepBy : List ℤ → (NextLeft → State → Turned) → (State → Step) → State → Step
 stepBy ops look go s = cond (eqb (s .ops) 0) (byNext look go s (s .«next_left»)) (readOp ops s)
 
--- at most n turns
+-- a step that goes on after at most n turns, and is 7 where it would go on after one more
 unfoldable pub runOn : List ℤ → (NextLeft → State → Turned) → ℕ → State → Step
 runOn ops look zero s = stepBy ops look (refused 7) s
 runOn ops look (suc n) s = stepBy ops look (runOn ops look n) s
 
--- 7: a state that points outside
+-- the next left, where it has a code, has one of 0 to 255
 abbrev pub nextFits : NextLeft → Bool
 nextFits next.Boundary = true
 nextFits (next.Char c) = leb c 255
@@ -317,6 +331,7 @@ nextFits next.None = true
 abbrev pub opsPlaced : List ℤ → State → Bool
 opsPlaced ops s = both (leb (opCount ops) 2147483647) (leb (s .op + s .ops) (opCount ops))
 
+-- a state that points inside, else 7: no more is read than the word has, no more given or pending than read, and its ops and next left fit
 abbrev pub placed : List ℤ → List ℕ → State → Bool
 placed ops word s =
     both (leb (s .read) (length word))
@@ -342,6 +357,7 @@ handBack s t (Kern k) = record { answer = Kern k; state = t }
 handBack s t End = ended t
 handBack s t (Refused n) = refused n s
 
+-- by the number of what is checked first: the step, or that number, with the state as it was
 abbrev pub steppedBy : ℕ → State → Step → Step
 steppedBy zero s t = handBack s (t .state) (t .answer)
 steppedBy (suc n) s t = refused (suc n) s

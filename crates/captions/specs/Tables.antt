@@ -17,9 +17,11 @@ use Rattle.fonts.specs.Fonts.{numberOfLeft}
 use Rattle.captions.specs.declared.Found.{Found}
 use Rattle.captions.specs.declared.Found.the-variants.{At, Nothing}
 
+-- how many whole pairs a table holds, six numbers each
 abbrev pub pairCount : List ℤ → ℕ
 pairCount pairs = length pairs / 6
 
+-- how many whole ops there are, two numbers each
 abbrev pub opCount : List ℤ → ℕ
 opCount ops = length ops / 2
 
@@ -27,9 +29,11 @@ opCount ops = length ops / 2
 abbrev pub number : List ℤ → ℕ → ℕ → ℤ
 number pairs k j = getD pairs (6 * k + j) (pos 0)
 
+-- the kind of op i: 0 a character, 1 a ligature, 2 a scaled kern; 0 past the last
 abbrev pub opKind : List ℤ → ℕ → ℤ
 opKind ops i = getD ops (2 * i) (pos 0)
 
+-- the value of op i: a code, or a scaled kern; 0 past the last
 abbrev pub opValue : List ℤ → ℕ → ℤ
 opValue ops i = getD ops (2 * i + 1) (pos 0)
 
@@ -40,6 +44,7 @@ opValue ops i = getD ops (2 * i + 1) (pos 0)
 abbrev pub keyBy : ℕ → ℕ → ℕ
 keyBy left right = 4294967296 * left + right
 
+-- the key of a left and a right character
 abbrev pub keyOf : Left → ℕ → ℕ
 keyOf l r = keyBy (numberOfLeft l) r
 
@@ -47,6 +52,7 @@ keyOf l r = keyBy (numberOfLeft l) r
 abbrev pub leftPlace : ℤ → ℕ
 leftPlace z = (wordOf z + 1) % 4294967296
 
+-- the key of pair k, by its first two numbers
 abbrev pub keyAt : List ℤ → ℕ → ℕ
 keyAt pairs k = keyBy (leftPlace (number pairs k 0)) (wordOf (number pairs k 1))
 
@@ -70,6 +76,7 @@ find pairs wanted =
     (some (placeFor pairs wanted))
     none
 
+-- what a search answers: the place of the pair, or nothing
 abbrev pub foundAt : Option ℕ → Found
 foundAt none = Nothing
 foundAt (some k) = At k
@@ -82,6 +89,7 @@ opOf kind value =
     cond (eqb (wordOf kind) 0) (glyph (plain (wordOf value)))
     (cond (eqb (wordOf kind) 1) (glyph (inserted (wordOf value))) (kern value))
 
+-- op i as an item that a reading gives
 abbrev pub opAt : List ℤ → ℕ → Out
 opAt ops i = opOf (opKind ops i) (opValue ops i)
 
@@ -90,18 +98,23 @@ unfoldable pub opsFrom : List ℤ → ℕ → ℕ → List Out
 opsFrom ops i zero = []
 opsFrom ops i (suc n) = opAt ops i ∷ opsFrom ops (suc i) n
 
+-- number 4 of pair k, by its 32 bits: its first op
 abbrev pub firstOp : List ℤ → ℕ → ℕ
 firstOp pairs k = wordOf (number pairs k 4)
 
+-- number 5 of pair k: how many ops it has
 abbrev pub countOf : List ℤ → ℕ → ℕ
 countOf pairs k = wordOf (number pairs k 5)
 
+-- number 2 of pair k: the code of its last
 abbrev pub lastCode : List ℤ → ℕ → ℕ
 lastCode pairs k = wordOf (number pairs k 2)
 
+-- number 3 of pair k: 1 where its last is a ligature
 abbrev pub lastFlag : List ℤ → ℕ → Bool
 lastFlag pairs k = eqb (wordOf (number pairs k 3)) 1
 
+-- pair k as an entry: its ops, and its last with its flag
 abbrev pub entryOfPair : List ℤ → List ℤ → ℕ → Res
 entryOfPair pairs ops k =
     record { outs = opsFrom ops (firstOp pairs k) (countOf pairs k); last = item (lastFlag pairs k) (lastCode pairs k) }

@@ -58,13 +58,16 @@ columnNumber f letters word room =
 
 -- ---- a text
 
+-- the characters of the word by their 32 bits; none where there is no word
 abbrev pub wordOfText : Text → List ℕ
 wordOfText t = map wordOf (lettersOf (t .word))
 
+-- 16 where a text is unreadable, else the number of its font and word; 0 where it is answered
 abbrev pub numberOfText : Option Text → ℕ → ℕ
 numberOfText none room = 16
 numberOfText (some t) room = columnNumber (fontOfText t) (lengthOfWord (t .word)) (wordOfText t) room
 
+-- the bytes of the reply to a text, where nothing is refused; none where it is unreadable
 abbrev pub bytesOfText : Option Text → List ℕ
 bytesOfText none = []
 bytesOfText (some t) = columnBytes (fontOfText t) (lengthOfWord (t .word)) (wordOfText t)

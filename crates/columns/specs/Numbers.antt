@@ -11,6 +11,7 @@ use Rattle.lang.specs.Every.{both}
 
 -- ---- reading
 
+-- a byte is a digit: 48 to 57
 abbrev pub isDigit : ℕ → Bool
 isDigit b = both (leb 48 b) (leb b 57)
 
@@ -19,6 +20,7 @@ unfoldable pub moreDigits : ℕ → List ℕ → Option ℕ
 moreDigits n [] = some n
 moreDigits n (b ∷ bs) = cond (isDigit b) (moreDigits (10 * n + (b - 48)) bs) none
 
+-- the value where no bytes follow, else none
 abbrev pub ifNone : List ℕ → Option ℕ → Option ℕ
 ifNone [] r = r
 ifNone (b ∷ bs) r = none
@@ -28,11 +30,12 @@ abbrev pub unsigned : List ℕ → Option ℕ
 unsigned [] = none
 unsigned (b ∷ bs) = cond (eqb b 48) (ifNone bs (some 0)) (moreDigits 0 (b ∷ bs))
 
--- an i32 without a sign, and with one
+-- an i32 without a sign: at most 2 ^ 31 - 1
 abbrev pub withoutSign : Option ℕ → Option ℤ
 withoutSign none = none
 withoutSign (some n) = cond (leb n 2147483647) (some (pos n)) none
 
+-- an i32 after a minus sign: 1 to 2 ^ 31, so -0 is none
 abbrev pub withSign : Option ℕ → Option ℤ
 withSign none = none
 withSign (some zero) = none
@@ -51,7 +54,7 @@ unfoldable pub digits : ℕ → ℕ → List ℕ
 digits zero n = []
 digits (suc f) n = cond (ltb n 10) ((48 + n) ∷ []) (digits f (n / 10) ++ ((48 + n % 10) ∷ []))
 
--- an i32 has at most ten digits
+-- the bytes of a number: a minus sign where it is negative, and its digits, of which an i32 has at most ten
 abbrev pub spelled : ℤ → List ℕ
 spelled (pos n) = digits 10 n
 spelled (negsuc n) = 45 ∷ digits 10 (suc n)

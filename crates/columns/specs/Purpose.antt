@@ -20,6 +20,7 @@ abbrev pub isI32 : ℤ → Bool
 isI32 (pos n) = leb n 2147483647
 isI32 (negsuc n) = leb n 2147483647
 
+-- every number of a list is an i32
 unfoldable pub allI32 : List ℤ → Bool
 allI32 [] = true
 allI32 (z ∷ zs) = both (isI32 z) (allI32 zs)
@@ -32,6 +33,7 @@ FieldReadsBack = (z : ℤ) → isI32 z ≡ true → (length (fieldOf z) ≡ 12) 
 abbrev pub LineWritten : Type 0
 LineWritten = (bs : List ℕ) (l : Line) → readLine bs ≡ some l → writeLine l ≡ bs
 
+-- And a line whose numbers are i32, written, is read as that line.
 abbrev pub LineRead : Type 0
 LineRead = (l : Line) → allI32 (l .numbers) ≡ true → readLine (writeLine l) ≡ some l
 

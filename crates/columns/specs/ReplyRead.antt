@@ -30,6 +30,7 @@ pub record Reported : Type 0 where
   pub letters : ℤ
   pub items : List ℤ
 
+-- before the first line: empty lists, and no W
 abbrev pub nothingReported : Reported
 nothingReported = record { pairs = []; ops = []; loops = []; letters = negsuc 0; items = [] }
 
@@ -46,7 +47,7 @@ withPair r zs =
     }))
     none
 
--- O and X, two numbers; T, six
+-- O, two numbers: an op more
 abbrev pub withOp : Reported → List ℤ → Option Reported
 withOp r zs =
     cond (eqb (length zs) 2) (some (record {
@@ -57,6 +58,7 @@ withOp r zs =
       items = r .items;
     })) none
 
+-- X, two numbers: a loop more
 abbrev pub withLoop : Reported → List ℤ → Option Reported
 withLoop r zs =
     cond (eqb (length zs) 2) (some (record {
@@ -67,6 +69,7 @@ withLoop r zs =
       items = r .items;
     })) none
 
+-- T, six numbers: an item more
 abbrev pub withItem : Reported → List ℤ → Option Reported
 withItem r zs =
     cond (eqb (length zs) 6) (some (record {
@@ -98,18 +101,22 @@ report r (some l) =
     (cond (eqb (l .letter) 87) (withLength r (l .numbers))
     (cond (eqb (l .letter) 84) (withItem r (l .numbers)) none))))
 
+-- one line more after those that were read; none where they were unreadable
 abbrev pub reportTo : Option Reported → Option Line → Option Reported
 reportTo none l = none
 reportTo (some r) l = report r l
 
+-- lines in order, each after what was read before it
 unfoldable pub reportLines : List (List ℕ) → Option Reported → Option Reported
 reportLines [] r = r
 reportLines (l ∷ ls) r = reportLines ls (reportTo r (readLine l))
 
+-- all lines of a reply; none where its bytes are no lines
 abbrev pub reportAll : Option (List (List ℕ)) → Option Reported
 reportAll none = none
 reportAll (some ls) = reportLines ls (some nothingReported)
 
+-- the bytes of a reply read back; none where they are unreadable
 abbrev pub readReply : List ℕ → Option Reported
 readReply bytes = reportAll (linesOf bytes)
 

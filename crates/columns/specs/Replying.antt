@@ -14,6 +14,7 @@ use Rattle.lang.specs.Answers.{replyOf, writtenReply, listOf}
 use Rattle.captions.specs.Tables.{pairCount, number, opKind, opValue, firstOp, countOf}
 use Rattle.columns.specs.Lines.{Line, writeLine, textOf}
 
+-- a line of this letter and these numbers
 abbrev pub lineOf : ℕ → List ℤ → Line
 lineOf letter zs = record { letter = letter; numbers = zs }
 
@@ -50,6 +51,7 @@ abbrev pub wordLines : ℤ → List ℤ → List Line
 wordLines (pos n) items = lineOf 87 (pos n ∷ []) ∷ tabulate (length items / 6) (itemLine items)
 wordLines (negsuc n) items = []
 
+-- every line of a reply: P and O, then X, then W and T
 abbrev pub replyLines : List ℤ → List ℤ → List ℤ → ℤ → List ℤ → List Line
 replyLines pairs ops loops letters items =
     tableLines pairs ops (pairCount pairs) ++ tabulate (length loops / 2) (loopLine loops) ++ wordLines letters items
@@ -58,6 +60,7 @@ replyLines pairs ops loops letters items =
 abbrev pub bytesOf : List Line → List ℕ
 bytesOf ls = textOf (map writeLine ls)
 
+-- the whole reply as bytes
 abbrev pub replyBytes : List ℤ → List ℤ → List ℤ → ℤ → List ℤ → List ℕ
 replyBytes pairs ops loops letters items = bytesOf (replyLines pairs ops loops letters items)
 

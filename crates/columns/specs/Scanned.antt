@@ -18,6 +18,7 @@ use Rattle.columns.specs.Texts.{Text, opened, readText, orAbsent}
 
 -- ---- a field
 
+-- what read_field answers: the number, or 16
 abbrev pub fieldReply : FieldRead → Reply
 fieldReply (field.Number z) = replyOf 0 (z ∷ [])
 fieldReply field.Unreadable = replyOf 16 []
@@ -43,10 +44,12 @@ abbrev pub lengthOfWord : Option (List ℤ) → ℤ
 lengthOfWord none = negsuc 0
 lengthOfWord (some zs) = pos (length zs)
 
+-- the seven numbers of the heads: D, R and L, how many numbers I, K and E lines have, and the word's length; -1 for what is absent
 abbrev pub headNumbers : TextHeads → List ℤ
 headNumbers h =
     h .design ∷ h .boundary ∷ h .left ∷ pos (h .instructions) ∷ pos (h .kerns) ∷ pos (h .entries) ∷ h .letters ∷ []
 
+-- what read_text answers: the heads, or 16
 abbrev pub textReadReply : TextRead → Reply
 textReadReply (text.Text h) = replyOf 0 (headNumbers h)
 textReadReply text.Unreadable = replyOf 16 []
@@ -61,6 +64,7 @@ abbrev pub saidBy : Option Text → Text
 saidBy none = opened (pos 0)
 saidBy (some t) = t
 
+-- the same seven numbers, of what a text says
 abbrev pub textHeads : Text → List ℤ
 textHeads t =
     t .design ∷ orAbsent (t .boundary) ∷ orAbsent (t .left)

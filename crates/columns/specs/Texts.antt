@@ -12,7 +12,7 @@ use Rattle.lang.specs.Every.{both}
 use Rattle.fonts.specs.Fonts.{Font, fontOf}
 use Rattle.columns.specs.Lines.{Line, linesOf, readLine}
 
--- what was read so far: R and L are absent, -1, until their line comes
+-- what was read so far: R, L and W are none until their line comes
 pub record Text : Type 0 where
   pub design : ℤ
   pub boundary : Option ℤ
@@ -22,11 +22,13 @@ pub record Text : Type 0 where
   pub entries : List ℤ
   pub word : Option (List ℤ)
 
+-- after D: a design size, and nothing else yet
 abbrev pub opened : ℤ → Text
 opened design = record { design = design; boundary = none; left = none; instructions = []; kerns = []; entries = []; word = none }
 
 -- ---- one line more
 
+-- R: the boundary character, once at most
 abbrev pub withBoundary : Text → Option ℤ → ℤ → Option Text
 withBoundary t none z =
     some (record {
@@ -40,6 +42,7 @@ withBoundary t none z =
     })
 withBoundary t (some y) z = none
 
+-- L: the entry of the left boundary, once at most
 abbrev pub withLeft : Text → Option ℤ → ℤ → Option Text
 withLeft t none z =
     some (record {
@@ -119,7 +122,7 @@ byOne f [] = none
 byOne f (z ∷ []) = f z
 byOne f (z ∷ y ∷ zs) = none
 
--- a line other than D, by its letter: E 69, I 73, K 75, L 76, R 82, W 87; nothing after W
+-- a line other than D, by its letter: E 69, I 73, K 75, L 76, R 82, W 87
 abbrev pub byLetter : Text → ℕ → List ℤ → Option Text
 byLetter t letter zs =
     cond (eqb letter 73) (withInstruction t zs)
@@ -129,20 +132,24 @@ byLetter t letter zs =
     (cond (eqb letter 76) (byOne (withLeft t (t .left)) zs)
     (cond (eqb letter 87) (withWord t zs) none)))))
 
+-- a line that follows W is unreadable
 abbrev pub unlessWord : Option (List ℤ) → Option Text → Option Text
 unlessWord none r = r
 unlessWord (some w) r = none
 
+-- one line more; none where it is unreadable or out of place
 abbrev pub addLine : Text → Option Line → Option Text
 addLine t none = none
 addLine t (some l) = unlessWord (t .word) (byLetter t (l .letter) (l .numbers))
 
 -- ---- all lines
 
+-- one line more after those that were read; none where they were unreadable
 abbrev pub addTo : Option Text → Option Line → Option Text
 addTo none l = none
 addTo (some t) l = addLine t l
 
+-- lines in order, each after what was read before it
 unfoldable pub addLines : List (List ℕ) → Option Text → Option Text
 addLines [] r = r
 addLines (l ∷ ls) r = addLines ls (addTo r (readLine l))
@@ -152,19 +159,23 @@ abbrev pub openedBy : Option Line → Option Text
 openedBy none = none
 openedBy (some l) = cond (eqb (l .letter) 68) (byOne (λ z. some (opened z)) (l .numbers)) none
 
+-- all lines of a text, D first; none where there is none
 abbrev pub readLines : Option (List (List ℕ)) → Option Text
 readLines none = none
 readLines (some []) = none
 readLines (some (l ∷ ls)) = addLines ls (openedBy (readLine l))
 
+-- a text of at most 65,536 bytes; none where it is unreadable, which is 16
 abbrev pub readText : List ℕ → Option Text
 readText bytes = cond (leb (length bytes) 65536) (readLines (linesOf bytes)) none
 
 -- ---- what it says
 
+-- the number of R or L, and -1 where its line is absent
 abbrev pub orAbsent : Option ℤ → ℤ
 orAbsent none = negsuc 0
 orAbsent (some z) = z
 
+-- the font that a text says
 abbrev pub fontOfText : Text → Font
 fontOfText t = fontOf (t .instructions) (t .kerns) (t .entries) (orAbsent (t .boundary)) (orAbsent (t .left)) (t .design)

@@ -9,6 +9,7 @@ use Rattle.fonts.specs.declared.Compiled.{Compiled}
 use Rattle.fonts.specs.Fonts.{Font}
 use Rattle.fonts.specs.Compiled.{roomIn, buildRefusal, compiledReply, fontCounts, ListsWritten}
 
+-- THE contract of write_lists: the counts, or the number; the three lists, or zeros; and the work all zeros
 pub record Builds (f : Font) (pairs ops loops : List ℤ) (work : List ℕ) (r : Compiled) (pairs′ ops′ loops′ : List ℤ)
     (work′ : List ℕ) : Type 0 where
   pub answer : compiledReply r ≡ replyOf (buildRefusal f (roomIn pairs ops loops work)) (fontCounts f)

@@ -1,4 +1,4 @@
--- The rows of a font, settled: the contract of `settle`. `Settled` of crate `pairs` says what is known of each row.
+-- The rows of a font, settled: the contract of `settle`. `Settled` of crate `compiling` says what is known of each row.
 use mathlib.Core.Path.{_≡_}
 use mathlib.Core.List.{List, [], _∷_}
 use Prim.Native.Nat.{ℕ, _<_, _≤_}

@@ -14,6 +14,7 @@ use Rattle.compiling.specs.Rows.{at, pairAt, ruledAt, pairs, rules}
 abbrev pub walkPlace : ℕ → ℕ → ℕ → ℕ
 walkPlace n e s = cond (ltb (e + s) n) (e + s) (e + s - n)
 
+-- the row from which walk number s starts, which number 15 of the rows says
 abbrev pub walkRow : ℕ → ℕ → List ℕ → ℕ → ℕ
 walkRow n e w s = at w (walkPlace n e s) 15
 
@@ -26,9 +27,11 @@ pub record WalkOrder (n e : ℕ) (w : List ℕ) : Type 0 where
   pub sorted : (s : ℕ) → suc s < n → walkedBefore (ruledAt w (walkRow n e w s)) (ruledAt w (walkRow n e w (suc s))) ≡ true
   pub each : (k : ℕ) → k < n → (s : ℕ) × (s < n) × (walkRow n e w s ≡ k)
 
+-- the loop list of the pairs and rules that the first n rows say
 abbrev pub loopsOf : ℕ → List ℕ → List Pair
 loopsOf n w = loopList (rules n w) (pairs n w)
 
+-- pair i of a list; past its end, the boundary with character 0
 abbrev pub nthPair : List Pair → ℕ → Pair
 nthPair ps i = getD ps i (record { left = bnd; right = 0 })
 

@@ -17,9 +17,11 @@ pub record OnlyField (g n : ℕ) (w w′ : List ℕ) : Type 0 where
   pub same-length : length w′ ≡ length w
   pub same : (k f : ℕ) → k < n → f < 16 → (f ≡ g → ⊥) → at w′ k f ≡ at w k f
 
+-- how many ops row k has; none where it never finishes
 abbrev pub rowOps : ℕ → List ℕ → ℕ → ℕ
 rowOps n w k = length (opsOf (outcome n w k))
 
+-- how many ops the first n rows have in all
 abbrev pub opTotal : ℕ → List ℕ → ℕ
 opTotal n w = opsBefore (finishedRows n w) (pairs n w) n
 
@@ -33,7 +35,7 @@ pub record Counts (n : ℕ) (w w′ : List ℕ) (r : ℕ) : Type 0 where
 abbrev pub Exact : ℕ → List ℕ → Type 0
 Exact n w = (k : ℕ) → k < n → at w k 12 ≡ rowOps n w k
 
--- first ops
+-- first ops: number 13 of each row is how many ops the rows before it have, and no other number changes
 pub record Firsts (n : ℕ) (w w′ : List ℕ) : Type 0 where
   pub only : OnlyField 13 n w w′
   pub firsts : (k : ℕ) → k < n → at w′ k 13 ≡ opsBefore (finishedRows n w) (pairs n w) k
@@ -46,8 +48,10 @@ pub record Ready (n m : ℕ) (w : List ℕ) : Type 0 where
   pub firsts : (k : ℕ) → k < n → at w k 13 ≡ opsBefore (finishedRows n w) (pairs n w) k
   pub few : opTotal n w < 2147483648
 
+-- the ops of the first n rows as numbers, two an op
 abbrev pub opsWritten : ℕ → List ℕ → List ℤ
 opsWritten n w = opsTable (finishedRows n w) (pairs n w) n
 
+-- the pair table of the first n rows, six numbers for each that finishes
 abbrev pub pairsWritten : ℕ → List ℕ → List ℤ
 pairsWritten n w = pairTable (finishedRows n w) (pairs n w) n

@@ -33,6 +33,7 @@ abbrev pub partBy : ℕ → Option ℕ → Part
 partBy t none = leftPart t
 partBy t (some k) = OfRow k
 
+-- the ops of left t (0 the boundary, else 1 + character) and right r, by their row among the first n
 abbrev pub pairPart : ℕ → List ℕ → ℕ → ℕ → Part
 pairPart n w t r = partBy t (rowOf w n t r)
 
@@ -41,9 +42,11 @@ abbrev pub lastBy : List ℕ → ℕ → Option ℕ → ℕ
 lastBy w r none = r
 lastBy w r (some k) = at w k 6
 
+-- the code of their last, by that row
 abbrev pub rowLastCode : ℕ → List ℕ → ℕ → ℕ → ℕ
 rowLastCode n w t r = lastBy w r (rowOf w n t r)
 
+-- x is one of a list of op bytes
 abbrev pub anyOf : ℕ → List ℕ → Bool
 anyOf x [] = false
 anyOf x (y ∷ ys) = cond (eqb x y) true (anyOf x ys)
@@ -61,9 +64,11 @@ secondOf n w op t v r =
     (cond (anyOf op (1 ∷ 7 ∷ [])) (pairPart n w (suc v) r)
     (cond (eqb op 3) (pairPart n w (suc (rowLastCode n w t v)) r) Nothing)))
 
+-- what stands first in the ops of row k
 abbrev pub firstPart : ℕ → List ℕ → ℕ → Part
 firstPart n w k = firstOf n w (at w k 3) (at w k 0) (at w k 4)
 
+-- what follows it in the ops of row k
 abbrev pub secondPart : ℕ → List ℕ → ℕ → Part
 secondPart n w k = secondOf n w (at w k 3) (at w k 0) (at w k 4) (at w k 1)
 
@@ -95,6 +100,7 @@ partCount w (Ligature c) = 1
 partCount w (Kern v) = 1
 partCount w (OfRow k) = at w k 12
 
+-- how many ops row k has, by the counts of its two parts, up to 2 ^ 31
 abbrev pub rowCount : ℕ → List ℕ → ℕ → ℕ
 rowCount n w k = capped (partCount w (firstPart n w k) + partCount w (secondPart n w k))
 
@@ -108,7 +114,7 @@ pub record FieldStored (g n : ℕ) (v : ℕ → ℕ) (w u : List ℕ) (i : ℕ) 
   pub only : OnlyField g n w u
   pub stored : (k : ℕ) → k < i → at u k g ≡ v k
 
--- the rows after the pass that counts
+-- the rows after the pass that counts: number 12 of each is how many ops it has, up to 2 ^ 31
 pub record OpsCounted (n : ℕ) (w u : List ℕ) : Type 0 where
   pub only : OnlyField 12 n w u
   pub counts : (k : ℕ) → k < n → at u k 12 ≡ capped (rowOps n w k)
@@ -134,10 +140,11 @@ pub record OpsAt (d : List ℤ) (p e : ℕ) (os : List Out) : Type 0 where
 abbrev pub Apart : ℕ → ℕ → ℕ → Type 0
 Apart from to count = (from + count ≤ to) ⊎ (to + count ≤ from)
 
--- where the ops of row k stand, and how many numbers they are
+-- where the ops of row k stand in the list of ops, two numbers an op
 abbrev pub opsPlace : List ℕ → ℕ → ℕ
 opsPlace w k = 2 * at w k 13
 
+-- how many numbers they are
 abbrev pub opsSize : List ℕ → ℕ → ℕ
 opsSize w k = 2 * at w k 12
 

@@ -38,6 +38,7 @@ CollectsBy s table cap w w′ (Refused k) = (k ≡ 12) × (cap < length (pairsBy
 abbrev pub operationAt : List ℤ → List ℤ → List ℕ → ℕ → Operation
 operationAt s kerns w k = actsAs kerns (instructionAt s (at w k 2) .operation)
 
+-- every kern that is the rule of one of the first n rows scales
 abbrev pub rowsScale : List ℤ → List ℤ → ℤ → List ℕ → ℕ → Bool
 rowsScale s kerns design w n = every n (λ k. scales design (operationAt s kerns w k))
 
@@ -55,7 +56,7 @@ pub record Writes (s kerns : List ℤ) (design : ℤ) (n : ℕ) (w w′ : List �
   pub rules : (k : ℕ) → k < n → ruleAt w′ k ≡ ruleOfOperation design (operationAt s kerns w k)
   pub ops : (k : ℕ) → k < n → ruleFits (at w′ k 3) (at w′ k 4) ≡ true
 
--- the contract of encode
+-- the contract of encode: whether every kern that is a rule scales, and the rules as they are written
 pub record Encodes (s kerns : List ℤ) (design : ℤ) (n : ℕ) (w w′ : List ℕ) (r : Bool) : Type 0 where
   pub answer : r ≡ rowsScale s kerns design w n
   pub written : Writes s kerns design n w w′

@@ -39,6 +39,7 @@ byteOfOperation RetainLeftMoveToInserted = 6
 byteOfOperation RetainBothMoveToInserted = 7
 byteOfOperation RetainBothMoveToRight = 11
 
+-- numbers 3 and 4 of a row, and whether its rule's kern scales
 abbrev pub effect : ℕ → ℕ → Bool → Effect
 effect op value scaled = record { op = op; value = value; scaled = scaled }
 
@@ -57,6 +58,7 @@ effectOf design (EntrypointRedirect t g) = effect 128 0 false
 
 -- ---- the order of a left's rows: number 15
 
+-- one more than n where a left is the boundary
 abbrev pub boundaryMore : Left → ℕ → ℕ
 boundaryMore bnd n = suc n
 boundaryMore (chr c) n = n

@@ -29,16 +29,20 @@ use Rattle.fonts.specs.Fonts.{leftOf, numberOfLeft}
 abbrev pub at : List ℕ → ℕ → ℕ → ℕ
 at w k f = getD w (16 * k + f) 0
 
+-- the pair of row k
 abbrev pub pairAt : List ℕ → ℕ → Pair
 pairAt w k = record { left = leftOf (at w k 0); right = at w k 1 }
 
+-- the pair of row k, and its rule's index
 abbrev pub ruledAt : List ℕ → ℕ → Ruled
 ruledAt w k = record { pair = pairAt w k; index = at w k 2 }
 
+-- the rule of numbers 3 and 4: a scaled kern by its bits where the first is 128, else a ligature that inserts the second
 abbrev pub ruleOf : ℕ → ℕ → Rule
 ruleOf op value =
     cond (eqb op 128) (kerned (numberOf value)) (lig (retains (keepsLeft op) (keepsRight op) (advance op)) value)
 
+-- the rule of row k
 abbrev pub ruleAt : List ℕ → ℕ → Rule
 ruleAt w k = ruleOf (at w k 3) (at w k 4)
 
@@ -46,28 +50,32 @@ ruleAt w k = ruleOf (at w k 3) (at w k 4)
 abbrev pub pairs : ℕ → List ℕ → List Ruled
 pairs n w = tabulate n (ruledAt w)
 
--- the row of a pair among the first n
+-- row k is that of left t (0 the boundary, else 1 + character) and right r
 abbrev pub isPair : List ℕ → ℕ → ℕ → ℕ → Bool
 isPair w k t r = cond (eqb (at w k 0) t) (eqb (at w k 1) r) false
 
+-- the row that was found before; else row n, where it passes the test
 abbrev pub orRow : Option ℕ → Bool → ℕ → Option ℕ
 orRow (some k) t n = some k
 orRow none true n = some n
 orRow none false n = none
 
+-- the row of left t and right r among the first n
 unfoldable pub rowOf : List ℕ → ℕ → ℕ → ℕ → Option ℕ
 rowOf w zero t r = none
 rowOf w (suc n) t r = orRow (rowOf w n t r) (isPair w n t r) n
 
+-- what a search answers: the row of the pair, or that it is missing
 abbrev pub foundRow : Option ℕ → Row
 foundRow none = Missing
 foundRow (some k) = Found k
 
--- the rules that the first n rows say
+-- the rule of the row that was found; a pair without a row is free
 abbrev pub ruleBy : List ℕ → Option ℕ → Rule
 ruleBy w none = free
 ruleBy w (some k) = ruleAt w k
 
+-- the rules that the first n rows say
 abbrev pub rules : ℕ → List ℕ → Rules
 rules n w l r = ruleBy w (rowOf w n (numberOfLeft l) r)
 
@@ -88,7 +96,7 @@ pub record Encoded (n : ℕ) (w : List ℕ) : Type 0 where
   pub ascending : Ascending n w
   pub ops : (k : ℕ) → k < n → ruleFits (at w k 3) (at w k 4) ≡ true
 
--- the numbers that no pass after the first two changes
+-- the numbers that the second stage leaves as they are: 0 to 4, the walk's mark (14) and the order of a left's rows (15)
 pub record SameRows (n : ℕ) (w w′ : List ℕ) : Type 0 where
   pub same-length : length w′ ≡ length w
   pub same : (k f : ℕ) → k < n → f < 5 → at w′ k f ≡ at w k f

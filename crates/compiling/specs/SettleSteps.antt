@@ -1,4 +1,4 @@
--- The search of the second pass while it runs: which pairs have finished so far, the rows that are open, and what one turn does. A row
+-- The search of the second stage while it runs: which pairs have finished so far, the rows that are open, and what one turn does. A row
 -- that is open waits for the next one of the path; numbers 8 of the first h rows are the path, the row that was opened first at its
 -- front.
 use mathlib.Core.Path.{_≡_}
@@ -22,15 +22,18 @@ unfoldable pub tally : (ℕ → ℕ) → ℕ → ℕ → ℕ
 tally g s zero = 0
 tally g s (suc n) = tally g s n + bit (eqb (g n) s)
 
+-- number 5 of row k: 0 new, 1 open, 2 finished, 3 never
 abbrev pub status : List ℕ → ℕ → ℕ
 status w k = at w k 5
 
 -- ---- the pairs that have finished so far: those of rows of status 2, and every pair without a row
 
+-- a pair by its row: without one, its left finished and its right as it came; else its entry once the row has finished
 abbrev pub knownBy : ℕ → List ℕ → Left → ℕ → Option ℕ → Option Res
 knownBy n w l r none = some (record { outs = fin (head l); last = plain r })
 knownBy n w l r (some k) = cond (eqb (status w k) 2) (finishedRows n w l r) none
 
+-- what is known so far of the pair of l and r
 unfoldable pub known : ℕ → List ℕ → Finished
 known n w l r = knownBy n w l r (rowOf w n (numberOfLeft l) r)
 
@@ -77,6 +80,7 @@ SecondSays n w r (Waits j) x = x ≡ Waits j
 
 -- ---- the state of the search: m rows have finished, h are open
 
+-- row k has finished: its entry, its last as it is stored, and its place in the order of the m rows that have
 pub record DoneRow (n : ℕ) (w : List ℕ) (m k : ℕ) : Type 0 where
   pub result : Res
   pub finishes : outcome n w k ≡ some result
@@ -106,6 +110,7 @@ pub record Opened (n : ℕ) (w : List ℕ) (h : ℕ) : Type 0 where
 abbrev pub Never : ℕ → List ℕ → Type 0
 Never n w = (k : ℕ) → k < n → status w k ≡ 3 → Waiting n w k (at w k 9) × (status w (at w k 9) ≡ 3)
 
+-- rows during the search: each has one of the four statuses, and m have finished, h are open, and the rest are new or never finish
 pub record Searching (n : ℕ) (w : List ℕ) (h m : ℕ) : Type 0 where
   pub encoded : Encoded n w
   pub statuses : (k : ℕ) → k < n → status w k < 4
@@ -149,14 +154,14 @@ remaining n w h = 2 * tally (status w) 0 n + h
 abbrev pub StillSeen : ℕ → List ℕ → List ℕ → Type 0
 StillSeen n w w′ = (k : ℕ) → k < n → (status w k ≡ 0 → ⊥) → status w′ k ≡ 0 → ⊥
 
--- one turn: h rows were open
+-- one turn of a search with h open rows: it stays a search, no row becomes new, and less remains
 pub record Advanced (n : ℕ) (w w′ : List ℕ) (h : ℕ) (p : Progress) : Type 0 where
   pub rows : SameRows n w w′
   pub searching : Searching n w′ (p .path) (p .done)
   pub less : remaining n w′ (p .path) < remaining n w h
   pub seen : StillSeen n w w′
 
--- a whole search from row k
+-- a whole search from row k: no row is open then, m have finished, and row k is no longer new
 pub record Searched (n : ℕ) (w w′ : List ℕ) (k m : ℕ) : Type 0 where
   pub rows : SameRows n w w′
   pub searching : Searching n w′ 0 m

@@ -55,7 +55,7 @@ isNamed Direct = true
 isNamed Indirect = true
 isNamed (Refused n) = both (not (eqb n 8)) (not (eqb n 9))
 
--- the contract of unpack_entrypoint
+-- the contract of unpack_entrypoint: the entry, or the number, 8 and 9 by name; and the passthrough afterwards and zeros, or zeros
 pub record UnpacksEntry (s : List ℤ) (e : ℤ) (p out : List ℕ) (r : Unpacked) (out′ : List ℕ) : Type 0 where
   pub answer : unpackedReply r ≡ unpackEntry s e p (length out)
   pub named : isNamed r ≡ true
@@ -68,15 +68,17 @@ abbrev pub insertsSevenBit : List ℤ → ℕ → Bool
 insertsSevenBit s i =
     cond (leb (rightOf s i) 127) (cond (isKind 2 s i) (leb (wordOf (field s i 3) % 256) 127) true) true
 
+-- so it is with the instruction at each of these indices
 unfoldable pub allSevenBit : List ℤ → List ℕ → Bool
 allSevenBit s [] = true
 allSevenBit s (i ∷ is) = both (insertsSevenBit s i) (allSevenBit s is)
 
--- every instruction on the chains of the characters below 128; the left boundary does not count
+-- so it is with every instruction on the chain of entry i, where its character is below 128
 abbrev pub entrySafe : List ℤ → List ℤ → ℕ → Bool
 entrySafe s es i =
     cond (leb (wordOf (charAt es i)) 127) (allSevenBit s (chainOf s (wordOf (entryAt es i)))) true
 
+-- so it is with all entries; the left boundary's does not count
 abbrev pub isSevenBitSafe : List ℤ → List ℤ → Bool
 isSevenBitSafe s es = every (length es / 2) (entrySafe s es)
 

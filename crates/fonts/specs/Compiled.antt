@@ -31,6 +31,7 @@ pub record Room : Type 0 where
   pub loops : ℕ
   pub work : ℕ
 
+-- the room of these lengths: pairs, ops, loops, work
 abbrev pub roomOf : ℕ → ℕ → ℕ → ℕ → Room
 roomOf pairs ops loops work = record { pairs = pairs; ops = ops; loops = loops; work = work }
 
@@ -38,13 +39,15 @@ roomOf pairs ops loops work = record { pairs = pairs; ops = ops; loops = loops; 
 abbrev pub finishedOf : Font → Finished
 finishedOf f = finished (rulesOf f) (pairsOf f)
 
+-- the loop list: one pair of each cycle of pairs that never end
 abbrev pub loopsOfFont : Font → List Pair
 loopsOfFont f = loopList (rulesOf f) (pairsOf f)
 
+-- how many ops all pairs of the table have
 abbrev pub totalOps : Font → ℕ
 totalOps f = opsBefore (finishedOf f) (pairsOf f) (length (pairsOf f))
 
--- the three lists that compiling writes
+-- the pair table that compiling writes: six numbers a pair, those alone that finish
 abbrev pub fontTable : Font → List ℤ
 fontTable f = pairTable (finishedOf f) (pairsOf f) (length (pairsOf f))
 
@@ -52,9 +55,11 @@ fontTable f = pairTable (finishedOf f) (pairsOf f) (length (pairsOf f))
 abbrev pub tablePairs : Font → ℕ
 tablePairs f = length (fontTable f) / 6
 
+-- the ops that it writes, two numbers each
 abbrev pub fontOps : Font → List ℤ
 fontOps f = opsTable (finishedOf f) (pairsOf f) (length (pairsOf f))
 
+-- the loop list that it writes, two numbers a pair
 abbrev pub fontLoops : Font → List ℤ
 fontLoops f = loopNumbers (loopsOfFont f)
 
@@ -78,24 +83,28 @@ abbrev pub pairsRefusal : Font → Room → ℕ
 pairsRefusal f room =
     cond (both (leb (length (pairsOf f)) (room .work / 16)) (leb (length (pairsOf f)) (room .pairs / 6))) 0 12
 
--- 13: a kern that is the rule of some pair has a top byte neither 0 nor 255
+-- a kern was scaled
 abbrev pub isScaled : ToScaled → Bool
 isScaled (Scaled v) = true
 isScaled NegativeDesignSize = false
 isScaled TooLarge = false
 
+-- an operation is no kern, or its kern scales at this design size
 abbrev pub scales : ℤ → Operation → Bool
 scales design (Kern k) = isScaled (toScaled (k .0) design)
 scales design (KernAtIndex i) = true
 scales design (Ligature c p t) = true
 scales design (EntrypointRedirect t g) = true
 
+-- so it is with what the rule of pair k does
 abbrev pub pairScales : Font → ℕ → Bool
 pairScales f k = scales (f .design) (actsAs (f .kerns) (instructionAt (f .instructions) (nth (pairsOf f) k .index) .operation))
 
+-- so it is with every pair that has a rule
 abbrev pub allScale : Font → Bool
 allScale f = every (length (pairsOf f)) (pairScales f)
 
+-- 13: a kern that is the rule of some pair has a top byte neither 0 nor 255
 abbrev pub kernRefusal : Font → ℕ
 kernRefusal f = cond (allScale f) 0 13
 
@@ -107,12 +116,15 @@ opsRefusal f room = cond (both (leb (totalOps f) 2147483647) (leb (2 * totalOps 
 abbrev pub loopsRefusal : Font → Room → ℕ
 loopsRefusal f room = roomRefusal (2 * length (loopsOfFont f)) (room .loops)
 
+-- 12 to 15, the lowest that holds
 abbrev pub tablesRefusal : Font → Room → ℕ
 tablesRefusal f room = orElse (pairsRefusal f room) (orElse (kernRefusal f) (orElse (opsRefusal f room) (loopsRefusal f room)))
 
+-- 1 of too many instructions, then 12 to 15: what is refused of a font that is not checked yet
 abbrev pub buildRefusal : Font → Room → ℕ
 buildRefusal f room = orElse (longRefusal (f .instructions)) (tablesRefusal f room)
 
+-- 1 to 5, then 12 to 15: what compile refuses; 0 where it accepts the font
 abbrev pub compileRefusal : Font → Room → ℕ
 compileRefusal f room = orElse (fontRefusal f) (tablesRefusal f room)
 
@@ -131,6 +143,7 @@ pub record ListsWritten (f : Font) (n : ℕ) (pairs ops loops pairs′ ops′ lo
   pub ops-table : ops′ ≡ listOf n (pos 0) (length ops) (fontOps f)
   pub loop-list : loops′ ≡ listOf n (pos 0) (length loops) (fontLoops f)
 
+-- the lengths of the four lists that are lent
 abbrev pub roomIn : List ℤ → List ℤ → List ℤ → List ℕ → Room
 roomIn pairs ops loops work = roomOf (length pairs) (length ops) (length loops) (length work)
 

@@ -17,7 +17,7 @@ use Rattle.program_chain.specs.Chains.{ruleIndexOf, actsAs}
 use Rattle.reading.specs.Items.{Left, bnd, chr, Rule, free, kerned, lig, Rules}
 use Rattle.reading.specs.Loops.{Ruled}
 
--- A font as it is lent. A boundary, a left entry and an override of -1 are absent.
+-- A font as it is lent: four numbers an instruction, two an entry. A boundary character and a left entry of -1 are absent.
 pub record Font : Type 0 where
   pub instructions : List ℤ
   pub kerns : List ℤ
@@ -33,10 +33,12 @@ fontOf instructions kerns entries boundary left design =
 
 -- ---- lefts, by their place: 0 is the boundary, and 1 + c the character c
 
+-- the left at a place
 abbrev pub leftOf : ℕ → Left
 leftOf zero = bnd
 leftOf (suc c) = chr c
 
+-- the place of a left
 abbrev pub numberOfLeft : Left → ℕ
 numberOfLeft bnd = 0
 numberOfLeft (chr c) = suc c
@@ -48,16 +50,18 @@ abbrev pub leftEntry : List ℤ → Left → ℤ
 leftEntry table bnd = getD table 256 (negsuc 0)
 leftEntry table (chr c) = cond (ltb c 256) (getD table c (negsuc 0)) (negsuc 0)
 
+-- the index of the rule of right character r on the chain from an entry; none where the entry is absent, -1
 abbrev pub ruleFrom : List ℤ → ℤ → ℕ → Option ℕ
 ruleFrom s (negsuc n) r = none
 ruleFrom s (pos e) r = ruleIndexOf s e r
 
--- over the instructions and the table of entries
+-- the index of the instruction that is the rule of a pair, over the instructions and the table of entries
 abbrev pub indexOf : List ℤ → List ℤ → Left → ℕ → Option ℕ
 indexOf s table l r = ruleFrom s (leftEntry table l) r
 
 -- ---- the pairs that have a rule, ascending, the boundary first
 
+-- a pair and its rule's index, where it has a rule; else no pair
 abbrev pub ruledBy : Left → ℕ → Option ℕ → List Ruled
 ruledBy l r none = []
 ruledBy l r (some i) = record { pair = record { left = l; right = r }; index = i } ∷ []
@@ -72,12 +76,15 @@ unfoldable pub leftPairs : List ℤ → List ℤ → ℕ → List Ruled
 leftPairs s table zero = []
 leftPairs s table (suc t) = leftPairs s table t ++ rowPairs s table (leftOf t) 256
 
+-- of all 257 lefts
 abbrev pub pairsBy : List ℤ → List ℤ → List Ruled
 pairsBy s table = leftPairs s table 257
 
+-- the table of 257 entries: the characters', and at 256 the left boundary's
 abbrev pub tableOf : Font → List ℤ
 tableOf f = entriesTable (f .entries) (f .left)
 
+-- the pairs of a font that have a rule
 abbrev pub pairsOf : Font → List Ruled
 pairsOf f = pairsBy (f .instructions) (tableOf f)
 
@@ -89,12 +96,14 @@ scaledKern (Scaled v) = kerned v
 scaledKern NegativeDesignSize = kerned (pos 0)
 scaledKern TooLarge = kerned (pos 0)
 
+-- what an operation does, a kern scaled at the design size; a kern index and a redirect, which `actsAs` never leaves, do nothing
 abbrev pub ruleOfOperation : ℤ → Operation → Rule
 ruleOfOperation design (Kern k) = scaledKern (toScaled (k .0) design)
 ruleOfOperation design (KernAtIndex i) = free
 ruleOfOperation design (Ligature c p t) = lig p (c .0)
 ruleOfOperation design (EntrypointRedirect t g) = free
 
+-- what the instruction at an index does; a pair without one is free
 abbrev pub ruleOfIndex : Font → Option ℕ → Rule
 ruleOfIndex f none = free
 ruleOfIndex f (some i) = ruleOfOperation (f .design) (actsAs (f .kerns) (instructionAt (f .instructions) i .operation))

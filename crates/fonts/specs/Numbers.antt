@@ -11,6 +11,7 @@ use Rattle.reading.specs.Items.{Left, bnd, chr, item, code, flag, Out, glyph, k
 use Rattle.reading.specs.Depth.{Res, Finished, Pair}
 use Rattle.reading.specs.Loops.{Ruled}
 
+-- pair k of a list; past its end, the boundary with character 0, and index 0
 abbrev pub nth : List Ruled → ℕ → Ruled
 nth ps k = getD ps k (record { pair = record { left = bnd; right = 0 }; index = 0 })
 
@@ -18,6 +19,7 @@ nth ps k = getD ps k (record { pair = record { left = bnd; right = 0 }; index = 
 abbrev pub entryOf : Finished → List Ruled → ℕ → Option Res
 entryOf f ps k = f (nth ps k .pair .left) (nth ps k .pair .right)
 
+-- the ops of an entry; none where there is no entry
 abbrev pub opsOf : Option Res → List Out
 opsOf none = []
 opsOf (some q) = q .outs
@@ -27,11 +29,13 @@ unfoldable pub opsBefore : Finished → List Ruled → ℕ → ℕ
 opsBefore f ps zero = 0
 opsBefore f ps (suc k) = opsBefore f ps k + length (opsOf (entryOf f ps k))
 
+-- the kind and the value of an op
 abbrev pub outNumbers : Out → List ℤ
 outNumbers (glyph (item false c)) = pos 0 ∷ pos c ∷ []
 outNumbers (glyph (item true c)) = pos 1 ∷ pos c ∷ []
 outNumbers (kern k) = pos 2 ∷ k ∷ []
 
+-- two numbers an op, one after the other
 unfoldable pub opNumbers : List Out → List ℤ
 opNumbers [] = []
 opNumbers (o ∷ os) = outNumbers o ++ opNumbers os
@@ -41,10 +45,12 @@ unfoldable pub opsTable : Finished → List Ruled → ℕ → List ℤ
 opsTable f ps zero = []
 opsTable f ps (suc k) = opsTable f ps k ++ opNumbers (opsOf (entryOf f ps k))
 
+-- a left as the table has it: -1 the boundary, else the character
 abbrev pub leftNumber : Left → ℤ
 leftNumber bnd = negsuc 0
 leftNumber (chr c) = pos c
 
+-- 1 where a flag is set, else 0
 abbrev pub flagNumber : Bool → ℤ
 flagNumber true = pos 1
 flagNumber false = pos 0

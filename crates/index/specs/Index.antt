@@ -51,9 +51,11 @@ rightsOf pairs n l w = bitsBy 64 (λ b. isAmong pairs n (keyBy l (64 * w + b)))
 abbrev pub pairsBefore : List ℤ → ℕ → ℕ
 pairsBefore pairs l = howMany (pairCount pairs) (λ k. ltb (leftPlace (number pairs k 0)) l)
 
+-- number i of the index, one of the five of left i / 5: 64 of its rights as bits, or how many pairs come before its own
 abbrev pub indexNumber : List ℤ → ℕ → ℕ
 indexNumber pairs i = cond (eqb (i % 5) 4) (pairsBefore pairs (i / 5)) (rightsOf pairs (pairCount pairs) (i / 5) (i % 5))
 
+-- all 1,285 numbers
 abbrev pub indexOfTable : List ℤ → List ℕ
 indexOfTable pairs = tabulate 1285 (indexNumber pairs)
 
@@ -90,6 +92,7 @@ placeIn index l r = getD index (5 * l + 4) 0 + onesBelow index l r
 abbrev pub standsAt : List ℤ → ℕ → ℕ → Bool
 standsAt pairs key k = both (ltb k (pairCount pairs)) (eqb (keyAt pairs k) key)
 
+-- the pair of left l and right r: missing where its bit is not set, wrong where it does not stand at the place that the index says
 abbrev pub lookedUp : List ℕ → List ℤ → ℕ → ℕ → Looked
 lookedUp index pairs l r =
     cond (hasBit index l r) (cond (standsAt pairs (keyBy l r) (placeIn index l r)) (At (placeIn index l r)) Wrong) Missing

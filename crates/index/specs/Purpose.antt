@@ -10,6 +10,7 @@ use Rattle.captions.specs.Tables.{pairCount, keyBy, find}
 use Rattle.captions.specs.Form.{keyForm}
 use Rattle.index.specs.Index.{indexOfTable, FillsIndex, lookedUp, lookedAt}
 
+-- a look-up of any left and right in the index of a table in ascending order answers what bisection finds
 abbrev pub LooksUpAsFound : Type 0
 LooksUpAsFound =
     (pairs : List ℤ) (rest : List ℕ) (l r : ℕ) → every (pairCount pairs) (keyForm pairs) ≡ true → l ≤ 256 → r ≤ 255 →

@@ -38,6 +38,7 @@ lettersAlone index word c read zero = 0
 lettersAlone index word c read (suc n) =
     cond (isAlone index c (getD word read 0)) (suc (lettersAlone index word (getD word read 0) (suc read) n)) 0
 
+-- the smaller of two numbers
 abbrev pub lesser : ℕ → ℕ → ℕ
 lesser a b = cond (ltb a b) a b
 

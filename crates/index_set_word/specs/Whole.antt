@@ -9,7 +9,7 @@ use Rattle.captions.specs.Begin.{beginRefusal, freshState}
 use Rattle.word_set.specs.Setting.{itemsBy, afterBegin}
 use Rattle.index_step.specs.Indexed.{indexedStepOf}
 
--- what set_word_indexed tells: begin's numbers first; then the items of the run, of which a list of `room` numbers takes one in six.
+-- what set_word_indexed tells: begin's numbers first; then the items of the run, of which a list of `room` numbers holds room / 6.
 -- Its contract is `Tells` of word_set/specs/Writing, of this reply.
 abbrev pub indexedReply : List ℕ → List ℤ → List ℤ → ℤ → List ℕ → RunOptions → ℕ → Reply
 indexedReply index pairs ops boundary word options room =

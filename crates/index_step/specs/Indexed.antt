@@ -24,6 +24,7 @@ lookedStep pairs ops boundary word options s (At k) = cond (isEntered pairs ops 
     (stepOf pairs ops boundary word options s)
 lookedStep pairs ops boundary word options s Wrong = refused 7 s
 
+-- a step by the index: where a character stands left of a letter with nothing pending it is by what the index says, else the step itself
 abbrev pub indexedStepOf : List ℕ → List ℤ → List ℤ → ℤ → List ℕ → RunOptions → State → Step
 indexedStepOf index pairs ops boundary word options s =
     cond (isQuick ops boundary word options s)

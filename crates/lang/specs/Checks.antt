@@ -26,10 +26,11 @@ recordRefusal s = unless 2 (every (count s) (isInstruction s))
 abbrev pub kernsRefusal : List ℤ → ℕ
 kernsRefusal kerns = unless 3 (leb (length kerns) 32767)
 
--- the character and the entry at place i of the entries
+-- the character at place i of the entries, which are two numbers each; 0 past the last
 abbrev pub charAt : List ℤ → ℕ → ℤ
 charAt es i = getD es (2 * i) (pos 0)
 
+-- the entry of that character; 0 past the last
 abbrev pub entryAt : List ℤ → ℕ → ℤ
 entryAt es i = getD es (2 * i + 1) (pos 0)
 
@@ -37,6 +38,7 @@ entryAt es i = getD es (2 * i + 1) (pos 0)
 abbrev pub enteredOnce : List ℤ → ℕ → Bool
 enteredOnce es i = every i (λ j. not (eqb (wordOf (charAt es j)) (wordOf (charAt es i))))
 
+-- place i of the entries: a character of 0 to 255, an entry of 0 to the limit, and a character that no place before it has
 abbrev pub entryFits : ℕ → List ℤ → ℕ → Bool
 entryFits limit es i = both (within 255 (charAt es i)) (both (within limit (entryAt es i)) (enteredOnce es i))
 

@@ -11,13 +11,15 @@ use Rattle.lang.specs.declared.operation.PostLigOperation.the-variants.{
 use Rattle.lang.specs.declared.operation.Operation.{Operation}
 use Rattle.lang.specs.declared.operation.Operation.the-variants.{KernAtIndex, Ligature}
 
--- a, b and c of an op byte below 128
+-- a of an op byte below 128: how far the cursor advances
 abbrev pub advance : ℕ → ℕ
 advance op = op / 4
 
+-- b: 1 where the left character is retained, 0 where it is deleted
 abbrev pub keepsLeft : ℕ → ℕ
 keepsLeft op = op / 2 % 2
 
+-- c: 1 where the right character is retained, 0 where it is deleted
 abbrev pub keepsRight : ℕ → ℕ
 keepsRight op = op % 2
 
@@ -36,6 +38,7 @@ retains (suc b) (suc c) zero = RetainBothMoveNowhere
 retains (suc b) (suc c) (suc zero) = RetainBothMoveToInserted
 retains (suc b) (suc c) (suc (suc a)) = RetainBothMoveToRight
 
+-- a ligature operation, the character that it inserts, and a mark where its op byte is invalid
 abbrev pub lig : PostLigOperation → ℕ → Bool → Operation
 lig operation inserted invalid = Ligature (record { 0 = inserted }) operation invalid
 

@@ -36,9 +36,11 @@ operationOf kind z =
     (cond (eqb kind 3) (EntrypointRedirect (wordOf z % 65536) (eqb (wordOf z / 65536 % 2) 1))
     (Kern (record { 0 = z }))))
 
+-- number 1 of instruction i as a character: what passes 255 is left off
 abbrev pub rightOf : List ℤ → ℕ → ℕ
 rightOf s i = wordOf (field s i 1) % 256
 
+-- the instruction at i; past the last one, that of four zeros
 abbrev pub instructionAt : List ℤ → ℕ → Instruction
 instructionAt s i =
     record {

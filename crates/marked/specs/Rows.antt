@@ -40,14 +40,17 @@ pub record MarkedRow : Type 0 where
 abbrev pub replyNumbers : Reply → List ℤ
 replyNumbers r = pos (r .number) ∷ r .values
 
+-- the same of a kern that is scaled
 abbrev pub scaledNumbers : ToScaled → List ℤ
 scaledNumbers x = replyNumbers (scaledReply x)
 
+-- 1 where an operation is marked invalid, else 0
 abbrev pub invalidMark : Bool → ℤ
 invalidMark true = pos 1
 invalidMark false = pos 0
 
--- a ligature: the standard op byte that it acts as, the inserted character, and 1 where it is marked invalid
+-- a ligature: the standard op byte that it acts as, the inserted character, and 1 where it is marked invalid; else the kern, its index
+-- or the target
 abbrev pub operationNumbers : Operation → List ℤ
 operationNumbers (Kern k) = k .0 ∷ []
 operationNumbers (KernAtIndex i) = pos i ∷ []
@@ -61,6 +64,7 @@ readingNumbers going = negsuc 0 ∷ []
 
 -- ---- fonts of a few rules
 
+-- a pair of characters and its rule
 pub record Entry : Type 0 where
   pub left : ℕ
   pub right : ℕ
@@ -71,6 +75,7 @@ unfoldable pub rulesBy : List Entry → ℕ → ℕ → Rule
 rulesBy [] l r = free
 rulesBy (e ∷ es) l r = cond (eqb (e .left) l) (cond (eqb (e .right) r) (e .rule) (rulesBy es l r)) (rulesBy es l r)
 
+-- the rules of a font of these entries; the left boundary has none
 abbrev pub rulesOfEntries : List Entry → Rules
 rulesOfEntries es bnd r = free
 rulesOfEntries es (chr l) r = rulesBy es l r
@@ -80,6 +85,7 @@ unfoldable pub pairsFrom : ℕ → List Entry → List Ruled
 pairsFrom i [] = []
 pairsFrom i (e ∷ es) = record { pair = record { left = chr (e .left); right = e .right }; index = i } ∷ pairsFrom (suc i) es
 
+-- their loop list, two numbers a pair
 abbrev pub loopsOfEntries : List Entry → List ℤ
 loopsOfEntries es = loopNumbers (loopList (rulesOfEntries es) (pairsFrom 0 es))
 
@@ -211,5 +217,6 @@ otherRows =
     ∷ record { given = repairedInstructions oneSkip; said = negsuc 0 ∷ pos 66 ∷ pos 0 ∷ pos 5 ∷ [] }
     ∷ []
 
+-- the whole table
 abbrev pub rows : List MarkedRow
 rows = loopRow ∷ acceptedRow ∷ tableRow ∷ opsRow ∷ wordRow ∷ otherRows

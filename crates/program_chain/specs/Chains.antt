@@ -25,7 +25,7 @@ use Rattle.lang.specs.Checks.{programRefusal, rangeRefusal, orElse}
 use Rattle.lang.specs.declared.Written.{Written}
 use Rattle.lang.specs.Answers.{roomRefusal, writtenReply, replyOf, listOf}
 
--- a program: how many instructions, and each of them
+-- a program: the instruction at each index; how many there are is said beside it
 abbrev pub Program : Type 0
 Program = ℕ → Instruction
 
@@ -45,6 +45,7 @@ chainFrom (suc most) n program i =
     let rest = chainFrom most n program (onwardFrom n (program i .«next_instruction») i) in
     cond (ltb i n) (i ∷ rest) []
 
+-- the whole chain from i, of n instructions
 abbrev pub chain : ℕ → Program → ℕ → List ℕ
 chain n program i = chainFrom n n program i
 
@@ -57,6 +58,7 @@ firstFor program right (i ∷ is) = cond (eqb (program i .«right_char» .0) rig
 abbrev pub ruleIndex : ℕ → Program → ℕ → ℕ → Option ℕ
 ruleIndex n program entry right = firstFor program right (chain n program entry)
 
+-- what a search answers: the index of the rule, or nothing
 abbrev pub found : Option ℕ → FoundRule
 found none = Nothing
 found (some i) = Rule i
@@ -75,14 +77,17 @@ kernOf kerns (KernAtIndex i) = Kern (record { 0 = getD kerns i (pos 0) })
 kernOf kerns (Ligature c p t) = Ligature c p t
 kernOf kerns (EntrypointRedirect t f) = EntrypointRedirect t f
 
+-- what a rule does, by both: it is then neither a redirect nor a kern index
 abbrev pub actsAs : List ℤ → Operation → Operation
 actsAs kerns op = kernOf kerns (redirected op)
 
 -- ---- of a program lent as numbers
 
+-- the indices of the chain from i
 abbrev pub chainOf : List ℤ → ℕ → List ℕ
 chainOf s i = chain (count s) (instructionAt s) i
 
+-- the index of the rule of a right character on the chain from an entry
 abbrev pub ruleIndexOf : List ℤ → ℕ → ℕ → Option ℕ
 ruleIndexOf s entry right = ruleIndex (count s) (instructionAt s) entry right
 

@@ -39,6 +39,7 @@ pub record SameWalks (s : List ℤ) (xs : List Instruction) : Type 0 where
 abbrev pub recordsOf : List ℤ → List Instruction
 recordsOf s = tabulate (count s) (instructionAt s)
 
+-- every program that is not refused, as numbers, and its records walk alike
 abbrev pub Agrees : Type 0
 Agrees = (s : List ℤ) → programRefusal s ≡ 0 → SameWalks s (recordsOf s)
 
@@ -60,6 +61,7 @@ opByteOf RetainLeftMoveToInserted = 6
 opByteOf RetainBothMoveToInserted = 7
 opByteOf RetainBothMoveToRight = 11
 
+-- number 2 of an instruction: 0 a kern, 1 a kern index, 2 a ligature, 3 a redirect
 abbrev pub kindNumber : Operation → ℕ
 kindNumber (Kern k) = 0
 kindNumber (KernAtIndex i) = 1
@@ -70,6 +72,7 @@ kindNumber (EntrypointRedirect t f) = 3
 abbrev pub markByte : ℕ
 markByte = 4
 
+-- number 3 of an instruction: the kern, its index, the op byte and inserted character, or the target and flag
 abbrev pub operandNumber : Operation → ℤ
 operandNumber (Kern k) = k .0
 operandNumber (KernAtIndex i) = pos i
@@ -82,17 +85,19 @@ flat [] = []
 flat (x ∷ xs) =
     nextNumber (x .«next_instruction») ∷ pos (x .«right_char» .0) ∷ pos (kindNumber (x .operation)) ∷ operandNumber (x .operation) ∷ flat xs
 
--- a record's fields are in their types' ranges
+-- a skip is a byte
 abbrev pub skipFits : NextInstruction → Type 0
 skipFits Stop = Unit {0}
 skipFits (Skip k) = k < 256
 
+-- an operation's number is in the range of its type: an i32, 16 bits, or a byte
 abbrev pub operationFits : Operation → Type 0
 operationFits (Kern k) = SFits w32 (k .0)
 operationFits (KernAtIndex i) = i < 65536
 operationFits (Ligature c p t) = c .0 < 256
 operationFits (EntrypointRedirect t f) = t < 65536
 
+-- a record's fields are in their types' ranges
 pub record InRange (x : Instruction) : Type 0 where
   pub next : skipFits (x .«next_instruction»)
   pub right : x .«right_char» .0 < 256
@@ -122,5 +127,6 @@ pub record Flattening (xs : List Instruction) : Type 0 where
   pub taken : length xs ≤ 32767 → programRefusal (flat xs) ≡ 0
   pub reads : eachRecord (λ x. markFits (x .operation)) xs → recordsOf (flat xs) ≡ xs
 
+-- so it is of every list of records whose fields are in range
 abbrev pub Flattened : Type 0
 Flattened = (xs : List Instruction) → eachRecord InRange xs → Flattening xs

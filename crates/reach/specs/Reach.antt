@@ -32,6 +32,7 @@ adjustedSkip n marks (Skip (suc k)) i = cond (leb (i + 1 + suc k) n) (pos (marks
 abbrev pub stateOf : List ℕ → List ℕ → ℕ → ℕ
 stateOf marks p i = cond (eqb (getD marks i 0) 0) (cond (eqb (getD p i 0) 0) 0 2) 1
 
+-- the adjusted skip of instruction i; none (-1) where it is not reachable
 abbrev pub skipOf : List ℤ → List ℕ → ℕ → ℤ
 skipOf s marks i = cond (eqb (getD marks i 0) 0) (negsuc 0) (adjustedSkip (count s) marks (instructionAt s i .«next_instruction») i)
 
@@ -39,16 +40,18 @@ skipOf s marks i = cond (eqb (getD marks i 0) 0) (negsuc 0) (adjustedSkip (count
 abbrev pub reachNumber : List ℤ → List ℕ → List ℕ → ℕ → ℤ
 reachNumber s marks p j = cond (eqb (j % 2) 0) (pos (stateOf marks p (j / 2))) (skipOf s marks (j / 2))
 
+-- the whole answer: two numbers for each instruction of the program
 abbrev pub reachList : List ℤ → List ℤ → ℤ → List ℕ → List ℤ
 reachList s es left p = tabulate (2 * count s) (reachNumber s (reachable s es left) p)
 
+-- 1, 2, 4 or 15, the lowest that holds, for a list of `room` places
 abbrev pub reachRefusal : List ℤ → List ℤ → ℤ → List ℕ → ℕ → ℕ
 reachRefusal s es left p room =
     orElse (programRefusal s)
     (orElse (entriesRefusal 65535 es)
     (orElse (absentRefusal 65535 left) (orElse (passthroughRefusal p s) (roomRefusal (2 * count s) room))))
 
--- the contract of reachable_iter
+-- the contract of reachable_iter: how many instructions there are, and two numbers for each, then zeros; or the number, and zeros
 pub record Reaches (s es : List ℤ) (left : ℤ) (p : List ℕ) (out : List ℤ) (r : Written) (out′ : List ℤ) : Type 0 where
   pub answer : writtenReply r ≡ replyOf (reachRefusal s es left p (length out)) (pos (count s) ∷ [])
   pub list : out′ ≡ listOf (reachRefusal s es left p (length out)) (pos 0) (length out) (reachList s es left p)

@@ -26,6 +26,7 @@ abbrev pub raise : Bool → Item → Item
 raise true (item f c) = item true c
 raise false x = x
 
+-- an entry with these ops before its own
 abbrev pub before : List Out → Res → Res
 before os q = record { outs = os ++ q .outs; last = q .last }
 
@@ -61,6 +62,7 @@ compBy (lig RetainLeftMoveNowhere c) f l r = Option·map (raised false true) (f 
 -- both_z
 compBy (lig RetainBothMoveNowhere c) f l r = thenRight f r (Option·map (raised false true) (f l c))
 
+-- the pairs that finish by depth d: none at 0, and at one more by their rule, over those that finish by d
 unfoldable pub comp : Rules → ℕ → Finished
 comp rule zero l r = none
 comp rule (suc d) l r = compBy (rule l r) (comp rule d) l r

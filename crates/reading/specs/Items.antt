@@ -24,9 +24,11 @@ Rules = Left → ℕ → Rule
 pub data Item : Type 0 where
   item : Bool → ℕ → Item
 
+-- whether an item is a ligature
 abbrev pub flag : Item → Bool
 flag (item f c) = f
 
+-- the code of an item, character or ligature
 abbrev pub code : Item → ℕ
 code (item f c) = c
 
@@ -48,6 +50,7 @@ abbrev pub key : Head → Left
 key edge = bnd
 key (at x) = chr (code x)
 
+-- the left of a pair as it stands left of the cursor: the boundary, or the character as it came
 abbrev pub head : Left → Head
 head bnd = edge
 head (chr c) = at (plain c)

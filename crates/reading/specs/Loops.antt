@@ -16,15 +16,18 @@ pub record Ruled : Type 0 where
   pub pair : Pair
   pub index : ℕ
 
+-- two lefts are both the boundary, or the same character
 abbrev pub sameLeft : Left → Left → Bool
 sameLeft bnd bnd = true
 sameLeft bnd (chr b) = false
 sameLeft (chr a) bnd = false
 sameLeft (chr a) (chr b) = eqb a b
 
+-- two pairs have the same left and the same right
 abbrev pub samePair : Pair → Pair → Bool
 samePair p q = cond (sameLeft (p .left) (q .left)) (eqb (p .right) (q .right)) false
 
+-- p is a pair of a list
 unfoldable pub member : Pair → List Pair → Bool
 member p [] = false
 member p (q ∷ qs) = cond (samePair p q) true (member p qs)
@@ -40,14 +43,17 @@ abbrev pub walkedBefore : Ruled → Ruled → Bool
 walkedBefore p q =
     cond (sameLeft (p .pair .left) (q .pair .left)) (ltb (p .index) (q .index)) (leftBefore (p .pair .left) (q .pair .left))
 
+-- p is put before the first pair of a list that is walked after it
 unfoldable pub insert : Ruled → List Ruled → List Ruled
 insert p [] = p ∷ []
 insert p (q ∷ qs) = cond (walkedBefore p q) (p ∷ q ∷ qs) (q ∷ insert p qs)
 
+-- pairs in the order of walks
 unfoldable pub ordered : List Ruled → List Ruled
 ordered [] = []
 ordered (p ∷ ps) = insert p (ordered ps)
 
+-- a pair has finished
 abbrev pub isFinished : Option Res → Bool
 isFinished none = false
 isFinished (some q) = true
@@ -62,6 +68,7 @@ abbrev pub follow : Pair → Option Pair → Pair
 follow p none = p
 follow p (some q) = q
 
+-- the pair that p waits for, given the finished pairs; p itself where it waits for nothing
 abbrev pub waits : Rules → Finished → Pair → Pair
 waits rule f p = follow p (waitsBy (rule (p .left) (p .right)) f (p .left) (p .right))
 

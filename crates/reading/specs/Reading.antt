@@ -19,6 +19,7 @@ pub record Act : Type 0 where
   pub left : Head
   pub back : List Item
 
+-- one step by a rule: without one, or with a kern, x is finished and y is next; else one of TeX 545's eight operations
 abbrev pub act : Rule → Head → Item → Act
 act free x y = record { outs = fin x; left = at y; back = [] }
 act (kerned k) x y = record { outs = fin x ++ (kern k ∷ []); left = at y; back = [] }
@@ -44,6 +45,7 @@ pub data Read : Type 0 where
   done : List Out → Head → Read
   more : Read
 
+-- a reading with what was given before put in front of what it gives
 abbrev pub push : List Out → Read → Read
 push os (done ps x) = done (os ++ ps) x
 push os more = more
@@ -61,6 +63,7 @@ read rule (suc n) x (y ∷ ys) =
 abbrev pub NeverEnds : Rules → Left → ℕ → Type 0
 NeverEnds rule l r = (n : ℕ) → read rule n (head l) (plain r ∷ []) ≡ more
 
+-- a pair whose reading is done after so many steps: what it gave, and what remains left of the cursor
 pub record Ends (rule : Rules) (l : Left) (r : ℕ) : Type 0 where
   pub steps : ℕ
   pub outs : List Out
@@ -85,6 +88,7 @@ remains none (at x) = glyph x ∷ []
 remains (some r) (at (item true c)) = glyph (inserted c) ∷ []
 remains (some r) (at (item false c)) = []
 
+-- the reading of a word: once it is done, what it gave and what remains; else it is going
 abbrev pub close : Option ℕ → Read → Reading
 close right (done os x) = ended (os ++ remains right x)
 close right more = going

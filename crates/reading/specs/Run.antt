@@ -14,6 +14,7 @@ pub data PlainNext : Type 0 where
   final : ℕ → PlainNext
   stop : PlainNext
 
+-- the state between two steps: ops still to be given, what is next, and the letters that were not read yet
 pub record Run : Type 0 where
   pub ops : List Out
   pub next : PlainNext
@@ -24,6 +25,7 @@ pub record PlainAnswer : Type 0 where
   pub gives : Option Out
   pub run : Run
 
+-- whether what stands left of the cursor is a ligature; the boundary is none
 abbrev pub headFlag : Head → Bool
 headFlag edge = false
 headFlag (at x) = flag x
@@ -33,6 +35,7 @@ abbrev pub entryOr : Option Res → Head → ℕ → Res
 entryOr none x r = record { outs = fin x; last = plain r }
 entryOr (some q) x r = raised (headFlag x) false q
 
+-- what a left and a right become by the table
 abbrev pub lookUp : Finished → Head → ℕ → Res
 lookUp table x r = entryOr (table (key x) r) x r
 
@@ -68,6 +71,7 @@ stepFrom table right (y ∷ ys) ops next =
     orLook ops next (y ∷ ys)
     (λ x. stepFrom table right ys (lookUp table x y .outs) (left (at (lookUp table x y .last))))
 
+-- one step of a run, with a right item or none
 abbrev pub step : Finished → Option ℕ → Run → PlainAnswer
 step table right s = stepFrom table right (s .rest) (s .ops) (s .next)
 

@@ -1,5 +1,5 @@
--- What is answered once the repaired program, its passthrough and its warnings are known: 15 where a list is too short for them, with
--- every list all zeros; else the program and its passthrough are copied.
+-- What is answered once the repaired program, its passthrough and its warnings are known: 15 where a list is too short for them, and the
+-- warnings are zeroed; else the program and its passthrough are copied. The lists that they are copied to come zeroed.
 use mathlib.Core.Path.{_≡_}
 use mathlib.Core.List.{List, [], _∷_}
 use Prim.Native.Nat.{ℕ, _*_}
@@ -16,6 +16,7 @@ abbrev pub fitsRefusal : ℕ → ℕ → ℕ → ℕ → ℕ → ℕ → ℕ
 fitsRefusal numbers bytes count fixed through warnings =
     orElse (roomRefusal numbers fixed) (orElse (roomRefusal bytes through) (roomRefusal (4 * count) warnings))
 
+-- by the number: the program and its passthrough copied, and the warnings kept; or both lists as they were, and zeros for the warnings
 pub record Finishes (left : ℤ) (count : ℕ) (program : List ℤ) (passed : List ℕ) (fixed : List ℤ) (through : List ℕ) (warnings : List ℤ)
     (number : ℕ) (r : Validated) (fixed′ : List ℤ) (through′ : List ℕ) (warnings′ : List ℤ) : Type 0 where
   pub answer : validatedReply r ≡ replyOf number (left ∷ pos count ∷ [])

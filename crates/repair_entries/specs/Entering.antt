@@ -46,11 +46,13 @@ redirectPassed s e through = cond (both (eqb (entryRefusal s e) 0) (isKind 3 s e
 abbrev pub passedUpto : Damaged → ℕ → ℕ → Bool
 passedUpto d k i = cond (eqb (getD (d .passthrough) i 0) 0) (redirectsAt d i k) true
 
+-- passthrough by the first k entries, as 0 and 1
 abbrev pub passthroughUpto : Damaged → ℕ → List ℕ
 passthroughUpto d k = tabulate (count (d .instructions)) (λ i. cond (passedUpto d k i) 1 0)
 
 -- ---- the contract of unpack_entries
 
+-- the unpacked entries, the passthrough and the warnings 1 and 2, each at the front of its list, with the counts of entries and warnings
 pub record Enters (d : Damaged) (unpacked : List ℤ) (through : List ℕ) (warnings : List ℤ) (r : Entered) (unpacked′ : List ℤ)
     (through′ : List ℕ) (warnings′ : List ℤ) : Type 0 where
   pub entries : 2 * r .entries ≡ length (unpackedEntries d)

@@ -21,6 +21,7 @@ unlessRefused (suc k) ws = []
 abbrev pub loopSearchRefusal : Font → List ℕ → ℕ
 loopSearchRefusal f work = prepareRefusal f (length work / 16)
 
+-- THE contract of warn_loops: how many warnings there are, or the number; those of the loops after n others; and the work all zeros
 pub record WarnsLoops (f : Font) (n : ℕ) (warnings : List ℤ) (work : List ℕ) (r : Written) (warnings′ : List ℤ)
     (work′ : List ℕ) : Type 0 where
   pub answer : writtenReply r ≡ replyOf (loopSearchRefusal f work) (pos (n + length (loopsOfFont f)) ∷ [])

@@ -28,6 +28,7 @@ pub record Damaged : Type 0 where
 
 -- ---- TFtoPL 67: entries that unpack
 
+-- the packed entry at place k of the entries
 abbrev pub packedEntryOf : Damaged → ℕ → ℕ
 packedEntryOf d k = wordOf (entryAt (d .entries) k)
 
@@ -42,6 +43,7 @@ unpackedUpto d (suc k) =
     unpackedUpto d k
     ++ cond (unpacks d k) (charAt (d .entries) k ∷ pos (standsFor (d .instructions) (packedEntryOf d k)) ∷ []) []
 
+-- all entries that unpack, two numbers each
 abbrev pub unpackedEntries : Damaged → List ℤ
 unpackedEntries d = unpackedUpto d (length (d .entries) / 2)
 
@@ -62,12 +64,13 @@ passedOver d i = cond (eqb (getD (d .passthrough) i 0) 0) (redirectsAt d i (leng
 abbrev pub leftGoes : Damaged → Bool
 leftGoes d = both (nonNeg (d .left)) (leb (count (d .instructions)) (wordOf (d .left)))
 
+-- the left entry; none (-1) where it is past the end
 abbrev pub repairedLeft : Damaged → ℤ
 repairedLeft d = cond (leftGoes d) (negsuc 0) (d .left)
 
 -- ---- TFtoPL 68 to 70: the program whose steps are looked at one by one
 
--- What is reachable and what is passed over: a byte an instruction, nonzero meaning that it is.
+-- `marks` is what is reachable, `passthrough` what is passed over: a byte an instruction, nonzero meaning that it is.
 pub record DamagedProgram : Type 0 where
   pub instructions : List ℤ
   pub kerns : List ℤ
@@ -77,9 +80,11 @@ pub record DamagedProgram : Type 0 where
   pub marks : List ℕ
   pub passthrough : List ℕ
 
+-- a byte an instruction: 1 where it is passed over, else 0
 abbrev pub repairedPassthrough : Damaged → List ℕ
 repairedPassthrough d = tabulate (count (d .instructions)) (λ i. cond (passedOver d i) 1 0)
 
+-- the program of these parts
 abbrev pub programBy : List ℤ → List ℤ → ℤ → ℕ → List ℕ → List ℕ → List ℕ → DamagedProgram
 programBy instructions kerns boundary replacement existing marks passthrough =
     record {
@@ -92,7 +97,7 @@ programBy instructions kerns boundary replacement existing marks passthrough =
       passthrough = passthrough;
     }
 
--- reachable is what crate `marks` says of the font as lent, with the entries that unpack
+-- reachable is what crate `reach_marks` says of the font as lent, with the entries that unpack
 abbrev pub programOf : Damaged → DamagedProgram
 programOf d =
     programBy (d .instructions) (d .kerns) (d .boundary) (d .replacement) (d .existing)

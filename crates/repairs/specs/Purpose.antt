@@ -18,11 +18,12 @@ use Rattle.repairs.specs.Repaired.{exists, isBoundary, skipGoes, rightGo
 use Rattle.repairs.specs.Repaired.{repairedFont}
 use Rattle.repairs.specs.Warnings.{repairWarnings}
 
--- a program without a warning of kinds 1 to 9 is left as it is
+-- repair leaves the left entry and the instructions as they are
 pub record LeftAsItIs (d : Damaged) : Type 0 where
   pub left : repairedLeft d ≡ d .left
   pub instructions : repairedInstructions d ≡ d .instructions
 
+-- a program that is not refused, and not warned of with kinds 1 to 9, is left as it is
 abbrev pub Untouched : Type 0
 Untouched = (d : Damaged) → programRefusal (d .instructions) ≡ 0 → repairWarnings d ≡ [] → LeftAsItIs d
 
@@ -62,6 +63,7 @@ pub record ComesBack (d : Damaged) : Type 0 where
       rightGoes (programOf (again d)) i ≡ both (rightGoes (programOf d) i) (not (isBoundary (programOf d) (pos (d .replacement))))
   pub products : (i : ℕ) → i < count (d .instructions) → productGoes (programOf (again d)) i ≡ productGoes (programOf d) i
 
+-- so it is of every font whose replacement does not exist
 abbrev pub RepairedInVain : Type 0
 RepairedInVain = (d : Damaged) → d .replacement < 256 → exists (programOf d) (d .replacement) ≡ false → ComesBack d
 

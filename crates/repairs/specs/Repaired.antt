@@ -19,9 +19,11 @@ use Rattle.repairs.specs.Damaged.{Damaged, DamagedProgram, programOf, un
 abbrev pub exists : DamagedProgram → ℕ → Bool
 exists p c = eqb (getD (p .existing) (c / 64) 0 / 2 ^ (c % 64) % 2) 1
 
+-- step i is marked as reachable
 abbrev pub isReachable : DamagedProgram → ℕ → Bool
 isReachable p i = cond (eqb (getD (p .marks) i 0) 0) false true
 
+-- step i is passed over
 abbrev pub isPassedOver : DamagedProgram → ℕ → Bool
 isPassedOver p i = cond (eqb (getD (p .passthrough) i 0) 0) false true
 
@@ -33,14 +35,17 @@ skipGoes p i =
     both (isReachable p i)
     (both (nonNeg (field (p .instructions) i 0)) (leb (count (p .instructions)) (i + 1 + wordOf (field (p .instructions) i 0))))
 
+-- number 0 of step i repaired: it stops (-1) where its skip passes the end
 abbrev pub repairedNext : DamagedProgram → ℕ → ℤ
 repairedNext p i = cond (skipGoes p i) (negsuc 0) (field (p .instructions) i 0)
 
 -- ---- TFtoPL 71 to 77: steps
 
+-- step i is a redirect, kind 3
 abbrev pub isRedirect : DamagedProgram → ℕ → Bool
 isRedirect p i = isKind 3 (p .instructions) i
 
+-- step i is a ligature, kind 2
 abbrev pub isLigature : DamagedProgram → ℕ → Bool
 isLigature p i = isKind 2 (p .instructions) i
 
@@ -50,15 +55,17 @@ redirectWarns p i =
     both (isRedirect p i)
     (both (leb (count (p .instructions)) (targetAt (p .instructions) i)) (cond (isReachable p i) true (not (isPassedOver p i))))
 
--- a step is for a right character that neither exists nor is the boundary character
+-- a right character is the boundary character, where there is one
 abbrev pub isBoundary : DamagedProgram → ℤ → Bool
 isBoundary p right = both (nonNeg (p .boundary)) (eqb (wordOf (p .boundary)) (wordOf right))
 
+-- step i, no redirect, is for a right character that neither exists nor is the boundary character
 abbrev pub rightGoes : DamagedProgram → ℕ → Bool
 rightGoes p i =
     both (not (isRedirect p i))
     (both (not (exists p (wordOf (field (p .instructions) i 1)))) (not (isBoundary p (field (p .instructions) i 1))))
 
+-- number 1 of step i repaired: the replacement for such a right character
 abbrev pub repairedRight : DamagedProgram → ℕ → ℤ
 repairedRight p i = cond (rightGoes p i) (pos (p .replacement)) (field (p .instructions) i 1)
 
@@ -66,10 +73,11 @@ repairedRight p i = cond (rightGoes p i) (pos (p .replacement)) (field (p .instr
 abbrev pub kernGoes : DamagedProgram → ℕ → Bool
 kernGoes p i = both (isKind 1 (p .instructions) i) (leb (length (p .kerns)) (wordOf (field (p .instructions) i 3)))
 
--- a ligature's op byte and inserted character
+-- a ligature's op byte
 abbrev pub opByteAt : DamagedProgram → ℕ → ℕ
 opByteAt p i = wordOf (field (p .instructions) i 3) / 256
 
+-- the character that a ligature inserts
 abbrev pub insertedBy : DamagedProgram → ℕ → ℕ
 insertedBy p i = wordOf (field (p .instructions) i 3) % 256
 
@@ -81,6 +89,7 @@ productGoes p i = both (isLigature p i) (not (exists p (insertedBy p i)))
 abbrev pub tagGoes : DamagedProgram → ℕ → Bool
 tagGoes p i = both (isLigature p i) (not (isStandard (opByteAt p i)))
 
+-- number 3 of step i repaired: op byte 0 for one not standard, the replacement for a missing character, 0 for a kern index past the list
 abbrev pub repairedOperand : DamagedProgram → ℕ → ℤ
 repairedOperand p i =
     cond (isLigature p i)
@@ -114,6 +123,7 @@ unfoldable pub repairedUpto : DamagedProgram → ℕ → List ℤ
 repairedUpto p zero = []
 repairedUpto p (suc k) = repairedUpto p k ++ repairedStep p k
 
+-- all steps: the repaired program, four numbers an instruction
 abbrev pub repairedInstructions : Damaged → List ℤ
 repairedInstructions d = repairedUpto (programOf d) (count (d .instructions))
 

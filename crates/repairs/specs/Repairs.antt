@@ -59,6 +59,7 @@ repairRoomRefusal d room =
     orElse (roomRefusal (4 * count (d .instructions)) (room .instructions))
     (orElse (roomRefusal (count (d .instructions)) (room .passthrough)) (roomRefusal (length (warningsOf d)) (room .warnings)))
 
+-- 1 to 4, 12 or 15, the lowest that holds; 0 where the font is repaired
 abbrev pub repairRefusal : Damaged → RepairRoom → ℕ
 repairRefusal d room = orElse (damagedRefusal d) (orElse (repairedPairsRefusal d (room .work)) (repairRoomRefusal d room))
 
@@ -67,11 +68,12 @@ abbrev pub validatedReply : Validated → Reply
 validatedReply (Fixed left n) = replyOf 0 (left ∷ pos n ∷ [])
 validatedReply (Refused n) = record { number = n; values = [] }
 
+-- the lengths of the four lists that are lent
 abbrev pub roomFor : List ℤ → List ℕ → List ℤ → List ℕ → RepairRoom
 roomFor fixed through warnings work =
     record { instructions = length fixed; passthrough = length through; warnings = length warnings; work = length work }
 
--- the answer, and every list, taken or refused
+-- THE contract of validate_and_fix: the answer, and every list, taken or refused
 pub record Repairs (d : Damaged) (fixed : List ℤ) (through : List ℕ) (warnings : List ℤ) (work : List ℕ) (r : Validated)
     (fixed′ : List ℤ) (through′ : List ℕ) (warnings′ : List ℤ) (work′ : List ℕ) : Type 0 where
   pub answer : validatedReply r ≡

@@ -14,9 +14,11 @@ use Rattle.repairs.specs.Damaged.{Damaged, DamagedProgram, programOf, un
 use Rattle.repairs.specs.Repaired.{skipGoes, redirectWarns, isLigature, rightGoes, kernGoes, insertedBy, productGoes, tagGoes}
 use Rattle.repairs.specs.Repaired.{repairedFont}
 
+-- the four numbers of a warning
 abbrev pub warning : ℕ → ℤ → ℤ → ℤ → List ℤ
 warning kind at old new = pos kind ∷ at ∷ old ∷ new ∷ []
 
+-- a warning where a test holds, else none
 abbrev pub warnIf : Bool → List ℤ → List ℤ
 warnIf t w = cond t w []
 

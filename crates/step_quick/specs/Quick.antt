@@ -69,6 +69,7 @@ abbrev pub placeOr : ℕ → Option ℕ → ℕ
 placeOr n none = n
 placeOr n (some k) = k
 
+-- the place of the pair of a left's place (0 the boundary, else 1 + character) and a right; the number of pairs where there is none
 abbrev pub foundPlace : List ℤ → ℕ → ℕ → ℕ
 foundPlace pairs left right = placeOr (pairCount pairs) (find pairs (keyBy left right))
 

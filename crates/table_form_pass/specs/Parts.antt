@@ -74,6 +74,7 @@ leastAt pairs (suc k) = keyAt pairs k + 1
 
 -- ---- a table
 
+-- every op fits, every pair is of the form, and no op is left over
 abbrev pub contentForm : List ℤ → List ℤ → Bool
 contentForm pairs ops =
     both (every (opCount ops) (opFits ops))

@@ -10,6 +10,7 @@ use Rattle.words.specs.Words.{numberOf}
 use Rattle.lang.specs.declared.Written.{Written}
 use Rattle.lang.specs.declared.Written.the-variants.{Count, Refused}
 
+-- 1 where a flag is set, else 0
 abbrev pub bitOf : Bool → ℕ
 bitOf b = cond b 1 0
 

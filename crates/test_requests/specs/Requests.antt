@@ -12,6 +12,7 @@ use Rattle.words.specs.Words.{wordOf}
 unfoldable pub partOf : List ℤ → ℕ → ℕ → List ℤ
 partOf s a e = cond (ltb e a) [] (cond (ltb (length s) e) [] (take (e - a) (drop a s)))
 
+-- the number at place i; 0 past the last
 abbrev pub numberAt : List ℤ → ℕ → ℤ
 numberAt s i = getD s i (pos 0)
 
@@ -30,9 +31,10 @@ unfoldable pub marked : ℕ → List ℤ → List ℕ → List ℕ
 marked zero s m = m
 marked (suc k) s m = set (marked k s m) (wordOf (numberAt s k)) 1
 
--- where the kerns and the entries of a font stand
+-- where the length of the kerns of a font stands
 abbrev pub kernsAt : List ℤ → ℕ
 kernsAt font = afterOf 4 font 0
 
+-- where the length of its entries stands
 abbrev pub entriesAt : List ℤ → ℕ
 entriesAt font = afterOf 1 font (kernsAt font)

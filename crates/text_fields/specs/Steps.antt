@@ -9,6 +9,7 @@ use Rattle.columns.specs.Numbers.{readField}
 use Rattle.text_fields.specs.declared.numbers.Decimal.{Decimal}
 use Rattle.text_fields.specs.declared.numbers.Decimal.the-variants as decimal
 
+-- the value of digits; none where they are no number
 abbrev pub digitsOf : Decimal → Option ℕ
 digitsOf (decimal.Value n) = some n
 digitsOf decimal.Nothing = none

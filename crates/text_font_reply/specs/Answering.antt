@@ -22,9 +22,11 @@ abbrev pub freshItems : List ℤ → List ℤ → ℤ → ℤ → List ℕ → R
 freshItems pairs ops boundary (pos n) word = itemsFrom pairs ops boundary word columnOptions 885 (freshState word columnOptions)
 freshItems pairs ops boundary (negsuc n) word = replyOf 0 []
 
+-- the bytes of the reply with those items
 abbrev pub freshBytes : List ℤ → List ℤ → List ℤ → ℤ → ℤ → List ℕ → List ℕ
 freshBytes pairs ops loops boundary letters word = replyBytes pairs ops loops letters (freshItems pairs ops boundary letters word .values)
 
+-- the number of a run that is refused or has over 885 items; else 15 where the bytes are too many; else 0
 abbrev pub freshNumber : List ℤ → List ℤ → List ℤ → ℤ → ℤ → List ℕ → ℕ → ℕ
 freshNumber pairs ops loops boundary letters word room =
     orElse (freshItems pairs ops boundary letters word .number) (replyRefusal (freshBytes pairs ops loops boundary letters word) room)

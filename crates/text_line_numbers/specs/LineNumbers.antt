@@ -20,6 +20,7 @@ use Rattle.columns.specs.Lines.{readFields}
 abbrev pub lineEnds : ℕ → List ℕ → Bool
 lineEnds n bs = both (ltb (12 * n) (length bs)) (eqb (getD bs (12 * n) 0) 10)
 
+-- the n numbers of such a line; none where it is no such line or a field is unreadable
 abbrev pub numbersOn : ℕ → List ℕ → Option (List ℤ)
 numbersOn n bs = cond (lineEnds n bs) (readFields n bs) none
 
@@ -37,10 +38,12 @@ numberOn bs = cond (lineEnds 1 bs) (readField (take 12 bs)) none
 
 -- ---- stored
 
+-- the numbers that were read, by their 32 bits
 abbrev pub wordsOf : Option (List ℤ) → Option (List ℕ)
 wordsOf none = none
 wordsOf (some zs) = some (map wordOf zs)
 
+-- something was read
 abbrev pub isSome {ℓ} : {A : Type ℓ} → Option A → Bool
 isSome none = false
 isSome (some x) = true

@@ -71,11 +71,12 @@ abbrev pub nextBy : Option (List ℤ) → TextProgress → NextLine
 nextBy none q = next.Unreadable
 nextBy (some zs) q = next.At q
 
+-- a line of numbers was read: reading stands at q, and they are stored from a place on; or the text is unreadable
 pub record TakesLine (o : Option (List ℤ)) (q : TextProgress) (list : List ℤ) (place : ℕ) (r : NextLine) (list′ : List ℤ) : Type 0 where
   pub answer : r ≡ nextBy o q
   pub stored : (zs : List ℤ) → o ≡ some zs → list′ ≡ sets list place zs
 
--- after I, K and E: 50, 14 and 26 bytes
+-- after I: 50 bytes, and four numbers more
 abbrev pub pastInstruction : TextProgress → TextProgress
 pastInstruction p =
     record {
@@ -90,6 +91,7 @@ pastInstruction p =
       entries = p .entries;
     }
 
+-- after K: 14 bytes, and one number more
 abbrev pub pastKern : TextProgress → TextProgress
 pastKern p =
     record {
@@ -104,6 +106,7 @@ pastKern p =
       entries = p .entries;
     }
 
+-- after E: 26 bytes, and two numbers more
 abbrev pub pastEntry : TextProgress → TextProgress
 pastEntry p =
     record {
@@ -118,7 +121,7 @@ pastEntry p =
       entries = p .entries + 2;
     }
 
--- after R and L, with the number's word
+-- after R: 14 bytes, and the 32 bits of its number
 abbrev pub pastBoundary : TextProgress → ℕ → TextProgress
 pastBoundary p w =
     record {
@@ -133,6 +136,7 @@ pastBoundary p w =
       entries = p .entries;
     }
 
+-- after L: 14 bytes, and the 32 bits of its number
 abbrev pub pastLeft : TextProgress → ℕ → TextProgress
 pastLeft p w =
     record {
@@ -147,6 +151,7 @@ pastLeft p w =
       entries = p .entries;
     }
 
+-- after R or L, if its number was read
 abbrev pub headBy : (ℕ → TextProgress) → Option ℤ → NextLine
 headBy f none = next.Unreadable
 headBy f (some z) = next.At (f (wordOf z))
@@ -167,11 +172,12 @@ pub record Opens (text : List ℕ) (r : NextLine) : Type 0 where
   pub on : (q : TextProgress) → r ≡ next.At q → TellsText text q (opened (numberOf (q .design)))
   pub stuck : r ≡ next.Unreadable → readText text ≡ none
 
--- W read
+-- W read: the heads, with the word's length; or 16
 abbrev pub wordReply : TextProgress → Option (List ℤ) → Reply
 wordReply p none = replyOf 16 []
 wordReply p (some zs) = replyOf 0 (headsOf p (pos (length zs)))
 
+-- W read: what is answered, and the characters stored from the front of their list
 pub record EndsWord (o : Option (List ℤ)) (p : TextProgress) (word : List ℕ) (r : TextRead) (word′ : List ℕ) : Type 0 where
   pub answer : textReadReply r ≡ wordReply p o
   pub stored : (zs : List ℤ) → o ≡ some zs → word′ ≡ sets word 0 (map wordOf zs)

@@ -26,9 +26,11 @@ unfoldable pub halve : ℕ → ℕ → ℕ → Multiplier
 halve zero z alpha = record { z = z; alpha = alpha }
 halve (suc n) z alpha = elim (ltb z 8388608) [ true ↦ record { z = z; alpha = alpha } | false ↦ halve n (z / 2) (alpha + alpha) ]
 
+-- TeX 572: z below 2 ^ 23 and alpha, which starts at 16 and is not yet multiplied by z
 abbrev pub multiplier : ℕ → Multiplier
 multiplier z = halve 4 z 16
 
+-- TeX 572: beta, 256 divided by alpha
 abbrev pub beta : Multiplier → ℕ
 beta m = 256 / m .alpha
 

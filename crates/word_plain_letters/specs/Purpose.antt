@@ -13,12 +13,14 @@ use Rattle.captions.specs.Steps.{stepOf}
 use Rattle.step_quick.specs.Quick.{nextLetter, isQuick, foundPlace, givenPlain}
 use Rattle.word_plain_letters.specs.Stretch.{plainLeft, plainState, freeLetters, stopPlace}
 
+-- from the state after i letters of a stretch, the step gives the next of them as it stands
 abbrev pub StretchSteps : Type 0
 StretchSteps =
     (pairs ops : List ℤ) (boundary : ℤ) (word : List ℕ) (options : RunOptions) (s : State) (n i : ℕ) →
     isQuick ops boundary word options s ≡ true → s .read + n ≤ length word → i < freeLetters pairs word s n →
     stepOf pairs ops boundary word options (plainState word s i) ≡ givenPlain word (plainState word s i)
 
+-- where a pair stops a stretch, the state after its letters is quick, and the pair is the one of its next left and letter
 abbrev pub StretchStops : Type 0
 StretchStops =
     (pairs ops : List ℤ) (boundary : ℤ) (word : List ℕ) (options : RunOptions) (s : State) (n : ℕ) →

@@ -19,6 +19,7 @@ use Rattle.step_quick.specs.Quick.{plainCode, nextLetter, isQuick, foundPlace, 
 use Rattle.word_plain_letters.specs.declared.Stop.{Stop}
 use Rattle.word_plain_letters.specs.declared.Stretch.{Stretch}
 
+-- the smaller of two numbers
 abbrev pub least : ℕ → ℕ → ℕ
 least a b = cond (leb a b) a b
 
@@ -86,10 +87,11 @@ freeLetters pairs word s n = leading n (λ i. isFree pairs word (plainState word
 abbrev pub stopPlace : List ℤ → List ℕ → State → ℕ → ℕ → ℕ
 stopPlace pairs word s n m = cond (ltb m n) (nextPlace pairs word (plainState word s m)) (pairCount pairs)
 
+-- what the loop answers: the left that is next, how many letters were given, and the pair that stopped them
 abbrev pub stopAt : ℕ → ℕ → ℕ → Stop
 stopAt left n pair = record { left = left; count = n; pair = pair }
 
--- what the loop leaves
+-- what the loop leaves: how many letters were free, the left that is next, the pair that stopped them, and their items after k others
 pub record Gave (pairs : List ℤ) (word : List ℕ) (s : State) (n : ℕ) (items : List ℤ) (k : ℕ) (r : Stop) (items′ : List ℤ) : Type 0 where
   pub count : r .count ≡ freeLetters pairs word s n
   pub left : r .left ≡ plainLeft (plainState word s (r .count))

@@ -42,7 +42,7 @@ abbrev pub afterBegin : ℕ → Reply → Reply
 afterBegin zero r = r
 afterBegin (suc k) r = record { number = suc k; values = [] }
 
--- begin's numbers first; then the items of the run, of which a list of `room` numbers takes one in six
+-- begin's numbers first; then the items of the run, of which a list of `room` numbers holds room / 6
 abbrev pub setReply : List ℤ → List ℤ → ℤ → List ℕ → RunOptions → ℕ → Reply
 setReply pairs ops boundary word options room =
     afterBegin (beginRefusal pairs ops boundary word options)
