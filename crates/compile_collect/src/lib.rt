@@ -17,6 +17,7 @@ use compile_survey::survey;
 use compiling::Added;
 use compiling::Collected;
 use lang::entries::entries_table;
+use words::sizes::smaller;
 use words::word_at;
 use words::zero::zero_u32;
 
@@ -101,12 +102,6 @@ fn collect_rows(instructions: &[i32], table: &[i32; 257], work: &mut [u32], cap:
         left += 1;
     }
     Collected::Rows(n, e)
-}
-
-fn smaller(a: usize, b: usize) -> usize
-    ensures { λ r. ⌜ r ≡ min a b ⌝ }
-{
-    if a <= b { a } else { b }
 }
 
 // The pairs of a font that have a rule, in a work buffer of sixteen u32 a pair: at most `room` of them. 1 where there

@@ -11,13 +11,7 @@ ghost use Rattle.repair_faults.specs.Tests.{existsIn, isEdge, skipPastEn
 ghost use Rattle.repair_faults.specs.Tests.{kernPastList, productMissing, tagInvalid};
 use lang::instruction::field_at;
 use repairs::Faults;
-
-// Word i of the set of characters; 0 past the last.
-fn u64_at(s: &[u64], i: usize) -> u64
-    ensures { λ r. ⌜ r ≡ getD (now (s .entry)) i 0 ⌝ }
-{
-    if i < s.len() { s[i] } else { 0 }
-}
+use words::u64_at;
 
 // Character c exists.
 fn exists(existing: &[u64; 4], c: u32) -> bool

@@ -5,6 +5,7 @@ ghost use lib.ListN.{getD, set};
 ghost use lib.IntN.{pos};
 ghost use Rattle.words.specs.Words.{wordOf, numberOf, Word};
 
+pub mod sizes;
 pub mod zero;
 
 // The 32 bits of x, two's complement.
@@ -64,6 +65,13 @@ pub fn put_u32(s: &mut [u32], i: usize, w: u32)
     if i < s.len() {
         s[i] = w;
     }
+}
+
+// The same, of a slice of u64, which is only read.
+pub fn u64_at(s: &[u64], i: usize) -> u64
+    ensures { λ r. ⌜ r ≡ getD (now (s .entry)) i 0 ⌝ }
+{
+    if i < s.len() { s[i] } else { 0 }
 }
 
 // The same, of a slice of u8.

@@ -1,11 +1,11 @@
--- `chain_rows::u64_at` meets its contract: past the end `getD` is its default.
+-- `words::u64_at` meets its contract: past the end `getD` is its default.
 -- Assumes nothing.
 use mathlib.Core.Path.{sym}
 use lib.ListN.{List·getD-eq-default}
 use denote.Ref.{now}
 use borrow.Author.Needs.{needs}
-use Rattle.compile_chain_rows.proofs.u64_at.Statement.{statement}
-use Rattle.compile_chain_rows.proofs.u64_at.Tie as tie
+use Rattle.words.proofs.u64_at.Statement.{statement}
+use Rattle.words.proofs.u64_at.Tie as tie
 
 mul-result : tie.Need-mul-result
 mul-result c = search needs
