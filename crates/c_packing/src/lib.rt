@@ -8,10 +8,10 @@ ghost use Rattle.program_kerns.specs.Kerns.{packed, unpacked, kernsOf};
 ghost use Rattle.pack.specs.Packing.{packable, packedReply, packedInstructions, packedEntries};
 ghost use Rattle.c_values.specs.Telling.{TellsHost, Gives, GivesTwo};
 ghost use Rattle.c_packing.specs.Changes.{packKernsReply, unpackKernsReply, packReply};
-use c_values::keep_i32;
+use c_values::i32s::keep_i32;
 use c_values::tell;
-use c_values::zero_u64;
 use pack::Packed;
+use words::u64s::zero_u64;
 
 // The three sizes of a packed font, or the number of a refusal.
 fn tell_sizes(packed: Packed, values: &mut [u64]) -> u32

@@ -17,9 +17,9 @@ use compile_survey::survey;
 use compiling::Added;
 use compiling::Collected;
 use lang::entries::entries_table;
+use words::i32s::word_at;
 use words::sizes::smaller;
-use words::word_at;
-use words::zero::zero_u32;
+use words::u32s::zero_u32;
 
 // The place of a left in the table of entries.
 fn place_of(left: usize) -> usize

@@ -9,7 +9,7 @@ ghost use lib.IntN.{pos};
 ghost use Rattle.words.specs.Words.{Word};
 ghost use Rattle.captions.specs.Tables.{pairCount, leftPlace, number, keyBy, keyAt, placeFor};
 ghost use Rattle.step_quick.specs.Quick.{foundPlace};
-use words::word_at;
+use words::i32s::word_at;
 
 // The left of pair k, which is there: -1 is 0, and c is 1 + c.
 fn left_in(pairs: &[i32], k: usize) -> u32

@@ -20,8 +20,8 @@ use captions::State;
 use captions::Step;
 use step_quick::left::has_letter;
 use step_quick::left::plain_code;
+use words::i32s::word_at;
 use words::sizes::minus;
-use words::word_at;
 
 // Number j of pair k, which is there.
 fn number_in(pairs: &[i32], k: usize, j: usize) -> u32

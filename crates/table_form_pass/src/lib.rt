@@ -9,7 +9,7 @@ ghost use Rattle.captions.specs.Form.{sizesForm, tableForm};
 ghost use Rattle.table_form_pass.specs.Parts.{codesForm, pairPasses, contentForm};
 use pair_ops::ops_pass;
 use table_find::left_place;
-use words::word_at;
+use words::i32s::word_at;
 
 mod pair_ops;
 

@@ -8,7 +8,7 @@ ghost use lib.Dec.{eqb};
 ghost use Rattle.words.specs.Words.{Word};
 ghost use Rattle.captions.specs.Tables.{opCount};
 ghost use Rattle.table_form_pass.specs.Parts.{leftBy, opPasses, OpsPass, LaterPass};
-use words::word_at;
+use words::i32s::word_at;
 
 // An op is a kern, a ligature, or the left as it stands, which is a character.
 fn op_passes(left: u32, kind: u32, value: u32) -> bool

@@ -11,7 +11,7 @@ ghost use Rattle.text_justify.specs.InFields.{numbersFrom, fiveFrom, fie
 use crate::number::put_blanks;
 use crate::number::put_character;
 use crate::number::put_number;
-use words::word_at;
+use words::i32s::word_at;
 
 mod number;
 
