@@ -1,12 +1,12 @@
--- `c_changes::ligkern_unpack_kerns` meets its contract. Assumes nothing.
+-- `c_packing::unpacked_kerns::ligkern_unpack_kerns` meets its contract. Assumes nothing.
 use mathlib.Core.List.{[], _∷_}
 use lib.IntN.{pos}
 use lib.ListN.{length}
 use Rattle.program_kerns.specs.Kerns.{unpacked, kernsOf, unpackKernsRefusal}
 use Rattle.c_values.proofs.Telling.{gives-two}
 use borrow.Author.Needs.{needs}
-use Rattle.c_packing.proofs.ligkern_unpack_kerns.Statement.{statement}
-use Rattle.c_packing.proofs.ligkern_unpack_kerns.Tie as tie
+use Rattle.c_packing.proofs.unpacked_kerns.ligkern_unpack_kerns.Statement.{statement}
+use Rattle.c_packing.proofs.unpacked_kerns.ligkern_unpack_kerns.Tie as tie
 
 unpack-kerns-requires : tie.Need-unpack-kerns-requires
 unpack-kerns-requires c κs = search needs

@@ -1,4 +1,4 @@
--- `c_changes::tell_sizes` meets its contract: the number of a refusal, 15 where there are fewer than three places, or 0 with the sizes at the front.
+-- `c_packing::entries::tell_sizes` meets its contract: the number of a refusal, 15 where there are fewer than three places, or 0 with the sizes at the front.
 -- Assumes nothing.
 use mathlib.Core.Path.{refl}
 use mathlib.Core.List.{[], _∷_}
@@ -7,8 +7,8 @@ use lib.IntN.{pos}
 use lib.ListN.{length-set}
 use Rattle.c_values.proofs.Telling.{tells-refused, tells-short, tells-taken}
 use borrow.Author.Needs.{needs}
-use Rattle.c_packing.proofs.tell_sizes.Statement.{statement}
-use Rattle.c_packing.proofs.tell_sizes.Tie as tie
+use Rattle.c_packing.proofs.entries.tell_sizes.Statement.{statement}
+use Rattle.c_packing.proofs.entries.tell_sizes.Tie as tie
 
 zero-u64-requires : tie.Need-zero-u64-requires
 zero-u64-requires c κs = search needs

@@ -1,4 +1,4 @@
--- `c_changes::ligkern_pack_kerns` meets its contract. Assumes nothing.
+-- `c_packing::packed_kerns::ligkern_pack_kerns` meets its contract. Assumes nothing.
 use mathlib.Core.List.{[], _∷_}
 use lib.IntN.{pos}
 use lib.ListN.{length}
@@ -6,8 +6,8 @@ use Rattle.lang.specs.Records.{count}
 use Rattle.program_kerns.specs.Kerns.{packed, packRefusal}
 use Rattle.c_values.proofs.Telling.{gives}
 use borrow.Author.Needs.{needs}
-use Rattle.c_packing.proofs.ligkern_pack_kerns.Statement.{statement}
-use Rattle.c_packing.proofs.ligkern_pack_kerns.Tie as tie
+use Rattle.c_packing.proofs.packed_kerns.ligkern_pack_kerns.Statement.{statement}
+use Rattle.c_packing.proofs.packed_kerns.ligkern_pack_kerns.Tie as tie
 
 pack-kerns-requires : tie.Need-pack-kerns-requires
 pack-kerns-requires c κs = search needs

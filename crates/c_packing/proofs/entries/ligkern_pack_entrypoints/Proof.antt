@@ -1,4 +1,4 @@
--- `c_changes::ligkern_pack_entrypoints` meets its contract. Assumes nothing.
+-- `c_packing::entries::ligkern_pack_entrypoints` meets its contract. Assumes nothing.
 use lib.IntN.{ℤ, pos}
 use lib.ListN.{length}
 use Rattle.words.specs.Words.{wordOf, numberOf}
@@ -8,8 +8,8 @@ use Rattle.c_values.specs.Telling.{GivesTwo}
 use Rattle.c_packing.specs.Changes.{packReply}
 use Rattle.c_values.proofs.Telling.{gives-two, lent-two}
 use borrow.Author.Needs.{needs}
-use Rattle.c_packing.proofs.ligkern_pack_entrypoints.Statement.{statement}
-use Rattle.c_packing.proofs.ligkern_pack_entrypoints.Tie as tie
+use Rattle.c_packing.proofs.entries.ligkern_pack_entrypoints.Statement.{statement}
+use Rattle.c_packing.proofs.entries.ligkern_pack_entrypoints.Tie as tie
 
 pack-entrypoints-requires : tie.Need-pack-entrypoints-requires
 pack-entrypoints-requires c κs = search needs
