@@ -2,10 +2,10 @@
 ghost use Rattle.c_captions.specs.Begin.{BeginsRun};
 ghost use Rattle.c_states.specs.States.{optionsOf};
 use c_states::states::put_state;
-use c_values::zero_u64;
 use caption_run::begin::begin;
 use captions::Begun;
 use captions::RunOptions;
+use words::u64s::zero_u64;
 
 // The state of a fresh run, nine numbers with zeros after them. Begin's numbers, then 15 where the list has no room for
 // it.

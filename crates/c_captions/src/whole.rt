@@ -3,11 +3,11 @@ ghost use lib.ListN.{length};
 ghost use Rattle.word_set.specs.Setting.{setReply};
 ghost use Rattle.c_captions.specs.Whole.{SetsCaption};
 ghost use Rattle.c_states.specs.States.{optionsOf};
-use c_values::zero_u64;
 use captions::RunOptions;
 use lang::Written;
 use word_set::set_word;
-use words::zero::zero_i32;
+use words::i32s::zero_i32;
+use words::u64s::zero_u64;
 
 // The items of a word up to its end, six numbers each, with zeros after them, and their count. set_word's numbers, then
 // 15 where the count has no room.

@@ -2,10 +2,10 @@
 ghost use Rattle.fonts.specs.Fonts.{fontOf};
 ghost use Rattle.c_compile.specs.Counts.{CompilesCounts};
 use crate::numbers::put_three;
-use c_values::zero_u64;
 use compile::compile;
 use fonts::Compiled;
-use words::zero::zero_i32;
+use words::i32s::zero_i32;
+use words::u64s::zero_u64;
 
 // The counts: pairs, ops, loops. Compile's numbers, then 15 where the counts have no room.
 #[no_mangle]

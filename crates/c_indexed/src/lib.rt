@@ -6,12 +6,12 @@ ghost use Rattle.index.specs.Index.{FillsIndex};
 ghost use Rattle.index_set_word.specs.Whole.{indexedReply};
 ghost use Rattle.c_states.specs.States.{optionsOf};
 ghost use Rattle.c_captions.specs.Whole.{SetsCaption};
-use c_values::zero_u64;
 use captions::RunOptions;
 use index_fill::fill_index;
 use index_set_word::set_word_indexed;
 use lang::Written;
-use words::zero::zero_i32;
+use words::i32s::zero_i32;
+use words::u64s::zero_u64;
 
 // The index of a table, 1,285 numbers with zeros after them. 7, 15.
 #[no_mangle]

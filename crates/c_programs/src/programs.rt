@@ -9,10 +9,10 @@ ghost use Rattle.c_values.specs.Telling.{TellsHost, Gives};
 ghost use Rattle.c_programs.specs.Programs.{walkReply, reachReply};
 use crate::answers::entry_of;
 use crate::answers::safety_of;
-use c_values::keep_i32;
-use c_values::keep_u8;
-use c_values::keep_u32;
+use c_values::i32s::keep_i32;
 use c_values::tell;
+use c_values::u8s::keep_u8;
+use c_values::u32s::keep_u32;
 
 // The indices of the whole chain from an entry, then zeros. Tells how many.
 #[no_mangle]

@@ -5,7 +5,7 @@ ghost use Rattle.captions.specs.Queries.{hasReply, keysOf, safeReply};
 ghost use Rattle.c_values.specs.Telling.{TellsHost, Gives};
 ghost use Rattle.c_queries.specs.Questions.{pairsReply};
 use crate::answers::reply_of;
-use c_values::keep_i32;
+use c_values::i32s::keep_i32;
 use c_values::tell;
 
 // Tells 1 where a left (-1 the boundary) and a right (-1 the boundary character) have an entry.

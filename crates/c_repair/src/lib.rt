@@ -4,11 +4,11 @@
 ghost use mathlib.Core.List.{[], _∷_};
 ghost use Rattle.repairs.specs.Repairs.{damagedOf, validatedReply};
 ghost use Rattle.c_repair.specs.Repairing.{TellsFixed, GivesRepaired};
-use c_values::keep_i32;
-use c_values::keep_u8;
-use c_values::zero_u64;
+use c_values::i32s::keep_i32;
+use c_values::u8s::keep_u8;
 use repairs::Validated;
-use words::zero::zero_i32;
+use words::i32s::zero_i32;
+use words::u64s::zero_u64;
 
 // The repaired left entry and the count of warnings, or the number of a refusal.
 fn tell_fixed(validated: Validated, left: &mut [i32], values: &mut [u64]) -> u32

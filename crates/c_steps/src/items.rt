@@ -11,7 +11,7 @@ use captions::Answer;
 use word_items::is_item;
 use word_items::put_item;
 use word_plain_letters::put_six;
-use words::put_word;
+use words::i32s::put_word;
 
 // The number of a refusal, else 0.
 pub(crate) fn refusal_of(answer: Answer) -> u32

@@ -16,8 +16,8 @@ use step_quick::left::quick_left;
 use step_quick_find::found_place;
 use step_quick_op::is_ready;
 use step_quick_op::quick_step;
-use words::u32_at;
-use words::zero::zero_i32;
+use words::i32s::zero_i32;
+use words::u32s::u32_at;
 
 mod items;
 

@@ -1,26 +1,14 @@
 // What every call for a host in C does with the answer of the port's own function: it tells the number, 0 or a refusal
 // of document 01, and the values in a lent list of u64; and it zeroes each list that was written, where the number
 // refuses.
-ghost use mathlib.Core.Path.{_≡_};
-ghost use lib.ListN.{length, replicate};
-ghost use lib.IntN.{pos};
 ghost use Rattle.lang.specs.Answers.{writtenReply};
-ghost use Rattle.c_values.specs.Telling.{TellsHost, kept};
+ghost use Rattle.c_values.specs.Telling.{TellsHost};
 use lang::Written;
-use words::zero::zero_i32;
-use words::zero::zero_u8;
-use words::zero::zero_u32;
+use words::u64s::zero_u64;
 
-// Every element becomes 0.
-pub fn zero_u64(s: &mut [u64])
-    ensures { λ _. ⌜ now (s .exit) ≡ replicate (length (now (s .entry))) 0 ⌝ }
-{
-    let mut i = 0;
-    while i < s.len() {
-        s[i] = 0;
-        i += 1;
-    }
-}
+pub mod i32s;
+pub mod u32s;
+pub mod u8s;
 
 // A count, or the number of a refusal: the count stands in a list that has a place for it.
 pub fn tell(written: Written, values: &mut [u64]) -> u32
@@ -36,30 +24,5 @@ pub fn tell(written: Written, values: &mut [u64]) -> u32
             values[0] = n as u64;
             0
         }
-    }
-}
-
-// Zeros where a number refuses; else the list as it is.
-pub fn keep_i32(number: u32, out: &mut [i32])
-    ensures { λ _. ⌜ now (out .exit) ≡ kept number (pos 0) (now (out .entry)) ⌝ }
-{
-    if number != 0 {
-        zero_i32(out);
-    }
-}
-
-pub fn keep_u32(number: u32, out: &mut [u32])
-    ensures { λ _. ⌜ now (out .exit) ≡ kept number 0 (now (out .entry)) ⌝ }
-{
-    if number != 0 {
-        zero_u32(out);
-    }
-}
-
-pub fn keep_u8(number: u32, out: &mut [u8])
-    ensures { λ _. ⌜ now (out .exit) ≡ kept number 0 (now (out .entry)) ⌝ }
-{
-    if number != 0 {
-        zero_u8(out);
     }
 }

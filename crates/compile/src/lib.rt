@@ -15,8 +15,8 @@ use program_checks::program_refusal;
 use program_limits::design_refusal;
 use program_limits::entries_refusal;
 use program_limits::kerns_refusal;
-use words::zero::zero_i32;
-use words::zero::zero_u32;
+use words::i32s::zero_i32;
+use words::u32s::zero_u32;
 
 // 4 of the boundary or the left entry, else 5.
 fn edge_refusal(boundary: i32, left_entry: i32, design_size: i32) -> u32

@@ -17,8 +17,9 @@ use compile_survey::survey;
 use compiling::Added;
 use compiling::Collected;
 use lang::entries::entries_table;
-use words::word_at;
-use words::zero::zero_u32;
+use words::i32s::word_at;
+use words::sizes::smaller;
+use words::u32s::zero_u32;
 
 // The place of a left in the table of entries.
 fn place_of(left: usize) -> usize
@@ -101,12 +102,6 @@ fn collect_rows(instructions: &[i32], table: &[i32; 257], work: &mut [u32], cap:
         left += 1;
     }
     Collected::Rows(n, e)
-}
-
-fn smaller(a: usize, b: usize) -> usize
-    ensures { λ r. ⌜ r ≡ min a b ⌝ }
-{
-    if a <= b { a } else { b }
 }
 
 // The pairs of a font that have a rule, in a work buffer of sixteen u32 a pair: at most `room` of them. 1 where there

@@ -20,9 +20,9 @@ use compile_ops::write_ops;
 use compile_rows::get;
 use compiling::CountedFont;
 use fonts::Compiled;
-use words::put_word;
-use words::zero::zero_i32;
-use words::zero::zero_u32;
+use words::i32s::put_word;
+use words::i32s::zero_i32;
+use words::u32s::zero_u32;
 
 // The bits of a pair's left: -1 for the boundary.
 fn left_word(left: u32) -> u32

@@ -20,7 +20,7 @@ use compile_rows::put;
 use compiling::CountedFont;
 use compiling::Part;
 use compiling::WalkedFont;
-use words::zero::zero_u32;
+use words::u32s::zero_u32;
 
 // A sum that stops at 2^31.
 fn capped_sum(a: u32, b: u32) -> u32

@@ -24,7 +24,7 @@ use compile_op_parts::second_part;
 use compile_rows::get;
 use compiling::CountedFont;
 use compiling::Part;
-use words::zero::zero_i32;
+use words::i32s::zero_i32;
 
 // An op at place p. Answers the place after it.
 fn put_op(ops: &mut [i32], p: usize, kind: u32, value: u32) -> usize
@@ -32,8 +32,8 @@ fn put_op(ops: &mut [i32], p: usize, kind: u32, value: u32) -> usize
     ensures { λ r. ⌜ (r ≡ p + 2)
         × (now (ops .exit) ≡ sets (now (ops .entry)) p (numberOf kind ∷ numberOf value ∷ [])) ⌝ }
 {
-    words::put_word(ops, p, kind);
-    words::put_word(ops, p + 1, value);
+    words::i32s::put_word(ops, p, kind);
+    words::i32s::put_word(ops, p + 1, value);
     p + 2
 }
 
@@ -44,8 +44,8 @@ fn copy_numbers(ops: &mut [i32], from: usize, to: usize, count: usize)
     ensures { λ _. ⌜ now (ops .exit) ≡ sets (now (ops .entry)) to (take count (drop from (now (ops .entry)))) ⌝ }
 {
     for i in 0..count {
-        let word = words::word_at(ops, from + i);
-        words::put_word(ops, to + i, word);
+        let word = words::i32s::word_at(ops, from + i);
+        words::i32s::put_word(ops, to + i, word);
     }
 }
 
@@ -84,8 +84,8 @@ fn raise_first(ops: &mut [i32], from: usize, to: usize)
 {
     let mut i = from;
     while i < to {
-        if words::word_at(ops, i) != 2 {
-            words::put_word(ops, i, 1);
+        if words::i32s::word_at(ops, i) != 2 {
+            words::i32s::put_word(ops, i, 1);
             return;
         }
         i += 2;

@@ -13,7 +13,7 @@ pub fn get(work: &[u32], k: usize, f: u8) -> u32
     if work.len() / 16 < k {
         return 0;
     }
-    words::u32_at(work, 16 * k + (f as usize))
+    words::u32s::u32_at(work, 16 * k + (f as usize))
 }
 
 // Number f of row k becomes v; past the numbers nothing is done.
@@ -21,7 +21,7 @@ pub fn put(work: &mut [u32], k: usize, f: u8, v: u32)
     ensures { λ _. ⌜ now (work .exit) ≡ set (now (work .entry)) (16 * k + f) v ⌝ }
 {
     if k <= work.len() / 16 {
-        words::put_u32(work, 16 * k + (f as usize), v);
+        words::u32s::put_u32(work, 16 * k + (f as usize), v);
     }
 }
 

@@ -83,7 +83,7 @@ fn passthrough_at(instructions: &[i32], entry: usize, passthrough: &[u8], i: usi
             return 1;
         }
     }
-    if words::u8_at(passthrough, i) == 0 {
+    if words::u8s::u8_at(passthrough, i) == 0 {
         0
     } else {
         1
@@ -113,7 +113,7 @@ pub fn unpack_entrypoint(
     ensures { λ r. ⌜ UnpacksEntry (now (instructions .entry)) entry (now (passthrough .entry))
         (now (out .entry)) r (now (out .exit)) ⌝ }
 {
-    words::zero::zero_u8(out);
+    words::u8s::zero_u8(out);
     let refusal = unpack_refusal(instructions, entry, passthrough, out.len());
     if refusal != 0 {
         return refused(refusal);
@@ -157,10 +157,13 @@ fn entry_is_safe(instructions: &[i32], entries: &[i32], i: usize) -> bool
     requires { ⌜ i < length (now entries) / 2 ⌝ }
     ensures { λ r. ⌜ r ≡ entrySafe (now (instructions .entry)) (now (entries .entry)) i ⌝ }
 {
-    if 127 < words::word_at(entries, 2 * i) {
+    if 127 < words::i32s::word_at(entries, 2 * i) {
         return true;
     }
-    chain_is_seven_bit(instructions, words::word_at(entries, 2 * i + 1) as usize)
+    chain_is_seven_bit(
+        instructions,
+        words::i32s::word_at(entries, 2 * i + 1) as usize,
+    )
 }
 
 // The same of every entry.

@@ -65,10 +65,10 @@ fn is_pair(pairs: &[i32], k: usize, left: u32, right: u32) -> bool
     requires { ⌜ k < pairCount (now pairs) ⌝ }
     ensures { λ r. ⌜ r ≡ eqb (keyAt (now (pairs .entry)) k) (keyBy left right) ⌝ }
 {
-    if words::word_at(pairs, 6 * k + 1) != right {
+    if words::i32s::word_at(pairs, 6 * k + 1) != right {
         return false;
     }
-    left_place(words::word_at(pairs, 6 * k)) == left
+    left_place(words::i32s::word_at(pairs, 6 * k)) == left
 }
 
 // The pair of a left and a right, by the index.

@@ -10,10 +10,10 @@ ghost use Rattle.captions.specs.Tables.{pairCount};
 ghost use Rattle.captions.specs.Form.{keyForm};
 ghost use Rattle.index.specs.Index.{pairsBefore, indexRefusal, FillsIndex};
 ghost use Rattle.index_fill.specs.Filling.{Filled};
-use c_values::zero_u64;
 use table_find::left_place;
 use table_form::keys::keys_form;
 use table_numbers::number_at;
+use words::u64s::zero_u64;
 
 // 7, or 15 where a list of `room` places is too short for an index.
 fn index_refusal(pairs: &[i32], room: usize) -> u32

@@ -19,7 +19,7 @@ use lang::Written;
 use word_items::is_item;
 use word_items::put_item;
 use word_items::stopped;
-use words::zero::zero_i32;
+use words::i32s::zero_i32;
 
 // The items from a state on, in a list of zeros.
 fn set_from(

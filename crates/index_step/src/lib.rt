@@ -12,7 +12,7 @@ use index::look_up;
 use step_quick::left::quick_left;
 use step_quick_op::is_ready;
 use step_quick_op::quick_step;
-use words::u32_at;
+use words::u32s::u32_at;
 
 // One step: its answer and the state that it leaves.
 pub fn step_indexed(

@@ -13,8 +13,8 @@ pub fn entries_table(entries: &[i32], left_entry: i32) -> [i32; 257]
     let mut table = [-1i32; 257];
     let mut i = 0;
     while i < entries.len() / 2 {
-        let c = words::word_at(entries, 2 * i) as usize;
-        words::put_word(&mut table, c, words::word_at(entries, 2 * i + 1));
+        let c = words::i32s::word_at(entries, 2 * i) as usize;
+        words::i32s::put_word(&mut table, c, words::i32s::word_at(entries, 2 * i + 1));
         i += 1;
     }
     table[256] = left_entry;
@@ -25,5 +25,5 @@ pub fn entries_table(entries: &[i32], left_entry: i32) -> [i32; 257]
 pub fn entry_at(table: &[i32; 257], left: usize) -> u32
     ensures { λ r. ⌜ Word (getD (now (table .entry)) left (pos 0)) r ⌝ }
 {
-    words::word_at(table, left)
+    words::i32s::word_at(table, left)
 }

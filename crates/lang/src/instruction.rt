@@ -25,7 +25,7 @@ pub fn field_at(instructions: &[i32], i: usize, k: u8) -> u32
     ensures { λ r. ⌜ Word (field (now (instructions .entry)) i k) r ⌝ }
 {
     if i < instructions.len() / 4 {
-        words::word_at(instructions, 4 * i + (k as usize))
+        words::i32s::word_at(instructions, 4 * i + (k as usize))
     } else {
         0
     }

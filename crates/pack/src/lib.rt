@@ -73,7 +73,7 @@ fn shift_refusal(labels: &[u32], left: u32, offset: usize) -> u32
     requires { ⌜ offset < 65536 ⌝ }
     ensures { λ r. ⌜ r ≡ shiftRefusal (largest (now (labels .entry))) (leftOr (numberOf left)) offset ⌝ }
 {
-    if 65535 < (words::u32_at(labels, 0) as usize) + offset {
+    if 65535 < (words::u32s::u32_at(labels, 0) as usize) + offset {
         return 11;
     }
     if 65535 < (present_or_zero(left) as usize) + offset {
@@ -121,7 +121,7 @@ fn front_target(labels: &[u32], redirects: usize, offset: usize, i: usize) -> u3
     if redirects == 0 {
         0
     } else {
-        words::u32_at(labels, i) + (offset as u32)
+        words::u32s::u32_at(labels, i) + (offset as u32)
     }
 }
 
@@ -161,7 +161,7 @@ fn packed_number(
     }
     let old = j - 4 * offset;
     if old < instructions.len() {
-        return words::word_at(instructions, old);
+        return words::i32s::word_at(instructions, old);
     }
     back_number(left, offset, old - instructions.len())
 }
@@ -191,7 +191,7 @@ fn put_instructions(
     let mut j = 0;
     while j < size {
         let number = packed_number(instructions, boundary, left, labels, redirects, offset, j);
-        words::put_word(out, j, number);
+        words::i32s::put_word(out, j, number);
         j += 1;
     }
 }
@@ -201,7 +201,7 @@ fn entry_number(entries: &[i32], labels: &[u32], redirects: usize, offset: usize
     requires { ⌜ (redirects ≤ 255) × (wordOf (getD (now entries) j (pos 0)) + offset < 2147483648) ⌝ }
     ensures { λ r. ⌜ numberOf r ≡ entryNumber (now (entries .entry)) redirects offset (now (labels .entry)) j ⌝ }
 {
-    let word = words::word_at(entries, j);
+    let word = words::i32s::word_at(entries, j);
     if j % 2 == 0 {
         return word;
     }
@@ -226,7 +226,7 @@ fn put_entries(entries: &[i32], labels: &[u32], redirects: usize, offset: usize,
     let mut j = 0;
     while j < entries.len() {
         let number = entry_number(entries, labels, redirects, offset, j);
-        words::put_word(out, j, number);
+        words::i32s::put_word(out, j, number);
         j += 1;
     }
 }
@@ -288,8 +288,8 @@ pub fn pack_entrypoints(
         (packable (now (instructions .entry)) (now (entries .entry)) boundary «left_entry») (now (out .entry))
         (now («entries_out» .entry)) r (now (out .exit)) (now («entries_out» .exit)) ⌝ }
 {
-    words::zero::zero_i32(out);
-    words::zero::zero_i32(entries_out);
+    words::i32s::zero_i32(out);
+    words::i32s::zero_i32(entries_out);
     let font = packable_refusal(instructions, entries, boundary, left_entry);
     if font != 0 {
         return Packed::Refused(font);

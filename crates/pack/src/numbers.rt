@@ -28,7 +28,7 @@ pub(crate) fn place_among(labels: &[u32], e: u32) -> usize
 {
     let mut p = 0;
     while p < labels.len() {
-        if words::u32_at(labels, p) == e {
+        if words::u32s::u32_at(labels, p) == e {
             return p;
         }
         p += 1;

@@ -160,7 +160,7 @@ fn write_chain(instructions: &[i32], entry: usize, out: &mut [u32]) -> usize
 pub fn instructions_for_entrypoint(instructions: &[i32], entry: i32, out: &mut [u32]) -> Written
     ensures { λ r. ⌜ WalksChain (now (instructions .entry)) entry (now (out .entry)) r (now (out .exit)) ⌝ }
 {
-    words::zero::zero_u32(out);
+    words::u32s::zero_u32(out);
     let refused = walk_refusal(instructions, entry, out.len());
     if refused != 0 {
         return Written::Refused(refused);

@@ -46,15 +46,15 @@ fn packed_word(instructions: &[i32], kerns: &[i32], j: usize) -> u32
         (kernAt (now (instructions .entry)) (now (kerns .entry))) j) r ⌝ }
 {
     if field_at(instructions, j / 4, 2) != 1 {
-        return words::word_at(instructions, j);
+        return words::i32s::word_at(instructions, j);
     }
     if j % 4 == 2 {
         return 0;
     }
     if j % 4 == 3 {
-        return words::word_at(kerns, field_at(instructions, j / 4, 3) as usize);
+        return words::i32s::word_at(kerns, field_at(instructions, j / 4, 3) as usize);
     }
-    words::word_at(instructions, j)
+    words::i32s::word_at(instructions, j)
 }
 
 fn write_packed(instructions: &[i32], kerns: &[i32], out: &mut [i32])
@@ -64,7 +64,7 @@ fn write_packed(instructions: &[i32], kerns: &[i32], out: &mut [i32])
 {
     let mut j = 0;
     while j < instructions.len() {
-        words::put_word(out, j, packed_word(instructions, kerns, j));
+        words::i32s::put_word(out, j, packed_word(instructions, kerns, j));
         j += 1;
     }
 }
@@ -74,7 +74,7 @@ pub fn pack_kerns(instructions: &[i32], kerns: &[i32], out: &mut [i32]) -> Writt
     ensures { λ r. ⌜ PacksKerns (now (instructions .entry)) (now (kerns .entry)) (now (out .entry)) r
         (now (out .exit)) ⌝ }
 {
-    words::zero::zero_i32(out);
+    words::i32s::zero_i32(out);
     let refusal = pack_refusal(instructions, kerns, out.len());
     if refusal != 0 {
         return Written::Refused(refusal);
@@ -103,7 +103,7 @@ fn unpacked_word(instructions: &[i32], kerns: &[i32], links: &[u16; 65536], j: u
         (λ i. pos (kernPlace (field (now (instructions .entry)) i 3) (now (kerns .entry)))) j) r ⌝ }
 {
     if field_at(instructions, j / 4, 2) != 0 {
-        return words::word_at(instructions, j);
+        return words::i32s::word_at(instructions, j);
     }
     if j % 4 == 2 {
         return 1;
@@ -111,7 +111,7 @@ fn unpacked_word(instructions: &[i32], kerns: &[i32], links: &[u16; 65536], j: u
     if j % 4 == 3 {
         return place_of(kerns, links, field_at(instructions, j / 4, 3)) as u32;
     }
-    words::word_at(instructions, j)
+    words::i32s::word_at(instructions, j)
 }
 
 fn write_unpacked(instructions: &[i32], kerns: &[i32], links: &[u16; 65536], out: &mut [i32])
@@ -124,7 +124,7 @@ fn write_unpacked(instructions: &[i32], kerns: &[i32], links: &[u16; 65536], out
 {
     let mut j = 0;
     while j < instructions.len() {
-        words::put_word(out, j, unpacked_word(instructions, kerns, links, j));
+        words::i32s::put_word(out, j, unpacked_word(instructions, kerns, links, j));
         j += 1;
     }
 }
@@ -135,8 +135,8 @@ pub fn unpack_kerns(instructions: &[i32], out: &mut [i32], kerns: &mut [i32]) ->
     ensures { λ r. ⌜ UnpacksKerns (now (instructions .entry)) (now (out .entry)) (now (kerns .entry)) r
         (now (out .exit)) (now (kerns .exit)) ⌝ }
 {
-    words::zero::zero_i32(out);
-    words::zero::zero_i32(kerns);
+    words::i32s::zero_i32(out);
+    words::i32s::zero_i32(kerns);
     let refusal = unpack_refusal(instructions, out.len());
     if refusal != 0 {
         return Written::Refused(refusal);
@@ -144,7 +144,7 @@ pub fn unpack_kerns(instructions: &[i32], out: &mut [i32], kerns: &mut [i32]) ->
     let mut links = [0u16; 65536];
     let m = gather(instructions, kerns, &mut links);
     if kerns.len() < m {
-        words::zero::zero_i32(kerns);
+        words::i32s::zero_i32(kerns);
         return Written::Refused(15);
     }
     write_unpacked(instructions, &kerns[..m], &links, out);

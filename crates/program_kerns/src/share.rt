@@ -21,7 +21,7 @@ fn slot_of(kerns: &[i32], links: &[u16; 65536], word: u32) -> usize
     let mut bit = 0u32;
     while links[slot] != 0 {
         let at = links[slot] as usize - 1;
-        if words::word_at(kerns, at) == word {
+        if words::i32s::word_at(kerns, at) == word {
             return slot;
         }
         slot = 2 * at + 1 + (word >> bit) as usize % 2;
@@ -65,7 +65,7 @@ fn share_kern(
     if links[slot] != 0 {
         return m;
     }
-    words::put_word(kerns, m, word);
+    words::i32s::put_word(kerns, m, word);
     links[slot] = (m + 1) as u16;
     m + 1
 }

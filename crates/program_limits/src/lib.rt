@@ -25,11 +25,11 @@ fn entry_fits(limit: u16, entries: &[i32], i: usize, seen: &[u8; 256]) -> bool
         (both (within limit (entryAt (now (entries .entry)) i))
         (eqb (getD (now (seen .entry)) (wordOf (charAt (now (entries .entry)) i)) 0) 0)) ⌝ }
 {
-    let c = words::word_at(entries, 2 * i);
+    let c = words::i32s::word_at(entries, 2 * i);
     if 255 < c {
         return false;
     }
-    let entry = words::word_at(entries, 2 * i + 1);
+    let entry = words::i32s::word_at(entries, 2 * i + 1);
     if (limit as u32) < entry {
         return false;
     }
@@ -50,7 +50,7 @@ pub fn entries_refusal(limit: u16, entries: &[i32]) -> u32
         if !entry_fits(limit, entries, i, &seen) {
             return 4;
         }
-        let c = words::word_at(entries, 2 * i) as usize;
+        let c = words::i32s::word_at(entries, 2 * i) as usize;
         seen[c] = 1;
         i += 1;
     }

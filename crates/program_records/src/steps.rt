@@ -124,7 +124,7 @@ pub(crate) fn put(walk: ChainWalk, next: Next, out: &mut [u32]) -> ChainWalk
     let k = walk.count;
     match next {
         Next::At(i, on) => {
-            words::put_u32(out, k, i as u32);
+            words::u32s::put_u32(out, k, i as u32);
             ChainWalk {
                 at: on,
                 count: k + 1,
@@ -140,9 +140,9 @@ pub(crate) fn finish(n: usize, entry: i32, count: usize, out: &mut [u32]) -> Wri
 {
     let refused = refusal(n, entry, count, out.len());
     if refused != 0 {
-        words::zero::zero_u32(out);
+        words::u32s::zero_u32(out);
         return Written::Refused(refused);
     }
-    words::zero::zero_u32(&mut out[count..]);
+    words::u32s::zero_u32(&mut out[count..]);
     Written::Count(count)
 }

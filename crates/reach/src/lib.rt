@@ -92,10 +92,10 @@ fn adjusted_skip(marks: &[u8], next: NextInstruction, i: usize) -> u32
 fn state_of(marks: &[u8], passthrough: &[u8], i: usize) -> u32
     ensures { λ r. ⌜ r ≡ stateOf (now (marks .entry)) (now (passthrough .entry)) i ⌝ }
 {
-    if words::u8_at(marks, i) != 0 {
+    if words::u8s::u8_at(marks, i) != 0 {
         return 1;
     }
-    if words::u8_at(passthrough, i) != 0 {
+    if words::u8s::u8_at(passthrough, i) != 0 {
         return 2;
     }
     0
@@ -106,7 +106,7 @@ fn skip_of(instructions: &[i32], marks: &[u8], i: usize) -> u32
     requires { ⌜ (length (now marks) ≡ count (now instructions)) × (i < length (now marks)) ⌝ }
     ensures { λ r. ⌜ numberOf r ≡ skipOf (now (instructions .entry)) (now (marks .entry)) i ⌝ }
 {
-    if words::u8_at(marks, i) == 0 {
+    if words::u8s::u8_at(marks, i) == 0 {
         return NONE;
     }
     let instruction = instruction_at(instructions, i);
@@ -124,8 +124,8 @@ fn write_reach(instructions: &[i32], marks: &[u8], passthrough: &[u8], out: &mut
 {
     let mut i = 0;
     while i < marks.len() {
-        words::put_word(out, 2 * i, state_of(marks, passthrough, i));
-        words::put_word(out, 2 * i + 1, skip_of(instructions, marks, i));
+        words::i32s::put_word(out, 2 * i, state_of(marks, passthrough, i));
+        words::i32s::put_word(out, 2 * i + 1, skip_of(instructions, marks, i));
         i += 1;
     }
 }
@@ -149,7 +149,7 @@ pub fn reachable_iter(
     ensures { λ r. ⌜ Reaches (now (instructions .entry)) (now (entries .entry)) «left_entry»
         (now (passthrough .entry)) (now (out .entry)) r (now (out .exit)) ⌝ }
 {
-    words::zero::zero_i32(out);
+    words::i32s::zero_i32(out);
     let refusal = reach_refusal(instructions, entries, left_entry, passthrough, out.len());
     if refusal != 0 {
         return Written::Refused(refusal);

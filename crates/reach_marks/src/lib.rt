@@ -15,11 +15,11 @@ fn mark_entries(entries: &[i32], marks: &mut [u8])
     ensures { λ _. ⌜ now (marks .exit) ≡ entriesMarked (length (now (marks .entry))) (now (entries .entry))
         (length (now (entries .entry)) / 2) ⌝ }
 {
-    words::zero::zero_u8(marks);
+    words::u8s::zero_u8(marks);
     let mut k = 0;
     while k < entries.len() / 2 {
-        let entry = words::word_at(entries, 2 * k + 1) as usize;
-        words::put_u8(marks, entry, 1);
+        let entry = words::i32s::word_at(entries, 2 * k + 1) as usize;
+        words::u8s::put_u8(marks, entry, 1);
         k += 1;
     }
 }
@@ -31,7 +31,7 @@ fn mark_left(left_entry: i32, marks: &mut [u8])
 {
     let entry = words::word_of(left_entry) as usize;
     if entry + 1 != marks.len() {
-        words::put_u8(marks, entry, 1);
+        words::u8s::put_u8(marks, entry, 1);
     }
 }
 
@@ -40,13 +40,13 @@ fn mark_onward(instructions: &[i32], i: usize, marks: &mut [u8])
     requires { ⌜ i < count (now instructions) ⌝ }
     ensures { λ _. ⌜ now (marks .exit) ≡ onwardMarked (now (instructions .entry)) (now (marks .entry)) i ⌝ }
 {
-    if words::u8_at(marks, i) == 0 {
+    if words::u8s::u8_at(marks, i) == 0 {
         return;
     }
     let Next::At(_, on) = next_instruction(instructions, i) else {
         return;
     };
-    words::put_u8(marks, on, 1);
+    words::u8s::put_u8(marks, on, 1);
 }
 
 // The instructions that the entries lead to, in one pass: a chain only goes forward.
@@ -73,7 +73,7 @@ pub fn reachable_array(instructions: &[i32], entries: &[i32], left_entry: i32, m
         (replicate (length (now (marks .entry))) 0) ⌝ }
 {
     if marks.len() != instructions.len() / 4 {
-        words::zero::zero_u8(marks);
+        words::u8s::zero_u8(marks);
         return;
     }
     mark_reached(instructions, entries, left_entry, marks);

@@ -20,9 +20,9 @@ use program_limits::passthrough_refusal;
 use program_limits::room_refusal;
 use repair_passes::mend;
 use repairs::Validated;
-use words::zero::zero_i32;
-use words::zero::zero_u8;
-use words::zero::zero_u32;
+use words::i32s::zero_i32;
+use words::u8s::zero_u8;
+use words::u32s::zero_u32;
 
 // 4 of the boundary character, the left entry or the replacement.
 fn edge_refusal(boundary: i32, left_entry: i32, replacement: i32) -> u32
@@ -115,7 +115,7 @@ fn copy_numbers(from: &[i32], to: &mut [i32])
 {
     let mut i = 0;
     while i < from.len() {
-        words::put_word(to, i, words::word_at(from, i));
+        words::i32s::put_word(to, i, words::i32s::word_at(from, i));
         i += 1;
     }
 }
@@ -126,7 +126,7 @@ fn copy_bytes(from: &[u8], to: &mut [u8])
 {
     let mut i = 0;
     while i < from.len() {
-        words::put_u8(to, i, words::u8_at(from, i));
+        words::u8s::put_u8(to, i, words::u8s::u8_at(from, i));
         i += 1;
     }
 }

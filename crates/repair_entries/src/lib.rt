@@ -32,8 +32,8 @@ fn put_entry(instructions: &[i32], c: u32, entry: u32, unpacked: &mut [i32], n: 
     if entry_refusal(instructions, entry as usize) != 0 {
         return n;
     }
-    words::put_word(unpacked, 2 * n, c);
-    words::put_word(
+    words::i32s::put_word(unpacked, 2 * n, c);
+    words::i32s::put_word(
         unpacked,
         2 * n + 1,
         stands_for(instructions, entry as usize) as u32,
@@ -50,8 +50,8 @@ fn put_entries(instructions: &[i32], entries: &[i32], unpacked: &mut [i32]) -> u
     let mut n = 0;
     let mut k = 0;
     while k < entries.len() / 2 {
-        let c = words::word_at(entries, 2 * k);
-        let entry = words::word_at(entries, 2 * k + 1);
+        let c = words::i32s::word_at(entries, 2 * k);
+        let entry = words::i32s::word_at(entries, 2 * k + 1);
         n = put_entry(instructions, c, entry, unpacked, n);
         k += 1;
     }
@@ -66,10 +66,10 @@ fn put_passthrough(passthrough: &[u8], n: usize, through: &mut [u8])
     let mut i = 0;
     while i < n {
         let mut bit = 1;
-        if words::u8_at(passthrough, i) == 0 {
+        if words::u8s::u8_at(passthrough, i) == 0 {
             bit = 0;
         }
-        words::put_u8(through, i, bit);
+        words::u8s::put_u8(through, i, bit);
         i += 1;
     }
 }
@@ -83,7 +83,7 @@ fn pass_redirect(instructions: &[i32], entry: usize, through: &mut [u8])
         return;
     }
     if is_redirect(instructions, entry) {
-        words::put_u8(through, entry, 1);
+        words::u8s::put_u8(through, entry, 1);
     }
 }
 
@@ -95,7 +95,7 @@ fn pass_redirects(instructions: &[i32], entries: &[i32], through: &mut [u8])
 {
     let mut k = 0;
     while k < entries.len() / 2 {
-        let entry = words::word_at(entries, 2 * k + 1) as usize;
+        let entry = words::i32s::word_at(entries, 2 * k + 1) as usize;
         pass_redirect(instructions, entry, through);
         k += 1;
     }
@@ -123,8 +123,8 @@ fn warn_entries(instructions: &[i32], entries: &[i32], warnings: &mut [i32], n: 
     let mut count = n;
     let mut k = 0;
     while k < entries.len() / 2 {
-        let c = words::word_at(entries, 2 * k);
-        let entry = words::word_at(entries, 2 * k + 1) as usize;
+        let c = words::i32s::word_at(entries, 2 * k);
+        let entry = words::i32s::word_at(entries, 2 * k + 1) as usize;
         let goes = entry_refusal(instructions, entry) != 0;
         count = push_if(goes, warnings, count, 2, c, 0, 0);
         k += 1;

@@ -11,13 +11,7 @@ ghost use Rattle.repair_faults.specs.Tests.{existsIn, isEdge, skipPastEn
 ghost use Rattle.repair_faults.specs.Tests.{kernPastList, productMissing, tagInvalid};
 use lang::instruction::field_at;
 use repairs::Faults;
-
-// Word i of the set of characters; 0 past the last.
-fn u64_at(s: &[u64], i: usize) -> u64
-    ensures { λ r. ⌜ r ≡ getD (now (s .entry)) i 0 ⌝ }
-{
-    if i < s.len() { s[i] } else { 0 }
-}
+use words::u64s::u64_at;
 
 // Character c exists.
 fn exists(existing: &[u64; 4], c: u32) -> bool
@@ -38,7 +32,7 @@ fn is_standard(op: u32) -> bool
 fn skip_goes(instructions: &[i32], marks: &[u8], i: usize) -> bool
     ensures { λ r. ⌜ r ≡ skipPastEnd (now (instructions .entry)) (now (marks .entry)) i ⌝ }
 {
-    if words::u8_at(marks, i) == 0 {
+    if words::u8s::u8_at(marks, i) == 0 {
         return false;
     }
     let next = field_at(instructions, i, 0);
@@ -64,10 +58,10 @@ fn redirect_warns(instructions: &[i32], marks: &[u8], passthrough: &[u8], i: usi
     if target < instructions.len() / 4 {
         return false;
     }
-    if words::u8_at(marks, i) != 0 {
+    if words::u8s::u8_at(marks, i) != 0 {
         return true;
     }
-    words::u8_at(passthrough, i) == 0
+    words::u8s::u8_at(passthrough, i) == 0
 }
 
 // The boundary character is the right character; both as their 32 bits.

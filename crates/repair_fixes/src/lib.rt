@@ -82,10 +82,10 @@ fn write_step(instructions: &[i32], replacement: u32, f: Faults, i: usize, fixed
     let right = pick(f.right, replacement, field_at(instructions, i, 1));
     let kind = pick(f.kern, 0, field_at(instructions, i, 2));
     let operand = repaired_operand(instructions, replacement, f, i);
-    words::put_word(fixed, 4 * i, next);
-    words::put_word(fixed, 4 * i + 1, right);
-    words::put_word(fixed, 4 * i + 2, kind);
-    words::put_word(fixed, 4 * i + 3, operand);
+    words::i32s::put_word(fixed, 4 * i, next);
+    words::i32s::put_word(fixed, 4 * i + 1, right);
+    words::i32s::put_word(fixed, 4 * i + 2, kind);
+    words::i32s::put_word(fixed, 4 * i + 3, operand);
 }
 
 // The warnings of skips, of all steps.

@@ -16,7 +16,7 @@ use compiling::WalkedFont;
 use lang::Written;
 use repair_warnings::push_if;
 use tfm::FixWord;
-use words::zero::zero_u32;
+use words::u32s::zero_u32;
 
 // One warning for each of the r rows that are listed, after n others.
 fn warn_rows(work: &[u32], r: usize, warnings: &mut [i32], n: usize) -> usize

@@ -26,9 +26,9 @@ pub fn push_if(
     if 4294967295 < n {
         return n;
     }
-    words::put_word(warnings, 4 * n, kind as u32);
-    words::put_word(warnings, 4 * n + 1, at);
-    words::put_word(warnings, 4 * n + 2, old);
-    words::put_word(warnings, 4 * n + 3, new);
+    words::i32s::put_word(warnings, 4 * n, kind as u32);
+    words::i32s::put_word(warnings, 4 * n + 1, at);
+    words::i32s::put_word(warnings, 4 * n + 2, old);
+    words::i32s::put_word(warnings, 4 * n + 3, new);
     n + 1
 }

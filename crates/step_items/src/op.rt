@@ -1,6 +1,6 @@
 // Ops: the one that is next, given.
 ghost use mathlib.Core.Path.{_≡_};
-ghost use Prim.Native.Nat.{_-_, _<_};
+ghost use Prim.Native.Nat.{_<_, _≤_};
 ghost use Rattle.captions.specs.Tables.{opCount};
 ghost use Rattle.captions.specs.Steps.{afterOp, isNone, endsWord, giveOp, opsFit, readOp};
 use super::give::give_character;
@@ -14,22 +14,18 @@ use table_numbers::kind_at;
 use table_numbers::op_fits;
 use table_numbers::value_at;
 use words::number_of;
+use words::sizes::minus;
 
-// One less, or none.
-fn less_one(n: usize) -> usize
-    ensures { λ r. ⌜ r ≡ n - 1 ⌝ }
+// The state after an op that is there; the state itself where no list can have that op.
+pub fn after_op(s: State) -> State
+    ensures { λ r. ⌜ (s .op < 9223372036854775808 → r ≡ afterOp s) × (9223372036854775808 ≤ s .op → r ≡ s) ⌝ }
 {
-    if n == 0 { 0 } else { n - 1 }
-}
-
-// The state after an op that is there.
-fn after_op(s: State) -> State
-    requires { ⌜ s .op < 9223372036854775808 ⌝ }
-    ensures { λ r. ⌜ r ≡ afterOp s ⌝ }
-{
+    if 9223372036854775808 <= s.op {
+        return s;
+    }
     let next = s.next_left;
     let consumes = s.consumes_left;
-    let ops = less_one(s.ops);
+    let ops = minus(s.ops, 1);
     State {
         next_left: next,
         op: s.op + 1,

@@ -1,13 +1,12 @@
 // A last kern: one op is to be given, and it is a kern.
 ghost use mathlib.Core.Path.{_≡_};
-ghost use Prim.Native.Nat.{_-_, _<_};
-ghost use Rattle.captions.specs.Steps.{afterOp};
 ghost use Rattle.step_quick.specs.Quick.{isKern, givenKern};
 use crate::calm::is_plain;
 use captions::Answer;
 use captions::RunOptions;
 use captions::State;
 use captions::Step;
+use step_items::op::after_op;
 use words::word_of;
 
 // One op is to be given, a kern, and a step refuses nothing.
@@ -23,33 +22,6 @@ pub fn is_kern(ops: &[i32], boundary: i32, word: &[u32], options: RunOptions, s:
     let op = s.op;
     let kind = ops[2 * op];
     word_of(kind) == 2
-}
-
-// One less, or none.
-fn less_one(n: usize) -> usize
-    ensures { λ r. ⌜ r ≡ n - 1 ⌝ }
-{
-    if n == 0 { 0 } else { n - 1 }
-}
-
-// The state after a last op.
-fn after_op(s: State) -> State
-    requires { ⌜ s .op < 9223372036854775808 ⌝ }
-    ensures { λ r. ⌜ r ≡ afterOp s ⌝ }
-{
-    let next = s.next_left;
-    let consumes = s.consumes_left;
-    let ops = less_one(s.ops);
-    State {
-        next_left: next,
-        op: s.op + 1,
-        ops: ops,
-        read: s.read,
-        given: s.given,
-        pending: s.pending,
-        pending_boundary: s.pending_boundary,
-        consumes_left: consumes,
-    }
 }
 
 // The kern that is next; 7 where there is no such op.

@@ -9,23 +9,14 @@ ghost use lib.IntN.{pos};
 ghost use Rattle.words.specs.Words.{Word};
 ghost use Rattle.captions.specs.Tables.{pairCount, leftPlace, number, keyBy, keyAt, placeFor};
 ghost use Rattle.step_quick.specs.Quick.{foundPlace};
-use words::word_of;
-
-// The bits of number i of a list that has one.
-fn word_in(s: &[i32], i: usize) -> u32
-    requires { ⌜ i < length (now s) ⌝ }
-    ensures { λ r. ⌜ Word (getD (now (s .entry)) i (pos 0)) r ⌝ }
-{
-    let x = s[i];
-    word_of(x)
-}
+use words::i32s::word_at;
 
 // The left of pair k, which is there: -1 is 0, and c is 1 + c.
 fn left_in(pairs: &[i32], k: usize) -> u32
     requires { ⌜ k < pairCount (now pairs) ⌝ }
     ensures { λ r. ⌜ r ≡ leftPlace (number (now (pairs .entry)) k 0) ⌝ }
 {
-    std::num::wrapping_add_u32(word_in(pairs, 6 * k), 1)
+    std::num::wrapping_add_u32(word_at(pairs, 6 * k), 1)
 }
 
 // Pair k, which is there, comes before a left and a right. That its right is a word is learnt by reading it, which
@@ -35,14 +26,14 @@ fn comes_before(pairs: &[i32], k: usize, left: u32, right: u32) -> bool
     ensures { λ r. ⌜ r ≡ ltb (keyAt (now (pairs .entry)) k) (keyBy left right) ⌝ }
 {
     let place = left_in(pairs, k);
-    word_in(pairs, 6 * k + 1);
+    word_at(pairs, 6 * k + 1);
     if place < left {
         return true;
     }
     if place != left {
         return false;
     }
-    word_in(pairs, 6 * k + 1) < right
+    word_at(pairs, 6 * k + 1) < right
 }
 
 // Where bisection for a left and a right ends.
@@ -72,7 +63,7 @@ pub fn found_place(pairs: &[i32], left: u32, right: u32) -> usize
     if n <= k {
         return n;
     }
-    if word_in(pairs, 6 * k + 1) != right {
+    if word_at(pairs, 6 * k + 1) != right {
         return n;
     }
     if left_in(pairs, k) != left {

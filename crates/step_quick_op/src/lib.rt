@@ -20,23 +20,15 @@ use captions::State;
 use captions::Step;
 use step_quick::left::has_letter;
 use step_quick::left::plain_code;
-use words::word_of;
-
-// The bits of number i of a list that has one.
-fn word_in(s: &[i32], i: usize) -> u32
-    requires { ⌜ i < length (now s) ⌝ }
-    ensures { λ r. ⌜ Word (getD (now (s .entry)) i (pos 0)) r ⌝ }
-{
-    let x = s[i];
-    word_of(x)
-}
+use words::i32s::word_at;
+use words::sizes::minus;
 
 // Number j of pair k, which is there.
 fn number_in(pairs: &[i32], k: usize, j: usize) -> u32
     requires { ⌜ (k < pairCount (now pairs)) × (j < 6) ⌝ }
     ensures { λ r. ⌜ Word (number (now (pairs .entry)) k j) r ⌝ }
 {
-    word_in(pairs, 6 * k + j)
+    word_at(pairs, 6 * k + j)
 }
 
 // Pair k's last has a code and a flag, and equals the right where it is unflagged.
@@ -63,9 +55,9 @@ fn op_holds(ops: &[i32], i: usize) -> bool
     requires { ⌜ i < opCount (now ops) ⌝ }
     ensures { λ r. ⌜ r ≡ opHolds (now (ops .entry)) i ⌝ }
 {
-    let kind = word_in(ops, 2 * i);
+    let kind = word_at(ops, 2 * i);
     if kind <= 1 {
-        return word_in(ops, 2 * i + 1) <= 255;
+        return word_at(ops, 2 * i + 1) <= 255;
     }
     kind == 2
 }
@@ -78,10 +70,10 @@ fn first_plain(ops: &[i32], i: usize, n: usize) -> bool
     if n == 0 {
         return false;
     }
-    if word_in(ops, 2 * i) != 0 {
+    if word_at(ops, 2 * i) != 0 {
         return false;
     }
-    if 255 < word_in(ops, 2 * i + 1) {
+    if 255 < word_at(ops, 2 * i + 1) {
         return false;
     }
     if n == 1 {
@@ -147,13 +139,6 @@ fn given_plain(word: &[u32], s: State) -> Step
     }
 }
 
-// One less, or none.
-fn less_one(n: usize) -> usize
-    ensures { λ r. ⌜ r ≡ n - 1 ⌝ }
-{
-    if n == 0 { 0 } else { n - 1 }
-}
-
 // What is next after an entry's last, a letter of the word.
 fn after_letter(flag: bool, c: u32) -> NextLeft
     ensures { λ r. ⌜ r ≡ afterRight true (item flag c) ⌝ }
@@ -173,10 +158,10 @@ fn given_first(pairs: &[i32], ops: &[i32], k: usize, s: State) -> Step
     let first = number_in(pairs, k, 4) as usize;
     let count = number_in(pairs, k, 5) as usize;
     let next = after_letter(number_in(pairs, k, 3) == 1, number_in(pairs, k, 2));
-    let more = less_one(count);
+    let more = minus(count, 1);
     let moved = moved_on(next, first + 1, more, s);
     Step {
-        answer: Answer::Char(words::word_at(ops, 2 * first + 1), s.given),
+        answer: Answer::Char(word_at(ops, 2 * first + 1), s.given),
         state: moved,
     }
 }

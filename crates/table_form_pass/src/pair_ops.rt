@@ -8,16 +8,7 @@ ghost use lib.Dec.{eqb};
 ghost use Rattle.words.specs.Words.{Word};
 ghost use Rattle.captions.specs.Tables.{opCount};
 ghost use Rattle.table_form_pass.specs.Parts.{leftBy, opPasses, OpsPass, LaterPass};
-use words::word_of;
-
-// The bits of a number that is there.
-pub(crate) fn word_in(s: &[i32], i: usize) -> u32
-    requires { ⌜ i < length (now s) ⌝ }
-    ensures { λ r. ⌜ Word (getD (now (s .entry)) i (pos 0)) r ⌝ }
-{
-    let x = s[i];
-    word_of(x)
-}
+use words::i32s::word_at;
 
 // An op is a kern, a ligature, or the left as it stands, which is a character.
 fn op_passes(left: u32, kind: u32, value: u32) -> bool
@@ -40,7 +31,7 @@ fn later_pass(ops: &[i32], start: usize, end: usize) -> bool
 {
     let mut i = start;
     while i < end {
-        if !op_passes(4294967295, word_in(ops, 2 * i), word_in(ops, 2 * i + 1)) {
+        if !op_passes(4294967295, word_at(ops, 2 * i), word_at(ops, 2 * i + 1)) {
             return false;
         }
         i += 1;
@@ -56,9 +47,9 @@ fn all_pass(ops: &[i32], left: u32, flag: u32, start: usize, end: usize) -> bool
 {
     let mut i = start;
     while i < end {
-        let kind = word_in(ops, 2 * i);
+        let kind = word_at(ops, 2 * i);
         if kind != 2 {
-            if !op_passes(left, kind, word_in(ops, 2 * i + 1)) {
+            if !op_passes(left, kind, word_at(ops, 2 * i + 1)) {
                 return false;
             }
             return later_pass(ops, i + 1, end);
@@ -74,9 +65,9 @@ pub(crate) fn ops_pass(ops: &[i32], left: u32, flag: u32, start: usize, end: usi
     ensures { λ r. ⌜ OpsPass (now (ops .entry)) (leftBy left) (eqb flag 1) start end r ⌝ }
 {
     if end - start == 2 {
-        if word_in(ops, 2 * start) == 0 {
-            if word_in(ops, 2 * (start + 1)) == 2 {
-                return op_passes(left, 0, word_in(ops, 2 * start + 1));
+        if word_at(ops, 2 * start) == 0 {
+            if word_at(ops, 2 * (start + 1)) == 2 {
+                return op_passes(left, 0, word_at(ops, 2 * start + 1));
             }
         }
     }

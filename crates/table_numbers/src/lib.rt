@@ -12,7 +12,7 @@ pub fn number_at(pairs: &[i32], k: usize, j: u8) -> u32
     if pairs.len() / 6 < k {
         return 0;
     }
-    words::word_at(pairs, 6 * k + (j as usize))
+    words::i32s::word_at(pairs, 6 * k + (j as usize))
 }
 
 // The kind of op i; 0 past the ops.
@@ -22,7 +22,7 @@ pub fn kind_at(ops: &[i32], i: usize) -> u32
     if ops.len() / 2 < i {
         return 0;
     }
-    words::word_at(ops, 2 * i)
+    words::i32s::word_at(ops, 2 * i)
 }
 
 // The value of op i; 0 past the ops.
@@ -32,7 +32,7 @@ pub fn value_at(ops: &[i32], i: usize) -> u32
     if ops.len() / 2 < i {
         return 0;
     }
-    words::word_at(ops, 2 * i + 1)
+    words::i32s::word_at(ops, 2 * i + 1)
 }
 
 // Op i is there: a character or a ligature with its code, or a kern.

@@ -29,7 +29,7 @@ pub(crate) fn write_keys(pairs: &[i32], out: &mut [i32])
     let n = 2 * (pairs.len() / 6);
     let mut j = 0;
     while j < n {
-        words::put_word(out, j, number_at(pairs, j / 2, (j % 2) as u8));
+        words::i32s::put_word(out, j, number_at(pairs, j / 2, (j % 2) as u8));
         j += 1;
     }
 }

@@ -119,7 +119,7 @@ pub fn has_replacement(pairs: &[i32], boundary: i32, left: i32, right: i32) -> T
 pub fn all_pairs_with_replacements(pairs: &[i32], out: &mut [i32]) -> Written
     ensures { λ r. ⌜ ListsPairs (now (pairs .entry)) (now (out .entry)) r (now (out .exit)) ⌝ }
 {
-    words::zero::zero_i32(out);
+    words::i32s::zero_i32(out);
     let refusal = keys_refusal(pairs, out.len());
     if refusal != 0 {
         return Written::Refused(refusal);

@@ -27,9 +27,9 @@ fn rows() -> [u32; 16384]
 // A pair's six numbers without its first op, and then its ops.
 fn put_pair(out: &mut [i32], at: usize, pair: &[i32], ops: &[i32]) -> usize {
     let a = put_list(out, at, part(pair, 0, 4));
-    let n = words::word_at(pair, 5);
+    let n = words::i32s::word_at(pair, 5);
     let b = put_one(out, a, n);
-    let from = 2 * (words::word_at(pair, 4) as usize);
+    let from = 2 * (words::i32s::word_at(pair, 4) as usize);
     put_list(out, b, part(ops, from, from + 2 * (n as usize)))
 }
 

@@ -56,13 +56,13 @@ fn put_operation(operation: Operation, out: &mut [i32]) -> usize {
 
 // O op_byte remainder
 pub(crate) fn operation(numbers: &[i32], out: &mut [i32]) -> Written {
-    let op = (words::word_at(numbers, 0) % 256) as u8;
-    let remainder = (words::word_at(numbers, 1) % 256) as u8;
+    let op = (words::i32s::word_at(numbers, 0) % 256) as u8;
+    let remainder = (words::i32s::word_at(numbers, 1) % 256) as u8;
     Written::Count(put_operation(lig_kern_operation_from_bytes(op, remainder), out))
 }
 
 // V c
 pub(crate) fn seven_bit(numbers: &[i32], out: &mut [i32]) -> Written {
-    let c = Char((words::word_at(numbers, 0) % 256) as u8);
+    let c = Char((words::i32s::word_at(numbers, 0) % 256) as u8);
     Written::Count(put_one(out, 0, bit(c.is_seven_bit())))
 }

@@ -51,10 +51,22 @@ fn word_pair(low: u32, high: u32) -> u64 {
 // The existing characters, from the eight numbers after the first.
 fn existing_of(numbers: &[i32]) -> [u64; 4] {
     [
-        word_pair(words::word_at(numbers, 1), words::word_at(numbers, 2)),
-        word_pair(words::word_at(numbers, 3), words::word_at(numbers, 4)),
-        word_pair(words::word_at(numbers, 5), words::word_at(numbers, 6)),
-        word_pair(words::word_at(numbers, 7), words::word_at(numbers, 8)),
+        word_pair(
+            words::i32s::word_at(numbers, 1),
+            words::i32s::word_at(numbers, 2),
+        ),
+        word_pair(
+            words::i32s::word_at(numbers, 3),
+            words::i32s::word_at(numbers, 4),
+        ),
+        word_pair(
+            words::i32s::word_at(numbers, 5),
+            words::i32s::word_at(numbers, 6),
+        ),
+        word_pair(
+            words::i32s::word_at(numbers, 7),
+            words::i32s::word_at(numbers, 8),
+        ),
     ]
 }
 

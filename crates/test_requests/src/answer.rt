@@ -16,7 +16,7 @@ pub fn bit(is: bool) -> u32
 pub fn put_one(out: &mut [i32], at: usize, word: u32) -> usize
     ensures { λ r. ⌜ Put (now (out .entry)) at word r (now (out .exit)) ⌝ }
 {
-    words::put_word(out, at, word);
+    words::i32s::put_word(out, at, word);
     if at < out.len() { at + 1 } else { at }
 }
 
@@ -34,7 +34,7 @@ pub fn put_list(out: &mut [i32], at: usize, list: &[i32]) -> usize
     let mut next = at;
     let mut i = 0;
     while i < list.len() {
-        next = put_one(out, next, words::word_at(list, i));
+        next = put_one(out, next, words::i32s::word_at(list, i));
         i += 1;
     }
     next
@@ -47,7 +47,7 @@ pub fn put_words(out: &mut [i32], at: usize, list: &[u32], n: usize) -> usize
     let mut next = at;
     let mut i = 0;
     while i < n {
-        next = put_one(out, next, words::u32_at(list, i));
+        next = put_one(out, next, words::u32s::u32_at(list, i));
         i += 1;
     }
     next

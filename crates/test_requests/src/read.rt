@@ -62,7 +62,7 @@ fn read_number(text: &[u8], at: usize) -> Number
     ensures { λ r. ⌜ at < r .next ⌝ }
 {
     let from = at + 1;
-    if words::u8_at(text, from) == b'-' {
+    if words::u8s::u8_at(text, from) == b'-' {
         let n = digits(text, from + 1);
         return Number {
             word: std::num::wrapping_sub_u32(0, n.word),
@@ -80,7 +80,7 @@ pub fn numbers_of(text: &[u8], numbers: &mut [i32]) -> usize
     let mut count = 0;
     while i < text.len() {
         let n = read_number(text, i);
-        words::put_word(numbers, count, n.word);
+        words::i32s::put_word(numbers, count, n.word);
         count += 1;
         i = n.next;
     }

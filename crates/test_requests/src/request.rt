@@ -32,7 +32,7 @@ pub fn after(numbers: &[i32], at: usize, width: u8) -> usize
     if numbers.len() <= at {
         return numbers.len();
     }
-    let size = (width as usize) * (words::word_at(numbers, at) as usize);
+    let size = (width as usize) * (words::i32s::word_at(numbers, at) as usize);
     if numbers.len() - at - 1 < size {
         return numbers.len();
     }
@@ -53,7 +53,7 @@ pub fn items(numbers: &[i32], at: usize, width: u8) -> &[i32]
 pub fn number_at(numbers: &[i32], i: usize) -> i32
     ensures { λ r. ⌜ r ≡ numberAt (now (numbers .entry)) i ⌝ }
 {
-    words::number_of(words::word_at(numbers, i))
+    words::number_of(words::i32s::word_at(numbers, i))
 }
 
 // The instructions of a font, four numbers each.

@@ -13,7 +13,7 @@ pub fn mark(listed: &[i32], marks: &mut [u8])
 {
     let mut i = 0;
     while i < listed.len() {
-        words::put_u8(marks, words::word_at(listed, i) as usize, 1);
+        words::u8s::put_u8(marks, words::i32s::word_at(listed, i) as usize, 1);
         i += 1;
     }
 }

@@ -80,7 +80,7 @@ fn put_numbers(line: &mut [u8], k: usize, numbers: &[i32], n: usize) -> usize
     let mut at = k;
     let mut i = 0;
     while i < n {
-        at = put_number(line, at, words::word_at(numbers, i));
+        at = put_number(line, at, words::i32s::word_at(numbers, i));
         i += 1;
     }
     at

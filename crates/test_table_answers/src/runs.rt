@@ -42,7 +42,7 @@ fn put_call(calls: &mut [i32], n: usize, item: [u32; 6], flag: u32)
     requires { ⌜ n < 1024 ⌝ }
 {
     put_words(calls, 6 * n, &item, 6);
-    words::put_word(calls, 6144 + n, flag);
+    words::i32s::put_word(calls, 6144 + n, flag);
 }
 
 // The answer to a run whose call n gave no item.
@@ -115,7 +115,7 @@ fn put_run(out: &mut [i32], answer: Written, calls: &[i32]) -> Written {
 fn copy_letters(list: &[i32], word: &mut [u32]) {
     let mut i = 0;
     while i < list.len() {
-        words::put_u32(word, i, words::word_at(list, i));
+        words::u32s::put_u32(word, i, words::i32s::word_at(list, i));
         i += 1;
     }
 }
@@ -131,7 +131,7 @@ fn first(word: &[u32], n: usize) -> &[u32] {
 // The options that the numbers begin with: whether the left boundary is used, and the override.
 fn options_of(numbers: &[i32]) -> RunOptions {
     RunOptions {
-        disable_left_boundary: words::word_at(numbers, 0) == 0,
+        disable_left_boundary: words::i32s::word_at(numbers, 0) == 0,
         right_boundary_override: number_at(numbers, 1),
     }
 }

@@ -8,7 +8,7 @@ use test_requests::read::line_end;
 use test_requests::read::numbers_of;
 use test_requests::request::front;
 use text_answer::ligcols;
-use words::word_at;
+use words::i32s::word_at;
 use words::word_of;
 
 // How long a text is, and how long a reply is lent for it.

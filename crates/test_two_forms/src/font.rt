@@ -83,10 +83,10 @@ pub(crate) fn records() -> [Instruction; 6] {
 fn put(list: &mut [i32], i: usize, next: i32, right: u32, kind: u32, operand: i32)
     requires { ⌜ i ≤ 5 ⌝ }
 {
-    words::put_word(list, 4 * i, words::word_of(next));
-    words::put_word(list, 4 * i + 1, right);
-    words::put_word(list, 4 * i + 2, kind);
-    words::put_word(list, 4 * i + 3, words::word_of(operand));
+    words::i32s::put_word(list, 4 * i, words::word_of(next));
+    words::i32s::put_word(list, 4 * i + 1, right);
+    words::i32s::put_word(list, 4 * i + 2, kind);
+    words::i32s::put_word(list, 4 * i + 3, words::word_of(operand));
 }
 
 // The same program as numbers.

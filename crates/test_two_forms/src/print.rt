@@ -45,7 +45,7 @@ pub(crate) fn refused(n: u32) {
 fn indices(list: &[u32], n: usize) {
     let mut i = 0;
     while i < n {
-        spaced(words::u32_at(list, i) as u64);
+        spaced(words::u32s::u32_at(list, i) as u64);
         i += 1;
     }
 }

@@ -9,10 +9,10 @@ ghost use Prim.Native.Nat.{_≤_};
 fn put_ligature(list: &mut [i32], i: usize, next: u32, right: u32, operand: u32)
     requires { ⌜ i ≤ 765 ⌝ }
 {
-    words::put_word(list, 4 * i, next);
-    words::put_word(list, 4 * i + 1, right);
-    words::put_word(list, 4 * i + 2, 2);
-    words::put_word(list, 4 * i + 3, operand);
+    words::i32s::put_word(list, 4 * i, next);
+    words::i32s::put_word(list, 4 * i + 1, right);
+    words::i32s::put_word(list, 4 * i + 2, 2);
+    words::i32s::put_word(list, 4 * i + 3, operand);
 }
 
 // The own instructions of 128 lefts, of which the first goes on to left `onward`: op 1, each followed by the shared
@@ -74,8 +74,8 @@ pub(crate) fn put_entries(list: &mut [i32]) {
     let mut c: u32 = 0;
     while c < 256 {
         let at = 2 * (c as usize);
-        words::put_word(list, at, c);
-        words::put_word(list, at + 1, entry_of(c));
+        words::i32s::put_word(list, at, c);
+        words::i32s::put_word(list, at + 1, entry_of(c));
         c += 1;
     }
 }

@@ -11,8 +11,8 @@ use lang::Written;
 use text_font_reply::answer_font;
 use text_scan::read_text;
 use words::number_of;
+use words::u8s::zero_u8;
 use words::word_of;
-use words::zero::zero_u8;
 
 // Room for what a text says, within its limits: four numbers an instruction, one a kern, two an entry, and a word's
 // letters.

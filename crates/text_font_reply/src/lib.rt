@@ -14,8 +14,8 @@ use fonts::Compiled;
 use lang::Written;
 use text_reply::write_reply;
 use word_set::set_fresh;
+use words::u8s::zero_u8;
 use words::word_of;
-use words::zero::zero_u8;
 
 // Room for what compiling writes: six numbers a pair, two an op, two a loop, and sixteen numbers of work a pair.
 fn pair_list() -> [i32; 3072]

@@ -11,8 +11,7 @@ ghost use Rattle.text_justify.specs.InFields.{numbersFrom, fiveFrom, fie
 use crate::number::put_blanks;
 use crate::number::put_character;
 use crate::number::put_number;
-use words::word_at;
-use words::word_of;
+use words::i32s::word_at;
 
 mod number;
 
@@ -52,15 +51,6 @@ pub fn put_fields(numbers: &[i32], from: usize, n: usize, out: &mut [u8], at: us
     }
 }
 
-// The bits of a number of a list.
-fn word_in(numbers: &[i32], i: usize) -> u32
-    requires { ⌜ i < length (now numbers) ⌝ }
-    ensures { λ r. ⌜ Word (getD (now (numbers .entry)) i (pos 0)) r ⌝ }
-{
-    let x = numbers[i];
-    word_of(x)
-}
-
 // The fields of five of a pair's six numbers, which are in the list. The one left out says where its ops begin.
 fn put_five(pairs: &[i32], first: usize, out: &mut [u8], at: usize)
     requires { ⌜ (first + 6 ≤ length (now pairs)) × (at + 60 ≤ length (now out)) ⌝ }
@@ -68,11 +58,11 @@ fn put_five(pairs: &[i32], first: usize, out: &mut [u8], at: usize)
         (fieldsOf (fiveFrom (now (pairs .entry)) first)) ⌝ }
 {
     put_blanks(out, at, 60);
-    put_character(out, at, word_in(pairs, first));
-    put_character(out, at + 12, word_in(pairs, first + 1));
-    put_character(out, at + 24, word_in(pairs, first + 2));
-    put_number(out, at + 36, word_in(pairs, first + 3));
-    put_number(out, at + 48, word_in(pairs, first + 5));
+    put_character(out, at, word_at(pairs, first));
+    put_character(out, at + 12, word_at(pairs, first + 1));
+    put_character(out, at + 24, word_at(pairs, first + 2));
+    put_number(out, at + 36, word_at(pairs, first + 3));
+    put_number(out, at + 48, word_at(pairs, first + 5));
 }
 
 // The same, wherever the list ends. Fields that are not taken are not written.

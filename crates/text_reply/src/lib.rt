@@ -7,8 +7,8 @@ ghost use Rattle.columns.specs.Replying.{replyBytes, WritesReply};
 use crate::parts::put_reply;
 use crate::size::reply_size;
 use lang::Written;
+use words::u8s::zero_u8;
 use words::word_of;
-use words::zero::zero_u8;
 
 mod parts;
 mod size;

@@ -9,8 +9,8 @@ ghost use Rattle.text_lines.specs.Writing.{HasRoom, Puts};
 ghost use Rattle.text_reply.specs.Sizes.{tableBytes};
 use text_lines::put_lines;
 use text_lines::put_pair;
+use words::i32s::word_at;
 use words::number_of;
-use words::word_at;
 
 // P and O: every pair with its ops, from a place on. Answers the place after them.
 fn put_table(pairs: &[i32], ops: &[i32], out: &mut [u8], at: usize) -> usize

@@ -7,7 +7,7 @@ ghost use lib.ListN.{length};
 ghost use Rattle.words.specs.Words.{numberOf};
 ghost use Rattle.columns.specs.Replying.{replyBytes};
 ghost use Rattle.text_reply.specs.Sizes.{cappedSize, tableBytes};
-use words::word_at;
+use words::i32s::word_at;
 
 // So many lines of a size after so many bytes.
 fn with_lines(size: usize, count: usize, each: usize) -> usize

@@ -6,8 +6,8 @@ use columns::TextRead;
 use progress::NextLine;
 use whole::first_line;
 use whole::read_lines;
-use words::zero::zero_i32;
-use words::zero::zero_u32;
+use words::i32s::zero_i32;
+use words::u32s::zero_u32;
 
 mod lines;
 mod progress;

@@ -12,7 +12,7 @@ use columns::FieldRead;
 use columns::TextRead;
 use text_line_numbers::read_letters;
 use text_line_numbers::read_number;
-use words::u8_at;
+use words::u8s::u8_at;
 use words::word_of;
 
 // D: one number.

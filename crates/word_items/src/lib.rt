@@ -8,8 +8,8 @@ ghost use Rattle.word_items.specs.ItemLists.{isItem, Small, isSmall, ite
 use captions::Answer;
 use lang::Written;
 use word_plain_letters::put_six;
+use words::i32s::zero_i32;
 use words::word_of;
-use words::zero::zero_i32;
 
 // Neither the end nor a refusal.
 pub fn is_item(answer: Answer) -> bool

@@ -23,7 +23,7 @@ use word_items::is_item;
 use word_items::put_item;
 use word_items::stopped;
 use word_plain_letters::give_letters;
-use words::zero::zero_i32;
+use words::i32s::zero_i32;
 
 // The step from a state in which a stretch of letters ended, and the pair that ended it if there is one: its first op
 // at once, or a last kern, and else by turns.

@@ -1,11 +1,14 @@
-// Numbers as they are lent: i32 as its 32 bits and back, one element of a slice read and stored that way, and zeroing.
-// Nothing here has a `requires`: an index past the end reads 0, and a store there does nothing.
+// Numbers as they are lent: i32 as its 32 bits and back, and slices, a file for each type of element. Nothing here has a
+// `requires`: an index past the end reads 0, and a store there does nothing.
+//   i32s, u32s, u64s, u8s   an element read, stored, and zeroing      sizes   the smaller of two, and what is left
 ghost use mathlib.Core.Path.{_≡_};
-ghost use lib.ListN.{getD, set};
-ghost use lib.IntN.{pos};
-ghost use Rattle.words.specs.Words.{wordOf, numberOf, Word};
+ghost use Rattle.words.specs.Words.{wordOf, numberOf};
 
-pub mod zero;
+pub mod i32s;
+pub mod sizes;
+pub mod u32s;
+pub mod u64s;
+pub mod u8s;
 
 // The 32 bits of x, two's complement.
 pub fn word_of(x: i32) -> u32
@@ -26,57 +29,5 @@ pub fn number_of(w: u32) -> i32
         w as i32
     } else {
         ((w as i64) - 4294967296) as i32
-    }
-}
-
-// The bits of element i; 0 past the end.
-pub fn word_at(s: &[i32], i: usize) -> u32
-    ensures { λ r. ⌜ Word (getD (now (s .entry)) i (pos 0)) r ⌝ }
-{
-    if i < s.len() {
-        let x = s[i];
-        word_of(x)
-    } else {
-        0
-    }
-}
-
-// Element i becomes the number whose bits are w; past the end nothing is done.
-pub fn put_word(s: &mut [i32], i: usize, w: u32)
-    ensures { λ _. ⌜ now (s .exit) ≡ set (now (s .entry)) i (numberOf w) ⌝ }
-{
-    let x = number_of(w);
-    if i < s.len() {
-        s[i] = x;
-    }
-}
-
-// The same, of a slice of u32.
-pub fn u32_at(s: &[u32], i: usize) -> u32
-    ensures { λ r. ⌜ r ≡ getD (now (s .entry)) i 0 ⌝ }
-{
-    if i < s.len() { s[i] } else { 0 }
-}
-
-pub fn put_u32(s: &mut [u32], i: usize, w: u32)
-    ensures { λ _. ⌜ now (s .exit) ≡ set (now (s .entry)) i w ⌝ }
-{
-    if i < s.len() {
-        s[i] = w;
-    }
-}
-
-// The same, of a slice of u8.
-pub fn u8_at(s: &[u8], i: usize) -> u8
-    ensures { λ r. ⌜ r ≡ getD (now (s .entry)) i 0 ⌝ }
-{
-    if i < s.len() { s[i] } else { 0 }
-}
-
-pub fn put_u8(s: &mut [u8], i: usize, b: u8)
-    ensures { λ _. ⌜ now (s .exit) ≡ set (now (s .entry)) i b ⌝ }
-{
-    if i < s.len() {
-        s[i] = b;
     }
 }

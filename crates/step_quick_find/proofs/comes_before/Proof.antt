@@ -10,43 +10,43 @@ use Rattle.step_quick_find.proofs.comes_before.Tie as tie
 left-in-requires : tie.Need-left-in-requires
 left-in-requires c κs = search needs
 
-mul-word-in : tie.Need-mul-word-in
-mul-word-in c = search needs
+mul-word-at : tie.Need-mul-word-at
+mul-word-at c = search needs
 
-add-word-in : tie.Need-add-word-in
-add-word-in c = search needs
+add-word-at : tie.Need-add-word-at
+add-word-at c = search needs
 
-word-in-requires : tie.Need-word-in-requires
-word-in-requires c κs = search needs
+word-at-requires : tie.Need-word-at-requires
+word-at-requires c κs = search needs
 
 returns : tie.Need-returns
 returns c =
     let a = c .before .before .before .args in
-    let w = c .before .word-in in
+    let w = c .before .word-at in
     let p = c .before .before .left-in in
     rw (← p .ensures, ← w .ensures .is) (before-left (p .result) (w .result) (a .left) (a .right) (read-lt (w .ensures)) (c .if1 .taken))
 
 returns-2 : tie.Need-returns-2
 returns-2 c =
     let a = c .before .before .before .before .args in
-    let w = c .before .before .word-in in
+    let w = c .before .before .word-at in
     let p = c .before .before .before .left-in in
     rw (← p .ensures, ← w .ensures .is)
     (after-left (p .result) (w .result) (a .left) (a .right) (omega arith) (omega (arith, c .before .if1 .left, c .if2 .taken)))
 
-mul-word-in-2 : tie.Need-mul-word-in-2
-mul-word-in-2 c = search needs
+mul-word-at-2 : tie.Need-mul-word-at-2
+mul-word-at-2 c = search needs
 
-add-word-in-2 : tie.Need-add-word-in-2
-add-word-in-2 c = search needs
+add-word-at-2 : tie.Need-add-word-at-2
+add-word-at-2 c = search needs
 
-word-in-requires-2 : tie.Need-word-in-requires-2
-word-in-requires-2 c κs = search needs
+word-at-requires-2 : tie.Need-word-at-requires-2
+word-at-requires-2 c κs = search needs
 
 returns-3 : tie.Need-returns-3
 returns-3 c =
     let a = c .before .before .before .before .before .args in
-    let w = c .word-in2 in
+    let w = c .word-at2 in
     let p = c .before .before .before .before .left-in in
     rw (← p .ensures, ← w .ensures .is)
     (same-left (p .result) (w .result) (a .left) (a .right) (c .before .before .if1 .left) (omega (arith, c .before .if2 .left)))
@@ -56,12 +56,12 @@ comes-before-spec =
     tie.close
     (tie.spec
     left-in-requires
-    mul-word-in
-    add-word-in
-    word-in-requires
+    mul-word-at
+    add-word-at
+    word-at-requires
     returns
     returns-2
-    mul-word-in-2
-    add-word-in-2
-    word-in-requires-2
+    mul-word-at-2
+    add-word-at-2
+    word-at-requires-2
     returns-3)

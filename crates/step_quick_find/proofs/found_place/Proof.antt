@@ -21,20 +21,20 @@ returns c =
     let p = c .before .place-for in
     none-past (now (a .pairs)) (a .left) (a .right) (pairCount (now (a .pairs))) (p .result) refl (p .ensures) (c .if1 .taken)
 
-mul-word-in : tie.Need-mul-word-in
-mul-word-in c = omega arith
+mul-word-at : tie.Need-mul-word-at
+mul-word-at c = omega arith
 
-add-word-in : tie.Need-add-word-in
-add-word-in c = omega arith
+add-word-at : tie.Need-add-word-at
+add-word-at c = omega arith
 
-word-in-requires : tie.Need-word-in-requires
-word-in-requires c κs = omega arith
+word-at-requires : tie.Need-word-at-requires
+word-at-requires c κs = omega arith
 
 returns-2 : tie.Need-returns-2
 returns-2 c =
     let a = c .before .before .before .before .args in
     let p = c .before .before .before .place-for in
-    let w = c .before .word-in in
+    let w = c .before .word-at in
     none-other (now (a .pairs)) (a .left) (a .right) (p .result) (p .ensures) (c .before .before .if1 .left) (pairCount (now (a .pairs))) refl
     (λ e. c .if2 .taken (omega (arith, e, w .ensures .is, read-lt (w .ensures))))
 
@@ -45,7 +45,7 @@ returns-3 : tie.Need-returns-3
 returns-3 c =
     let a = c .before .before .before .before .before .before .args in
     let p = c .before .before .before .before .before .place-for in
-    let w = c .before .before .before .word-in in
+    let w = c .before .before .before .word-at in
     let l = c .before .left-in in
     none-other (now (a .pairs)) (a .left) (a .right) (p .result) (p .ensures) (c .before .before .before .before .if1 .left) (pairCount (now (a .pairs))) refl
     (λ e. c .if3 .taken (omega (arith, e, l .ensures, w .ensures .is, c .before .before .if2 .left)))
@@ -54,7 +54,7 @@ returns-4 : tie.Need-returns-4
 returns-4 c =
     let a = c .before .before .before .before .before .before .args in
     let p = c .before .before .before .before .before .place-for in
-    let w = c .before .before .before .word-in in
+    let w = c .before .before .before .word-at in
     let l = c .before .left-in in
     found-there (now (a .pairs)) (a .left) (a .right) (p .result) (p .ensures) (c .before .before .before .before .if1 .left)
     (ap (λ (i : ℕ). keyBy i (wordOf (number (now (a .pairs)) (p .result) 1))) (sym (l .ensures) ∙ c .if3 .left)
@@ -66,9 +66,9 @@ found-place-spec =
     (tie.spec
     place-for-requires
     returns
-    mul-word-in
-    add-word-in
-    word-in-requires
+    mul-word-at
+    add-word-at
+    word-at-requires
     returns-2
     left-in-requires
     returns-3

@@ -26,8 +26,8 @@ number-in-requires-4 c κs = search needs
 after-letter-requires : tie.Need-after-letter-requires
 after-letter-requires c κs = search needs
 
-less-one-requires : tie.Need-less-one-requires
-less-one-requires c κs = search needs
+minus-requires : tie.Need-minus-requires
+minus-requires c κs = search needs
 
 add-moved-on : tie.Need-add-moved-on
 add-moved-on c = search needs
@@ -49,7 +49,7 @@ returns c =
     rw (
       c .before .moved-on .ensures,
       c .before .before .before .after-letter .ensures,
-      c .before .before .less-one .ensures,
+      c .before .before .minus .ensures,
       add-one (c .before .before .before .before .before .before .before .number-in .result),
       c .word-at .ensures .is,
       c .before .before .before .before .before .before .before .number-in .ensures .is,
@@ -69,7 +69,7 @@ given-first-spec =
     number-in-requires-3
     number-in-requires-4
     after-letter-requires
-    less-one-requires
+    minus-requires
     add-moved-on
     moved-on-requires
     mul-word-at

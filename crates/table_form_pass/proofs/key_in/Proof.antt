@@ -9,8 +9,8 @@ use borrow.Author.Needs.{needs}
 use Rattle.table_form_pass.proofs.key_in.Statement.{statement}
 use Rattle.table_form_pass.proofs.key_in.Tie as tie
 
-word-in-requires : tie.Need-word-in-requires
-word-in-requires c κs = search needs
+word-at-requires : tie.Need-word-at-requires
+word-at-requires c κs = search needs
 
 left-place-requires : tie.Need-left-place-requires
 left-place-requires c κs = search needs
@@ -21,11 +21,11 @@ cast-place c = search needs
 mul-result : tie.Need-mul-result
 mul-result c = search needs
 
-add-word-in : tie.Need-add-word-in
-add-word-in c = search needs
+add-word-at : tie.Need-add-word-at
+add-word-at c = search needs
 
-word-in-requires-2 : tie.Need-word-in-requires-2
-word-in-requires-2 c κs = search needs
+word-at-requires-2 : tie.Need-word-at-requires-2
+word-at-requires-2 c κs = search needs
 
 cast-result : tie.Need-cast-result
 cast-result c = search needs
@@ -38,19 +38,19 @@ returns c =
     let l = c .before .before in
     let a = l .before .args in
     let s = now (a .pairs) in
-    key-read s (a .p / 6) (number-read s (a .p) (a .p) 0 (l .before .pre .1) (omega arith) (l .word-in .ensures))
-    (number-read s (a .p) (a .p + 1) 1 (l .before .pre .1) refl (c .word-in2 .ensures)) (c .before .left-place .ensures)
+    key-read s (a .p / 6) (number-read s (a .p) (a .p) 0 (l .before .pre .1) (omega arith) (l .word-at .ensures))
+    (number-read s (a .p) (a .p + 1) 1 (l .before .pre .1) refl (c .word-at2 .ensures)) (c .before .left-place .ensures)
 
 pub key-in-spec : {M : Type 1} → statement M
 key-in-spec =
     tie.close
     (tie.spec
-    word-in-requires
+    word-at-requires
     left-place-requires
     cast-place
     mul-result
-    add-word-in
-    word-in-requires-2
+    add-word-at
+    word-at-requires-2
     cast-result
     add-result
     returns)

@@ -53,17 +53,17 @@ add-least c =
           (passes (now (a .pairs)) (now (a .ops)) (l .loop .p / 6) (l .loop .at) (sym (c .before .pair-passes .ensures) ∙ not-false _ (c .if2 .left))),
     )
 
-add-word-in : tie.Need-add-word-in Inv-loop μ-loop
-add-word-in c = omega arith
+add-word-at : tie.Need-add-word-at Inv-loop μ-loop
+add-word-at c = omega arith
 
-word-in-requires : tie.Need-word-in-requires Inv-loop μ-loop
-word-in-requires c κs = omega arith
+word-at-requires : tie.Need-word-at-requires Inv-loop μ-loop
+word-at-requires c κs = omega arith
 
 cast-at : tie.Need-cast-at Inv-loop μ-loop
-cast-at c = omega (arith, read-lt (c .word-in .ensures))
+cast-at c = omega (arith, read-lt (c .word-at .ensures))
 
 add-at : tie.Need-add-at Inv-loop μ-loop
-add-at c = omega (arith, read-lt (c .word-in .ensures))
+add-at c = omega (arith, read-lt (c .word-at .ensures))
 
 add-p : tie.Need-add-p Inv-loop μ-loop
 add-p c = omega arith
@@ -84,7 +84,7 @@ loop-again c =
       omega arith,
       rw e
           (passed-more s (now (a .ops)) (l .loop .inv .2) (k .key-in .ensures) (d .before .before .if1 .left)
-          (sym (d .before .pair-passes .ensures) ∙ not-false _ (d .if2 .left)) (number-read s p (p + 5) 5 (l .loop .inv .1) refl (c .word-in .ensures))),
+          (sym (d .before .pair-passes .ensures) ∙ not-false _ (d .if2 .left)) (number-read s p (p + 5) 5 (l .loop .inv .1) refl (c .word-at .ensures))),
     )
 
 returns-3 : tie.Need-returns-3 Inv-loop μ-loop
@@ -105,8 +105,8 @@ pairs-form-spec =
     pair-passes-requires
     returns-2
     add-least
-    add-word-in
-    word-in-requires
+    add-word-at
+    word-at-requires
     cast-at
     add-at
     add-p

@@ -1,6 +1,7 @@
 -- `items::op::give_op` meets its contract, by the kind of the op.
 -- Assumes nothing.
 use mathlib.Core.Path.{_∙_, sym}
+use native.Mathlib.Omega.{arith}
 use denote.Ref.{now}
 use Rattle.words.proofs.Bits.{number-is, number-word}
 use Rattle.step_items.proofs.Laws.{op-character, op-ligature, op-kern}
@@ -25,7 +26,7 @@ returns : tie.Need-returns
 returns c =
     let k = c .before .before .before .before in
     let a = k .before .args in
-    rw (c .give-character .ensures, c .before .before .before .value-at .ensures .is, c .before .before .after-op .ensures)
+    rw (c .give-character .ensures, c .before .before .before .value-at .ensures .is, c .before .before .after-op .ensures .0 (omega (arith, k .before .pre)))
     (sym (op-character (now (a .ops)) (a .s) (sym (k .kind-at .ensures .is) ∙ c .before .if1 .taken)))
 
 ends-word-requires : tie.Need-ends-word-requires
@@ -39,7 +40,7 @@ returns-2 c =
     let i = c .before .before .before in
     let k = i .before .before .before in
     let a = k .before .args in
-    rw (c .give-ligature .ensures, c .before .ends-word .ensures, i .before .before .value-at .ensures .is, i .before .after-op .ensures)
+    rw (c .give-ligature .ensures, c .before .ends-word .ensures, i .before .before .value-at .ensures .is, i .before .after-op .ensures .0 (omega (arith, k .before .pre)))
     (sym (op-ligature (now (a .ops)) (a .s) (λ e. i .if1 .left (k .kind-at .ensures .is ∙ e)) (sym (k .kind-at .ensures .is) ∙ c .before .before .if2 .taken)))
 
 number-of-requires : tie.Need-number-of-requires
@@ -51,7 +52,7 @@ returns-3 c =
     let k = i .before .before .before in
     let v = i .before .before .value-at .ensures in
     let a = k .before .args in
-    rw (c .number-of .ensures, number-is v, number-word (opValue (now (a .ops)) (a .s .op)) (v .fits), i .before .after-op .ensures)
+    rw (c .number-of .ensures, number-is v, number-word (opValue (now (a .ops)) (a .s .op)) (v .fits), i .before .after-op .ensures .0 (omega (arith, k .before .pre)))
     (sym (op-kern (now (a .ops)) (a .s) (λ e. i .if1 .left (k .kind-at .ensures .is ∙ e)) (λ e. c .before .if2 .left (k .kind-at .ensures .is ∙ e))))
 
 pub give-op-spec : {M : Type 1} → statement M

@@ -1,5 +1,6 @@
 -- `quick::kern::give_kern` meets its contract, by whether the op is there.
 -- Assumes nothing.
+use native.Mathlib.Omega.{arith}
 use denote.Ref.{now}
 use borrow.Author.Tests.{lt-ltb, le-ltb}
 use Rattle.words.proofs.Bits.{number-word}
@@ -33,7 +34,7 @@ returns-2 c =
     rw (
       lt-ltb (a .s .op) (opCount (now (a .ops))) (o .before .if1 .left),
       number-word (opValue (now (a .ops)) (a .s .op)) (record { sfits = c .value .given }),
-      o .after-op .ensures,
+      o .after-op .ensures .0 (omega (arith, o .before .if1 .left)),
     )
 
 pub give-kern-spec : {M : Type 1} → statement M

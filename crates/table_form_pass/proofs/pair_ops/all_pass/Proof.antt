@@ -23,20 +23,20 @@ abbrev μ-loop : tie.MeasureT-loop
 loop-holds : tie.Need-loop-holds Inv-loop μ-loop
 loop-holds c = λ x. refl
 
-mul-word-in : tie.Need-mul-word-in Inv-loop μ-loop
-mul-word-in c = omega arith
+mul-word-at : tie.Need-mul-word-at Inv-loop μ-loop
+mul-word-at c = omega arith
 
-word-in-requires : tie.Need-word-in-requires Inv-loop μ-loop
-word-in-requires c κs = omega arith
+word-at-requires : tie.Need-word-at-requires Inv-loop μ-loop
+word-at-requires c κs = omega arith
 
-mul-word-in-2 : tie.Need-mul-word-in-2 Inv-loop μ-loop
-mul-word-in-2 c = omega arith
+mul-word-at-2 : tie.Need-mul-word-at-2 Inv-loop μ-loop
+mul-word-at-2 c = omega arith
 
-add-word-in : tie.Need-add-word-in Inv-loop μ-loop
-add-word-in c = omega arith
+add-word-at : tie.Need-add-word-at Inv-loop μ-loop
+add-word-at c = omega arith
 
-word-in-requires-2 : tie.Need-word-in-requires-2 Inv-loop μ-loop
-word-in-requires-2 c κs = omega arith
+word-at-requires-2 : tie.Need-word-at-requires-2 Inv-loop μ-loop
+word-at-requires-2 c κs = omega arith
 
 op-passes-requires : tie.Need-op-passes-requires Inv-loop μ-loop
 op-passes-requires c κs = search needs
@@ -50,7 +50,7 @@ returns c =
     λ code.
     let x = item (eqb (a .args .flag) 1) code in
     sym (t .before .loop .inv x
-    ∙ pass-character (now (a .args .ops)) (t .before .loop .i) (a .args .end) (t .loop-test .taken) (k .word-in .ensures) x (v .word-in2 .ensures)
+    ∙ pass-character (now (a .args .ops)) (t .before .loop .i) (a .args .end) (t .loop-test .taken) (k .word-at .ensures) x (v .word-at2 .ensures)
     (a .args .left) (a .fits .left .fits) (v .before .if1 .taken)
     ∙ rw (sym (c .before .op-passes .ensures) ∙ not-true _ (c .if2 .taken)))
 
@@ -70,7 +70,7 @@ returns-2 c =
     λ code.
     let x = item (eqb (a .args .flag) 1) code in
     sym (t .before .loop .inv x
-    ∙ pass-character (now (a .args .ops)) (t .before .loop .i) (a .args .end) (t .loop-test .taken) (k .word-in .ensures) x (v .word-in2 .ensures)
+    ∙ pass-character (now (a .args .ops)) (t .before .loop .i) (a .args .end) (t .loop-test .taken) (k .word-at .ensures) x (v .word-at2 .ensures)
     (a .args .left) (a .fits .left .fits) (v .before .if1 .taken)
     ∙ rw (sym (o .before .op-passes .ensures) ∙ not-false _ (o .if2 .left)) (sym (c .later-pass .ensures x)))
 
@@ -86,7 +86,7 @@ loop-again c =
     let t = k .before in
     let a = t .before .before .args in
     λ x. t .before .loop .inv x
-    ∙ pass-kern (now (a .ops)) (t .before .loop .i) (a .end) (t .loop-test .taken) (k .word-in .ensures) x (leftBy (a .left)) (c .if1 .left)
+    ∙ pass-kern (now (a .ops)) (t .before .loop .i) (a .end) (t .loop-test .taken) (k .word-at .ensures) x (leftBy (a .left)) (c .if1 .left)
 
 returns-3 : tie.Need-returns-3 Inv-loop μ-loop
 returns-3 c =
@@ -115,11 +115,11 @@ all-pass-spec =
     Inv-loop
     μ-loop
     loop-holds
-    mul-word-in
-    word-in-requires
-    mul-word-in-2
-    add-word-in
-    word-in-requires-2
+    mul-word-at
+    word-at-requires
+    mul-word-at-2
+    add-word-at
+    word-at-requires-2
     op-passes-requires
     returns
     add-later-pass

@@ -22,20 +22,20 @@ abbrev μ-loop : tie.MeasureT-loop
 loop-holds : tie.Need-loop-holds Inv-loop μ-loop
 loop-holds c = λ x. refl
 
-mul-word-in : tie.Need-mul-word-in Inv-loop μ-loop
-mul-word-in c = omega arith
+mul-word-at : tie.Need-mul-word-at Inv-loop μ-loop
+mul-word-at c = omega arith
 
-word-in-requires : tie.Need-word-in-requires Inv-loop μ-loop
-word-in-requires c κs = omega arith
+word-at-requires : tie.Need-word-at-requires Inv-loop μ-loop
+word-at-requires c κs = omega arith
 
-mul-word-in-2 : tie.Need-mul-word-in-2 Inv-loop μ-loop
-mul-word-in-2 c = omega arith
+mul-word-at-2 : tie.Need-mul-word-at-2 Inv-loop μ-loop
+mul-word-at-2 c = omega arith
 
-add-word-in : tie.Need-add-word-in Inv-loop μ-loop
-add-word-in c = omega arith
+add-word-at : tie.Need-add-word-at Inv-loop μ-loop
+add-word-at c = omega arith
 
-word-in-requires-2 : tie.Need-word-in-requires-2 Inv-loop μ-loop
-word-in-requires-2 c κs = omega arith
+word-at-requires-2 : tie.Need-word-at-requires-2 Inv-loop μ-loop
+word-at-requires-2 c κs = omega arith
 
 op-passes-requires : tie.Need-op-passes-requires Inv-loop μ-loop
 op-passes-requires c κs = search needs
@@ -47,7 +47,7 @@ returns c =
     let a = t .before .before .args in
     λ x.
     sym (t .before .loop .inv x
-    ∙ pass-later (now (a .ops)) (t .before .loop .i) (a .end) (t .loop-test .taken) (v .before .word-in .ensures) x (v .word-in2 .ensures)
+    ∙ pass-later (now (a .ops)) (t .before .loop .i) (a .end) (t .loop-test .taken) (v .before .word-at .ensures) x (v .word-at2 .ensures)
     ∙ rw (sym (c .before .op-passes .ensures) ∙ not-true _ (c .if1 .taken)))
 
 add-i : tie.Need-add-i Inv-loop μ-loop
@@ -62,7 +62,7 @@ loop-again c =
     let t = v .before .before in
     let a = t .before .before .args in
     λ x. t .before .loop .inv x
-    ∙ pass-later (now (a .ops)) (t .before .loop .i) (a .end) (t .loop-test .taken) (v .before .word-in .ensures) x (v .word-in2 .ensures)
+    ∙ pass-later (now (a .ops)) (t .before .loop .i) (a .end) (t .loop-test .taken) (v .before .word-at .ensures) x (v .word-at2 .ensures)
     ∙ rw (sym (c .before .op-passes .ensures) ∙ not-false _ (c .if1 .left))
 
 returns-2 : tie.Need-returns-2 Inv-loop μ-loop
@@ -78,11 +78,11 @@ later-pass-spec =
     Inv-loop
     μ-loop
     loop-holds
-    mul-word-in
-    word-in-requires
-    mul-word-in-2
-    add-word-in
-    word-in-requires-2
+    mul-word-at
+    word-at-requires
+    mul-word-at-2
+    add-word-at
+    word-at-requires-2
     op-passes-requires
     returns
     add-i

@@ -12,29 +12,29 @@ use Rattle.table_form_pass.proofs.pair_ops.ops_pass.Tie as tie
 sub-if1 : tie.Need-sub-if1
 sub-if1 c = search needs
 
-mul-word-in : tie.Need-mul-word-in
-mul-word-in c = search needs
+mul-word-at : tie.Need-mul-word-at
+mul-word-at c = search needs
 
-word-in-requires : tie.Need-word-in-requires
-word-in-requires c κs = search needs
+word-at-requires : tie.Need-word-at-requires
+word-at-requires c κs = search needs
 
-add-word-in : tie.Need-add-word-in
-add-word-in c = search needs
+add-word-at : tie.Need-add-word-at
+add-word-at c = search needs
 
-mul-word-in-2 : tie.Need-mul-word-in-2
-mul-word-in-2 c = search needs
+mul-word-at-2 : tie.Need-mul-word-at-2
+mul-word-at-2 c = search needs
 
-word-in-requires-2 : tie.Need-word-in-requires-2
-word-in-requires-2 c κs = search needs
+word-at-requires-2 : tie.Need-word-at-requires-2
+word-at-requires-2 c κs = search needs
 
-mul-word-in-3 : tie.Need-mul-word-in-3
-mul-word-in-3 c = search needs
+mul-word-at-3 : tie.Need-mul-word-at-3
+mul-word-at-3 c = search needs
 
-add-word-in-2 : tie.Need-add-word-in-2
-add-word-in-2 c = search needs
+add-word-at-2 : tie.Need-add-word-at-2
+add-word-at-2 c = search needs
 
-word-in-requires-3 : tie.Need-word-in-requires-3
-word-in-requires-3 c κs = search needs
+word-at-requires-3 : tie.Need-word-at-requires-3
+word-at-requires-3 c κs = search needs
 
 op-passes-requires : tie.Need-op-passes-requires
 op-passes-requires c κs = search needs
@@ -47,7 +47,7 @@ returns c =
     let a = k .before .before in
     λ code.
     c .op-passes .ensures
-    ∙ pass-two (now (a .args .ops)) (a .args .start) (a .args .end) (k .before .if1 .taken) (k .word-in .ensures) (v .word-in3 .ensures) (n .word-in2 .ensures)
+    ∙ pass-two (now (a .args .ops)) (a .args .start) (a .args .end) (k .before .if1 .taken) (k .word-at .ensures) (v .word-at3 .ensures) (n .word-at2 .ensures)
     (n .before .if2 .taken) (v .before .if3 .taken) (item (eqb (a .args .flag) 1) code) (a .args .left) (a .fits .left .fits)
 
 all-pass-requires : tie.Need-all-pass-requires
@@ -61,14 +61,14 @@ ops-pass-spec =
     tie.close
     (tie.spec
     sub-if1
-    mul-word-in
-    word-in-requires
-    add-word-in
-    mul-word-in-2
-    word-in-requires-2
-    mul-word-in-3
-    add-word-in-2
-    word-in-requires-3
+    mul-word-at
+    word-at-requires
+    add-word-at
+    mul-word-at-2
+    word-at-requires-2
+    mul-word-at-3
+    add-word-at-2
+    word-at-requires-3
     op-passes-requires
     returns
     all-pass-requires

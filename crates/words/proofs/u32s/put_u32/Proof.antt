@@ -1,0 +1,26 @@
+-- `words::u32s::put_u32` meets its contract: past the end `set` changes nothing.
+-- Assumes nothing.
+use mathlib.Core.Path.{sym}
+use lib.Seq.{set-out}
+use denote.Ref.{now}
+use borrow.Author.Needs.{needs}
+use Rattle.words.proofs.u32s.put_u32.Statement.{statement}
+use Rattle.words.proofs.u32s.put_u32.Tie as tie
+
+mul-s : tie.Need-mul-s
+mul-s c = search needs
+
+slice-write-s : tie.Need-slice-write-s
+slice-write-s c = search needs
+
+same-length : tie.Need-same-length
+same-length c = search needs
+
+returns : tie.Need-returns
+returns c = search needs
+
+returns-2 : tie.Need-returns-2
+returns-2 c = let a = c .before .args in sym (set-out (now (a .s)) (a .i) (a .w) (c .if1 .left))
+
+pub put-u32-spec : {M : Type 1} → statement M
+put-u32-spec = tie.close (tie.spec mul-s slice-write-s same-length returns returns-2)
