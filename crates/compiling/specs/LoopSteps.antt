@@ -1,4 +1,4 @@
--- Walks over the rows step by step, as the passes of src/walks of crate `compiler` take them.
+-- Walks (R88, R89) over the rows step by step, as the passes of crate `compile_loops` take them.
 use mathlib.Core.Path.{_≡_}
 use mathlib.Core.List.{List}
 use Prim.Native.Nat.{ℕ, _+_, _*_, _<_, _≤_}

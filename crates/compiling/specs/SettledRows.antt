@@ -1,5 +1,5 @@
--- What the second pass finds out: which pairs finish, with which last, in which order, and what each of the others waits for. TFtoPL 94
--- and 95 do it by a depth-first search.
+-- What the second pass finds out: which pairs finish, with which last (R72), in which order, and what each of the others waits for (R84 to
+-- R86). TFtoPL 94 and 95 do it by a depth-first search.
 use mathlib.Core.Path.{_≡_}
 use mathlib.Core.Bool.{Bool, true, false}
 use mathlib.Core.List.{List, [], _∷_, List·Memᴰ}

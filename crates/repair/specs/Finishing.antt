@@ -1,5 +1,5 @@
--- What is answered once the repaired program, its passthrough and its warnings are known: 15 where a list is too short for them, with
--- every list all zeros; else the program and its passthrough are copied.
+-- What is answered once the repaired program, its passthrough and its warnings are known: 15 (R244) where a list is too short for them,
+-- with every list all zeros (R252); else the program and its passthrough are copied.
 use mathlib.Core.Path.{_≡_}
 use mathlib.Core.List.{List, [], _∷_}
 use Prim.Native.Nat.{ℕ, _*_}

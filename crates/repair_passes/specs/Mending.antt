@@ -1,5 +1,5 @@
--- The passes of repair one after the other, of a font that is not refused: the contract of `mend`. Crate `validate` asks the refusals
--- first, and then whether the lists that it was lent are long enough.
+-- The passes of repair one after the other, of a font that is not refused: the contract of `mend`. Crate `repair` asks the refusals first,
+-- and then whether the lists that it was lent are long enough.
 use mathlib.Core.Path.{_≡_}
 use mathlib.Core.List.{List, [], _∷_}
 use Prim.Native.Nat.{ℕ, _/_}

@@ -1,3 +1,3 @@
--- What the contracts of turns cite beside the definitions of captions:
+-- What the contracts of step_turns cite beside the definitions of captions:
 --   Turns  the loop of a step while it runs
 pub mod Turns

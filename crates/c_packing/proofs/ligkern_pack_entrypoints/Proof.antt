@@ -1,4 +1,4 @@
--- `c_changes::ligkern_pack_entrypoints` meets its contract. Assumes nothing.
+-- `c_packing::ligkern_pack_entrypoints` meets its contract. Assumes nothing.
 use lib.IntN.{ℤ, pos}
 use lib.ListN.{length}
 use Rattle.words.specs.Words.{wordOf, numberOf}

@@ -1,4 +1,4 @@
--- `c_changes::ligkern_unpack_kerns` meets its contract. Assumes nothing.
+-- `c_packing::ligkern_unpack_kerns` meets its contract. Assumes nothing.
 use mathlib.Core.List.{[], _∷_}
 use lib.IntN.{pos}
 use lib.ListN.{length}

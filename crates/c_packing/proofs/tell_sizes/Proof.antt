@@ -1,4 +1,4 @@
--- `c_changes::tell_sizes` meets its contract: the number of a refusal, 15 where there are fewer than three places, or 0 with the sizes at the front.
+-- `c_packing::tell_sizes` meets its contract: the number of a refusal, 15 where there are fewer than three places, or 0 with the sizes at the front.
 -- Assumes nothing.
 use mathlib.Core.Path.{refl}
 use mathlib.Core.List.{[], _∷_}

@@ -1,4 +1,4 @@
--- `faults::u64_at` meets its contract: past the end `getD` is its default.
+-- `repair_faults::u64_at` meets its contract: past the end `getD` is its default.
 -- Assumes nothing.
 use mathlib.Core.Path.{sym}
 use lib.ListN.{List·getD-eq-default}

@@ -1,4 +1,4 @@
--- `places::word_in` meets its contract.
+-- `step_quick_find::word_in` meets its contract.
 -- Assumes nothing.
 use lib.IntN.{pos}
 use lib.ListN.{getD}

@@ -1,4 +1,4 @@
--- `first_ops::word_in` meets its contract.
+-- `step_quick_op::word_in` meets its contract.
 -- Assumes nothing.
 use lib.IntN.{pos}
 use lib.ListN.{getD}

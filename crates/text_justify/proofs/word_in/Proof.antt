@@ -1,4 +1,4 @@
--- `justify::word_in` meets its contract.
+-- `text_justify::word_in` meets its contract.
 -- Assumes nothing.
 use mathlib.Core.Path.{_≡_, ap, _∙_}
 use Prim.Native.Nat.{ℕ, _^_, _<_}

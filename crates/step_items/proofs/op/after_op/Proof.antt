@@ -1,4 +1,4 @@
--- `items::op::after_op` meets its contract.
+-- `step_items::op::after_op` meets its contract.
 -- Assumes nothing.
 use native.Mathlib.Numerals.{add-one}
 use borrow.Author.Needs.{needs}

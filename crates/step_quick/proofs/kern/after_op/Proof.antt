@@ -1,4 +1,4 @@
--- `quick::kern::after_op` meets its contract.
+-- `step_quick::kern::after_op` meets its contract.
 -- Assumes nothing.
 use native.Mathlib.Numerals.{add-one}
 use borrow.Author.Needs.{needs}

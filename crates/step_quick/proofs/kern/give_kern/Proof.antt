@@ -1,4 +1,4 @@
--- `quick::kern::give_kern` meets its contract, by whether the op is there.
+-- `step_quick::kern::give_kern` meets its contract, by whether the op is there.
 -- Assumes nothing.
 use denote.Ref.{now}
 use borrow.Author.Tests.{lt-ltb, le-ltb}

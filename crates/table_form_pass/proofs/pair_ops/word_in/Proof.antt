@@ -1,4 +1,4 @@
--- `one_pass::pair_ops::word_in` meets its contract: the element's bits.
+-- `table_form_pass::pair_ops::word_in` meets its contract: the element's bits.
 -- Assumes nothing.
 use Rattle.lang.proofs.Records.{word-passed}
 use borrow.Author.Needs.{needs}
