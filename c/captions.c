@@ -1,4 +1,4 @@
-/* An example of a host that compiles a font once and sets captions one after the other, with c/ligkern.h. The font is that of document 01's example with a house
+/* An example of a host that compiles a font once and sets captions one after the other, with c/ligkern.h. The font is that of examples/ordinary.txt with a house
    ligature more: 'f' and 'i' become the ligature 200, a kern stands between 'f' and '!', and a 'b' that begins a word becomes the ligature 201 with the left boundary.
 
    captions < LINES     each line is a word, its bytes the characters; writes its items, one a line, and an empty line after them.

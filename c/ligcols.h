@@ -14,7 +14,8 @@
 extern "C" {
 #endif
 
-/* Answers a column text (document 01, 'The column text').
+/* Answers a column text: a font and a word in, its pairs and the word's items out, in lines of decimal numbers
+   (docs/RULES.md, 'The column text').
 
    text          the bytes of the text. They are only read. Lines end with a line feed; no zero byte ends the text.
    text_length   how many bytes it has. A text of more than LIGCOLS_TEXT is refused with 16.

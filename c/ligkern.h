@@ -2,8 +2,8 @@
    reach, kerns and the questions about a table. `c/build` proves the calls and writes target/staticlib/libligkern.a for x86-64 Linux to link.
    c/captions.c is an example. The column text has a header of its own, c/ligcols.h.
 
-   The numbers of document 01. Every call returns 0 where it is taken, else the number of a refusal, 1 to 15: the lowest that holds. A refusal leaves
-   zeros in every list that the call writes (but for the state of a step, which is left as it was).
+   Numbers. Every call returns 0 where it is taken, else the number of a refusal, 1 to 15: the lowest that holds (docs/RULES.md, 'Refusals', says what
+   each means). A refusal leaves zeros in every list that the call writes (but for the state of a step, which is left as it was).
 
    Lists. A list is a pointer and its length, in elements and not in bytes. Pointers must be valid for their lengths and not null, also where a
    length is 0; lists that are written overlap no other list, and nobody else writes to a list during a call. The calls allocate nothing, keep no

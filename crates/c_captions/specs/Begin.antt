@@ -1,4 +1,4 @@
--- A fresh run whose state stands in a list: the contract of `ligkern_begin`. Document 01, 'Caption items'.
+-- A fresh run (R97) whose state stands in a list (R218): the contract of `ligkern_begin`.
 use mathlib.Core.Path.{_≡_}
 use mathlib.Core.List.{List}
 use mathlib.Core.Option.{some}
@@ -11,7 +11,7 @@ use Rattle.captions.specs.declared.RunOptions.{RunOptions}
 use Rattle.captions.specs.Begin.{beginRefusal, freshState}
 use Rattle.c_states.specs.States.{numbersOf, stateRead}
 
--- begin's numbers, then 15 where n places do not hold a state
+-- begin's numbers, then 15 where n places do not hold a state (R216)
 abbrev pub beginNumber : List ℤ → List ℤ → ℤ → List ℕ → RunOptions → ℕ → ℕ
 beginNumber pairs ops boundary word options n = orElse (beginRefusal pairs ops boundary word options) (roomRefusal 9 n)
 

@@ -1,4 +1,5 @@
--- What a host in C sees through the lists is what demand 3 speaks of. Each type here is a statement; proofs/Theorems proves it.
+-- What a host in C sees through the lists is what demand 3 (R14 to R23) speaks of. Each type here is a statement; proofs/Theorems proves
+-- it.
 use mathlib.Core.Path.{_≡_}
 use mathlib.Core.List.{List, [], _∷_, _++_, map}
 use mathlib.Core.Option.{some}

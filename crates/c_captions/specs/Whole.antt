@@ -1,5 +1,5 @@
--- A word set whole, with the count of its items in a list: the contract of `ligkern_set_word`, and of `ligkern_set_word_indexed` of crate
--- c_indexed, by the reply of the function that each calls. Document 01, 'Caption items' and 'The column text'.
+-- A word set whole (R131 to R134), with the count of its items in a list (R215): the contract of `ligkern_set_word`, and of
+-- `ligkern_set_word_indexed` of crate c_indexed, by the reply of the function that each calls.
 use mathlib.Core.Path.{_≡_}
 use mathlib.Core.List.{List, [], _∷_}
 use Prim.Native.Nat.{ℕ, _/_}
@@ -8,7 +8,7 @@ use lib.ListN.{length}
 use Rattle.lang.specs.Checks.{orElse}
 use Rattle.lang.specs.Answers.{Reply, listOf, roomRefusal}
 
--- the reply's number, then 15 where n places do not hold the count
+-- the reply's number, then 15 where n places do not hold the count (R216)
 abbrev pub captionNumber : Reply → ℕ → ℕ
 captionNumber reply n = orElse (reply .number) (roomRefusal 1 n)
 

@@ -1,4 +1,4 @@
--- A font compiled for a host in C: the contract of `ligkern_compile`. Document 01, 'The pair table' and the table of numbers.
+-- A font compiled (R90 to R94) for a host in C, with the counts in a list (R215): the contract of `ligkern_compile`.
 use mathlib.Core.Path.{_≡_}
 use mathlib.Core.List.{List, [], _∷_}
 use Prim.Native.Nat.{ℕ}
@@ -13,7 +13,7 @@ use Rattle.fonts.specs.Compiled.{Room, roomIn, compileRefusal, tablePairs, tota
 abbrev pub countsOf : Font → List ℕ
 countsOf f = tablePairs f ∷ totalOps f ∷ length (loopsOfFont f) ∷ []
 
--- compile's numbers, then 15 where n places do not hold the counts
+-- compile's numbers, then 15 where n places do not hold the counts (R216)
 abbrev pub countsRefusal : Font → Room → ℕ → ℕ
 countsRefusal f room n = orElse (compileRefusal f room) (roomRefusal 3 n)
 

@@ -1,5 +1,5 @@
-// An index and a word set whole by it, for a host in C: slices and integers in, the number of document 01 out (0 where
-// it is taken). The contracts are those of index/specs/Index and c_captions/specs/Whole; what an index is for is
+// An index and a word set whole by it, for a host in C: slices and integers in, the number of a refusal out (R214; 0
+// where it is taken). The contracts are those of index/specs/Index and c_captions/specs/Whole; what an index is for is
 // index_set_word/specs/Purpose.
 ghost use lib.ListN.{length};
 ghost use Rattle.index.specs.Index.{FillsIndex};

@@ -1,4 +1,5 @@
--- The replies of the calls that write a program anew: each is the reply that the contract of the port's own function states.
+-- The replies of the calls that write a program anew (R144 to R147, R154 to R163): each is the reply that the contract of the port's own
+-- function states.
 use mathlib.Core.List.{List, [], _∷_}
 use Prim.Native.Nat.{ℕ}
 use lib.IntN.{ℤ, pos}

@@ -9,10 +9,10 @@ use Rattle.lang.specs.Answers.{Reply, replyOf}
 use Rattle.program_chain.specs.Chains.{chainOf, walkRefusal}
 use Rattle.reach.specs.Reach.{reachRefusal}
 
--- instructions_for_entrypoint: how many instructions the chain has
+-- instructions_for_entrypoint (R63): how many instructions the chain has
 abbrev pub walkReply : List ℤ → ℤ → ℕ → Reply
 walkReply s entry room = replyOf (walkRefusal s entry room) (pos (length (chainOf s (wordOf entry))) ∷ [])
 
--- reachable_iter: how many instructions there are
+-- reachable_iter (R151): how many instructions there are
 abbrev pub reachReply : List ℤ → List ℤ → ℤ → List ℕ → ℕ → Reply
 reachReply s es left p room = replyOf (reachRefusal s es left p room) (pos (count s) ∷ [])

@@ -1,5 +1,5 @@
--- The replies of the questions about a table: each is the reply that the contract of the port's own function states; those of one
--- number are `hasReply` and `safeReply` of captions/specs/Queries.
+-- The replies of the questions about a table (R121 to R127): each is the reply that the contract of the port's own function states; those
+-- of one number are `hasReply` and `safeReply` of captions/specs/Queries.
 use mathlib.Core.List.{List, [], _∷_}
 use Prim.Native.Nat.{ℕ}
 use lib.IntN.{ℤ, pos}

@@ -1,5 +1,4 @@
-// A yes or a no as a count, or the number of a refusal: the same number and values of document 01. A yes is 1 and a no
-// 0.
+// A yes or a no as a count, or the number of a refusal: the same number and values (R285). A yes is 1 and a no 0.
 ghost use mathlib.Core.Path.{_≡_};
 ghost use Rattle.lang.specs.Answers.{writtenReply};
 ghost use Rattle.captions.specs.Replies.{toldReply};

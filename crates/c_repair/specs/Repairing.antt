@@ -1,6 +1,6 @@
 -- What repair tells a host in C: its answer is the reply that the port's own function is held to (`Repairs` of crate repairs). The left
--- entry, which may be -1, has a list of i32 of its own; the count of warnings stands in the list of values. What is added is 15 where
--- either list is too short.
+-- entry, which may be -1, has a list of i32 of its own (R215); the count of warnings stands in the list of values. What is added is 15
+-- where either list is too short (R216).
 use mathlib.Core.Path.{_≡_}
 use mathlib.Core.List.{List, [], _∷_, map}
 use Prim.Native.Nat.{ℕ, _/_}
@@ -26,7 +26,7 @@ pub record TellsFixed (reply : Reply) (left : List ℤ) (values : List ℕ) (r :
   pub first : left′ ≡ listOf (fixedNumber reply (length left) (length values)) (pos 0) (length left) (take 1 (reply .values))
   pub others : values′ ≡ listOf (fixedNumber reply (length left) (length values)) 0 (length values) (map natural (drop 1 (reply .values)))
 
--- validate_and_fix: the repaired left entry, and how many warnings there are
+-- validate_and_fix: the repaired left entry, and how many warnings there are (R165)
 abbrev pub repairReply : Damaged → RepairRoom → Reply
 repairReply d room = replyOf (repairRefusal d room) (repairedLeft d ∷ pos (length (warningsOf d) / 4) ∷ [])
 

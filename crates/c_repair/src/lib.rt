@@ -1,6 +1,6 @@
 // Repair for a host in C, which can lend slices of numbers and pass integers and nothing else: it answers a number, 0
-// or a refusal of document 01. A refusal, 15 for a list that is too short among them, leaves zeros in every list that
-// is written.
+// or that of a refusal (R214). A refusal, 15 for a list that is too short among them (R216), leaves zeros in every list
+// that is written (R252).
 ghost use mathlib.Core.List.{[], _∷_};
 ghost use Rattle.repairs.specs.Repairs.{damagedOf, validatedReply};
 ghost use Rattle.c_repair.specs.Repairing.{TellsFixed, GivesRepaired};

@@ -1,5 +1,5 @@
--- The state of a run as nine numbers of a list, in the order of `stateNumbers` of captions/specs/Replies: next kind, code, op, ops,
--- read, given, pending, pending boundary, consumes. And back: the numbers that are a state's.
+-- The state of a run as nine numbers of a list (R218 to R221), in the order of `stateNumbers` of captions/specs/Replies: next kind, code,
+-- op, ops, read, given, pending, pending boundary, consumes. And back: the numbers that are a state's (R223).
 use mathlib.Core.Path.{_≡_}
 use mathlib.Core.Bool.{Bool, true, false, cond}
 use mathlib.Core.List.{List, [], _∷_, _++_}
@@ -18,7 +18,7 @@ use Rattle.captions.specs.declared.Consumes.the-variants as consumes
 use Rattle.captions.specs.declared.State.{State}
 use Rattle.captions.specs.Replies.{nextKind, nextCode, consumesNumber}
 
--- how a word is set, by two arguments
+-- how a word is set, by two arguments (R96)
 abbrev pub optionsOf : Bool → ℤ → RunOptions
 optionsOf without over = record { «disable_left_boundary» = without; «right_boundary_override» = over }
 
@@ -102,7 +102,7 @@ orOutside (some s) = s
 
 -- ---- a state put into a list
 
--- by the number: the state's numbers at the front, and what stands after them; or all as it was
+-- by the number: the state's numbers at the front, and what stands after them; or all as it was (R224)
 abbrev pub movedTo : ℕ → List ℕ → State → List ℕ
 movedTo zero list s = numbersOf s ++ drop 9 list
 movedTo (suc n) list s = list

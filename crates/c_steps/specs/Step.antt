@@ -1,4 +1,4 @@
--- One step of a run whose state stands in a list: the contract of `ligkern_step`. Document 01, 'Caption items'.
+-- One step of a run (R98) whose state stands in a list (R218, R224): the contract of `ligkern_step`.
 use mathlib.Core.Path.{_≡_}
 use mathlib.Core.Bool.{Bool, true, false}
 use mathlib.Core.List.{List, [], _∷_}
@@ -17,7 +17,7 @@ use Rattle.captions.specs.Replies.{answerReply}
 use Rattle.captions.specs.Steps.{refused, stepRefusal, stepOf}
 use Rattle.c_states.specs.States.{stateRead, outside, movedTo}
 
--- a step from the state that was read; numbers that are no state are 7, after 4 and 6 of the call's own arguments
+-- a step from the state that was read; numbers that are no state are 7 (R222), after 4 and 6 of the call's own arguments
 abbrev pub stepRunFrom : List ℤ → List ℤ → ℤ → List ℕ → RunOptions → Option State → Step
 stepRunFrom pairs ops boundary word options none = refused (orElse (stepRefusal boundary word options) 7) outside
 stepRunFrom pairs ops boundary word options (some s) = stepOf pairs ops boundary word options s
@@ -26,12 +26,12 @@ stepRunFrom pairs ops boundary word options (some s) = stepOf pairs ops boundary
 abbrev pub stepIn : List ℤ → List ℤ → ℤ → List ℕ → RunOptions → List ℕ → Step
 stepIn pairs ops boundary word options state = stepRunFrom pairs ops boundary word options (stateRead state)
 
--- the number of that step, then 15 where n places do not hold an item
+-- the number of that step, then 15 where n places do not hold an item (R216)
 abbrev pub stepNumber : List ℤ → List ℤ → ℤ → List ℕ → RunOptions → List ℕ → ℕ → ℕ
 stepNumber pairs ops boundary word options state n =
     orElse (answerReply (stepIn pairs ops boundary word options state .answer) .number) (roomRefusal 7 n)
 
--- 1 and the six numbers of an item as a T line has them; the end has none, so that zeros stand for it
+-- 1 and the six numbers of an item as a T line has them; the end has none, so that zeros stand for it (R225)
 abbrev pub itemNumbers : Answer → List ℤ
 itemNumbers (Char c start) = pos 1 ∷ answerReply (Char c start) .values
 itemNumbers (Ligature c start n left right) = pos 1 ∷ answerReply (Ligature c start n left right) .values

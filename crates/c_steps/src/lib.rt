@@ -1,7 +1,7 @@
-// One step of a run whose state stands in a list, for a host in C: slices and integers in, the number of document 01
-// out (0 where it is taken). A quick step (crate quick) whose item has exactly its seven places is told at once; every
-// other one goes by `any_step`. `any_step` reads the state from its list anew, so that on the quick path no state is
-// built in memory for it.
+// One step of a run whose state stands in a list, for a host in C: slices and integers in, the number of a refusal out
+// (R214; 0 where it is taken). A quick step (crate step_quick) whose item has exactly its seven places is told at once;
+// every other one goes by `any_step`. `any_step` reads the state from its list anew, so that on the quick path no state
+// is built in memory for it.
 //   items  an item, in a list of seven numbers
 ghost use Rattle.c_states.specs.States.{optionsOf};
 ghost use Rattle.c_steps.specs.Step.{StepsRun};

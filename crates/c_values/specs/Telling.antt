@@ -1,5 +1,5 @@
--- What a call tells a host in C: a number, 0 or a refusal of document 01, and the values of the answer in a lent list. The answer
--- itself is the reply that the port's own function is held to; what is added here is 15 where the values' list is too short for it.
+-- What a call tells a host in C: a number, 0 or that of a refusal (R214), and the values of the answer in a lent list (R215). The answer
+-- itself is the reply that the port's own function is held to; what is added here is 15 where the values' list is too short for it (R216).
 use mathlib.Core.Path.{_≡_}
 use mathlib.Core.List.{List, map}
 use Prim.Native.Nat.{ℕ, zero, suc}

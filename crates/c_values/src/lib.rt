@@ -1,6 +1,6 @@
-// What every call for a host in C does with the answer of the port's own function: it tells the number, 0 or a refusal
-// of document 01, and the values in a lent list of u64; and it zeroes each list that was written, where the number
-// refuses.
+// What every call for a host in C does with the answer of the port's own function: it tells the number, 0 or that of a
+// refusal (R214), and the values in a lent list of u64 (R215); and it zeroes each list that was written, where the
+// number refuses (R252).
 ghost use Rattle.lang.specs.Answers.{writtenReply};
 ghost use Rattle.c_values.specs.Telling.{TellsHost};
 use lang::Written;

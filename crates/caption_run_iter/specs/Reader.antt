@@ -1,6 +1,6 @@
--- A reader that keeps the word it is given: document 01, 'Caption items'; after `RunIter` of ligkern/mod.rs. What a call of `next`
--- answers and leaves is `MovesOn`, its contract; `Calls` are any number of calls, known by that contract alone, and `nexts` what they
--- answer. What is proved of them is at the end: `CallsAnswer`, `SameAsSteps` and `ReaderReads`, in proofs/Theorems.
+-- A reader that keeps the word it is given (R284); after `RunIter` of ligkern/mod.rs. What a call of `next` answers and leaves is
+-- `MovesOn`, its contract; `Calls` are any number of calls, known by that contract alone, and `nexts` what they answer. What is proved of
+-- them is at the end: `CallsAnswer`, `SameAsSteps` and `ReaderReads`, in proofs/Theorems.
 use mathlib.Core.Path.{_≡_}
 use mathlib.Core.List.{List, [], _∷_, map}
 use Prim.Native.Nat.{ℕ, zero, suc, _*_}
@@ -77,8 +77,8 @@ pub record ReaderAnswered (f : Font) (pairs ops : List ℤ) (word : List ℕ) (o
   pub called : (n : ℕ) (r : RunIter) (given : List Answer) → now (r .word) ≡ word → r .state ≡ start →
       Calls pairs ops (f .boundary) options n r given → map shown given ≡ thenEnds n items
 
--- DEMAND 3 of the reader: whatever font compile is lent, with whatever lists, if its answer is no refusal and it has no loops, then the
--- reading of every word ends, and the calls of next give its items in order, then the end for ever
+-- DEMAND 3 of the reader (R21): whatever font compile is lent, with whatever lists, if its answer is no refusal and it has no loops, then
+-- the reading of every word ends, and the calls of next give its items in order, then the end for ever
 abbrev pub ReaderReads : Type 0
 ReaderReads =
     (f : Font) (pairs ops loops : List ℤ) (work : List ℕ) (p o l : ℕ) (pairs′ ops′ loops′ : List ℤ) (work′ : List ℕ) →

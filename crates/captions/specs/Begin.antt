@@ -1,4 +1,4 @@
--- A fresh run: document 01, 'Caption items'; after `run_with_options` of ligkern/mod.rs.
+-- A fresh run (R95 to R97); after `run_with_options` of ligkern/mod.rs.
 use mathlib.Core.Bool.{false, cond}
 use mathlib.Core.List.{List, [], _∷_}
 use Prim.Native.Nat.{ℕ, zero, suc}
@@ -18,19 +18,19 @@ use Rattle.captions.specs.declared.Begun.the-variants.{Run, Refused}
 use Rattle.captions.specs.Form.{tableRefusal}
 use Rattle.captions.specs.Replies.{stateNumbers}
 
--- 4: the boundary character, or the override of the options, out of range
+-- 4: the boundary character, or the override of the options, out of range (R233)
 abbrev pub edgesRefusal : ℤ → RunOptions → ℕ
 edgesRefusal boundary options = orElse (absentRefusal 255 boundary) (absentRefusal 255 (options .«right_boundary_override»))
 
--- 4: a letter out of range
+-- 4 (R233): a letter out of range
 abbrev pub lettersRefusal : List ℕ → ℕ
 lettersRefusal word = unless 4 (every (length word) (λ i. leb (getD word i 0) 255))
 
--- 6: a word over 65,535
+-- 6 (R235): a word over 65,535
 abbrev pub wordRefusal : List ℕ → ℕ
 wordRefusal word = unless 6 (leb (length word) 65535)
 
--- 4, 6 or 7, the lowest that holds
+-- 4, 6 or 7, the lowest that holds (R246)
 abbrev pub beginRefusal : List ℤ → List ℤ → ℤ → List ℕ → RunOptions → ℕ
 beginRefusal pairs ops boundary word options =
     orElse (edgesRefusal boundary options) (orElse (lettersRefusal word) (orElse (wordRefusal word) (tableRefusal pairs ops)))
@@ -49,7 +49,7 @@ fresh n r =
       «consumes_left» = consumes.Nothing;
     }
 
--- without the left boundary the first letter stands left of the cursor
+-- without the left boundary the first letter stands left of the cursor (R97)
 abbrev pub withoutBoundary : List ℕ → State
 withoutBoundary [] = fresh next.None 0
 withoutBoundary (c ∷ cs) = fresh (next.Char c) 1
@@ -58,7 +58,7 @@ withoutBoundary (c ∷ cs) = fresh (next.Char c) 1
 abbrev pub freshState : List ℕ → RunOptions → State
 freshState word options = cond (options .«disable_left_boundary») (withoutBoundary word) (fresh next.Boundary 0)
 
--- THE contract of begin: its answer, as document 01 has it
+-- THE contract of begin: its answer, as a number and values (R285)
 abbrev pub beginReply : List ℤ → List ℤ → ℤ → List ℕ → RunOptions → Reply
 beginReply pairs ops boundary word options = replyOf (beginRefusal pairs ops boundary word options) (stateNumbers (freshState word options))
 

@@ -1,7 +1,6 @@
--- Demand 3, of the whole list, in the terms of the calls: document 01, 'What every contract owes the setter', c and e. `Compiles` is the
--- contract of compile, and begin's and step's contracts say that they answer `beginOf` and `stepOf` (proofs/Replies); `answers` are n
--- steps, each handed the state that the last one returned. What is proved of an accepted font is the record `Demand3`; the statement whole
--- is `EveryAcceptedFont`, at the end.
+-- Demand 3 (R14 to R23), of the whole list, in the terms of the calls. `Compiles` is the contract of compile, and begin's and step's
+-- contracts say that they answer `beginOf` and `stepOf` (proofs/Replies); `answers` are n steps, each handed the state that the last one
+-- returned. What is proved of an accepted font is the record `Demand3`; the statement whole is `EveryAcceptedFont`, at the end.
 use mathlib.Core.Path.{_≡_}
 use mathlib.Core.Bool.{true, not}
 use mathlib.Core.List.{List, map, List·Memᴰ}
@@ -26,14 +25,14 @@ use Rattle.captions.specs.Begin.{beginOf}
 use Rattle.captions.specs.Steps.{rightItem}
 use Rattle.captions.specs.Runs.{answers, shown, thenEnds}
 
--- a word of at most 65,535 characters of 0 to 255, either boundary choice, any override from -1 to 255
+-- a word of at most 65,535 characters of 0 to 255, either boundary choice, any override from -1 to 255 (R17)
 pub record Caption (word : List ℕ) (options : RunOptions) : Type 0 where
   pub letters-fit : every (length word) (λ i. leb (getD word i 0) 255) ≡ true
   pub word-fits : length word ≤ 65535
   pub override-fits : absentOr 255 (options .«right_boundary_override») ≡ true
 
--- Begin, lent these pairs and ops and the font's boundary character, is not refused; and for every n the answers of the n steps from it
--- are the first n of the items, by kind and by code or scaled kern, followed by the end at each step. So no step is refused.
+-- Begin, lent these pairs and ops and the font's boundary character (R15), is not refused; and for every n the answers of the n steps from
+-- it (R16) are the first n of the items, by kind and by code or scaled kern (R22), followed by the end at each step. So no step is refused.
 pub record Answered (f : Font) (pairs ops : List ℤ) (word : List ℕ) (options : RunOptions) (items : List Out) : Type 0 where
   pub start : State
   pub begins : beginOf pairs ops (f .boundary) word options ≡ Run start
@@ -45,7 +44,7 @@ pub record Reads (f : Font) (word : List ℕ) (options : RunOptions) (items : Li
   pub reads : reading (rulesOf f) steps (not (options .«disable_left_boundary»)) word
       (rightItem (f .boundary) (options .«right_boundary_override»)) ≡ ended items
 
--- a pair of a left of -1 to 255 and a right of 0 to 255 that never ends
+-- a pair of a left of -1 to 255 and a right of 0 to 255 that never ends (R18)
 pub record Loop (f : Font) : Type 0 where
   pub left : Left
   pub right : ℕ
@@ -55,25 +54,26 @@ pub record Loop (f : Font) : Type 0 where
 
 -- Of a font that compile accepts: l loops, and the pairs, ops and loop list that it wrote, without the zeroed rest.
 pub record Demand3 (f : Font) (l : ℕ) (pairs ops loops : List ℤ) : Type 0 where
-  -- the loop list is a list of l pairs, and every pair that is reported, a left of -1 to 255 and a right of 0 to 255, never ends
+  -- the loop list is a list of l pairs, and every pair that is reported, a left of -1 to 255 and a right of 0 to 255, never ends (R19)
   pub reported : List Pair
   pub loop-list : (loops ≡ loopNumbers reported) × (length reported ≡ l)
   pub reported-never : (q : Pair) → List·Memᴰ q reported →
       (numberOfLeft (q .left) < 257) × (q .right < 256) × NeverEnds (rulesOf f) (q .left) (q .right)
-  -- a loop is reported exactly when some pair never ends; none exactly when every pair ends
+  -- a loop is reported exactly when some pair never ends; none exactly when every pair ends (R18)
   pub some-loop : (0 < l) ↔ Loop f
   pub no-loop : (l ≡ 0) ↔ ((x : Left) (y : ℕ) → Ends (rulesOf f) x y)
-  -- where none is reported, the reading of every word ends, and the run gives its items in order, then the end for ever
+  -- where none is reported, the reading of every word ends, and the run gives its items in order, then the end for ever (R20, R21)
   pub set-as-read : l ≡ 0 → (word : List ℕ) (options : RunOptions) → Caption word options →
       (items : List Out) × Reads f word options items × Answered f pairs ops word options items
-  -- loops or not: no step is refused, and every run ends; and whatever the reading of the word gives once it ends, the run gives
+  -- loops or not: no step is refused, and every run ends; and whatever the reading of the word gives once it ends, the run gives (R23)
   pub run-ends : (word : List ℕ) (options : RunOptions) → Caption word options →
       (items : List Out) × Answered f pairs ops word options items
   pub run-reads : (word : List ℕ) (options : RunOptions) → Caption word options → (items : List Out) →
       Reads f word options items → Answered f pairs ops word options items
 
--- DEMAND 3, whole: whatever font compile is lent, with whatever lists, if its answer is no refusal then `Demand3` holds of what it answered
--- and wrote: of the count of its loops, and of the pairs, ops and loops cut to their counts. Proved: `demand-3` of proofs/Theorems.
+-- DEMAND 3, whole (R14): whatever font compile is lent, with whatever lists, if its answer is no refusal then `Demand3` holds of what it
+-- answered and wrote: of the count of its loops, and of the pairs, ops and loops cut to their counts. Proved: `demand-3` of
+-- proofs/Theorems.
 abbrev pub EveryAcceptedFont : Type 0
 EveryAcceptedFont =
     (f : Font) (pairs ops loops : List ℤ) (work : List ℕ) (p o l : ℕ) (pairs′ ops′ loops′ : List ℤ) (work′ : List ℕ) →

@@ -1,6 +1,5 @@
--- After the end comes only the end (document 01, 'Caption items'), for any table, any word and any state: a step that answers the end
--- hands back the state that it was handed, and so the next one answers the end too, and so on for ever. The theorem is `end-stays` of
--- proofs/Ending.
+-- After the end comes only the end (R114), for any table, any word and any state: a step that answers the end hands back the state that it
+-- was handed, and so the next one answers the end too, and so on for ever. The theorem is `end-stays` of proofs/Ending.
 use mathlib.Core.Path.{_≡_}
 use mathlib.Core.List.{List}
 use Prim.Native.Nat.{ℕ}

@@ -1,13 +1,13 @@
 -- The definitions of captions, in the order in which to read them:
 --   Tables   a pair table and its ops as they are lent, and how a pair is found
---   Form     the form of a table, which begin checks
---   Replies  what is answered, as document 01 has it: a number and values
---   Begin    a fresh run
---   Steps    one step, over any table and any state
+--   Form     the form of a table (R256 to R262), which begin checks
+--   Replies  what is answered, as a number and values (R285)
+--   Begin    a fresh run (R95 to R97)
+--   Steps    one step (R98 to R118), over any table and any state
 --   Runs     any number of steps, as demand 3 speaks of them
---   Ending   after the end comes only the end
---   Demand3  what is proved of an accepted font, in the terms of the calls
---   Queries  separation points, originals, and questions about a table
+--   Ending   after the end comes only the end (R114)
+--   Demand3  what is proved of an accepted font (R14 to R23), in the terms of the calls
+--   Queries  separation points, originals, and questions about a table (R119 to R127)
 pub mod Tables
 pub mod Form
 pub mod Replies

@@ -1,5 +1,5 @@
--- What is answered, as document 01 has it: the number (0 where it is taken) and the values of each case of an answer. The contracts of
--- begin, step and the questions about a table are stated through these; each reply determines its answer (proofs/Replies).
+-- What is answered: the number (0 where it is taken) and the values of each case of an answer (R285). The contracts of begin, step and the
+-- questions about a table are stated through these; each reply determines its answer (proofs/Replies).
 use mathlib.Core.Bool.{Bool, true, false}
 use mathlib.Core.List.{List, [], _∷_}
 use Prim.Native.Nat.{ℕ}
@@ -46,7 +46,7 @@ consumesNumber consumes.Nothing = 0
 consumesNumber consumes.Letter = 1
 consumesNumber consumes.Boundary = 2
 
--- the nine numbers of a state
+-- the nine numbers of a state (R218 to R221)
 abbrev pub stateNumbers : State → List ℤ
 stateNumbers s =
     pos (nextKind (s .«next_left»)) ∷ pos (nextCode (s .«next_left»))
@@ -58,7 +58,7 @@ abbrev pub begunReply : Begun → Reply
 begunReply (begun.Run s) = record { number = 0; values = stateNumbers s }
 begunReply (begun.Refused n) = record { number = n; values = [] }
 
--- ---- step: the six numbers of an item as a T line has them, and no value at the end
+-- ---- step: the six numbers of an item as a T line has them (R132, R133), and no value at the end
 
 -- kind (0 character, 1 ligature, 2 kern), code or scaled kern, the original's start and length, left and right boundary flags
 abbrev pub answerReply : Answer → Reply

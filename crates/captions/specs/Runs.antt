@@ -1,5 +1,5 @@
--- Any number of steps, each handed the state that the last returned, and what they answer by kind and by code or scaled kern: what demand
--- 3 speaks of.
+-- Any number of steps, each handed the state that the last returned (R16), and what they answer by kind and by code or scaled kern (R22):
+-- what demand 3 speaks of.
 use mathlib.Core.List.{List, [], _∷_}
 use Prim.Native.Nat.{ℕ, zero, suc}
 use lib.IntN.{ℤ}

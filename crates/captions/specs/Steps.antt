@@ -1,5 +1,5 @@
--- One step of a run, over any table and any state: document 01, 'Caption items'; after `RunIter::next` of ligkern/mod.rs, whose call of
--- itself is here a turn that reads one letter. A step checks what it reads, and a refused step hands its state back.
+-- One step of a run (R98 to R118), over any table and any state; after `RunIter::next` of ligkern/mod.rs, whose call of itself is here a
+-- turn that reads one letter (R286). A step checks what it reads (R264, R265), and a refused step hands its state back (R254).
 use mathlib.Core.Path.{_≡_}
 use mathlib.Core.Bool.{Bool, true, false, cond, not}
 use mathlib.Core.List.{List}
@@ -37,7 +37,7 @@ ended s = record { answer = End; state = s }
 
 -- ---- giving an item
 
--- how many letters a ligature takes in of its pair's left: 1 or none
+-- how many letters a ligature takes in of its pair's left: 1 or none (R101)
 abbrev pub leftLetters : Consumes → ℕ
 leftLetters consumes.Nothing = 0
 leftLetters consumes.Letter = 1
@@ -49,7 +49,7 @@ leftBoundary consumes.Nothing = false
 leftBoundary consumes.Letter = false
 leftBoundary consumes.Boundary = true
 
--- how many letters it takes in in all: those that a pending ligature had taken in, and that of the left
+-- how many letters it takes in in all: those that a pending ligature had taken in, and that of the left (R104)
 abbrev pub taken : State → ℕ
 taken s = s .pending + leftLetters (s .«consumes_left»)
 
@@ -57,7 +57,7 @@ taken s = s .pending + leftLetters (s .«consumes_left»)
 abbrev pub takesBoundary : State → Bool
 takesBoundary s = cond (s .«pending_boundary») true (leftBoundary (s .«consumes_left»))
 
--- n letters more are given; nothing is pending, and the left is taken
+-- n letters more are given (R107); nothing is pending, and the left is taken (R102)
 abbrev pub settled : ℕ → State → State
 settled n s =
     record {
@@ -71,18 +71,18 @@ settled n s =
       «consumes_left» = consumes.Nothing;
     }
 
--- an item whose original is n letters long; 7 where that passes the letters that were read
+-- an item whose original is n letters long; 7 where that passes the letters that were read (R118)
 abbrev pub giveItem : Answer → ℕ → State → Step
 giveItem a n s = cond (leb (s .given + n) (s .read)) (record { answer = a; state = settled n s }) (refused 7 s)
 
--- the left as it stands: a character, or the ligature that is pending
+-- the left as it stands: a character (R108), or the ligature that is pending (R105)
 abbrev pub giveCharacter : ℕ → State → Step
 giveCharacter c s =
     cond (eqb (s .pending) 0)
     (giveItem (Char c (s .given)) 1 s)
     (giveItem (Ligature c (s .given) (s .pending) (s .«pending_boundary») false) (s .pending) s)
 
--- a ligature that takes in the left; `right` is whether it took in the right boundary
+-- a ligature that takes in the left (R101, R106, R109); `right` is whether it took in the right boundary
 abbrev pub giveLigature : ℕ → Bool → State → Step
 giveLigature c right s = giveItem (Ligature c (s .given) (taken s) (takesBoundary s) right) (taken s) s
 
@@ -110,7 +110,7 @@ isNone (next.Lig c) = false
 isNone (next.FinalLig c) = false
 isNone next.None = true
 
--- at the word's end, with an unflagged last, nothing or one kern only is still to be given
+-- at the word's end, with an unflagged last, nothing or one kern only is still to be given (R111)
 abbrev pub endsWord : List ℤ → State → Bool
 endsWord ops s = both (isNone (s .«next_left»)) (cond (eqb (s .ops) 0) true (both (eqb (s .ops) 1) (eqb (wordOf (opKind ops (s .op))) 2)))
 
@@ -121,7 +121,7 @@ giveOp ops s =
     (cond (eqb (wordOf (opKind ops (s .op))) 1) (giveLigature (wordOf (opValue ops (s .op))) (endsWord ops (afterOp s)) (afterOp s))
     (record { answer = Kern (opValue ops (s .op)); state = afterOp s }))
 
--- a step reads the op that it gives and the one after it
+-- a step reads the op that it gives and the one after it (R264)
 abbrev pub opsFit : List ℤ → State → Bool
 opsFit ops s = both (opFits ops (s .op)) (cond (leb 2 (s .ops)) (opFits ops (suc (s .op))) true)
 
@@ -149,7 +149,7 @@ withPending n boundary s =
 abbrev pub longer : State → State
 longer s = withPending (suc (taken s)) (takesBoundary s) s
 
--- a left that is a ligature takes in the letter that it was made of
+-- a left that is a ligature takes in the letter that it was made of (R103)
 abbrev pub gathered : NextLeft → State → State
 gathered next.Boundary s = s
 gathered (next.Char c) s = s
@@ -173,7 +173,7 @@ leftConsumed (next.Lig c) = consumes.Nothing
 leftConsumed (next.FinalLig c) = consumes.Nothing
 leftConsumed next.None = consumes.Nothing
 
--- what is next after a right: a letter of the word (true), or the right item at the word's end
+-- what is next after a right: a letter of the word (true), or the right item at the word's end (R113)
 abbrev pub afterRight : Bool → Item → NextLeft
 afterRight true (item false c) = next.Char c
 afterRight true (item true c) = next.Lig c
@@ -199,7 +199,7 @@ withNext n r s =
       «consumes_left» = consumes.Nothing;
     }
 
--- a left without an entry is given as it stands; a left boundary gives nothing
+-- a left without an entry is given as it stands (R115); a left boundary gives nothing
 abbrev pub giveLeft : NextLeft → State → Turned
 giveLeft next.Boundary s = Goes s
 giveLeft (next.Char c) s = Gives (giveCharacter c s)
@@ -233,7 +233,7 @@ isCharacter (next.Lig c) = true
 isCharacter (next.FinalLig c) = false
 isCharacter next.None = false
 
--- a left character would be lost: its entry gives nothing. A table of the form has no such entry.
+-- a left character would be lost (R117): its entry gives nothing. A table of the form has no such entry.
 abbrev pub swallows : List ℤ → NextLeft → ℕ → Bool
 swallows pairs x k = both (isCharacter x) (givesNothing pairs k)
 
@@ -250,7 +250,7 @@ turnBy pairs ops x letter y s (some k) = cond (entryReads pairs ops x k) (Goes (
 abbrev pub turnWith : List ℤ → List ℤ → NextLeft → Bool → ℕ → State → Turned
 turnWith pairs ops x letter y s = turnBy pairs ops x letter y s (find pairs (keyBy (leftPlaceOf x) y))
 
--- the boundary character, where there is one
+-- the boundary character, where there is one (R112)
 abbrev pub orBoundary : ℤ → Option ℕ
 orBoundary (pos c) = some c
 orBoundary (negsuc n) = none
@@ -260,7 +260,7 @@ abbrev pub rightItem : ℤ → ℤ → Option ℕ
 rightItem boundary (pos c) = some c
 rightItem boundary (negsuc n) = orBoundary boundary
 
--- at the word's end; an empty word reads as nothing
+-- at the word's end (R112); an empty word reads as nothing (R76)
 abbrev pub turnAtEnd : List ℤ → List ℤ → Option ℕ → NextLeft → State → Turned
 turnAtEnd pairs ops right next.Boundary s = Gives (ended s)
 turnAtEnd pairs ops none (next.Char c) s = giveLeft (next.Char c) (withNext next.None (s .read) s)
@@ -270,7 +270,7 @@ turnAtEnd pairs ops (some r) (next.Lig c) s = turnWith pairs ops (next.Lig c) fa
 turnAtEnd pairs ops right (next.FinalLig c) s = Gives (ended s)
 turnAtEnd pairs ops right next.None s = Gives (ended s)
 
--- 4: a letter out of range
+-- 4 (R264): a letter out of range
 abbrev pub turnAtLetter : List ℤ → List ℤ → NextLeft → ℕ → State → Turned
 turnAtLetter pairs ops x y s = cond (leb y 255) (turnWith pairs ops x true y s) (Gives (refused 4 s))
 
@@ -302,7 +302,7 @@ withNothingNext s =
       «consumes_left» = s .«consumes_left»;
     }
 
--- no ops are to be given: a last ligature is given as it stands, and a left is looked up
+-- no ops are to be given: a last ligature is given as it stands (R110), and a left is looked up
 abbrev pub byNext : (NextLeft → State → Turned) → (State → Step) → State → NextLeft → Step
 byNext look go s next.Boundary = goesOn go (look next.Boundary s)
 byNext look go s (next.Char c) = goesOn go (look (next.Char c) s)
@@ -319,7 +319,7 @@ unfoldable pub runOn : List ℤ → (NextLeft → State → Turned) → ℕ → 
 runOn ops look zero s = stepBy ops look (refused 7) s
 runOn ops look (suc n) s = stepBy ops look (runOn ops look n) s
 
--- the next left, where it has a code, has one of 0 to 255
+-- the next left, where it has a code, has one of 0 to 255 (R265)
 abbrev pub nextFits : NextLeft → Bool
 nextFits next.Boundary = true
 nextFits (next.Char c) = leb c 255
@@ -345,11 +345,11 @@ abbrev pub ranFrom : List ℤ → List ℤ → Option ℕ → List ℕ → State
 ranFrom pairs ops right word s =
     cond (placed ops word s) (runOn ops (turn pairs ops right word) (suc (length word - s .read)) s) (refused 7 s)
 
--- 4 or 6: what is checked before the state is
+-- 4 or 6 (R265): what is checked before the state is
 abbrev pub stepRefusal : ℤ → List ℕ → RunOptions → ℕ
 stepRefusal boundary word options = orElse (edgesRefusal boundary options) (wordRefusal word)
 
--- a refused step hands back the state that it was handed
+-- a refused step hands back the state that it was handed (R254)
 abbrev pub handBack : State → State → Answer → Step
 handBack s t (Char c p) = record { answer = Char c p; state = t }
 handBack s t (Ligature c p n a b) = record { answer = Ligature c p n a b; state = t }
@@ -367,7 +367,7 @@ abbrev pub stepOf : List ℤ → List ℤ → ℤ → List ℕ → RunOptions �
 stepOf pairs ops boundary word options s =
     steppedBy (stepRefusal boundary word options) s (ranFrom pairs ops (rightItem boundary (options .«right_boundary_override»)) word s)
 
--- THE contract of step: its answer, as document 01 has it, and the state that it leaves. Together they say that r is `stepOf`
+-- THE contract of step: its answer, as a number and values (R285), and the state that it leaves. Together they say that r is `stepOf`
 -- (proofs/Replies).
 pub record Stepped (pairs ops : List ℤ) (boundary : ℤ) (word : List ℕ) (options : RunOptions) (s : State) (r : Step) : Type 0 where
   pub reply : answerReply (r .answer) ≡ answerReply (stepOf pairs ops boundary word options s .answer)

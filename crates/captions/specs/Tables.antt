@@ -1,6 +1,6 @@
--- A pair table and its ops as they are lent, whatever they hold: document 01, 'The pair table'. Six numbers a pair (0 left, 1 right, 2
--- last code, 3 last flag, 4 first op, 5 op count), two an op (kind and value). A pair is found by bisection, in the definition too, so
--- that what a step answers is said of any table; on a table in ascending order bisection finds the pair.
+-- A pair table and its ops as they are lent, whatever they hold (R77, R78, R82). Six numbers a pair (0 left, 1 right, 2 last code, 3 last
+-- flag, 4 first op, 5 op count), two an op (kind and value). A pair is found by bisection (R116), in the definition too, so that what a
+-- step answers is said of any table; on a table in ascending order bisection finds the pair.
 use mathlib.Core.Bool.{Bool, true, cond}
 use mathlib.Core.List.{List, [], _∷_}
 use mathlib.Core.Option.{Option, none, some, Option·map}
@@ -39,8 +39,8 @@ opValue ops i = getD ops (2 * i + 1) (pos 0)
 
 -- ---- finding a pair
 
--- a pair's place in the order of pairs: by left, -1 first, then by right. Two pairs have one key only where they have the same left and
--- right.
+-- a pair's place in the order of pairs (R80): by left, -1 first, then by right. Two pairs have one key only where they have the same left
+-- and right.
 abbrev pub keyBy : ℕ → ℕ → ℕ
 keyBy left right = 4294967296 * left + right
 
@@ -83,7 +83,7 @@ foundAt (some k) = At k
 
 -- ---- what a pair becomes
 
--- kind 0 is a character, 1 a ligature, 2 a scaled kern
+-- kind 0 is a character, 1 a ligature, 2 a scaled kern (R82)
 abbrev pub opOf : ℤ → ℤ → Out
 opOf kind value =
     cond (eqb (wordOf kind) 0) (glyph (plain (wordOf value)))
@@ -125,7 +125,7 @@ entries pairs ops l r = Option·map (entryOfPair pairs ops) (find pairs (keyOf l
 
 -- ---- what one pair and one op must be for a step to read them
 
--- kinds 0 and 1 hold a code, kind 2 any number
+-- kinds 0 and 1 hold a code, kind 2 any number (R257)
 abbrev pub opHolds : List ℤ → ℕ → Bool
 opHolds ops i = cond (within 1 (opKind ops i)) (within 255 (opValue ops i)) (eqb (wordOf (opKind ops i)) 2)
 
@@ -133,7 +133,7 @@ opHolds ops i = cond (within 1 (opKind ops i)) (within 255 (opValue ops i)) (eqb
 abbrev pub opFits : List ℤ → ℕ → Bool
 opFits ops i = both (ltb i (opCount ops)) (opHolds ops i)
 
--- last code and flag in range, an unflagged last equal to the right, and its ops among the ops
+-- last code and flag in range (R257), an unflagged last equal to the right (R260), and its ops among the ops
 abbrev pub recordFits : List ℤ → List ℤ → ℕ → Bool
 recordFits pairs ops k =
     both (within 255 (number pairs k 2))

@@ -1,6 +1,6 @@
 // Captions: what a run is given, what it answers, and the state between two steps. After ligkern/mod.rs (`RunOptions`,
 // `RunIter`, `NextLeft`, `PendingLigature`). Types alone: what begin and step do with them is said in specs/, and crate
-// `ligkern` does it.
+// `caption_run` does it.
 
 // How a word is set: without the left boundary, and with another right item than the boundary character (-1 for none).
 pub struct RunOptions {

@@ -1,4 +1,4 @@
--- Document 01's example reads as it should, by computation.
+-- The example of R275 reads as it should, by computation.
 -- Assumes nothing.
 use mathlib.Core.Path.{_≡_, refl}
 use mathlib.Core.Option.{some}

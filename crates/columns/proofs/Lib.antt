@@ -1,5 +1,5 @@
 -- What is proved of the column text. Theorems (specs/Purpose) and Answered (specs/ReplyRead) state it; the other files prove it:
---   Example  document 01's example, computed
+--   Example  the example of R275, computed
 --   Options  what is known where a test, or one of two readings, gives something
 --   Digits   digits that are read, written again
 --   Fields   a field, and the fields of a line

@@ -1,4 +1,4 @@
--- Document 01's example of a column text, byte for byte, and what it says. That it reads so is computed (proofs/Example), so that the
+-- The column text examples/ordinary.txt (R275), byte for byte, and what it says. That it reads so is computed (proofs/Example), so that the
 -- definitions are seen at work.
 use mathlib.Core.List.{List, [], _∷_, _++_}
 use mathlib.Core.Option.{none, some}

@@ -1,11 +1,11 @@
 -- The column text. In the order in which to read:
---   Numbers   a number in a field of 12 columns, read and written
---   Lines     a text as lines, and a line as a letter and numbers
---   Texts     a text as a font and a word, or unreadable (16)
+--   Numbers   a number in a field of 12 columns (R186, R187), read and written
+--   Lines     a text as lines, and a line as a letter and numbers (R185)
+--   Texts     a text as a font and a word (R188 to R199), or unreadable (16)
 --   Scanned   what reading a field and a text answers: the contracts of read_field and read_text
---   Replying  the reply as lines and as bytes: the contract of write_reply
---   Ligcols   THE contract of ligcols: every text and its reply
---   Example   document 01's example
+--   Replying  the reply as lines and as bytes (R205 to R210): the contract of write_reply
+--   Ligcols   THE contract of ligcols (R200 to R212): every text and its reply
+--   Example   the text examples/ordinary.txt (R275)
 --   Purpose   what is proved of fields, lines and texts
 --   ReplyRead a reply read back, and what is proved of every text that is answered
 pub mod Numbers

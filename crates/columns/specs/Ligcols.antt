@@ -1,6 +1,6 @@
--- What a text is answered with: THE contract of `ligcols`, the function that a host calls. Document 01, 'The column text' and the table
--- of numbers. The whole text is judged first (16); then comes the lowest number of compiling and of the word; then 15, where the items
--- or the bytes of the reply are too many.
+-- What a text is answered with (R200 to R212): THE contract of `ligcols`, the function that a host calls. The whole text is judged first
+-- (16, R247); then comes the lowest number of compiling and of the word (R246); then 15, where the items or the bytes of the reply are too
+-- many (R204).
 use mathlib.Core.Path.{_≡_}
 use mathlib.Core.Bool.{false, cond}
 use mathlib.Core.List.{List, [], map}
@@ -23,15 +23,15 @@ use Rattle.columns.specs.Replying.{replyBytes, replyRefusal}
 
 -- ---- a font and a word
 
--- 512 pairs, 2,048 ops, 64 loops, and the work of 512 pairs
+-- 512 pairs, 2,048 ops, 64 loops, and the work of 512 pairs (R201 to R203)
 abbrev pub columnRoom : Room
 columnRoom = roomOf (6 * 512) (2 * 2048) (2 * 64) (16 * 512)
 
--- a word is set with the left boundary and no override
+-- a word is set with the left boundary and no override (R200)
 abbrev pub columnOptions : RunOptions
 columnOptions = record { «disable_left_boundary» = false; «right_boundary_override» = negsuc 0 }
 
--- room for 885 items, six numbers each: a reply of 65,536 bytes has room for the lines of no more, 74 bytes each
+-- room for 885 items (R204), six numbers each: a reply of 65,536 bytes has room for the lines of no more, 74 bytes each
 abbrev pub itemRoom : ℕ
 itemRoom = 6 * 885
 
@@ -72,7 +72,7 @@ abbrev pub bytesOfText : Option Text → List ℕ
 bytesOfText none = []
 bytesOfText (some t) = columnBytes (fontOfText t) (lengthOfWord (t .word)) (wordOfText t)
 
--- the length, or minus the number
+-- the length, or minus the number (R211)
 abbrev pub lengthOr : ℕ → ℕ → ℤ
 lengthOr zero n = pos n
 lengthOr (suc k) n = negsuc k

@@ -1,5 +1,5 @@
--- A text as lines, and a line as a letter and numbers: document 01, 'The column text'. Every line ends with a line feed (10), and
--- nothing stands after the last one.
+-- A text as lines, and a line as a letter and numbers (R185, R195). Every line ends with a line feed (10), and nothing stands after the
+-- last one.
 use mathlib.Core.Bool.{cond}
 use mathlib.Core.List.{List, [], _∷_, _++_}
 use mathlib.Core.Option.{Option, none, some}

@@ -1,5 +1,5 @@
--- A number in a field of 12 columns: right-justified decimal, no leading zeros. Document 01, 'The column text'. A lone minus sign, -0
--- and what is beyond an i32 are unreadable. Bytes are those of ASCII: 32 a blank, 45 a minus sign, 48 to 57 the digits.
+-- A number in a field of 12 columns: right-justified decimal, no leading zeros (R186). A lone minus sign, -0 and what is beyond an i32 are
+-- unreadable (R187). Bytes are those of ASCII: 32 a blank, 45 a minus sign, 48 to 57 the digits.
 use mathlib.Core.Bool.{Bool, cond}
 use mathlib.Core.List.{List, [], _∷_, _++_}
 use mathlib.Core.Option.{Option, none, some}

@@ -1,5 +1,5 @@
--- A reply read back, and what is proved of every text that is answered (proofs/Answered): nothing is lost in the format, the X lines
--- are a true meter of loops, and where there is none the T lines are the reading of the word. No contract cites this.
+-- A reply read back, and what is proved of every text that is answered (proofs/Answered): nothing is lost in the format, the X lines are a
+-- true meter of loops (R18), and where there is none the T lines are the reading of the word (R21). No contract cites this.
 use mathlib.Core.Path.{_≡_}
 use mathlib.Core.Bool.{cond}
 use mathlib.Core.List.{List, [], _∷_, _++_}

@@ -1,5 +1,5 @@
--- What the functions that read a field and a text answer, and what they leave in every list: document 01, 'The column text'. A text is
--- read into lists of the sizes that its limits need; what is unreadable is 16, with zeros in every list.
+-- What the functions that read a field and a text answer, and what they leave in every list. A text is read into lists of the sizes that
+-- its limits need (R197 to R199); what is unreadable is 16 (R245), with zeros in every list (R252).
 use mathlib.Core.Path.{_≡_}
 use mathlib.Core.List.{List, [], _∷_, map}
 use mathlib.Core.Option.{Option, none, some}

@@ -1,6 +1,5 @@
--- A text as a font and a word: document 01, 'The column text'. D first and once; then R and L at most once each and I, K and E
--- repeated, in any order; then at most one W, and nothing after it. At most 65,536 bytes, 512 I, 512 K and 64 characters a word. What
--- does not read so is 16.
+-- A text as a font and a word (R188 to R199). D first and once; then R and L at most once each and I, K and E repeated, in any order; then
+-- at most one W, and nothing after it. At most 65,536 bytes, 512 I, 512 K and 64 characters a word. What does not read so is 16.
 use mathlib.Core.Bool.{cond}
 use mathlib.Core.List.{List, [], _∷_, _++_}
 use mathlib.Core.Option.{Option, none, some}
@@ -12,7 +11,7 @@ use Rattle.lang.specs.Every.{both}
 use Rattle.fonts.specs.Fonts.{Font, fontOf}
 use Rattle.columns.specs.Lines.{Line, linesOf, readLine}
 
--- what was read so far: R, L and W are none until their line comes
+-- what was read so far: R, L and W are none until their line comes (R193)
 pub record Text : Type 0 where
   pub design : ℤ
   pub boundary : Option ℤ
@@ -56,7 +55,7 @@ withLeft t none z =
     })
 withLeft t (some y) z = none
 
--- I: four numbers, 512 times at most
+-- I (R190): four numbers, 512 times at most (R198)
 abbrev pub withInstruction : Text → List ℤ → Option Text
 withInstruction t zs =
     cond (both (eqb (length zs) 4) (leb (suc (length (t .instructions) / 4)) 512))
@@ -71,7 +70,7 @@ withInstruction t zs =
     }))
     none
 
--- K: one number, 512 times at most
+-- K (R190): one number, 512 times at most (R198)
 abbrev pub withKern : Text → List ℤ → Option Text
 withKern t zs =
     cond (both (eqb (length zs) 1) (leb (suc (length (t .kerns))) 512))
@@ -86,7 +85,7 @@ withKern t zs =
     }))
     none
 
--- E: two numbers
+-- E (R190): two numbers
 abbrev pub withEntry : Text → List ℤ → Option Text
 withEntry t zs =
     cond (eqb (length zs) 2)
@@ -101,7 +100,7 @@ withEntry t zs =
     }))
     none
 
--- W: as many numbers as the word has characters, 64 at most
+-- W (R192): as many numbers as the word has characters, 64 at most (R199)
 abbrev pub withWord : Text → List ℤ → Option Text
 withWord t zs =
     cond (leb (length zs) 64)
@@ -116,13 +115,13 @@ withWord t zs =
     }))
     none
 
--- R and L: one number
+-- R and L (R189): one number
 abbrev pub byOne : (ℤ → Option Text) → List ℤ → Option Text
 byOne f [] = none
 byOne f (z ∷ []) = f z
 byOne f (z ∷ y ∷ zs) = none
 
--- a line other than D, by its letter: E 69, I 73, K 75, L 76, R 82, W 87
+-- a line other than D, by its letter: E 69, I 73, K 75, L 76, R 82, W 87 (R196)
 abbrev pub byLetter : Text → ℕ → List ℤ → Option Text
 byLetter t letter zs =
     cond (eqb letter 73) (withInstruction t zs)
@@ -154,7 +153,7 @@ unfoldable pub addLines : List (List ℕ) → Option Text → Option Text
 addLines [] r = r
 addLines (l ∷ ls) r = addLines ls (addTo r (readLine l))
 
--- D 68: one number
+-- D 68 (R188): one number
 abbrev pub openedBy : Option Line → Option Text
 openedBy none = none
 openedBy (some l) = cond (eqb (l .letter) 68) (byOne (λ z. some (opened z)) (l .numbers)) none

@@ -1,6 +1,6 @@
-// The column text, document 01: the types of what is read. What they hold is said in specs/, from the bytes of a text
-// to those of its reply; crate `fields` reads a field, `scan` a text, `reply` writes a reply, and `host` does the
-// whole.
+// The column text (R185 to R213): the types of what is read. What they hold is said in specs/, from the bytes of a text
+// to those of its reply; crate `text_fields` reads a field, `text_scan` a text, `text_reply` writes a reply, and
+// `text_answer` does the whole.
 
 // A field of 12 columns: its number, or 16.
 pub enum FieldRead {

@@ -1,9 +1,10 @@
-// Compiling, after ligkern/compiler.rs (reference `CompiledProgram::compile`). The stages are crates of their own, one
-// on top of the other, each of which takes the font as it is lent:
-//   collect, prepare  a row of the work buffer for each pair that has a rule     settle  which pairs finish, and their
-//   lasts
-//   walks             the loop list                                              counts  how many ops each pair has
-//   ops, lists        the tables
+// Compiling (R90 to R94), after ligkern/compiler.rs (reference `CompiledProgram::compile`). The stages are crates of
+// their own, one on top of the other, each of which takes the font as it is lent:
+//   compile_collect, compile_prepare  a row of the work buffer for each pair that has a rule
+//   compile_settle                    which pairs finish, and their lasts
+//   compile_loops                     the loop list
+//   compile_op_counts                 how many ops each pair has
+//   compile_ops, compile_lists        the tables
 ghost use mathlib.Core.Path.{_≡_};
 ghost use Rattle.lang.specs.Checks.{orElse, absentRefusal, designRefusal};
 ghost use Rattle.fonts.specs.Fonts.{fontOf};

@@ -1,4 +1,4 @@
--- The rows that `add_rows` writes for one left are those of its chain's rules: `Appended` and `OrderWritten` of crate `pairs`, of what `survey` found.
+-- The rows that `add_rows` writes for one left are those of its chain's rules: `Appended` and `OrderWritten` of crate `compiling`, of what `survey` found.
 -- Assumes nothing.
 use mathlib.Core.Path.{_≡_, refl, sym, ap, _∙_, subst}
 use mathlib.Core.List.{List}

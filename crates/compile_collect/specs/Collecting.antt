@@ -1,4 +1,4 @@
--- The pairs of a font that have a rule, as rows: the contract of `collect`. Document 01, 'The pair table' and the table of numbers.
+-- The pairs of a font that have a rule (R58), as rows in ascending order (R80): the contract of `collect`.
 use mathlib.Core.Path.{_≡_}
 use mathlib.Core.Bool.{cond}
 use mathlib.Core.List.{List, [], _∷_}
@@ -15,7 +15,7 @@ use Rattle.compiling.specs.declared.Collected.the-variants.{Rows, Refused}
 use Rattle.compiling.specs.RowNumbers.{boundaryPairs, pairRowNumbers}
 use Rattle.compiling.specs.PairRows.{Collects}
 
--- 1 over 32,767 instructions, then 12: more pairs than the cap
+-- 1 (R230) over 32,767 instructions, then 12 (R241): more pairs than the cap
 abbrev pub collectRefusal : List ℤ → List ℤ → ℕ → ℕ
 collectRefusal s table cap = orElse (longRefusal s) (cond (leb (length (pairsBy s table)) cap) 0 12)
 
@@ -24,7 +24,7 @@ abbrev pub CollectsFontBy : List ℤ → List ℤ → ℕ → List ℕ → List 
 CollectsFontBy s table cap w w′ (Rows n e) = (collectRefusal s table cap ≡ 0) × (n ≤ cap) × Collects s table w w′ n e
 CollectsFontBy s table cap w w′ (Refused k) = (collectRefusal s table cap ≡ k) × (0 < k) × (w′ ≡ replicate (length w) 0)
 
--- what collect answers, as document 01 has it: how many rows, and how many of them are the boundary's; or the number
+-- what collect answers, as a number and values (R285): how many rows, and how many of them are the boundary's; or the number
 abbrev pub collectedReply : Collected → Reply
 collectedReply (Rows n e) = replyOf 0 (pos n ∷ pos e ∷ [])
 collectedReply (Refused k) = record { number = k; values = [] }

@@ -1,7 +1,7 @@
 // The first half of compiling's first stage: the pairs that have a rule, a row each in the work buffer, in ascending
 // order with the boundary first, after `build_node_to_program_start_map` of ligkern/compiler.rs (lines 113 to 148).
-// Each left's chain is walked once (crate `survey`), and its rows written (crate `chain_rows`). specs/Rows.antt of
-// crate `pairs` says what a row holds.
+// Each left's chain is walked once (crate `compile_survey`), and its rows written (crate `compile_chain_rows`).
+// specs/Rows.antt of crate `compiling` says what a row holds.
 ghost use mathlib.Core.Path.{_≡_};
 ghost use Prim.Native.Nat.{_*_, _<_, _≤_, _/_, min};
 ghost use lib.ListN.{length, replicate};

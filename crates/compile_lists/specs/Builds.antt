@@ -1,4 +1,4 @@
--- The three lists of a font that is not checked yet: the contract of `write_lists`.
+-- The three lists (R91) of a font that is not checked yet: the contract of `write_lists`.
 use mathlib.Core.Path.{_≡_}
 use mathlib.Core.List.{List}
 use Prim.Native.Nat.{ℕ}

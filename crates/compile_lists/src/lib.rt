@@ -1,6 +1,6 @@
 // The last stage of compiling: the pair table and the loop list as numbers, from rows that are counted; the ops are
-// crate `ops`'s. After lines 400 to 460 of ligkern/compiler.rs for the loops. specs/Rows.antt of crate `pairs` says
-// what a row holds.
+// crate `compile_ops`'s. After lines 400 to 460 of ligkern/compiler.rs for the loops. specs/Rows.antt of crate
+// `compiling` says what a row holds.
 ghost use mathlib.Core.Path.{_≡_};
 ghost use Prim.Native.Nat.{_+_, _*_, _<_, _≤_};
 ghost use lib.ListN.{length, replicate};

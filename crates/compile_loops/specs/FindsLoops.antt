@@ -1,4 +1,5 @@
--- The rows of a font with its loops listed: the contract of `find_loops`. The loop list itself is `loopsOfFont` of crate `fonts`.
+-- The rows of a font with its loops listed: the contract of `find_loops`. The loop list itself is `loopsOfFont` of crate `fonts` (R83, R87
+-- to R89).
 use mathlib.Core.Path.{_≡_}
 use mathlib.Core.List.{List, [], _∷_}
 use Prim.Native.Nat.{ℕ, _<_, _≤_}
@@ -35,8 +36,8 @@ FindsLoopsBy f cap w w′ (Rows n m r b) =
     (prepareRefusal f cap ≡ 0) × (length w′ ≡ length w) × (b ≡ allScale f) × (n ≤ cap) × FontWalked f w′ n m r
 FindsLoopsBy f cap w w′ (Refused k) = (prepareRefusal f cap ≡ k) × (0 < k) × (w′ ≡ replicate (length w) 0)
 
--- what find_loops answers, as document 01 has it: how many rows, how many of them finish, how many loops, and 1 where every kern that is a
--- rule scales; or the number
+-- what find_loops answers, as a number and values (R285): how many rows, how many of them finish, how many loops, and 1 where every kern
+-- that is a rule scales; or the number
 abbrev pub walkedReply : WalkedFont → Reply
 walkedReply (Rows n m r b) = replyOf 0 (pos n ∷ pos m ∷ pos r ∷ flagNumber b ∷ [])
 walkedReply (Refused k) = record { number = k; values = [] }

@@ -1,5 +1,5 @@
-// The third stage of compiling: the loop list, a walk from each row that never finishes, in the order of TFtoPL 90,
-// after lines 400 to 460 of ligkern/compiler.rs. specs/Rows.antt of crate `pairs` says what a row holds.
+// The third stage of compiling: the loop list (R87 to R89), a walk from each row that never finishes, in the order of
+// TFtoPL 90, after lines 400 to 460 of ligkern/compiler.rs. specs/Rows.antt of crate `compiling` says what a row holds.
 ghost use mathlib.Core.Path.{_≡_};
 ghost use Prim.Native.Nat.{ℕ, _/_, _<_, _≤_, min};
 ghost use lib.ListN.{length};

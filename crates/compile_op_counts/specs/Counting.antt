@@ -18,7 +18,7 @@ use Rattle.compiling.specs.Rows.{at, pairAt, pairs, rules}
 use Rattle.compiling.specs.OpRows.{Ready}
 use Rattle.compiling.specs.LoopSteps.{Listing}
 
--- 13, then 14, then 15, by whether every kern scales, the total of the ops, the number of loops, and the room for both
+-- 13, then 14, then 15 (R93), by whether every kern scales, the total of the ops, the number of loops, and the room for both
 abbrev pub sizesRefusal : Bool → ℕ → ℕ → ℕ → ℕ → ℕ
 sizesRefusal scaled total loops opRoom loopRoom =
     orElse (cond scaled 0 13)
@@ -49,7 +49,8 @@ CountsBy f room w w′ (Sizes n m total r) =
     (buildRefusal f room ≡ 0) × (length w′ ≡ length w) × (total ≡ totalOps f) × (6 * n ≤ room .pairs) × FontCounted f w′ n m r
 CountsBy f room w w′ (Refused k) = (buildRefusal f room ≡ k) × (0 < k) × (w′ ≡ replicate (length w) 0)
 
--- what count answers, as document 01 has it: how many rows, how many of them finish, how many ops, and how many loops; or the number
+-- what count answers, as a number and values (R285): how many rows, how many of them finish, how many ops, and how many loops; or the
+-- number
 abbrev pub countedReply : CountedFont → Reply
 countedReply (Sizes n m total r) = replyOf 0 (pos n ∷ pos m ∷ pos total ∷ pos r ∷ [])
 countedReply (Refused k) = record { number = k; values = [] }

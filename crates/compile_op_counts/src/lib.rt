@@ -1,5 +1,5 @@
 // The fourth stage of compiling: how many ops each pair has, and where they begin, in passes over settled rows; what of
-// the refusals 13 to 15 that tells. specs/Rows.antt of crate `pairs` says what a row holds.
+// the refusals 13 to 15 that tells. specs/Rows.antt of crate `compiling` says what a row holds.
 ghost use mathlib.Core.Path.{_≡_};
 ghost use Prim.Native.Nat.{ℕ, _+_, _<_};
 ghost use lib.ListN.{length};

@@ -1,6 +1,6 @@
 // The parts that a row's ops are made of, over settled rows: counting and writing both go by them. What they are is
-// said in specs/OpSteps.antt of crate `pairs`, after lines 171 to 398 of ligkern/compiler.rs. Each function answers for
-// any rows, and what it promises is of rows whose rules are written.
+// said in specs/OpSteps.antt of crate `compiling`, after lines 171 to 398 of ligkern/compiler.rs. Each function answers
+// for any rows, and what it promises is of rows whose rules are written.
 ghost use mathlib.Core.Path.{_≡_};
 ghost use Prim.Native.Nat.{_+_, _<_};
 ghost use Rattle.compiling.specs.Rows.{Ascending, Encoded};

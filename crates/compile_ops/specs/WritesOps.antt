@@ -1,4 +1,4 @@
--- The rows of a font, counted, and its ops, written: the contract of `write_ops`.
+-- The rows of a font, counted, and its ops (R81, R82), written: the contract of `write_ops`.
 use mathlib.Core.Path.{_≡_}
 use mathlib.Core.List.{List, [], _∷_}
 use Prim.Native.Nat.{ℕ}

@@ -1,6 +1,6 @@
 // The fifth stage of compiling: the ops as numbers, in a pass over the rows in the order in which they finished, each
-// copied from rows written before. After lines 171 to 398 of ligkern/compiler.rs. specs/Rows.antt of crate `pairs` says
-// what a row holds.
+// copied from rows written before. After lines 171 to 398 of ligkern/compiler.rs. specs/Rows.antt of crate `compiling`
+// says what a row holds.
 ghost use mathlib.Core.Path.{_≡_};
 ghost use mathlib.Core.List.{List, [], _∷_};
 ghost use Prim.Native.Nat.{_+_, _*_, _<_, _≤_};

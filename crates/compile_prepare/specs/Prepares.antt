@@ -1,4 +1,4 @@
--- The rows of a font, with their rules: the contract of `prepare`. Document 01, 'The pair table' and the table of numbers.
+-- The rows of a font (R92), with their rules (R58 to R61): the contract of `prepare`.
 use mathlib.Core.Path.{_≡_}
 use mathlib.Core.List.{List, [], _∷_}
 use Prim.Native.Nat.{ℕ, _<_, _≤_}
@@ -37,8 +37,8 @@ PreparesBy f cap w w′ (Rows n e b) =
     × (w′ ≡ padded 0 (length w) (fontRowNumbers f))
 PreparesBy f cap w w′ (Refused k) = (prepareRefusal f cap ≡ k) × (0 < k) × (w′ ≡ replicate (length w) 0)
 
--- what prepare answers, as document 01 has it: how many rows, how many of them are the boundary's, and 1 where every kern that is a rule
--- scales; or the number
+-- what prepare answers, as a number and values (R285): how many rows, how many of them are the boundary's, and 1 where every kern that is a
+-- rule scales; or the number
 abbrev pub preparedReply : Prepared → Reply
 preparedReply (Rows n e b) = replyOf 0 (pos n ∷ pos e ∷ flagNumber b ∷ [])
 preparedReply (Refused k) = record { number = k; values = [] }

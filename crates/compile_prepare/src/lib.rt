@@ -1,6 +1,6 @@
 // The first stage of compiling, after ligkern/compiler.rs (reference `CompiledProgram::compile`, lines 113 to 224): the
-// rows of a font in the work buffer; specs/Rows.antt of crate `pairs` says what a row holds. Crate `collect` writes the
-// pairs that have a rule, and `encode` what their rules do.
+// rows of a font in the work buffer; specs/Rows.antt of crate `compiling` says what a row holds. Crate
+// `compile_collect` writes the pairs that have a rule, and `encode` what their rules do.
 ghost use Prim.Native.Nat.{_/_, min};
 ghost use lib.ListN.{length};
 ghost use lib.IntN.{ℤ};

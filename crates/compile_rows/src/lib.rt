@@ -1,5 +1,5 @@
 // Rows of the work buffer of compiling: one number read or stored, and the row of a pair by bisection. specs/Rows.antt
-// of crate `pairs` says what a row holds.
+// of crate `compiling` says what a row holds.
 ghost use mathlib.Core.Path.{_≡_};
 ghost use Prim.Native.Nat.{_+_, _*_, _<_};
 ghost use lib.ListN.{set};

@@ -32,8 +32,8 @@ SettlesBy f cap w w′ (Rows n e m b) =
     (prepareRefusal f cap ≡ 0) × (length w′ ≡ length w) × (b ≡ allScale f) × (n ≤ cap) × FontSettled f w′ n e m
 SettlesBy f cap w w′ (Refused k) = (prepareRefusal f cap ≡ k) × (0 < k) × (w′ ≡ replicate (length w) 0)
 
--- what settle answers, as document 01 has it: how many rows, how many of them are the boundary's, how many finish, and 1 where every kern
--- that is a rule scales; or the number
+-- what settle answers, as a number and values (R285): how many rows, how many of them are the boundary's, how many finish, and 1 where
+-- every kern that is a rule scales; or the number
 abbrev pub settledReply : SettledFont → Reply
 settledReply (Rows n e m b) = replyOf 0 (pos n ∷ pos e ∷ pos m ∷ flagNumber b ∷ [])
 settledReply (Refused k) = record { number = k; values = [] }

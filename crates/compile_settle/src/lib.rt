@@ -1,7 +1,7 @@
 // The second stage of compiling: which pairs finish, with which last, and what the others wait for: a depth-first
 // search, after TFtoPL 94 and 95 and `calculate_replacements` of ligkern/compiler.rs (lines 162 to 398). Linear in the
 // rows, times a bisection. The path, from the row that the search began with to the one that it looks at, stands in
-// numbers 8 of the first rows; specs/Rows.antt of crate `pairs` says what a row holds.
+// numbers 8 of the first rows; specs/Rows.antt of crate `compiling` says what a row holds.
 ghost use mathlib.Core.Path.{_≡_};
 ghost use Prim.Native.Nat.{ℕ, _/_, _<_, min};
 ghost use lib.ListN.{length};

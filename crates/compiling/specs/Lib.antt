@@ -1,5 +1,5 @@
--- The definitions that compiling's passes go by, in the order in which they build on each other: what the passes leave in the rows. The
--- contract of `compile` needs none of them (crate `fonts`).
+-- The definitions that compiling's passes (R287) go by, in the order in which they build on each other: what the passes leave in the rows.
+-- The contract of `compile` needs none of them (crate `fonts`).
 --   Rows         the work buffer, a row a pair
 --   SettledRows  which rows finish, with which last
 --   SettleSteps  the search that finds them

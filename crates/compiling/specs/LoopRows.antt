@@ -1,4 +1,4 @@
--- The loop list over the rows: the order of walks, and what the pass over them finds.
+-- The loop list over the rows: the order of walks (R87), and what the pass over them finds.
 use mathlib.Core.Path.{_≡_}
 use mathlib.Core.Bool.{true, cond}
 use mathlib.Core.List.{List}

@@ -1,4 +1,4 @@
--- Walks over the rows step by step, as crate `compile_loops` takes them.
+-- Walks over the rows step by step, as crate `compile_loops` takes them (R88, R89).
 use mathlib.Core.Path.{_≡_}
 use mathlib.Core.List.{List}
 use Prim.Native.Nat.{ℕ, _+_, _*_, _<_, _≤_}

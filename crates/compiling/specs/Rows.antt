@@ -1,5 +1,5 @@
--- The work buffer of compiling: a row of sixteen u32 for each pair that has a rule, in ascending order. What a row says of its pair is
--- decoded here, so that each pass can be said of the rows alone.
+-- The work buffer of compiling (R92): a row of sixteen u32 for each pair that has a rule, in ascending order. What a row says of its pair
+-- is decoded here, so that each pass can be said of the rows alone.
 --    0 left: 0 the boundary, else 1 + character     8 the search's path at this place; later the rows that are listed
 --    1 right character                              9 the row that this one waits for
 --    2 index of the rule's instruction             10 the row that finished so many-th

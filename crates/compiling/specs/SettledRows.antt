@@ -1,5 +1,5 @@
 -- What the second stage finds out: which pairs finish, with which last, in which order, and what each of the others waits for. TFtoPL 94
--- and 95 do it by a depth-first search.
+-- and 95 do it by a depth-first search (R72, R84, R86).
 use mathlib.Core.Path.{_≡_}
 use mathlib.Core.Bool.{Bool, true, false}
 use mathlib.Core.List.{List, [], _∷_, List·Memᴰ}

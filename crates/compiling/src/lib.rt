@@ -1,5 +1,5 @@
 // The definitions (specs/) and laws (proofs/) of compiling's passes over the rows of the work buffer, and the types
-// that the passes answer with. Crates `collect` to `lists` hold the passes.
+// that the passes answer with. Crates `compile_collect` to `compile_lists` hold the passes.
 
 // The row of a pair, or nothing.
 pub enum Row {

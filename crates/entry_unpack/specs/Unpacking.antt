@@ -1,5 +1,6 @@
--- The entry of a character from the packed one, with what it passes through, after `unpack_entrypoint`; the program's seven-bit test, after
--- `is_seven_bit_safe` of ligkern/lang.rs. TeX 545: an entry at a redirect stands for the redirect's target.
+-- The entry of a character from the packed one, with what it passes through (R142, R143), after `unpack_entrypoint`; the program's
+-- seven-bit test (R128, R129), after `is_seven_bit_safe` of ligkern/lang.rs. TeX 545: an entry at a redirect stands for the redirect's
+-- target.
 use mathlib.Core.Path.{_≡_}
 use mathlib.Core.Bool.{Bool, true, cond, not}
 use mathlib.Core.List.{List, [], _∷_}
@@ -32,7 +33,7 @@ unpackRefusal s e p room =
 abbrev pub unpackEntry : List ℤ → ℤ → List ℕ → ℕ → Reply
 unpackEntry s e p room = replyOf (unpackRefusal s e p room) (pos (standsFor s (wordOf e)) ∷ [])
 
--- passthrough at place i afterwards, as 0 or 1: as before, and set at an entry that is a redirect
+-- passthrough at place i afterwards, as 0 or 1 (R39): as before, and set at an entry that is a redirect (R143)
 abbrev pub passthroughAt : List ℤ → ℕ → List ℕ → ℕ → ℕ
 passthroughAt s e p i =
     cond (eqb i e) (cond (isKind 3 s e) 1 (cond (eqb (getD p i 0) 0) 0 1)) (cond (eqb (getD p i 0) 0) 0 1)
@@ -41,14 +42,14 @@ passthroughAt s e p i =
 abbrev pub passthroughAfter : List ℤ → ℕ → List ℕ → List ℕ
 passthroughAfter s e p = tabulate (length p) (passthroughAt s e p)
 
--- an answer as document 01 has it
+-- an answer as a number and values (R285)
 abbrev pub unpackedReply : Unpacked → Reply
 unpackedReply (Entry e) = replyOf 0 (pos e ∷ [])
 unpackedReply Direct = replyOf 8 []
 unpackedReply Indirect = replyOf 9 []
 unpackedReply (Refused n) = record { number = n; values = [] }
 
--- 8 and 9 are answered by their names
+-- 8 and 9 (R237, R238) are answered by their names
 abbrev pub isNamed : Unpacked → Bool
 isNamed (Entry e) = true
 isNamed Direct = true
@@ -63,7 +64,7 @@ pub record UnpacksEntry (s : List ℤ) (e : ℤ) (p out : List ℕ) (r : Unpacke
 
 -- ---- the program's seven-bit test
 
--- the instruction at i, for a right character below 128, inserts none above 127. Kerns and redirects insert nothing.
+-- the instruction at i, for a right character below 128, inserts none above 127 (R128). Kerns and redirects insert nothing (R129).
 abbrev pub insertsSevenBit : List ℤ → ℕ → Bool
 insertsSevenBit s i =
     cond (leb (rightOf s i) 127) (cond (isKind 2 s i) (leb (wordOf (field s i 3) % 256) 127) true) true
@@ -73,7 +74,7 @@ unfoldable pub allSevenBit : List ℤ → List ℕ → Bool
 allSevenBit s [] = true
 allSevenBit s (i ∷ is) = both (insertsSevenBit s i) (allSevenBit s is)
 
--- so it is with every instruction on the chain of entry i, where its character is below 128
+-- so it is with every instruction on the chain of entry i, where its character is below 128 (R129)
 abbrev pub entrySafe : List ℤ → List ℤ → ℕ → Bool
 entrySafe s es i =
     cond (leb (wordOf (charAt es i)) 127) (allSevenBit s (chainOf s (wordOf (entryAt es i)))) true
@@ -82,7 +83,7 @@ entrySafe s es i =
 abbrev pub isSevenBitSafe : List ℤ → List ℤ → Bool
 isSevenBitSafe s es = every (length es / 2) (entrySafe s es)
 
--- an answer as document 01 has it: 1 where the program is safe, 0 where it is not
+-- an answer as a number and values (R285): 1 where the program is safe, 0 where it is not
 abbrev pub sevenBitReply : SevenBit → Reply
 sevenBitReply (Safe b) = replyOf 0 (cond b (pos 1) (pos 0) ∷ [])
 sevenBitReply (RefusedFont n) = record { number = n; values = [] }

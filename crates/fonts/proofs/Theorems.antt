@@ -1,5 +1,5 @@
 -- What is proved of the definitions that compile's contract is an equation with: the table is exactly the finished pairs of the one-by-one reading over the
--- font's rules, and the loop list is document 01's. Each statement can be read without its proof.
+-- font's rules (R79), and the loop list is that of R83. Each statement can be read without its proof.
 -- Assumes nothing.
 use mathlib.Core.Path.{_≡_, refl, sym, _∙_, subst}
 use mathlib.Core.List.{List, [], _∷_, _++_, List·Memᴰ}
@@ -40,7 +40,7 @@ no-entry f l r = (Reading.unfinished-never (rulesOf f) (pairsOf f) (covers-font 
         let c : more ≡ done (q .outs) (at (q .last)) = sym (h (d .0)) ∙ d .1 in
         absurd (let z : _≡_ {A = ℕ} 0 1 = cc in omega arith)
 
--- The table has the form of document 01.
+-- The table has the form (R260 to R262).
 pub entry-formed : (f : Font) (l : Left) (r : ℕ) (q : Res) → finishedOf f l r ≡ some q → T (formed l r q)
 entry-formed f l r q e = Reading.form (rulesOf f) _ l r e
 

@@ -1,5 +1,4 @@
--- What compiling answers, and what it leaves in every list: the contract of `compile`. Document 01, 'The pair table' and the table of
--- numbers.
+-- What compiling answers, and what it leaves in every list: the contract of `compile` (R90 to R94).
 use mathlib.Core.Path.{_≡_}
 use mathlib.Core.Bool.{Bool, true, false, cond}
 use mathlib.Core.List.{List, [], _∷_}
@@ -35,7 +34,7 @@ pub record Room : Type 0 where
 abbrev pub roomOf : ℕ → ℕ → ℕ → ℕ → Room
 roomOf pairs ops loops work = record { pairs = pairs; ops = ops; loops = loops; work = work }
 
--- the finished pairs of the font's rules: what the table holds
+-- the finished pairs of the font's rules: what the table holds (R79)
 abbrev pub finishedOf : Font → Finished
 finishedOf f = finished (rulesOf f) (pairsOf f)
 
@@ -63,7 +62,7 @@ fontOps f = opsTable (finishedOf f) (pairsOf f) (length (pairsOf f))
 abbrev pub fontLoops : Font → List ℤ
 fontLoops f = loopNumbers (loopsOfFont f)
 
--- ---- refusals, the lowest first
+-- ---- refusals, the lowest first (R93)
 
 -- 1 to 5
 abbrev pub fontRefusal : Font → ℕ
@@ -78,12 +77,12 @@ fontRefusal f =
 abbrev pub longRefusal : List ℤ → ℕ
 longRefusal s = cond (leb (count s) 32767) 0 1
 
--- 12: more pairs with a rule than the work buffer holds at sixteen u32 each, or than the pair table holds
+-- 12 (R92, R241): more pairs with a rule than the work buffer holds at sixteen u32 each, or than the pair table holds
 abbrev pub pairsRefusal : Font → Room → ℕ
 pairsRefusal f room =
     cond (both (leb (length (pairsOf f)) (room .work / 16)) (leb (length (pairsOf f)) (room .pairs / 6))) 0 12
 
--- a kern was scaled
+-- a kern was scaled (R94, R242)
 abbrev pub isScaled : ToScaled → Bool
 isScaled (Scaled v) = true
 isScaled NegativeDesignSize = false
@@ -108,11 +107,11 @@ allScale f = every (length (pairsOf f)) (pairScales f)
 abbrev pub kernRefusal : Font → ℕ
 kernRefusal f = cond (allScale f) 0 13
 
--- 14: the finished pairs' ops exceed the op table, or 2,147,483,647
+-- 14 (R243): the finished pairs' ops exceed the op table, or 2,147,483,647
 abbrev pub opsRefusal : Font → Room → ℕ
 opsRefusal f room = cond (both (leb (totalOps f) 2147483647) (leb (2 * totalOps f) (room .ops))) 0 14
 
--- 15: the loop list is too short
+-- 15 (R244): the loop list is too short
 abbrev pub loopsRefusal : Font → Room → ℕ
 loopsRefusal f room = roomRefusal (2 * length (loopsOfFont f)) (room .loops)
 
@@ -128,7 +127,7 @@ buildRefusal f room = orElse (longRefusal (f .instructions)) (tablesRefusal f ro
 abbrev pub compileRefusal : Font → Room → ℕ
 compileRefusal f room = orElse (fontRefusal f) (tablesRefusal f room)
 
--- what compile answers, as document 01 has it: the counts, or the number
+-- what compile answers, as a number and values (R285): the counts (R91), or the number
 abbrev pub compiledReply : Compiled → Reply
 compiledReply (Tables p o l) = replyOf 0 (pos p ∷ pos o ∷ pos l ∷ [])
 compiledReply (Refused n) = record { number = n; values = [] }
@@ -137,7 +136,7 @@ compiledReply (Refused n) = record { number = n; values = [] }
 abbrev pub fontCounts : Font → List ℤ
 fontCounts f = pos (tablePairs f) ∷ pos (totalOps f) ∷ pos (length (loopsOfFont f)) ∷ []
 
--- the three lists, by the refusal: what is written and zeros, or zeros alone
+-- the three lists, by the refusal: what is written and zeros (R255), or zeros alone (R252)
 pub record ListsWritten (f : Font) (n : ℕ) (pairs ops loops pairs′ ops′ loops′ : List ℤ) : Type 0 where
   pub table : pairs′ ≡ listOf n (pos 0) (length pairs) (fontTable f)
   pub ops-table : ops′ ≡ listOf n (pos 0) (length ops) (fontOps f)
@@ -147,7 +146,7 @@ pub record ListsWritten (f : Font) (n : ℕ) (pairs ops loops pairs′ ops′ lo
 abbrev pub roomIn : List ℤ → List ℤ → List ℤ → List ℕ → Room
 roomIn pairs ops loops work = roomOf (length pairs) (length ops) (length loops) (length work)
 
--- The contract of compile: the answer, and the final content of every lent list, taken or refused.
+-- The contract of compile: the answer, and the final content of every lent list, taken or refused (R6).
 pub record Compiles (f : Font) (pairs ops loops : List ℤ) (work : List ℕ) (r : Compiled) (pairs′ ops′ loops′ : List ℤ)
     (work′ : List ℕ) : Type 0 where
   pub answer : compiledReply r ≡ replyOf (compileRefusal f (roomIn pairs ops loops work)) (fontCounts f)

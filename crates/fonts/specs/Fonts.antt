@@ -1,4 +1,4 @@
--- A font as it is lent, its rules, and the pairs that have one. Document 01, 'What goes in' and 'The pair table'.
+-- A font as it is lent (R90), its rules (R55, R58 to R61), and the pairs that have one (R80).
 use mathlib.Core.Bool.{cond}
 use mathlib.Core.List.{List, [], _∷_, _++_}
 use mathlib.Core.Option.{Option, none, some}
@@ -17,7 +17,7 @@ use Rattle.program_chain.specs.Chains.{ruleIndexOf, actsAs}
 use Rattle.reading.specs.Items.{Left, bnd, chr, Rule, free, kerned, lig, Rules}
 use Rattle.reading.specs.Loops.{Ruled}
 
--- A font as it is lent: four numbers an instruction, two an entry. A boundary character and a left entry of -1 are absent.
+-- A font as it is lent: four numbers an instruction, two an entry. A boundary character and a left entry of -1 are absent (R35 to R37).
 pub record Font : Type 0 where
   pub instructions : List ℤ
   pub kerns : List ℤ
@@ -45,7 +45,7 @@ numberOfLeft (chr c) = suc c
 
 -- ---- which instruction is a pair's rule
 
--- the entry of a left: the table's place of a character below 256, or place 256 for the boundary
+-- the entry of a left (R55): the table's place of a character below 256, or place 256 for the boundary
 abbrev pub leftEntry : List ℤ → Left → ℤ
 leftEntry table bnd = getD table 256 (negsuc 0)
 leftEntry table (chr c) = cond (ltb c 256) (getD table c (negsuc 0)) (negsuc 0)
@@ -59,7 +59,7 @@ ruleFrom s (pos e) r = ruleIndexOf s e r
 abbrev pub indexOf : List ℤ → List ℤ → Left → ℕ → Option ℕ
 indexOf s table l r = ruleFrom s (leftEntry table l) r
 
--- ---- the pairs that have a rule, ascending, the boundary first
+-- ---- the pairs that have a rule, ascending, the boundary first (R80)
 
 -- a pair and its rule's index, where it has a rule; else no pair
 abbrev pub ruledBy : Left → ℕ → Option ℕ → List Ruled
@@ -90,7 +90,7 @@ pairsOf f = pairsBy (f .instructions) (tableOf f)
 
 -- ---- what it does
 
--- a kern that cannot be scaled is 13 in compiling; where only the loops are asked for it is a kern like any other, of zero
+-- a kern that cannot be scaled is 13 in compiling (R242); where only the loops are asked for (R183) it is a kern like any other, of zero
 abbrev pub scaledKern : ToScaled → Rule
 scaledKern (Scaled v) = kerned v
 scaledKern NegativeDesignSize = kerned (pos 0)

@@ -1,6 +1,6 @@
--- The pair table, the ops and the loop list of finished pairs, as numbers. Document 01, 'The pair table': six i32 a pair: left (-1 is the
--- boundary), right, last code, last flag, first op, op count; two an op: kind (0 character, 1 ligature, 2 scaled kern) and value; two a
--- loop.
+-- The pair table, the ops and the loop list of finished pairs, as numbers (R77 to R83). Six i32 a pair (R77, R78): left (-1 is the
+-- boundary), right, last code, last flag, first op, op count; two an op (R82): kind (0 character, 1 ligature, 2 scaled kern) and value; two
+-- a loop (R83).
 use mathlib.Core.Bool.{Bool, true, false}
 use mathlib.Core.List.{List, [], _∷_, _++_}
 use mathlib.Core.Option.{Option, none, some}
@@ -40,7 +40,7 @@ unfoldable pub opNumbers : List Out → List ℤ
 opNumbers [] = []
 opNumbers (o ∷ os) = outNumbers o ++ opNumbers os
 
--- the ops of the first k pairs
+-- the ops of the first k pairs (R81)
 unfoldable pub opsTable : Finished → List Ruled → ℕ → List ℤ
 opsTable f ps zero = []
 opsTable f ps (suc k) = opsTable f ps k ++ opNumbers (opsOf (entryOf f ps k))
@@ -61,7 +61,7 @@ pairNumbers p first none = []
 pairNumbers p first (some q) =
     leftNumber (p .left) ∷ pos (p .right) ∷ pos (code (q .last)) ∷ flagNumber (flag (q .last)) ∷ pos first ∷ pos (length (q .outs)) ∷ []
 
--- the table of the first k pairs
+-- the table of the first k pairs (R79)
 unfoldable pub pairTable : Finished → List Ruled → ℕ → List ℤ
 pairTable f ps zero = []
 pairTable f ps (suc k) = pairTable f ps k ++ pairNumbers (nth ps k .pair) (opsBefore f ps k) (entryOf f ps k)

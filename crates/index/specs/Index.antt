@@ -1,7 +1,8 @@
--- An index over a pair table: 257 lefts (0 the boundary, 1 + c the character c) of five numbers each, 1,285 in all. The first four are the
--- rights 0 to 63, 64 to 127, 128 to 191 and 192 to 255 as bits, the lowest first: a bit is set where the left and that right have a pair.
--- The fifth is how many pairs come before those of the left. So a pair is found by a test of one bit and a count of the ones below it.
--- A look-up is said of any index and any table: a bit that is missing is no pair, and a place at which the pair does not stand is wrong.
+-- An index over a pair table (R135 to R137): 257 lefts (0 the boundary, 1 + c the character c) of five numbers each, 1,285 in all. The
+-- first four are the rights 0 to 63, 64 to 127, 128 to 191 and 192 to 255 as bits, the lowest first: a bit is set where the left and that
+-- right have a pair. The fifth is how many pairs come before those of the left. So a pair is found by a test of one bit and a count of the
+-- ones below it. A look-up is said of any index and any table: a bit that is missing is no pair, and a place at which the pair does not
+-- stand is wrong (R140).
 use mathlib.Core.Path.{_≡_}
 use mathlib.Core.Bool.{Bool, true, false, cond}
 use mathlib.Core.List.{List}
@@ -43,11 +44,11 @@ bitsBy (suc n) p = bitsBy n p + cond (p n) (2 ^ n) 0
 abbrev pub isAmong : List ℤ → ℕ → ℕ → Bool
 isAmong pairs n key = anyBelow n (λ k. eqb (keyAt pairs k) key)
 
--- the rights from 64 × w on that have a pair with left l, among the first n pairs
+-- the rights from 64 × w on that have a pair with left l, among the first n pairs (R136)
 abbrev pub rightsOf : List ℤ → ℕ → ℕ → ℕ → ℕ
 rightsOf pairs n l w = bitsBy 64 (λ b. isAmong pairs n (keyBy l (64 * w + b)))
 
--- how many pairs come before those of left l
+-- how many pairs come before those of left l (R137)
 abbrev pub pairsBefore : List ℤ → ℕ → ℕ
 pairsBefore pairs l = howMany (pairCount pairs) (λ k. ltb (leftPlace (number pairs k 0)) l)
 
@@ -59,7 +60,7 @@ indexNumber pairs i = cond (eqb (i % 5) 4) (pairsBefore pairs (i / 5)) (rightsOf
 abbrev pub indexOfTable : List ℤ → List ℕ
 indexOfTable pairs = tabulate 1285 (indexNumber pairs)
 
--- 7: pairs not in sixes, out of range or not ascending; 15
+-- 7 (R138): pairs not in sixes, out of range or not ascending; 15 (R244)
 abbrev pub indexRefusal : List ℤ → ℕ → ℕ
 indexRefusal pairs room =
     orElse (unless 7 (both (eqb (length pairs % 6) 0) (every (pairCount pairs) (keyForm pairs)))) (roomRefusal 1285 room)
@@ -84,7 +85,7 @@ onesFrom index at (suc w) = onesFrom index at w + ones (getD index (at + w) 0)
 abbrev pub onesBelow : List ℕ → ℕ → ℕ → ℕ
 onesBelow index l r = onesFrom index (5 * l) (r / 64) + ones (getD index (5 * l + r / 64) 0 % 2 ^ (r % 64))
 
--- where the pair of left l and right r stands
+-- where the pair of left l and right r stands (R137)
 abbrev pub placeIn : List ℕ → ℕ → ℕ → ℕ
 placeIn index l r = getD index (5 * l + 4) 0 + onesBelow index l r
 

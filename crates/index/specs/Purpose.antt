@@ -1,5 +1,5 @@
--- What an index is for: on a table in ascending order, whatever follows its index in the list, a look-up in the index finds every pair that
--- bisection finds, finds no other, and is never wrong.
+-- What an index is for (R141): on a table in ascending order, whatever follows its index in the list, a look-up in the index finds every
+-- pair that bisection finds, finds no other, and is never wrong.
 use mathlib.Core.Path.{_≡_}
 use mathlib.Core.Bool.{true}
 use mathlib.Core.List.{List, _++_}

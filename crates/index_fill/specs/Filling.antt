@@ -1,5 +1,5 @@
--- An index while it is filled: after zeroing, the bits of the first n pairs are set, and then the pairs before each of the first m
--- lefts are counted.
+-- An index (R135 to R137) while it is filled: after zeroing, the bits of the first n pairs are set, and then the pairs before each of the
+-- first m lefts are counted.
 use mathlib.Core.Path.{_≡_}
 use mathlib.Core.Bool.{cond}
 use mathlib.Core.List.{List}

@@ -1,5 +1,5 @@
 // Letters that have no pair with the character left of them, by an index over the table: that character is given for
-// each, one after the other. The steps of crate indexed, in a loop of their own.
+// each, one after the other. The steps of crate index_step, in a loop of their own.
 ghost use mathlib.Core.Path.{_≡_};
 ghost use Prim.Native.Nat.{_+_, _/_, _<_, _≤_};
 ghost use lib.ListN.{length};

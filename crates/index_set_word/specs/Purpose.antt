@@ -1,5 +1,5 @@
--- What a word set by an index is for: on the list that fill_index wrote for a table, set_word_indexed answers and writes what set_word
--- does.
+-- What a word set by an index is for (R141): on the list that fill_index wrote for a table, set_word_indexed answers and writes what
+-- set_word does.
 use mathlib.Core.List.{List}
 use mathlib.Core.Path.{_≡_}
 use Prim.Native.Nat.{ℕ}

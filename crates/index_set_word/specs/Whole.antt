@@ -1,5 +1,5 @@
--- A word set whole by an index, over any index: begin's numbers, and then the items of the steps of index_step/specs/Indexed up to the
--- end, six numbers each, as word_set/specs/Setting has them over any step.
+-- A word set whole by an index (R131, R139), over any index: begin's numbers, and then the items of the steps of index_step/specs/Indexed
+-- up to the end, six numbers each, as word_set/specs/Setting has them over any step.
 use mathlib.Core.List.{List}
 use Prim.Native.Nat.{ℕ, _/_}
 use lib.IntN.{ℤ}

@@ -1,6 +1,6 @@
--- One step of a run that looks its pairs up in an index, over any index, any table and any state. Where a character stands left of a
--- letter with nothing pending (crate step_quick), the index says whether they have a pair: a bit that is missing is no pair, and a place at
--- which the pair does not stand is 7. Every other step is the step of captions/specs/Steps.
+-- One step of a run that looks its pairs up in an index, over any index, any table and any state. Where a character stands left of a letter
+-- with nothing pending (crate step_quick), the index says (R139) whether they have a pair: a bit that is missing is no pair, and a place at
+-- which the pair does not stand is 7 (R140). Every other step is the step of captions/specs/Steps.
 use mathlib.Core.Path.{_≡_}
 use mathlib.Core.Bool.{cond}
 use mathlib.Core.List.{List}
@@ -31,7 +31,7 @@ indexedStepOf index pairs ops boundary word options s =
     (lookedStep pairs ops boundary word options s (lookedUp index pairs (suc (plainCode (s .«next_left»))) (nextLetter word s)))
     (stepOf pairs ops boundary word options s)
 
--- THE contract of step_indexed: its answer, as document 01 has it, and the state that it leaves
+-- THE contract of step_indexed: its answer, as a number and values (R285), and the state that it leaves
 pub record IndexedStepped (index : List ℕ) (pairs ops : List ℤ) (boundary : ℤ) (word : List ℕ) (options : RunOptions) (s : State)
     (r : Step) : Type 0 where
   pub reply : answerReply (r .answer) ≡ answerReply (indexedStepOf index pairs ops boundary word options s .answer)

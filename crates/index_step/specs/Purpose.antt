@@ -1,5 +1,5 @@
--- What a step by an index is for: on the list that fill_index wrote for a table it is the step, for every state; and fill_index writes
--- it for every table of the form, where the list has room.
+-- What a step by an index is for (R141): on the list that fill_index wrote for a table it is the step, for every state; and fill_index
+-- writes it for every table of the form, where the list has room.
 use mathlib.Core.Path.{_≡_}
 use mathlib.Core.Bool.{true}
 use mathlib.Core.List.{List}

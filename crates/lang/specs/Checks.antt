@@ -1,4 +1,4 @@
--- The refusals 1 to 5 of document 01, each the number where it holds and 0 where it does not.
+-- The refusals 1 to 5 (R230 to R234), each the number where it holds and 0 where it does not.
 use mathlib.Core.Bool.{Bool, cond, not}
 use mathlib.Core.List.{List}
 use Prim.Native.Nat.{ℕ, zero, suc, _+_, _*_, _/_, _%_}
@@ -14,15 +14,15 @@ use Rattle.lang.specs.Records.{count, isInstruction, within, absentOr}
 abbrev pub unless : ℕ → Bool → ℕ
 unless n t = cond t 0 n
 
--- 1: instruction numbers not in fours, or over 32,767 instructions
+-- 1 (R230): instruction numbers not in fours, or over 32,767 instructions
 abbrev pub sizeRefusal : List ℤ → ℕ
 sizeRefusal s = unless 1 (both (eqb (length s % 4) 0) (leb (count s) 32767))
 
--- 2: a record is no instruction
+-- 2 (R231): a record is no instruction
 abbrev pub recordRefusal : List ℤ → ℕ
 recordRefusal s = unless 2 (every (count s) (isInstruction s))
 
--- 3: over 32,767 kerns
+-- 3 (R232): over 32,767 kerns
 abbrev pub kernsRefusal : List ℤ → ℕ
 kernsRefusal kerns = unless 3 (leb (length kerns) 32767)
 
@@ -34,7 +34,7 @@ charAt es i = getD es (2 * i) (pos 0)
 abbrev pub entryAt : List ℤ → ℕ → ℤ
 entryAt es i = getD es (2 * i + 1) (pos 0)
 
--- no place before i has the character of place i
+-- no place before i has the character of place i (R33)
 abbrev pub enteredOnce : List ℤ → ℕ → Bool
 enteredOnce es i = every i (λ j. not (eqb (wordOf (charAt es j)) (wordOf (charAt es i))))
 
@@ -42,28 +42,29 @@ enteredOnce es i = every i (λ j. not (eqb (wordOf (charAt es j)) (wordOf (charA
 abbrev pub entryFits : ℕ → List ℤ → ℕ → Bool
 entryFits limit es i = both (within 255 (charAt es i)) (both (within limit (entryAt es i)) (enteredOnce es i))
 
--- 4: entry numbers not in twos, a character or an entry out of range, a character entered twice. The limit is 65,535; for unpacking and
--- repair it is 255.
+-- 4 (R233): entry numbers not in twos, a character or an entry out of range, a character entered twice. The limit is 65,535 (R33); for
+-- unpacking and repair it is 255 (R34).
 abbrev pub entriesRefusal : ℕ → List ℤ → ℕ
 entriesRefusal limit es = unless 4 (both (eqb (length es % 2) 0) (every (length es / 2) (entryFits limit es)))
 
--- 4: a boundary character, an override or a left entry out of range; n is 255 for the characters and 65,535 for the entry
+-- 4 (R233): a boundary character (R35), an override (R37) or a left entry (R36) out of range; n is 255 for the characters and 65,535 for
+-- the entry
 abbrev pub absentRefusal : ℕ → ℤ → ℕ
 absentRefusal n z = unless 4 (absentOr n z)
 
--- 4: a character or an entry that must be there, out of range
+-- 4 (R233): a character or an entry that must be there, out of range
 abbrev pub rangeRefusal : ℕ → ℤ → ℕ
 rangeRefusal n z = unless 4 (within n z)
 
--- 4: passthrough of another length than one byte an instruction
+-- 4 (R233): passthrough of another length than one byte an instruction (R39)
 abbrev pub passthroughRefusal : List ℕ → List ℤ → ℕ
 passthroughRefusal p s = unless 4 (eqb (length p) (count s))
 
--- 5: design size negative
+-- 5 (R234): design size negative
 abbrev pub designRefusal : ℤ → ℕ
 designRefusal z = unless 5 (nonNeg z)
 
--- the first of two numbers that is not 0: the lowest that holds, where they are asked in ascending order
+-- the first of two numbers that is not 0: the lowest that holds (R246), where they are asked in ascending order
 abbrev pub orElse : ℕ → ℕ → ℕ
 orElse zero n = n
 orElse (suc m) n = suc m

@@ -1,5 +1,5 @@
--- The table of 257 places: at a character's code its entry, at 256 the left boundary's, -1 where there is none. TFtoPL 90 has the boundary
--- at 256 too. Document 01, 'All 256 entries and the left boundary fill one table of 257 places'.
+-- The table of 257 places (R277): at a character's code its entry, at 256 the left boundary's, -1 where there is none. TFtoPL 90 has the
+-- boundary at 256 too. Every start of a chain is read from it (R278).
 use mathlib.Core.List.{List}
 use Prim.Native.Nat.{ℕ, zero, suc, _/_}
 use lib.IntN.{ℤ, negsuc}

@@ -1,5 +1,5 @@
--- What op bytes mean. TeX 545: an op byte below 128 is 4a + 2b + c, with 0 ≤ a ≤ b + c and b, c at most 1: b = 0 deletes the left
--- character, c = 0 the right, and a is the cursor's advance. TFtoPL 77: any other acts as 0, and is reported.
+-- What op bytes mean (R42 to R45, R47). TeX 545: an op byte below 128 is 4a + 2b + c, with 0 ≤ a ≤ b + c and b, c at most 1: b = 0
+-- deletes the left character, c = 0 the right, and a is the cursor's advance. TFtoPL 77: any other acts as 0, and is reported.
 use mathlib.Core.Bool.{Bool, true, false, cond}
 use Prim.Native.Nat.{ℕ, zero, suc, _+_, _-_, _*_, _/_, _%_}
 use lib.Dec.{leb, ltb}
@@ -11,7 +11,7 @@ use Rattle.lang.specs.declared.operation.PostLigOperation.the-variants.{
 use Rattle.lang.specs.declared.operation.Operation.{Operation}
 use Rattle.lang.specs.declared.operation.Operation.the-variants.{KernAtIndex, Ligature}
 
--- a of an op byte below 128: how far the cursor advances
+-- a of an op byte below 128: how far the cursor advances (R42)
 abbrev pub advance : ℕ → ℕ
 advance op = op / 4
 
@@ -23,11 +23,11 @@ keepsLeft op = op / 2 % 2
 abbrev pub keepsRight : ℕ → ℕ
 keepsRight op = op % 2
 
--- TeX 545: the cursor passes over no more than what is retained
+-- R44, TeX 545: the cursor passes over no more than what is retained
 abbrev pub isStandard : ℕ → Bool
 isStandard op = leb (advance op) (keepsLeft op + keepsRight op)
 
--- the Rust's name of what b, c and a say
+-- the Rust's name of what b, c and a say (R43)
 abbrev pub retains : ℕ → ℕ → ℕ → PostLigOperation
 retains zero zero a = RetainNeitherMoveToInserted
 retains zero (suc c) zero = RetainRightMoveToInserted
@@ -48,14 +48,14 @@ ligature op inserted =
     cond (isStandard op) (lig (retains (keepsLeft op) (keepsRight op) (advance op)) inserted false)
     (lig RetainNeitherMoveToInserted inserted true)
 
--- Any op byte and its remainder. From 128 on it is a kern index.
+-- Any op byte and its remainder. From 128 on it is a kern index (R47).
 unfoldable pub fromBytes : ℕ → ℕ → Operation
 fromBytes op remainder = cond (ltb op 128) (ligature op remainder) (KernAtIndex (256 * (op - 128) + remainder))
 
--- the table's place of an op byte below 128: itself where it is standard, else 128
+-- the table's place (R279) of an op byte below 128: itself where it is standard, else 128
 unfoldable pub placeOf : ℕ → ℕ
 placeOf op = cond (isStandard op) op 128
 
--- what a place of the table stands for: LIG with a mark, unless it is a standard op byte
+-- what a place of the table stands for: LIG with a mark (R45), unless it is a standard op byte
 unfoldable pub ligatureBy : ℕ → ℕ → Operation
 ligatureBy place inserted = cond (ltb place 128) (ligature place inserted) (lig RetainNeitherMoveToInserted inserted true)

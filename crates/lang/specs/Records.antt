@@ -1,4 +1,4 @@
--- The four numbers of an instruction: next, right character, kind and operand. Document 01, 'What goes in'.
+-- The four numbers of an instruction: next, right character, kind and operand (R25 to R31).
 use mathlib.Core.Bool.{Bool, true, false, cond}
 use mathlib.Core.List.{List}
 use Prim.Native.Nat.{ℕ, _+_, _*_, _/_, _%_}
@@ -22,13 +22,13 @@ count s = length s / 4
 abbrev pub field : List ℤ → ℕ → ℕ → ℤ
 field s i k = cond (ltb i (count s)) (getD s (4 * i + k) (pos 0)) (pos 0)
 
--- next: -1 is none, else how many instructions are skipped
+-- next: -1 is none, else how many instructions are skipped (R26)
 abbrev pub nextOf : ℤ → NextInstruction
 nextOf (negsuc n) = Stop
 nextOf (pos n) = Skip (n % 256)
 
--- The operation of a kind and an operand. A kind past 3 reads as 0, and what passes an operand's range is left off: `isInstruction`
--- refuses both.
+-- The operation of a kind and an operand (R27 to R31). A kind past 3 reads as 0, and what passes an operand's range is left off:
+-- `isInstruction` refuses both.
 abbrev pub operationOf : ℕ → ℤ → Operation
 operationOf kind z =
     cond (eqb kind 1) (KernAtIndex (wordOf z % 65536))
@@ -59,7 +59,8 @@ abbrev pub absentOr : ℕ → ℤ → Bool
 absentOr n (pos m) = leb m n
 absentOr n (negsuc m) = eqb m 0
 
--- an operand's range, by kind: a kern value is any i32; a kern index; an op byte below 128 and a character; a target and a flag
+-- an operand's range, by kind: a kern value is any i32 (R27); a kern index (R28); an op byte below 128 and a character (R29); a target and
+-- a flag (R30, R31)
 abbrev pub operandFits : ℕ → ℤ → Bool
 operandFits kind z =
     cond (eqb kind 0) true
@@ -67,7 +68,7 @@ operandFits kind z =
     (cond (eqb kind 2) (within 32767 z)
     (cond (eqb kind 3) (within 131071 z) false)))
 
--- the record at i is an instruction
+-- the record at i is an instruction; with a right character out of range it is none (R251)
 abbrev pub isInstruction : List ℤ → ℕ → Bool
 isInstruction s i =
     both (absentOr 255 (field s i 0))

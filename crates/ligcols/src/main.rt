@@ -1,6 +1,6 @@
 // The program: a column text on standard input, its reply on standard output; on a refusal only a line with N and the
-// number. Document 01, 'The column text'. The work is crate `host`'s, which is proved; that a text of more than 65,536
-// bytes is 16 is seen by reading one byte more.
+// number (R213). The work is crate `text_answer`'s, which is proved; that a text of more than 65,536 bytes is 16 is
+// seen by reading one byte more.
 ghost use mathlib.Core.Path.{_≡_};
 ghost use lib.ListN.{length};
 use text_answer::ligcols;

@@ -88,7 +88,7 @@ pub one-loop : loopRow .given ≡ loopRow .said
 unfolding loopNumbers loopList entered entriesTable chainFrom firstFor fromBytes ligature comp insert ordered unfinished walk walks member
 one-loop = rw rule-pairs refl
 
--- ---- document 01's example: left 103 is character 102
+-- ---- the example of R275: left 103 is character 102
 
 example-only : every 257 (only exampleFont 103) ≡ true
 unfolding every entered entriesTable

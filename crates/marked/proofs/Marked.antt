@@ -1,5 +1,5 @@
--- Every marked reading of document 01 holds of the definitions: what each row gives is what document 01 says. antt computes all but the rows of whole fonts,
--- which are lemmas. Assumes nothing.
+-- Every marked reading (R266 to R273) holds of the definitions: what each row gives is what the rule says. antt computes all but the rows of whole fonts, which
+-- are lemmas. Assumes nothing.
 use mathlib.Core.Path.{_≡_, refl}
 use mathlib.Core.List.{map}
 use Rattle.tfm.specs.Scaled.{toScaled, halve}

@@ -1,5 +1,5 @@
--- The readings marked M of document 01, one row each: what the definitions give, as numbers, and what document 01 says. With them stands
--- its example of the column text: a font that compiling accepts, without a loop, and a word that is read in it, so that what demand 3
+-- The marked readings (R266 to R273), one row each: what the definitions give, as numbers, and what the rule says. With them stands the
+-- example of the column text (R275): a font that compiling accepts, without a loop, and a word that is read in it, so that what demand 3
 -- asks of a font is met by one. The theorem `marked` of proofs/Marked says that the two columns are equal.
 use mathlib.Core.Bool.{Bool, true, false, cond}
 use mathlib.Core.List.{List, [], _∷_}
@@ -29,7 +29,7 @@ use Rattle.repairs.specs.Damaged.{Damaged}
 use Rattle.repairs.specs.Repaired.{repairedInstructions}
 use Rattle.repairs.specs.Warnings.{repairWarnings}
 
--- what the definitions give, and what document 01 says
+-- what the definitions give, and what the rule says
 pub record MarkedRow : Type 0 where
   pub given : List ℤ
   pub said : List ℤ
@@ -105,7 +105,7 @@ packedNumbers f = packedEntryNumber f 1 ∷ pos (fontOffset f) ∷ pos (fontRedi
 abbrev pub oneRule : Font
 oneRule = fontOf (negsuc 0 ∷ pos 66 ∷ pos 2 ∷ pos 834 ∷ []) [] (pos 65 ∷ pos 0 ∷ []) (negsuc 0) (negsuc 0) (pos 10485760)
 
--- the font of document 01's example, 'The column text': character 102 before 105 becomes the ligature 200, and before 33 has a kern
+-- the font of the example, examples/ordinary.txt (R275): character 102 before 105 becomes the ligature 200, and before 33 has a kern
 abbrev pub exampleFont : Font
 exampleFont =
     fontOf (pos 0 ∷ pos 105 ∷ pos 2 ∷ pos 200 ∷ negsuc 0 ∷ pos 33 ∷ pos 1 ∷ pos 0 ∷ []) (pos 131072 ∷ []) (pos 102 ∷ pos 0 ∷ [])
@@ -129,7 +129,7 @@ oneSkip =
 
 -- ---- the table
 
--- entry 65 to one instruction, right 66, op 3 inserting 66: loop (65, 66), of the loop list that compiling writes
+-- entry 65 to one instruction, right 66, op 3 inserting 66: loop (65, 66), of the loop list that compiling writes (R270)
 abbrev pub loopRow : MarkedRow
 loopRow = record { given = fontLoops oneRule; said = pos 65 ∷ pos 66 ∷ [] }
 
@@ -164,13 +164,13 @@ wordRow =
 -- the others
 unfoldable pub otherRows : List MarkedRow
 otherRows =
-    -- op 4: as 0, invalid
+    -- R266, op 4: as 0, invalid
     record { given = operationNumbers (fromBytes 4 97); said = pos 0 ∷ pos 97 ∷ pos 1 ∷ [] }
-    -- at 10,485,760: 131,072 gives 81,920; -131,072 gives -81,920; -1 gives -1
+    -- R267 and R268, at 10,485,760: 131,072 gives 81,920; -131,072 gives -81,920; -1 gives -1
     ∷ record { given = scaledNumbers (toScaled (pos 131072) (pos 10485760)); said = pos 0 ∷ pos 81920 ∷ [] }
     ∷ record { given = scaledNumbers (toScaled (negsuc 131071) (pos 10485760)); said = pos 0 ∷ negsuc 81919 ∷ [] }
     ∷ record { given = scaledNumbers (toScaled (negsuc 0) (pos 10485760)); said = pos 0 ∷ negsuc 0 ∷ [] }
-    -- 16,777,215 is scaled, to 10,485,759 (just below sixteen times the design size), and 16,777,216 is 13
+    -- R269: 16,777,215 is scaled, to 10,485,759 (just below sixteen times the design size), and 16,777,216 is 13
     ∷ record { given = scaledNumbers (toScaled (pos 16777215) (pos 10485760)); said = pos 0 ∷ pos 10485759 ∷ [] }
     ∷ record { given = scaledNumbers (toScaled (pos 16777216) (pos 10485760)); said = pos 13 ∷ [] }
     -- the same rule alone, not in a font
@@ -203,16 +203,16 @@ otherRows =
           ∷ record { left = 121; right = 119; rule = lig RetainNeitherMoveToInserted 120 } ∷ []);
       said = pos 120 ∷ pos 122 ∷ [];
     }
-    -- entry 254 with a boundary packs to 255
+    -- R271: entry 254 with a boundary packs to 255
     ∷ record { given = packedNumbers (oneEntry 254 (pos 65)); said = pos 255 ∷ pos 1 ∷ pos 0 ∷ [] }
-    -- 255 packs to 0, with a redirect to 256
+    -- R272: 255 packs to 0, with a redirect to 256
     ∷ record { given = packedNumbers (oneEntry 255 (pos 65)); said = pos 0 ∷ pos 1 ∷ pos 1 ∷ [] }
     ∷ record {
       given = front (pos 65) (fontRedirects (oneEntry 255 (pos 65))) (fontOffset (oneEntry 255 (pos 65)))
           (labelsOf (oneEntry 255 (pos 65) .entries));
       said = negsuc 0 ∷ pos 65 ∷ pos 3 ∷ pos 65792 ∷ [];
     }
-    -- one reachable instruction, next 0: skip warning, and it stops instead
+    -- R273, one reachable instruction, next 0: skip warning, and it stops instead
     ∷ record { given = repairWarnings oneSkip; said = pos 3 ∷ pos 0 ∷ pos 0 ∷ pos 0 ∷ [] }
     ∷ record { given = repairedInstructions oneSkip; said = negsuc 0 ∷ pos 66 ∷ pos 0 ∷ pos 5 ∷ [] }
     ∷ []

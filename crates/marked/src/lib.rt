@@ -1,2 +1,2 @@
-// This crate holds definitions (specs/) and one theorem (proofs/) alone: the readings that document 01 marks to be
-// proved.
+// This crate holds definitions (specs/) and one theorem (proofs/) alone: the marked readings that are proved (R266 to
+// R273).

@@ -1,5 +1,5 @@
--- Packing: entries above 255 become redirects at the front, after `pack_entrypoints` of ligkern/lang.rs. PLtoTF 139 to 142: the
--- redirects, and 'location 0 can do double duty'; the labels and the offset are those of crate pack_labels.
+-- Packing (R154 to R163): entries above 255 become redirects at the front, after `pack_entrypoints` of ligkern/lang.rs. PLtoTF 139 to 142:
+-- the redirects, and 'location 0 can do double duty'; the labels and the offset are those of crate pack_labels.
 use mathlib.Core.Path.{_≡_}
 use mathlib.Core.Bool.{Bool, cond}
 use mathlib.Core.List.{List, [], _∷_, _++_}
@@ -19,7 +19,7 @@ use Rattle.pack_labels.specs.Labels.{labelsOf, redirectsOf, offsetBy, largest}
 
 -- ---- PLtoTF 141 and 142: the packed entries and the instructions
 
--- the place of an entry among the labels; how many labels there are where it is none of them
+-- the place of an entry among the labels; how many labels there are where it is none of them (R156)
 unfoldable pub placeAmong : ℕ → List ℕ → ℕ
 placeAmong e [] = 0
 placeAmong e (l ∷ ls) = cond (eqb l e) 0 (suc (placeAmong e ls))
@@ -28,7 +28,7 @@ placeAmong e (l ∷ ls) = cond (eqb l e) 0 (suc (placeAmong e ls))
 abbrev pub packedEntry : ℕ → ℕ → List ℕ → ℕ → ℕ
 packedEntry redirects offset ls e = cond (ltb (placeAmong e ls) redirects) (placeAmong e ls) (e + offset)
 
--- the four numbers of a redirect: no next, the boundary character or 0, kind 3, the target, and the flag
+-- the four numbers of a redirect: no next, the boundary character or 0, kind 3, the target, and the flag (R159)
 abbrev pub redirect : ℤ → ℕ → ℕ → List ℤ
 redirect right target flag = negsuc 0 ∷ right ∷ pos 3 ∷ pos (target + 65536 * flag) ∷ []
 
@@ -43,12 +43,12 @@ redirectsTo right offset zero ls = []
 redirectsTo right offset (suc k) [] = []
 redirectsTo right offset (suc k) (l ∷ ls) = redirect right (l + offset) 1 ++ redirectsTo right offset k ls
 
--- in front: the redirects, or the instruction that holds the boundary character, or nothing
+-- in front: the redirects (R154), or the instruction that holds the boundary character (R157), or nothing
 abbrev pub front : ℤ → ℕ → ℕ → List ℕ → List ℤ
 front boundary zero offset ls = cond (nonNeg boundary) (redirect (presentOr boundary) 0 1) []
 front boundary (suc k) offset ls = redirectsTo (presentOr boundary) offset (suc k) ls
 
--- at the end: the shifted entry of the left boundary, where there is one
+-- at the end: the shifted entry of the left boundary, where there is one (R160, R161)
 abbrev pub back : ℤ → ℕ → List ℤ
 back (negsuc n) offset = []
 back (pos left) offset = redirect (pos 0) (left + offset) 0
@@ -77,7 +77,8 @@ abbrev pub packedInstructions : Packable → List ℤ
 packedInstructions f =
     front (f .boundary) (fontRedirects f) (fontOffset f) (labelsOf (f .entries)) ++ f .instructions ++ back (f .left) (fontOffset f)
 
--- number j of the packed entries: characters as they were lent, and their packed entries, by the redirects, the offset and the labels
+-- number j of the packed entries (R162): characters as they were lent, and their packed entries, by the redirects, the offset and the
+-- labels
 abbrev pub entryNumber : List ℤ → ℕ → ℕ → List ℕ → ℕ → ℤ
 entryNumber es redirects offset ls j =
     cond (eqb (j % 2) 0) (getD es j (pos 0)) (pos (packedEntry redirects offset ls (wordOf (getD es j (pos 0)))))
@@ -92,11 +93,11 @@ packedEntries f = tabulate (length (f .entries)) (packedEntryNumber f)
 
 -- ---- refusals
 
--- 10: packing needs 256 redirects
+-- 10 (R239): packing needs 256 redirects
 abbrev pub redirectRefusal : ℕ → ℕ
 redirectRefusal k = cond (leb k 255) 0 10
 
--- an entry plus the offset is at most 65,535
+-- an entry plus the offset is at most 65,535 (R240)
 abbrev pub fitsShifted : ℕ → ℕ → Bool
 fitsShifted e offset = leb (e + offset) 65535
 
@@ -125,11 +126,11 @@ packingRefusal f room entryRoom =
 
 -- ---- the answer
 
--- how many instructions there are now, the offset and the number of redirects
+-- how many instructions there are now, the offset and the number of redirects (R162)
 abbrev pub packedSizes : Packable → List ℤ
 packedSizes f = pos (count (packedInstructions f)) ∷ pos (fontOffset f) ∷ pos (fontRedirects f) ∷ []
 
--- an answer as document 01 has it
+-- an answer as a number and values (R285)
 abbrev pub packedReply : Packed → Reply
 packedReply (Sizes n offset redirects) = replyOf 0 (pos n ∷ pos offset ∷ pos redirects ∷ [])
 packedReply (Refused n) = record { number = n; values = [] }

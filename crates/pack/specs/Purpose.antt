@@ -1,4 +1,4 @@
--- What packing is for: theorem `packed-unpacks` of proofs/Purpose. No contract cites this.
+-- What packing is for (R154): theorem `packed-unpacks` of proofs/Purpose. No contract cites this.
 use mathlib.Core.Path.{_≡_}
 use mathlib.Core.Bool.{true, false}
 use mathlib.Core.List.{List, [], _∷_}
@@ -29,7 +29,8 @@ pub record UnpacksAt (f : Packable) (i : ℕ) : Type 0 where
   pub entry : (p : List ℕ) (room : ℕ) → UnpacksTo f i p room
   pub same : instructionAt (packedInstructions f) (oldEntry f i + fontOffset f) ≡ instructionAt (f .instructions) (oldEntry f i)
 
--- So it is with every entry that leads to an instruction that is no redirect, of a font that is packed into at most 32,767 instructions.
+-- So it is with every entry that leads to an instruction that is no redirect, of a font that is packed into at most 32,767 instructions
+-- (R163).
 abbrev pub PackedUnpacks : Packable → ℕ → ℕ → Type 0
 PackedUnpacks f room entryRoom =
     packingRefusal f room entryRoom ≡ 0 → count (packedInstructions f) ≤ 32767 → (i : ℕ) → i < length (f .entries) / 2

@@ -1,3 +1,3 @@
--- Crate pack_labels is held to one file, Labels: the label table of packing and the offset (PLtoTF 140, 141), and the contract of `label`
--- at its end.
+-- Crate pack_labels is held to one file, Labels: the label table of packing and the offset (R155 to R158; PLtoTF 140, 141), and the
+-- contract of `label` at its end.
 pub mod Labels

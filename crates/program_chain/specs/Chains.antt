@@ -1,6 +1,6 @@
--- Chains. Document 01, 'The pair table': each next goes to index + 1 + next; a chain stops at an index past the end. TeX 1039 and TFtoPL
--- 91. Which instruction is the rule (`ruleIndex`) and what it does (`actsAs`) are two definitions. Both are said of a count and of a
--- function from an index to an instruction, so that they hold of any form in which a program is lent.
+-- Chains (R56 to R63): each next goes to index + 1 + next (R56); a chain stops at an index past the end (R57). TeX 1039 and TFtoPL 91.
+-- Which instruction is the rule (`ruleIndex`, R58) and what it does (`actsAs`, R59 to R61) are two definitions. Both are said of a count
+-- and of a function from an index to an instruction, so that they hold of any form in which a program is lent.
 use mathlib.Core.Path.{_≡_}
 use mathlib.Core.Bool.{cond}
 use mathlib.Core.List.{List, [], _∷_}
@@ -29,7 +29,7 @@ use Rattle.lang.specs.Answers.{roomRefusal, writtenReply, replyOf, listOf}
 abbrev pub Program : Type 0
 Program = ℕ → Instruction
 
--- where a chain goes on after index i of n instructions: past the end where it stops
+-- where a chain goes on after index i of n instructions (R56, R60): past the end where it stops (R57)
 abbrev pub onwardFrom : ℕ → NextInstruction → ℕ → ℕ
 onwardFrom n Stop i = n
 onwardFrom n (Skip k) i = i + 1 + k
@@ -38,7 +38,8 @@ onwardFrom n (Skip k) i = i + 1 + k
 abbrev pub stepAt : ℕ → Program → ℕ → Next
 stepAt n program i = cond (ltb i n) (At i (onwardFrom n (program i .«next_instruction») i)) End
 
--- the indices of the chain from i, at most as many as the first number says. Indices ascend, so n is enough (theorem `chain-whole`).
+-- the indices of the chain from i, none where it is past the end (R62), at most as many as the first number says. Indices ascend, so n is
+-- enough (theorem `chain-whole`).
 unfoldable pub chainFrom : ℕ → ℕ → Program → ℕ → List ℕ
 chainFrom zero n program i = []
 chainFrom (suc most) n program i =
@@ -54,7 +55,7 @@ unfoldable pub firstFor : Program → ℕ → List ℕ → Option ℕ
 firstFor program right [] = none
 firstFor program right (i ∷ is) = cond (eqb (program i .«right_char» .0) right) (some i) (firstFor program right is)
 
--- which instruction is the rule of the right character on the chain from an entry
+-- which instruction is the rule of the right character on the chain from an entry (R58)
 abbrev pub ruleIndex : ℕ → Program → ℕ → ℕ → Option ℕ
 ruleIndex n program entry right = firstFor program right (chain n program entry)
 
@@ -63,14 +64,14 @@ abbrev pub found : Option ℕ → FoundRule
 found none = Nothing
 found (some i) = Rule i
 
--- what a rule does: a redirect reached on a chain acts by its target's two bytes (TFtoPL 91 to 93 read them so) ..
+-- what a rule does: a redirect reached on a chain acts by its target's two bytes (R59; TFtoPL 91 to 93 read them so) ..
 abbrev pub redirected : Operation → Operation
 redirected (Kern k) = Kern k
 redirected (KernAtIndex i) = KernAtIndex i
 redirected (Ligature c p t) = Ligature c p t
 redirected (EntrypointRedirect t f) = fromBytes (t / 256) (t % 256)
 
--- .. and a kern index is the kern there, or past the list a kern of zero
+-- .. and a kern index is the kern there, or past the list a kern of zero (R61)
 abbrev pub kernOf : List ℤ → Operation → Operation
 kernOf kerns (Kern k) = Kern k
 kernOf kerns (KernAtIndex i) = Kern (record { 0 = getD kerns i (pos 0) })
@@ -96,7 +97,7 @@ abbrev pub walkRefusal : List ℤ → ℤ → ℕ → ℕ
 walkRefusal s entry room =
     orElse (programRefusal s) (orElse (rangeRefusal 65535 entry) (roomRefusal (length (chainOf s (wordOf entry))) room))
 
--- the contract of instructions_for_entrypoint: `out` is the list as it was lent, out′ as it comes back
+-- the contract of instructions_for_entrypoint (R63): `out` is the list as it was lent, out′ as it comes back
 pub record WalksChain (s : List ℤ) (entry : ℤ) (out : List ℕ) (r : Written) (out′ : List ℕ) : Type 0 where
   pub answer : writtenReply r ≡ replyOf (walkRefusal s entry (length out)) (pos (length (chainOf s (wordOf entry))) ∷ [])
   pub list : out′ ≡ listOf (walkRefusal s entry (length out)) 0 (length out) (chainOf s (wordOf entry))

@@ -1,4 +1,4 @@
-// The refusals 1 and 2 of document 01, of a program, and 4 of a single number, each a function whose result is the
+// The refusals 1 and 2 of a program (R230, R231), and 4 of a single number (R233), each a function whose result is the
 // number where it holds and 0 where it does not. Every one is linear in what it is lent. The refusals of what is lent
 // beside the program are crate program_limits.
 ghost use mathlib.Core.Path.{_≡_};

@@ -1,4 +1,4 @@
--- Kern values and kern indices, one for the other, after `pack_kerns` and `unpack_kerns` of ligkern/lang.rs.
+-- Kern values and kern indices, one for the other (R144 to R147), after `pack_kerns` and `unpack_kerns` of ligkern/lang.rs.
 use mathlib.Core.Path.{_≡_}
 use mathlib.Core.Bool.{Bool, cond}
 use mathlib.Core.List.{List, [], _∷_, _++_}
@@ -20,7 +20,7 @@ changed s test kind operand j =
     (cond (eqb (j % 4) 2) kind (cond (eqb (j % 4) 3) (operand (j / 4)) (getD s j (pos 0))))
     (getD s j (pos 0))
 
--- the kern at the index that instruction i holds; zero past the list
+-- the kern at the index that instruction i holds; zero past the list (R144)
 abbrev pub kernAt : List ℤ → List ℤ → ℕ → ℤ
 kernAt s kerns i = getD kerns (wordOf (field s i 3)) (pos 0)
 
@@ -41,7 +41,7 @@ kernPlace v (k ∷ ks) = cond (eqb (wordOf k) (wordOf v)) 0 (suc (kernPlace v ks
 abbrev pub shared : List ℤ → ℤ → List ℤ
 shared ks v = cond (eqb (kernPlace v ks) (length ks)) (ks ++ (v ∷ [])) ks
 
--- the kern values of the first n instructions, each once, in the order in which they first appear
+-- the kern values of the first n instructions, each once, in the order in which they first appear (R146)
 unfoldable pub values : List ℤ → ℕ → List ℤ
 values s zero = []
 values s (suc n) = cond (isKind 0 s n) (shared (values s n) (field s n 3)) (values s n)
@@ -50,7 +50,7 @@ values s (suc n) = cond (isKind 0 s n) (shared (values s n) (field s n 3)) (valu
 abbrev pub kernsOf : List ℤ → List ℤ
 kernsOf s = values s (count s)
 
--- unpack_kerns: each kern value becomes its index in that list
+-- unpack_kerns (R145): each kern value becomes its index in that list; kern indices stay (R147)
 abbrev pub unpacked : List ℤ → List ℤ
 unpacked s = tabulate (length s) (changed s (isKind 0 s) (pos 1) (λ i. pos (kernPlace (field s i 3) (kernsOf s))))
 

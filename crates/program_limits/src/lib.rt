@@ -1,6 +1,6 @@
-// The refusals 3, 4, 5 and 15 of document 01, of what is lent beside the program: kerns, entries, passthrough, a design
-// size and a list's room. Each is a function whose result is the number where it holds and 0 where it does not. Every
-// one is linear in what it is lent.
+// The refusals 3, 4, 5 and 15 (R232 to R234, R244) of what is lent beside the program: kerns, entries, passthrough, a
+// design size and a list's room. Each is a function whose result is the number where it holds and 0 where it does not.
+// Every one is linear in what it is lent.
 ghost use mathlib.Core.Path.{_≡_};
 ghost use Prim.Native.Nat.{_<_, _/_};
 ghost use lib.Dec.{eqb};

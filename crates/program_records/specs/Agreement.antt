@@ -1,5 +1,5 @@
--- The walk over records and the walk over numbers agree, both ways: on a program that is lent as numbers, read as records (`Agrees`),
--- and on a list of records, written as numbers (`Flattened`). Theorems `agrees`, `flattened` and `only-on-lig`.
+-- The walk over records and the walk over numbers agree (R282), both ways: on a program that is lent as numbers, read as records
+-- (`Agrees`), and on a list of records, written as numbers (`Flattened`). Theorems `agrees`, `flattened` and `only-on-lig`.
 use mathlib.Core.Path.{_≡_}
 use mathlib.Core.Bool.{true, cond}
 use mathlib.Core.List.{List, [], _∷_}
@@ -50,7 +50,7 @@ abbrev pub nextNumber : NextInstruction → ℤ
 nextNumber Stop = negsuc 0
 nextNumber (Skip k) = pos k
 
--- TeX 545: 4a + 2b + c
+-- R42 and R44, TeX 545: 4a + 2b + c
 abbrev pub opByteOf : PostLigOperation → ℕ
 opByteOf RetainNeitherMoveToInserted = 0
 opByteOf RetainRightMoveToInserted = 1
@@ -103,7 +103,7 @@ pub record InRange (x : Instruction) : Type 0 where
   pub right : x .«right_char» .0 < 256
   pub operation : operationFits (x .operation)
 
--- a mark stands only on LIG: an op byte that is not standard acts as LIG
+-- a mark stands only on LIG: an op byte that is not standard acts as LIG (R45)
 abbrev pub markFits : Operation → Type 0
 markFits (Kern k) = Unit {0}
 markFits (KernAtIndex i) = Unit {0}

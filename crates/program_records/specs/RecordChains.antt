@@ -1,5 +1,5 @@
--- Chains over a lent list of instruction records: those of crate program_chain, at the count and the records of the list. Document 01:
--- instructions_for_entrypoint also walks a lent list of instruction records.
+-- Chains over a lent list of instruction records, which instructions_for_entrypoint walks too (R282): those of crate program_chain, at the
+-- count and the records of the list.
 use mathlib.Core.Path.{_≡_}
 use mathlib.Core.List.{List, [], _∷_}
 use Prim.Native.Nat.{ℕ}
@@ -24,7 +24,7 @@ zeroRecord =
 abbrev pub recordAt : List Instruction → Program
 recordAt xs i = getD xs i zeroRecord
 
--- 1: over 32,767 records
+-- 1 (R283): over 32,767 records
 abbrev pub recordsRefusal : ℕ → ℕ
 recordsRefusal n = unless 1 (leb n 32767)
 

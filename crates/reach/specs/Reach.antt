@@ -1,6 +1,6 @@
--- Reach: which instructions a font's entries lead to, after `reachable_iter` of ligkern/lang.rs. TFtoPL 66 to 70 compute the activity of
--- each step (crate reach_marks), and TFtoPL 75 counts skips over reachable steps alone. A skip that lands exactly at the end is not
--- made to stop, as TFtoPL 70 does; it has an adjusted skip: docs/DIFFERENCES.md.
+-- Reach: which instructions a font's entries lead to (R148 to R153), after `reachable_iter` of ligkern/lang.rs. TFtoPL 66 to 70 compute the
+-- activity of each step (crate reach_marks), and TFtoPL 75 counts skips over reachable steps alone. A skip that lands exactly at the end is
+-- not made to stop, as TFtoPL 70 does; it has an adjusted skip: docs/DIFFERENCES.md.
 use mathlib.Core.Path.{_≡_}
 use mathlib.Core.Bool.{cond}
 use mathlib.Core.List.{List, [], _∷_}
@@ -22,13 +22,14 @@ unfoldable pub marksFrom : List ℕ → ℕ → ℕ → ℕ
 marksFrom marks i zero = 0
 marksFrom marks i (suc k) = marksFrom marks i k + cond (eqb (getD marks (i + k) 0) 0) 0 1
 
--- TFtoPL 75: the skip of instruction i counted over reachable ones. None (-1) where nothing is skipped, or where the skip passes the end.
+-- R152 and R153, TFtoPL 75: the skip of instruction i counted over reachable ones. None (-1) where nothing is skipped, or where the skip
+-- passes the end.
 abbrev pub adjustedSkip : ℕ → List ℕ → NextInstruction → ℕ → ℤ
 adjustedSkip n marks Stop i = negsuc 0
 adjustedSkip n marks (Skip zero) i = negsuc 0
 adjustedSkip n marks (Skip (suc k)) i = cond (leb (i + 1 + suc k) n) (pos (marksFrom marks (i + 1) (suc k))) (negsuc 0)
 
--- 0 unreachable, 1 reachable, 2 passthrough
+-- 0 unreachable, 1 reachable, 2 passthrough (R151)
 abbrev pub stateOf : List ℕ → List ℕ → ℕ → ℕ
 stateOf marks p i = cond (eqb (getD marks i 0) 0) (cond (eqb (getD p i 0) 0) 0 2) 1
 

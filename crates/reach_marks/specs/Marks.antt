@@ -1,5 +1,5 @@
--- Marks: which instructions a font's entries lead to, after `reachable_array` of ligkern/lang.rs. TFtoPL 66 to 70 compute the activity of
--- each step. A skip that lands exactly at the end is not made to stop, as TFtoPL 70 does: docs/DIFFERENCES.md.
+-- Marks: which instructions a font's entries lead to (R148 to R150), after `reachable_array` of ligkern/lang.rs. TFtoPL 66 to 70 compute
+-- the activity of each step. A skip that lands exactly at the end is not made to stop, as TFtoPL 70 does: docs/DIFFERENCES.md.
 use mathlib.Core.Bool.{cond}
 use mathlib.Core.List.{List}
 use Prim.Native.Nat.{ℕ, zero, suc, _+_, _/_}
@@ -20,7 +20,7 @@ unfoldable pub entriesMarked : ℕ → List ℤ → ℕ → List ℕ
 entriesMarked n es zero = replicate n 0
 entriesMarked n es (suc k) = mark (entriesMarked n es k) (wordOf (entryAt es k))
 
--- TFtoPL 69: the left boundary's entry is marked too, unless it is the last instruction, which is pass-through then
+-- R149, TFtoPL 69: the left boundary's entry is marked too, unless it is the last instruction, which is pass-through then
 abbrev pub leftMarked : ℕ → ℤ → List ℕ → List ℕ
 leftMarked n left marks = cond (eqb (wordOf left + 1) n) marks (mark marks (wordOf left))
 

@@ -1,4 +1,4 @@
--- What is reachable: theorem `reached-exactly` of proofs/Reached. No contract cites this.
+-- What is reachable (R148, R149): theorem `reached-exactly` of proofs/Reached. No contract cites this.
 use mathlib.Core.Path.{_≡_}
 use mathlib.Core.List.{List, List·Memᴰ}
 use Prim.Native.Nat.{ℕ, _+_, _/_, _<_}

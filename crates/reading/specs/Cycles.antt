@@ -1,5 +1,5 @@
--- 'One pair per cycle' (document 01, 'The pair table'): what the loop list is, said of cycles. Each pair that never ends is followed to
--- the one that it waits for.
+-- One pair for every cycle (R83): what the loop list is, said of cycles. Each pair that never ends is followed to the one that it waits
+-- for.
 use mathlib.Core.Path.{_≡_}
 use mathlib.Core.List.{List, [], _∷_, List·Memᴰ}
 use Prim.Native.Nat.{ℕ, zero, suc}

@@ -1,5 +1,5 @@
--- A pair by depth: what a compiled entry holds, computed as TFtoPL 89 to 95 computes its function f(x, y), with the classes of TFtoPL 89:
--- simple (done at once), left_z (f(z, y)), right_z (f(x, z)) and both_z (f(f(x, z), y)). The reading of specs/Reading stays the
+-- A pair by depth: what a compiled entry holds (R72), computed as TFtoPL 89 to 95 computes its function f(x, y), with the classes of TFtoPL
+-- 89: simple (done at once), left_z (f(z, y)), right_z (f(x, z)) and both_z (f(f(x, z), y)). The reading of specs/Reading stays the
 -- definition of what is right; the theorems `right` and `complete` tie the two.
 use mathlib.Core.Bool.{Bool, true, false}
 use mathlib.Core.List.{List, [], _∷_, _++_}
@@ -72,12 +72,12 @@ pub record Pair : Type 0 where
   pub left : Left
   pub right : ℕ
 
--- (l, c) first, and once that has finished its last with r
+-- (l, c) first, and once that has finished its last with r (R86)
 abbrev pub waitsBoth : Left → ℕ → ℕ → Option Res → Pair
 waitsBoth l c r none = record { left = l; right = c }
 waitsBoth l c r (some p) = record { left = chr (code (p .last)); right = r }
 
--- The pair that a pair waits for, given the pairs finished so far; none where it waits for nothing.
+-- The pair that a pair waits for (R84 to R86), given the pairs finished so far; none where it waits for nothing.
 abbrev pub waitsBy : Rule → Finished → Left → ℕ → Option Pair
 waitsBy free f l r = none
 waitsBy (kerned k) f l r = none

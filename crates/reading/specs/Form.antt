@@ -1,6 +1,6 @@
--- The form of a table's entry (document 01, last paragraph before the marked readings): an unflagged last equals the right; the only plain
--- character op, if any, equals the left and is first among character ops; a flagged last where a left character has no character op.
--- A character op is a character or a ligature; a boundary left has no plain one.
+-- The form of a table's entry (R260 to R262): an unflagged last equals the right; the only plain character op, if any, equals the left and
+-- is first among character ops; a flagged last where a left character has no character op. A character op is a character or a ligature; a
+-- boundary left has no plain one.
 use mathlib.Core.Bool.{Bool, true, false, cond}
 use mathlib.Core.List.{List, [], _∷_}
 use Prim.Native.Nat.{ℕ}
@@ -13,7 +13,7 @@ abbrev pub lastForm : ℕ → Item → Bool
 lastForm r (item true c) = true
 lastForm r (item false c) = eqb c r
 
--- after the first character op every other is a ligature
+-- after the first character op every other is a ligature (R261)
 unfoldable pub noPlain : List Out → Bool
 noPlain [] = true
 noPlain (kern k ∷ os) = noPlain os
@@ -25,7 +25,7 @@ abbrev pub isLeft : Left → ℕ → Bool
 isLeft bnd c = false
 isLeft (chr a) c = eqb c a
 
--- where a left character has no character op, the last is flagged
+-- where a left character has no character op, the last is flagged (R262)
 abbrev pub lastTakes : Left → Item → Bool
 lastTakes bnd x = true
 lastTakes (chr a) (item f c) = f

@@ -1,4 +1,4 @@
--- What the one-by-one reading speaks of. Document 01, 'The pair table'; TeX 545 for the eight ligature operations.
+-- What the one-by-one reading (R64 to R76) speaks of; TeX 545 for the eight ligature operations.
 use mathlib.Core.Bool.{Bool, true, false}
 use mathlib.Core.List.{List, [], _∷_}
 use Prim.Native.Nat.{ℕ}
@@ -36,7 +36,7 @@ code (item f c) = c
 abbrev pub plain : ℕ → Item
 plain c = item false c
 
--- an inserted character: it is a ligature, and stays one
+-- an inserted character: it is a ligature, and stays one (R70)
 abbrev pub inserted : ℕ → Item
 inserted c = item true c
 
@@ -45,7 +45,7 @@ pub data Head : Type 0 where
   edge : Head
   at : Item → Head
 
--- rules go by codes: a ligature pairs as the character of its code
+-- rules go by codes: a ligature pairs as the character of its code (R65)
 abbrev pub key : Head → Left
 key edge = bnd
 key (at x) = chr (code x)
@@ -60,7 +60,7 @@ pub data Out : Type 0 where
   glyph : Item → Out
   kern : ℤ → Out
 
--- what is given where the item left of the cursor is finished: a finished left boundary gives nothing
+-- what is given where the item left of the cursor is finished: a finished left boundary gives nothing (R71)
 abbrev pub fin : Head → List Out
 fin edge = []
 fin (at x) = glyph x ∷ []

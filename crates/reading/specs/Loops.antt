@@ -1,7 +1,7 @@
--- The loop list of document 01, 'The pair table' (TFtoPL 90): pairs that never end are walked by left character, the boundary last, then by
--- their rule's index; each walk follows the pair that is waited for and stops at a pair that an earlier walk met; the first pair met
--- again in its own walk is listed. TFtoPL 95 and PLtoTF 124 go on with a value for the pair met again, and so can find that a pair which
--- only waits for a loop (both_z) loops too: docs/DIFFERENCES.md.
+-- The loop list (R83, R87 to R89; TFtoPL 90): pairs that never end are walked by left character, the boundary last, then by their rule's
+-- index; each walk follows the pair that is waited for and stops at a pair that an earlier walk met; the first pair met again in its own
+-- walk is listed. TFtoPL 95 and PLtoTF 124 go on with a value for the pair met again, and so can find that a pair which only waits for a
+-- loop (both_z) loops too: docs/DIFFERENCES.md.
 use mathlib.Core.Bool.{Bool, true, false, cond}
 use mathlib.Core.List.{List, [], _∷_, _++_}
 use mathlib.Core.Option.{Option, none, some}
@@ -38,7 +38,7 @@ leftBefore bnd l = false
 leftBefore (chr a) bnd = true
 leftBefore (chr a) (chr b) = ltb a b
 
--- the order of walks: by left, then by the rule's index
+-- the order of walks: by left, then by the rule's index (R87)
 abbrev pub walkedBefore : Ruled → Ruled → Bool
 walkedBefore p q =
     cond (sameLeft (p .pair .left) (q .pair .left)) (ltb (p .index) (q .index)) (leftBefore (p .pair .left) (q .pair .left))
@@ -63,7 +63,7 @@ unfoldable pub unfinished : Finished → List Ruled → List Ruled
 unfinished f [] = []
 unfinished f (p ∷ ps) = cond (isFinished (f (p .pair .left) (p .pair .right))) (unfinished f ps) (p ∷ unfinished f ps)
 
--- the pair that is followed: the one waited for
+-- the pair that is followed: the one waited for (R88)
 abbrev pub follow : Pair → Option Pair → Pair
 follow p none = p
 follow p (some q) = q
@@ -72,7 +72,7 @@ follow p (some q) = q
 abbrev pub waits : Rules → Finished → Pair → Pair
 waits rule f p = follow p (waitsBy (rule (p .left) (p .right)) f (p .left) (p .right))
 
--- one walk: the pairs that it met, and the pair that it met again, if any
+-- one walk: the pairs that it met, and the pair that it met again, if any (R89)
 pub record Walked : Type 0 where
   pub own : List Pair
   pub found : List Pair

@@ -1,5 +1,5 @@
--- The one-by-one reading. Document 01, 'The pair table': two items stand at the cursor; the rule inserts, deletes and advances.
--- TeX 545 says what the eight operations retain and how far they pass, and TeX 1034 to 1040 is the loop that does it.
+-- The one-by-one reading (R64 to R76): two items stand at the cursor; the rule inserts, deletes and advances. TeX 545 says what the eight
+-- operations retain and how far they pass, and TeX 1034 to 1040 is the loop that does it.
 use mathlib.Core.Path.{_≡_}
 use mathlib.Core.Bool.{Bool, true, false}
 use mathlib.Core.List.{List, [], _∷_, _++_, map}
@@ -12,8 +12,8 @@ use Rattle.lang.specs.declared.operation.PostLigOperation.the-variants.{RetainL
 use Rattle.reading.specs.Items.{Left, Rule, free, kerned, lig, Rules, Item, item, plain, inserted, code, Head, edge, at}
 use Rattle.reading.specs.Items.{key, head, Out, glyph, kern, fin}
 
--- One step at the items x (left of the cursor) and y (right of it): what is given, what then stands left of the cursor, and what
--- takes the place of y. Nothing else is touched.
+-- One step at the items x (left of the cursor) and y (right of it), R66 to R69: what is given, what then stands left of the cursor, and
+-- what takes the place of y. Nothing else is touched.
 pub record Act : Type 0 where
   pub outs : List Out
   pub left : Head
@@ -59,7 +59,7 @@ read rule (suc n) x (y ∷ ys) =
     let a = act (rule (key x) (code y)) x y in
     push (a .outs) (read rule n (a .left) (a .back ++ ys))
 
--- A pair is done when one item remains. It never ends when it is not done after any number of steps.
+-- A pair is done when one item remains (R72). It never ends when it is not done after any number of steps (R73).
 abbrev pub NeverEnds : Rules → Left → ℕ → Type 0
 NeverEnds rule l r = (n : ℕ) → read rule n (head l) (plain r ∷ []) ≡ more
 
@@ -80,7 +80,7 @@ abbrev pub rightItems : Option ℕ → List Item
 rightItems none = []
 rightItems (some r) = plain r ∷ []
 
--- The item that remains is finished, but a right item left as it came gives nothing. (Where there is a right item it is the last of
+-- The item that remains is finished, but a right item left as it came gives nothing (R75). (Where there is a right item it is the last of
 -- the text, so what remains and is no ligature is that item: the theorem `last-plain` says so.)
 abbrev pub remains : Option ℕ → Head → List Out
 remains right edge = []
@@ -93,8 +93,8 @@ abbrev pub close : Option ℕ → Read → Reading
 close right (done os x) = ended (os ++ remains right x)
 close right more = going
 
--- The reading of a word, at most n steps: with the left boundary or without, and with a right item or none.
--- An empty word reads as nothing, whatever its boundaries.
+-- The reading of a word (R74), at most n steps: with the left boundary or without, and with a right item or none. An empty word reads as
+-- nothing, whatever its boundaries (R76).
 unfoldable pub reading : Rules → ℕ → Bool → List ℕ → Option ℕ → Reading
 reading rule n b [] right = ended []
 reading rule n true (c ∷ cs) right = close right (read rule n edge (map plain (c ∷ cs) ++ rightItems right))

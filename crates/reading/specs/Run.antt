@@ -30,7 +30,8 @@ abbrev pub headFlag : Head → Bool
 headFlag edge = false
 headFlag (at x) = flag x
 
--- the ops and the last of a left and a right: those of the table, or, where it has no entry, the left finished and the right as it came
+-- the ops and the last of a left and a right: those of the table, or, where it has no entry (R115), the left finished and the right as it
+-- came
 abbrev pub entryOr : Option Res → Head → ℕ → Res
 entryOr none x r = record { outs = fin x; last = plain r }
 entryOr (some q) x r = raised (headFlag x) false q
@@ -39,7 +40,7 @@ entryOr (some q) x r = raised (headFlag x) false q
 abbrev pub lookUp : Finished → Head → ℕ → Res
 lookUp table x r = entryOr (table (key x) r) x r
 
--- at the word's end a right item that is left as it came gives nothing
+-- at the word's end a right item that is left as it came gives nothing (R113)
 abbrev pub plainAfterRight : Item → PlainNext
 plainAfterRight (item true c) = final c
 plainAfterRight (item false c) = stop
@@ -51,7 +52,7 @@ given [] (final c) rest = record { gives = some (glyph (inserted c)); run = reco
 given [] stop rest = record { gives = none; run = record { ops = []; next = stop; rest = rest } }
 given [] (left x) rest = record { gives = none; run = record { ops = []; next = left x; rest = rest } }
 
--- the word's end: the last left is looked up with the right item, where there is one
+-- the word's end (R112): the last left is looked up with the right item, where there is one
 abbrev pub atEnd : Finished → Option ℕ → Head → PlainAnswer
 atEnd table right edge = given [] (left edge) []
 atEnd table none (at x) = given (fin (at x)) stop []

@@ -1,5 +1,5 @@
 -- What is answered once the repaired program, its passthrough and its warnings are known: 15 where a list is too short for them, and the
--- warnings are zeroed; else the program and its passthrough are copied. The lists that they are copied to come zeroed.
+-- warnings are zeroed; else the program and its passthrough are copied. The lists that they are copied to come zeroed (R244, R252).
 use mathlib.Core.Path.{_≡_}
 use mathlib.Core.List.{List, [], _∷_}
 use Prim.Native.Nat.{ℕ, _*_}

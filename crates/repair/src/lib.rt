@@ -1,7 +1,7 @@
 // Repair, after `validate_and_fix` of ligkern/lang.rs (lines 691 to 818): TFtoPL 66 to 77 and 88 to 95. The passes are
-// crate `mending`'s; here are the refusals 1 to 4 before them and 15 after them. The repaired program stands in a local
-// array until it is known that the lists which were lent are long enough, since 12, which is of the repaired program,
-// comes before 15.
+// crate `repair_passes`'s; here are the refusals 1 to 4 before them and 15 after them. The repaired program stands in a
+// local array until it is known that the lists which were lent are long enough, since 12, which is of the repaired
+// program, comes before 15.
 ghost use mathlib.Core.Path.{_≡_};
 ghost use mathlib.Core.List.{List};
 ghost use Prim.Native.Nat.{ℕ, _≤_};

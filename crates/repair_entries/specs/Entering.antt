@@ -1,5 +1,5 @@
--- TFtoPL 67 and 69: the entries of a font that is repaired, unpacked; what is passed over; and the warnings of both. The first part of
--- `validate_and_fix` of ligkern/lang.rs.
+-- R169, R170 and R182; TFtoPL 67 and 69: the entries of a font that is repaired, unpacked; what is passed over; and the warnings of both.
+-- The first part of `validate_and_fix` of ligkern/lang.rs.
 use mathlib.Core.Path.{_≡_}
 use mathlib.Core.Bool.{Bool, true, cond}
 use mathlib.Core.List.{List, [], _∷_, _++_}

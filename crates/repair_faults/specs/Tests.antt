@@ -1,5 +1,5 @@
--- Each test of a step (TFtoPL 70 to 77) over those lists alone that it asks of: the tests of crate `repairs`, at a program whose other
--- parts are nothing.
+-- Each test of a step (R171 to R177; TFtoPL 70 to 77) over those lists alone that it asks of: the tests of crate `repairs`, at a program
+-- whose other parts are nothing.
 use mathlib.Core.Bool.{Bool}
 use mathlib.Core.List.{List, []}
 use Prim.Native.Nat.{ℕ}

@@ -1,5 +1,5 @@
 // What is wrong with a step of a program, after `validate_and_fix` of ligkern/lang.rs (lines 722 to 806); TFtoPL 70 to
-// 77. Nothing is repaired here: crate `fixes` does.
+// 77. Nothing is repaired here: crate `repair_fixes` does.
 ghost use mathlib.Core.Path.{_≡_};
 ghost use Prim.Native.Nat.{ℕ};
 ghost use lib.ListN.{getD};

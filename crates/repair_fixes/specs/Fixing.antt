@@ -1,4 +1,4 @@
--- What the pass of repair over the steps of a program is held to: TFtoPL 70 to 77.
+-- What the pass of repair over the steps of a program is held to: R171 to R177; TFtoPL 70 to 77.
 use mathlib.Core.Path.{_≡_}
 use mathlib.Core.List.{List, _++_}
 use Prim.Native.Nat.{ℕ}

@@ -1,5 +1,5 @@
 // The pass of repair over the steps of a program, after `validate_and_fix` of ligkern/lang.rs (lines 722 to 806);
-// TFtoPL 70 to 77. Crate `faults` says what is wrong with a step; here it is warned of and repaired.
+// TFtoPL 70 to 77. Crate `repair_faults` says what is wrong with a step; here it is warned of and repaired.
 ghost use mathlib.Core.Path.{_≡_};
 ghost use mathlib.Core.Bool.{true, cond};
 ghost use Prim.Native.Nat.{ℕ, _*_, _<_, _≤_};

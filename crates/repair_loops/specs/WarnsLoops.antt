@@ -1,4 +1,4 @@
--- The warnings of a font's loops, after n others: the contract of `warn_loops`.
+-- The warnings of a font's loops (R178), after n others: the contract of `warn_loops`.
 use mathlib.Core.Path.{_≡_}
 use mathlib.Core.List.{List, [], _∷_}
 use Prim.Native.Nat.{ℕ, zero, suc, _+_, _*_, _/_}

@@ -1,4 +1,4 @@
--- A font as it is lent to be repaired: document 01, 'Repair, packing, reach'; TFtoPL 66 to 70. Its entries are packed ones.
+-- A font as it is lent to be repaired (R164); TFtoPL 66 to 70. Its entries are packed ones.
 use mathlib.Core.Bool.{Bool, true, false, cond}
 use mathlib.Core.List.{List, [], _∷_, _++_}
 use Prim.Native.Nat.{ℕ, zero, suc, _/_}
@@ -14,8 +14,8 @@ use Rattle.lang.specs.Checks.{charAt, entryAt}
 use Rattle.entry_targets.specs.Targets.{standsFor, entryRefusal}
 use Rattle.reach_marks.specs.Marks.{reachable}
 
--- The replacement is what a character that does not exist becomes (the Rust's smallest_char); it need not exist. The existing
--- characters are a set of 256 bits, in four words of 64. Passthrough is one byte an instruction.
+-- The replacement is what a character that does not exist becomes (the Rust's smallest_char); it need not exist (R166). The existing
+-- characters are a set of 256 bits (R38), in four words of 64. Passthrough is one byte an instruction (R39).
 pub record Damaged : Type 0 where
   pub instructions : List ℤ
   pub kerns : List ℤ
@@ -26,7 +26,7 @@ pub record Damaged : Type 0 where
   pub existing : List ℕ
   pub passthrough : List ℕ
 
--- ---- TFtoPL 67: entries that unpack
+-- ---- R170, TFtoPL 67: entries that unpack
 
 -- the packed entry at place k of the entries
 abbrev pub packedEntryOf : Damaged → ℕ → ℕ
@@ -54,11 +54,11 @@ redirectsAt d i (suc k) =
     cond (both (unpacks d k) (both (isKind 3 (d .instructions) (packedEntryOf d k)) (eqb (packedEntryOf d k) i)))
     true (redirectsAt d i k)
 
--- instruction i is passed over: it came so, or an entry unpacks by it
+-- instruction i is passed over: it came so, or an entry unpacks by it (R182)
 abbrev pub passedOver : Damaged → ℕ → Bool
 passedOver d i = cond (eqb (getD (d .passthrough) i 0) 0) (redirectsAt d i (length (d .entries) / 2)) true
 
--- ---- TFtoPL 69: the left boundary's entry
+-- ---- R169, TFtoPL 69: the left boundary's entry
 
 -- it is past the end
 abbrev pub leftGoes : Damaged → Bool
@@ -97,7 +97,7 @@ programBy instructions kerns boundary replacement existing marks passthrough =
       passthrough = passthrough;
     }
 
--- reachable is what crate `reach_marks` says of the font as lent, with the entries that unpack
+-- reachable is what crate `reach_marks` says of the font as lent, with the entries that unpack (R182)
 abbrev pub programOf : Damaged → DamagedProgram
 programOf d =
     programBy (d .instructions) (d .kerns) (d .boundary) (d .replacement) (d .existing)

@@ -6,7 +6,7 @@ use lib.IntN.{ℤ}
 use lib.ListN.{length}
 use lib.Seq.{sets}
 
--- After n warnings come those of ws, four numbers each, and there are r then. What passes the end of the lent list is left off.
+-- After n warnings come those of ws, four numbers each (R167), and there are r then. What passes the end of the lent list is left off.
 pub record Pushed (warnings : List ℤ) (n : ℕ) (ws warnings′ : List ℤ) (r : ℕ) : Type 0 where
   pub count : 4 * r ≡ 4 * n + length ws
   pub list : warnings′ ≡ sets warnings (4 * n) ws

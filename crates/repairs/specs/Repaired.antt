@@ -1,4 +1,4 @@
--- A font repaired: TFtoPL 70 (skips) and 71 to 77 (steps), step by step.
+-- A font repaired (R171 to R177): TFtoPL 70 (skips) and 71 to 77 (steps), step by step.
 use mathlib.Core.Bool.{Bool, true, false, cond, not}
 use mathlib.Core.List.{List, [], _∷_, _++_}
 use Prim.Native.Nat.{ℕ, zero, suc, _+_, _*_, _/_, _%_, _^_}
@@ -27,7 +27,7 @@ isReachable p i = cond (eqb (getD (p .marks) i 0) 0) false true
 abbrev pub isPassedOver : DamagedProgram → ℕ → Bool
 isPassedOver p i = cond (eqb (getD (p .passthrough) i 0) 0) false true
 
--- ---- TFtoPL 70: skips
+-- ---- R171, TFtoPL 70: skips
 
 -- the skip of step i, which is reachable, passes the end
 abbrev pub skipGoes : DamagedProgram → ℕ → Bool
@@ -39,7 +39,7 @@ skipGoes p i =
 abbrev pub repairedNext : DamagedProgram → ℕ → ℤ
 repairedNext p i = cond (skipGoes p i) (negsuc 0) (field (p .instructions) i 0)
 
--- ---- TFtoPL 71 to 77: steps
+-- ---- R172 to R177, TFtoPL 71 to 77: steps
 
 -- step i is a redirect, kind 3
 abbrev pub isRedirect : DamagedProgram → ℕ → Bool
@@ -49,13 +49,13 @@ isRedirect p i = isKind 3 (p .instructions) i
 abbrev pub isLigature : DamagedProgram → ℕ → Bool
 isLigature p i = isKind 2 (p .instructions) i
 
--- 9: a redirect whose target is past the end, unless it is unreachable and passed over
+-- 9 (R177): a redirect whose target is past the end, unless it is unreachable and passed over
 abbrev pub redirectWarns : DamagedProgram → ℕ → Bool
 redirectWarns p i =
     both (isRedirect p i)
     (both (leb (count (p .instructions)) (targetAt (p .instructions) i)) (cond (isReachable p i) true (not (isPassedOver p i))))
 
--- a right character is the boundary character, where there is one
+-- a right character is the boundary character, where there is one (R172, R173)
 abbrev pub isBoundary : DamagedProgram → ℤ → Bool
 isBoundary p right = both (nonNeg (p .boundary)) (eqb (wordOf (p .boundary)) (wordOf right))
 
@@ -69,7 +69,7 @@ rightGoes p i =
 abbrev pub repairedRight : DamagedProgram → ℕ → ℤ
 repairedRight p i = cond (rightGoes p i) (pos (p .replacement)) (field (p .instructions) i 1)
 
--- a kern index is past the list
+-- a kern index is past the list (R175)
 abbrev pub kernGoes : DamagedProgram → ℕ → Bool
 kernGoes p i = both (isKind 1 (p .instructions) i) (leb (length (p .kerns)) (wordOf (field (p .instructions) i 3)))
 
@@ -81,11 +81,11 @@ opByteAt p i = wordOf (field (p .instructions) i 3) / 256
 abbrev pub insertedBy : DamagedProgram → ℕ → ℕ
 insertedBy p i = wordOf (field (p .instructions) i 3) % 256
 
--- it inserts a character that does not exist
+-- it inserts a character that does not exist (R174)
 abbrev pub productGoes : DamagedProgram → ℕ → Bool
 productGoes p i = both (isLigature p i) (not (exists p (insertedBy p i)))
 
--- its op byte is not standard
+-- its op byte is not standard (R176)
 abbrev pub tagGoes : DamagedProgram → ℕ → Bool
 tagGoes p i = both (isLigature p i) (not (isStandard (opByteAt p i)))
 
@@ -127,7 +127,7 @@ repairedUpto p (suc k) = repairedUpto p k ++ repairedStep p k
 abbrev pub repairedInstructions : Damaged → List ℤ
 repairedInstructions d = repairedUpto (programOf d) (count (d .instructions))
 
--- its loops are looked for at a dummy design size, FixWord::ONE times ten
+-- its loops are looked for at a dummy design size, FixWord::ONE times ten (R183)
 abbrev pub repairedFont : Damaged → Font
 repairedFont d =
     fontOf (repairedInstructions d) (d .kerns) (unpackedEntries d) (d .boundary) (repairedLeft d) (pos (10 * 1048576))

@@ -1,5 +1,4 @@
--- THE contract of repair: its refusals, its answer, and the final content of every lent list. Document 01, 'Repair, packing, reach' and the
--- table of numbers.
+-- THE contract of repair (R164, R165): its refusals, its answer, and the final content of every lent list.
 use mathlib.Core.Path.{_≡_}
 use mathlib.Core.Bool.{cond}
 use mathlib.Core.List.{List, [], _∷_}
@@ -49,11 +48,11 @@ damagedRefusal d =
     (orElse (absentRefusal 65535 (d .left))
     (orElse (unless 4 (leb (d .replacement) 255)) (passthroughRefusal (d .passthrough) (d .instructions)))))))
 
--- 12: the repaired font has more pairs with a rule than a work buffer of so many places holds at sixteen each
+-- 12 (R184, R241): the repaired font has more pairs with a rule than a work buffer of so many places holds at sixteen each
 abbrev pub repairedPairsRefusal : Damaged → ℕ → ℕ
 repairedPairsRefusal d work = cond (leb (length (pairsOf (repairedFont d))) (work / 16)) 0 12
 
--- 15: a list is too short for the repaired instructions, for their passthrough, or for the warnings
+-- 15 (R244): a list is too short for the repaired instructions, for their passthrough, or for the warnings
 abbrev pub repairRoomRefusal : Damaged → RepairRoom → ℕ
 repairRoomRefusal d room =
     orElse (roomRefusal (4 * count (d .instructions)) (room .instructions))
@@ -63,7 +62,7 @@ repairRoomRefusal d room =
 abbrev pub repairRefusal : Damaged → RepairRoom → ℕ
 repairRefusal d room = orElse (damagedRefusal d) (orElse (repairedPairsRefusal d (room .work)) (repairRoomRefusal d room))
 
--- what repair answers, as document 01 has it: the left entry and how many warnings there are, or the number
+-- what repair answers, as a number and values (R285): the left entry and how many warnings there are (R165), or the number
 abbrev pub validatedReply : Validated → Reply
 validatedReply (Fixed left n) = replyOf 0 (left ∷ pos n ∷ [])
 validatedReply (Refused n) = record { number = n; values = [] }
@@ -73,7 +72,7 @@ abbrev pub roomFor : List ℤ → List ℕ → List ℤ → List ℕ → RepairR
 roomFor fixed through warnings work =
     record { instructions = length fixed; passthrough = length through; warnings = length warnings; work = length work }
 
--- THE contract of validate_and_fix: the answer, and every list, taken or refused
+-- THE contract of validate_and_fix: the answer, and every list, taken or refused (R255, R252)
 pub record Repairs (d : Damaged) (fixed : List ℤ) (through : List ℕ) (warnings : List ℤ) (work : List ℕ) (r : Validated)
     (fixed′ : List ℤ) (through′ : List ℕ) (warnings′ : List ℤ) (work′ : List ℕ) : Type 0 where
   pub answer : validatedReply r ≡

@@ -1,5 +1,5 @@
--- The warnings of a font, four numbers each: kind, index or character, old, new; unused numbers are zero. Document 01, 'Repair, packing,
--- reach'; TFtoPL 66 to 77 and 88 to 95. The order is the Rust's.
+-- The warnings of a font (R167 to R181), four numbers each: kind, index or character, old, new; unused numbers are zero. TFtoPL 66 to 77
+-- and 88 to 95. The order is the Rust's (R180, R181).
 use mathlib.Core.Bool.{Bool, cond, not}
 use mathlib.Core.List.{List, [], _∷_, _++_}
 use Prim.Native.Nat.{ℕ, zero, suc, _/_}
@@ -22,21 +22,21 @@ warning kind at old new = pos kind ∷ at ∷ old ∷ new ∷ []
 abbrev pub warnIf : Bool → List ℤ → List ℤ
 warnIf t w = cond t w []
 
--- 1: the left entry is past the end
+-- 1 (R169): the left entry is past the end
 abbrev pub leftWarning : Damaged → List ℤ
 leftWarning d = warnIf (leftGoes d) (warning 1 (pos 0) (pos 0) (pos 0))
 
--- 2: of the first k entries, those that do not unpack
+-- 2 (R170): of the first k entries, those that do not unpack
 unfoldable pub entryWarnings : Damaged → ℕ → List ℤ
 entryWarnings d zero = []
 entryWarnings d (suc k) = entryWarnings d k ++ warnIf (not (unpacks d k)) (warning 2 (charAt (d .entries) k) (pos 0) (pos 0))
 
--- 3: of the first k steps, those that are reachable and skip past the end
+-- 3 (R171): of the first k steps, those that are reachable and skip past the end
 unfoldable pub skipWarnings : DamagedProgram → ℕ → List ℤ
 skipWarnings p zero = []
 skipWarnings p (suc k) = skipWarnings p k ++ warnIf (skipGoes p k) (warning 3 (pos k) (pos 0) (pos 0))
 
--- of step i: 9; or 4 (a ligature step) or 5 (a kern step), then 7, or 6 and 8
+-- of step i (R181): 9; or 4 (a ligature step) or 5 (a kern step), then 7, or 6 and 8
 abbrev pub stepWarnings : DamagedProgram → ℕ → List ℤ
 stepWarnings p i =
     warnIf (redirectWarns p i) (warning 9 (pos i) (pos 0) (pos 0))
@@ -45,12 +45,12 @@ stepWarnings p i =
     ++ warnIf (productGoes p i) (warning 6 (pos i) (pos (insertedBy p i)) (pos (p .replacement)))
     ++ warnIf (tagGoes p i) (warning 8 (pos i) (pos 0) (pos 0))
 
--- of the first k steps, reachable or not
+-- of the first k steps, reachable or not (R179)
 unfoldable pub stepsWarnings : DamagedProgram → ℕ → List ℤ
 stepsWarnings p zero = []
 stepsWarnings p (suc k) = stepsWarnings p k ++ stepWarnings p k
 
--- 10: the loops of the repaired font
+-- 10 (R178): the loops of the repaired font
 unfoldable pub loopWarnings : List Pair → List ℤ
 loopWarnings [] = []
 loopWarnings (p ∷ ps) = warning 10 (leftNumber (p .left)) (pos (p .right)) (pos 0) ++ loopWarnings ps
@@ -63,6 +63,6 @@ repairWarnings d =
     ++ skipWarnings (programOf d) (count (d .instructions))
     ++ stepsWarnings (programOf d) (count (d .instructions))
 
--- all of them, in their order
+-- all of them, in their order (R180)
 abbrev pub warningsOf : Damaged → List ℤ
 warningsOf d = repairWarnings d ++ loopWarnings (loopsOfFont (repairedFont d))

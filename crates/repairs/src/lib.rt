@@ -1,6 +1,6 @@
 // Repair, after `validate_and_fix` of ligkern/lang.rs (lines 691 to 818): what is warned of and the font repaired
 // (specs/), what is proved of them (proofs/), and the types that the passes of repair answer each other with. Crate
-// `validate` repairs.
+// `repair` repairs.
 
 // What is wrong with a step: its skip passes the end; it is a redirect to be warned of; its right character neither
 // exists nor is the boundary character; its kern index is past the list; the character that it inserts does not exist;

@@ -1,3 +1,3 @@
--- The laws of the place of a pair.
+-- The laws of step_quick_find.
 --   Laws   the tests of the code, and its search
 pub mod Laws

@@ -1,3 +1,3 @@
--- The laws of the first ops.
+-- The laws of step_quick_op.
 --   Laws   the tests of the code
 pub mod Laws

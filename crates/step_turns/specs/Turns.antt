@@ -1,4 +1,4 @@
--- The loop of a step while it runs: one turn of it, and what keeps its sums small.
+-- The loop of a step (R286) while it runs: one turn of it, and what keeps its sums small.
 use mathlib.Core.Path.{_≡_}
 use mathlib.Core.Bool.{true, cond}
 use mathlib.Core.List.{List}

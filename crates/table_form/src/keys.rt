@@ -1,4 +1,4 @@
-// The keys of a whole table: what is asked of a table by those who read no ops, crates table_queries and fill_index.
+// The keys of a whole table: what is asked of a table by those who read no ops, crates table_queries and index_fill.
 ghost use mathlib.Core.Path.{_≡_};
 ghost use Rattle.lang.specs.Every.{every};
 ghost use Rattle.captions.specs.Tables.{pairCount};

@@ -1,5 +1,5 @@
-// The form of a pair table: document 01, last paragraph before the marked readings. The whole of it is tested by crate
-// table_form_pass; here are the refusal and the key of one pair.
+// The form of a pair table (R256 to R262). The whole of it is tested by crate table_form_pass; here are the refusal and
+// the key of one pair.
 //   keys  the keys of all pairs
 ghost use mathlib.Core.Path.{_≡_};
 ghost use Rattle.words.specs.Words.{numberOf};

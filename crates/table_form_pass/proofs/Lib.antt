@@ -1,4 +1,4 @@
--- The laws of one_pass.
+-- The laws of table_form_pass.
 --   KeyLaws      a pair's place in the order, by the least key that it may have
 --   Entries      a record that fits: its ops and its last
 --   PairOps      a pair's ops stepped from the front

@@ -1,5 +1,5 @@
--- What is tested in one pass over the pairs of a table: `contentForm`, the form but for the sizes, and the parts of the pass that have a
--- function of their own. That the pass tests the form is proved.
+-- What is tested in one pass over the pairs of a table: `contentForm`, the form (R256 to R262) but for the sizes, and the parts of the pass
+-- that have a function of their own. That the pass tests the form is proved.
 use mathlib.Core.Path.{_≡_}
 use mathlib.Core.Bool.{Bool, true, cond}
 use mathlib.Core.List.{List}

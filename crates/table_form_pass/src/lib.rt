@@ -1,6 +1,6 @@
-// The form of a pair table, tested in one pass: document 01, last paragraph before the marked readings. Each pair is
-// tested against the key of the pair before it and the place where the ops of that pair end. So every op is tested
-// once, with the pair that it is of: the ops of the pairs are all the ops, one pair's after the other's.
+// The form of a pair table (R256 to R262), tested in one pass. Each pair is tested against the key of the pair before
+// it and the place where the ops of that pair end. So every op is tested once, with the pair that it is of: the ops of
+// the pairs are all the ops, one pair's after the other's.
 ghost use mathlib.Core.Path.{_≡_};
 ghost use Prim.Native.Nat.{_+_, _/_, _%_, _<_, _≤_};
 ghost use lib.ListN.{length};

@@ -9,7 +9,7 @@ use Rattle.lang.specs.Every.{both}
 use Rattle.lang.specs.Records.{within}
 use Rattle.captions.specs.Tables.{number, lastFlag, lastCode}
 
--- of `recordFits`: what the last must be
+-- of `recordFits`: what the last must be (R257, R260)
 abbrev pub lastFits : List ℤ → ℕ → Bool
 lastFits pairs k =
     both (within 255 (number pairs k 2))

@@ -1,4 +1,4 @@
-// The requests and answers of tools/oracle, as the program vectors reads and writes them. Files by concern:
+// The requests and answers of tools/oracle, as the program test_vectors reads and writes them. Files by concern:
 //   read     the lines of a text, and the numbers of a line
 //   request  the lists among these numbers, and the font at their end
 //   answer   the numbers of an answer

@@ -1,7 +1,7 @@
 // Answers column texts with this port. Standard input is a list of texts: a line with the letter T, a text's length in
 // bytes and, where it is not 65,536, the length of the reply that is lent for it; then its bytes. For each text a line
 // with what `ligcols` returned is written, and then the bytes of the reply. `stdout` beside this crate's source holds
-// the same, made by tools/oracle/texts from document 01 and the Rust's answers, and the gate compares the two.
+// the same, made by tools/oracle/texts from docs/RULES.md and the Rust's answers, and the gate compares the two.
 ghost use mathlib.Core.Path.{_≡_};
 ghost use lib.ListN.{length};
 use test_requests::read::line_end;

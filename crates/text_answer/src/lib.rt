@@ -1,5 +1,5 @@
-// The column text for a host: a text in, the reply in bytes out. Document 01, 'The column text'. Crate `scan` reads the
-// text, and `font_reply` answers for the font and the word that it says.
+// The column text for a host: a text in, the reply in bytes out (R211). Crate `text_scan` reads the text, and
+// `text_font_reply` answers for the font and the word that it says.
 ghost use mathlib.Core.Path.{_≡_};
 ghost use lib.ListN.{length};
 ghost use Rattle.columns.specs.Ligcols.{numberOfText, bytesOfText, AnswersText};

@@ -1,4 +1,4 @@
--- Two digits as one number of two bytes, and a number spelled at the end of 12 columns.
+-- Two digits as one number of two bytes, and a number spelled at the end of 12 columns (R186).
 use mathlib.Core.Path.{_≡_}
 use mathlib.Core.Bool.{cond}
 use mathlib.Core.List.{List}

@@ -1,4 +1,4 @@
--- What the steps of reading a field promise. A part of a text is `slice from end text`.
+-- What the steps of reading a field (R186, R187) promise. A part of a text is `slice from end text`.
 use mathlib.Core.Path.{_≡_}
 use mathlib.Core.List.{List}
 use mathlib.Core.Option.{Option, none, some}

@@ -1,6 +1,5 @@
-// A field of a column text read: document 01, 'The column text'. Blanks, then a number. Most fields are eight blanks
-// and at most three digits in the columns after them: the eight are passed at once, and those digits are read without a
-// loop.
+// A field of a column text read (R186, R187): blanks, then a number. Most fields are eight blanks and at most three
+// digits in the columns after them: the eight are passed at once, and those digits are read without a loop.
 ghost use mathlib.Core.Path.{_≡_};
 ghost use lib.Seq.{slice};
 ghost use Rattle.columns.specs.Numbers.{readField};

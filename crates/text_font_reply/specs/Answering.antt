@@ -1,4 +1,4 @@
--- What answer_font and the functions below it are held to: the bytes that are written, or a number.
+-- What answer_font and the functions below it are held to: the bytes that are written, or a number (R200 to R204).
 use mathlib.Core.Path.{_≡_}
 use mathlib.Core.List.{List, [], _∷_}
 use Prim.Native.Nat.{ℕ}

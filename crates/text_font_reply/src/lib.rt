@@ -1,5 +1,5 @@
-// A font with its word, as a reply: compiled, its word set, the reply written; or the number of a refusal. Document 01,
-// 'The column text'. What compiling wrote has the form of a table, so nothing checks it again.
+// A font with its word, as a reply: compiled, its word set, the reply written; or the number of a refusal (R200 to
+// R204). What compiling wrote has the form of a table, so nothing checks it again.
 ghost use mathlib.Core.Path.{_≡_};
 ghost use mathlib.Core.List.{[]};
 ghost use Prim.Native.Nat.{_<_};

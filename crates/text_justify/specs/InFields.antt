@@ -1,4 +1,4 @@
--- Numbers of a list that is lent, in fields at a place, and when there is room for them.
+-- Numbers of a list that is lent, in fields (R186) at a place, and when there is room for them.
 use mathlib.Core.Bool.{Bool, cond}
 use mathlib.Core.List.{List, [], _∷_, _++_}
 use Prim.Native.Nat.{ℕ, _+_, _-_, _*_}

@@ -1,5 +1,5 @@
-// Numbers of a list in fields of 12 columns, right-justified, one after the other: blanks, and the numbers over them.
-// Document 01, 'The column text'.
+// Numbers of a list in fields of 12 columns, right-justified (R186), one after the other: blanks, and the numbers over
+// them.
 ghost use mathlib.Core.Path.{_≡_};
 ghost use Prim.Native.Nat.{_+_, _<_, _≤_};
 ghost use lib.IntN.{pos};

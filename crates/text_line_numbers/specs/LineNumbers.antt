@@ -1,5 +1,4 @@
--- A line of n numbers, from the byte after its letter on, and what is stored of it. Document 01, 'The column text'. The contracts of crate
--- text_line_numbers.
+-- A line of n numbers (R185), from the byte after its letter on, and what is stored of it. The contracts of crate text_line_numbers.
 use mathlib.Core.Path.{_≡_}
 use mathlib.Core.Bool.{Bool, true, false, cond}
 use mathlib.Core.List.{List, map}

@@ -1,6 +1,5 @@
-// The numbers of a line of a column text: fields from the place after its letter on, and a line feed after them.
-// Document 01, 'The column text'. Each public function is total, and takes a line only where all of its numbers have a
-// place.
+// The numbers of a line of a column text: fields from the place after its letter on, and a line feed after them (R185).
+// Each public function is total, and takes a line only where all of its numbers have a place.
 ghost use mathlib.Core.Path.{_≡_};
 ghost use Prim.Native.Nat.{_+_, _*_, _≤_};
 ghost use lib.ListN.{length, drop};

@@ -1,4 +1,4 @@
--- Lines of so many numbers each from a list that is lent, bytes that are written at a place, and when there is room for them.
+-- Lines of so many numbers each (R185, R205) from a list that is lent, bytes that are written at a place, and when there is room for them.
 use mathlib.Core.Path.{_≡_}
 use mathlib.Core.Bool.{Bool, cond}
 use mathlib.Core.List.{List, [], _∷_, _++_}

@@ -1,5 +1,5 @@
-// Lines of a column text, written in place: a letter, so many numbers in fields of 12 columns, a line feed. Document
-// 01, 'The column text'.
+// Lines of a column text, written in place: a letter, so many numbers in fields of 12 columns, a line feed (R185,
+// R205).
 ghost use mathlib.Core.Path.{_≡_};
 ghost use Prim.Native.Nat.{_+_, _*_, _^_, _<_, _≤_};
 ghost use lib.ListN.{length};

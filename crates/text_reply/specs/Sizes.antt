@@ -1,5 +1,5 @@
--- A length that is counted no further than one past the limit of a reply, so that no sum wraps whatever is lent; and the bytes of the
--- pair table.
+-- A length that is counted no further than one past the limit of a reply (R204), so that no sum wraps whatever is lent; and the bytes of
+-- the pair table.
 use mathlib.Core.Bool.{cond}
 use mathlib.Core.List.{List}
 use Prim.Native.Nat.{ℕ}

@@ -1,5 +1,5 @@
-// The reply to a column text, written. Document 01, 'The column text'. First its length is decided (size), then its
-// parts are written, each line once and in place (parts), and zeros after the last.
+// The reply to a column text, written (R204 to R210). First its length is decided (size), then its parts are written,
+// each line once and in place (parts), and zeros after the last.
 ghost use mathlib.Core.Path.{_≡_};
 ghost use lib.Dec.{leb};
 ghost use Rattle.lang.specs.Every.{both};

@@ -1,4 +1,4 @@
--- Where reading stands, and what it holds: the contracts of the functions that read a line.
+-- Where reading a text (R188 to R199) stands, and what it holds: the contracts of the functions that read a line.
 use mathlib.Core.Path.{_≡_}
 use mathlib.Core.Bool.{Bool, true, cond}
 use mathlib.Core.List.{List, [], _∷_, map}

@@ -1,5 +1,5 @@
--- A list of items, six numbers each: when an answer is an item, what keeps its numbers i32, what is written of it, and what is left
--- where a run stops. The contracts of crate word_items.
+-- A list of items, six numbers each (R132, R133): when an answer is an item, what keeps its numbers i32, what is written of it, and what is
+-- left where a run stops. The contracts of crate word_items.
 use mathlib.Core.Path.{_≡_}
 use mathlib.Core.Bool.{Bool, true, false, cond}
 use mathlib.Core.List.{List}

@@ -1,5 +1,5 @@
-// A list of items, six numbers each as a T line has them: one item written, and what is answered where a run stops.
-// Document 01, 'Caption items' and 'The column text'. Each function is total.
+// A list of items, six numbers each as a T line has them (R132, R133): one item written, and what is answered where a
+// run stops (R134). Each function is total.
 ghost use mathlib.Core.Path.{_≡_};
 ghost use Rattle.words.specs.Words.{numberOf};
 ghost use Rattle.captions.specs.Replies.{bitNumber, answerReply};

@@ -1,4 +1,4 @@
--- What a word set whole is, for a font that compile accepts: demand 3 speaks of any number of steps, and `Answered` of
+-- What a word set whole is, for a font that compile accepts: demand 3 (R14 to R23) speaks of any number of steps, and `Answered` of
 -- captions/specs/Demand3 says what they answer. The theorem is `every-word` of proofs/Theorems.
 use mathlib.Core.Path.{_≡_}
 use mathlib.Core.List.{List, [], _∷_, _++_, map}

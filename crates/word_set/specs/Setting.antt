@@ -1,5 +1,4 @@
--- A word set whole: the items of a run up to its end, six numbers each as a T line has them. Document 01, 'Caption items' and 'The
--- column text'. The contract of `set_word`.
+-- A word set whole (R131 to R134): the items of a run up to its end, six numbers each as a T line has them. The contract of `set_word`.
 use mathlib.Core.Path.{_≡_}
 use mathlib.Core.List.{List, [], _∷_, _++_}
 use Prim.Native.Nat.{ℕ, zero, suc, _/_}
@@ -28,7 +27,7 @@ andThen (Kern k) r = numbersBefore (answerReply (Kern k) .values) r
 andThen End r = replyOf 0 []
 andThen (Refused k) r = record { number = k; values = [] }
 
--- the numbers of the items up to the end, by a step, from a state on; 15 where there are more than n items
+-- the numbers of the items up to the end, by a step, from a state on; 15 where there are more than n items (R134)
 unfoldable pub itemsBy : (State → Step) → ℕ → State → Reply
 itemsBy step zero s = andThen (step s .answer) (replyOf 15 [])
 itemsBy step (suc n) s = andThen (step s .answer) (itemsBy step n (step s .state))
@@ -42,7 +41,7 @@ abbrev pub afterBegin : ℕ → Reply → Reply
 afterBegin zero r = r
 afterBegin (suc k) r = record { number = suc k; values = [] }
 
--- begin's numbers first; then the items of the run, of which a list of `room` numbers holds room / 6
+-- begin's numbers first; then the items of the run, of which a list of `room` numbers holds room / 6 (R134)
 abbrev pub setReply : List ℤ → List ℤ → ℤ → List ℕ → RunOptions → ℕ → Reply
 setReply pairs ops boundary word options room =
     afterBegin (beginRefusal pairs ops boundary word options)

@@ -1,5 +1,5 @@
-// A word set whole: a run from its begin to its end, each item as the six numbers of a T line. Document 01, 'Caption
-// items' and 'The column text'; after the loop over what `run_with_options` of ligkern/mod.rs returns.
+// A word set whole (R131 to R134): a run from its begin to its end, each item as the six numbers of a T line; after the
+// loop over what `run_with_options` of ligkern/mod.rs returns.
 ghost use mathlib.Core.Path.{_≡_};
 ghost use Prim.Native.Nat.{_/_};
 ghost use lib.ListN.{length, replicate};

@@ -1,9 +1,9 @@
--- An answer as document 01 has it. A function that answers by an enum is held to its number and values, by a definition for that enum.
+-- An answer as a number and values. A function that answers by an enum is held to them, by a definition for that enum (R285).
 use mathlib.Core.List.{List, []}
 use Prim.Native.Nat.{ℕ, zero, suc}
 use lib.IntN.{ℤ}
 
--- an answer as document 01 has it: the number (0 where it is taken) and the values
+-- an answer: the number, 0 where it is taken and else one of R230 to R245, and the values
 pub record Reply : Type 0 where
   pub number : ℕ
   pub values : List ℤ

@@ -1,5 +1,5 @@
 //! The calls tried on one font: each with its lists, how long they must be, and the number due where one is short
-//! (document 01: 12 of the work buffer and the pair table, 14 of the op table, 15 of the others; 1, 4 and 7 of lists
+//! (docs/RULES.md: 12 of the work buffer and the pair table, 14 of the op table, 15 of the others; 1, 4 and 7 of lists
 //! that are read and are not whole). captions.rs has compiling and what follows from it.
 
 use crate::calls::*;

@@ -1,5 +1,5 @@
 //! The Rust asked: the published functions, with their panics caught and told apart by what they say. Where a panic
-//! is a number of document 01, that number is the answer, and it is counted. The same is found in the same way by
+//! is a refusal of docs/RULES.md, its number is the answer, and it is counted. The same is found in the same way by
 //! tools/oracle (its README, 'Which refusal a panic is').
 
 use crate::answer::Answer;

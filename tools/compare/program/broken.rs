@@ -1,5 +1,5 @@
-//! Tables that are not of the form of document 01, which the Rust's own table cannot be: 7 is due. A compiled table is
-//! changed in one place, so that one rule of the form does not hold.
+//! Tables that are not of the form (docs/RULES.md, R256 to R262), which the Rust's own table cannot be: 7 is due. A
+//! compiled table is changed in one place, so that one rule of the form does not hold.
 
 use crate::compare::{Both, Mismatch};
 use crate::font::{Ask, Font, Setting};

@@ -229,7 +229,7 @@ pub fn ask_program(ask: &Ask, font: &Font, spare: usize, tally: &mut Tally) -> R
 
 // ---- what the Rust cannot be asked
 
-/// A question whose numbers are out of range, so that the Rust's types cannot hold it: a number of document 01 is due.
+/// A question whose numbers are out of range, so that the Rust's types cannot hold it: a number of the rules is due.
 pub fn ask_refused(ask: &Ask, font: &Font, due: u32, spare: usize, tally: &mut Tally) -> Result<(), Box<Mismatch>> {
     let mut lent = Lent::new(font, spare);
     let given = match ask {

@@ -1,6 +1,6 @@
 //! A font as numbers, what can be asked of it, and both as a line in the language of tools/oracle.
 
-/// Document 01, 'What goes in': four numbers an instruction, two an entry, -1 for what is absent.
+/// docs/RULES.md, 'What goes in': four numbers an instruction, two an entry, -1 for what is absent.
 #[derive(Clone, Debug, Default, PartialEq)]
 pub struct Font {
     pub instructions: Vec<[i32; 4]>,

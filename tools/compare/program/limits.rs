@@ -1,4 +1,4 @@
-//! The limits of document 01: the longest program, list of kerns and word, compared with the Rust, and each one longer,
+//! The limits of the rules: the longest program, list of kerns and word, compared with the Rust, and each one longer,
 //! which is refused with 1, 3 or 6. And the characters that a question about a table can name out of range, with 4.
 
 use crate::compare::{ask_program, ask_refused, compile, Mismatch};

@@ -1,4 +1,4 @@
-//! A damaged font put right as far as its pairs go, from document 01: only to know how much work repair needs and
+//! A damaged font put right as far as its pairs go, from the rules: only to know how much work repair needs and
 //! whether the Rust, which compiles the repaired font, can be asked. No answer is compared with it.
 
 use crate::font::{Damage, Font};

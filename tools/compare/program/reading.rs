@@ -1,4 +1,4 @@
-//! A reading of a font that is neither the Rust's nor the library's, from document 01, 'The pair table': which pairs
+//! A reading of a font that is neither the Rust's nor the library's, from docs/RULES.md, R55 to R76: which pairs
 //! have a rule, which of them finish, and how many ops they have in all. It says how much room a call is lent and
 //! whether the Rust can be asked at all (a pair can have more ops than fit in memory), and what the fonts are like.
 

@@ -1,5 +1,5 @@
 //! Questions with one number out of range, of which the Rust's types know nothing: the library must answer with the
-//! number of document 01 ('Number first, then its reason') and leave zeros.
+//! number of docs/RULES.md ('Refusals') and leave zeros.
 
 use crate::compare::{ask_refused, Mismatch};
 use crate::drawn::{damage, one_byte, Drawn};

@@ -1,7 +1,7 @@
--- `run_iter::next` meets its contract: a walk of its MIR, by hand. The borrow of the reader is opened; its word and its state are read, and `step` is called on
--- them; the state that `step` left is stored; and the borrow is closed at the reader with that state. A reader is Copy: what it owns is had twice, one copy is
--- kept, with the new state's facts put in, and of the other what word owns goes to the callee. Of pairs and ops a copy goes there too. All that the proof knows
--- of `step` is that it meets its contract. Assumes nothing.
+-- `caption_run_iter::next` meets its contract: a walk of its MIR, by hand. The borrow of the reader is opened; its word and its state are read, and `step` is
+-- called on them; the state that `step` left is stored; and the borrow is closed at the reader with that state. A reader is Copy: what it owns is had twice,
+-- one copy is kept, with the new state's facts put in, and of the other what word owns goes to the callee. Of pairs and ops a copy goes there too. All that the
+-- proof knows of `step` is that it meets its contract. Assumes nothing.
 use mathlib.Core.Path.{_≡_, refl, ap}
 use Prim.Native.Nat.{ℕ}
 use mathlib.Core.List.{List, [], _∷_}

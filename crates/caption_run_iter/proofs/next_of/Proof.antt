@@ -1,6 +1,6 @@
--- `run_iter::next_of` meets its contract: a walk of its MIR, by hand. The reader that `run_iter` returns is held in a local and lent to `next` for the call
--- (proofs/Lending); it comes back at the state that `next` left, which is handed back with the answer. 'a of `next` is the lifetime of word, and its 's the
--- meet of that with a lifetime that is made for the call. All that the proof knows of `run_iter` and of `next` is that each meets its contract. Assumes
+-- `caption_run_iter::next_of` meets its contract: a walk of its MIR, by hand. The reader that `run_iter` returns is held in a local and lent to `next` for the
+-- call (proofs/Lending); it comes back at the state that `next` left, which is handed back with the answer. 'a of `next` is the lifetime of word, and its 's
+-- the meet of that with a lifetime that is made for the call. All that the proof knows of `run_iter` and of `next` is that each meets its contract. Assumes
 -- nothing.
 use mathlib.Core.Path.{_≡_, refl, ap}
 use Prim.Native.Nat.{ℕ}

@@ -1,4 +1,4 @@
--- `run_iter::run_iter` meets its contract: a walk of its MIR, by hand. A reader is made of the slice and the state passed, in the result's local.
+-- `caption_run_iter::run_iter` meets its contract: a walk of its MIR, by hand. A reader is made of the slice and the state passed, in the result's local.
 -- A slice is Copy, so what it owns is had twice: once for word at exit, and once inside the result, beside the facts of the state, which are had for nothing.
 -- Assumes nothing.
 use mathlib.Core.Path.{refl}

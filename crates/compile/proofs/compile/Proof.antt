@@ -1,4 +1,4 @@
--- `compiler::compile` meets its contract: proofs/Whole.
+-- `compile::compile` meets its contract: proofs/Whole.
 -- Assumes nothing.
 use mathlib.Core.Path.{refl, sym, _∙_}
 use Rattle.words.proofs.Bits.{number-word}

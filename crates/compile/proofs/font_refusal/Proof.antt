@@ -1,4 +1,4 @@
--- `compiler::font_refusal` meets its contract: the first refusal that is not 0.
+-- `compile::font_refusal` meets its contract: the first refusal that is not 0.
 -- Assumes nothing.
 use mathlib.Core.Path.{sym, _∙_}
 use Rattle.words.proofs.Bits.{number-word}

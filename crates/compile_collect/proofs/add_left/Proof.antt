@@ -1,4 +1,4 @@
--- `collect::add_left` meets its contract: a left with no entry has no pairs; the chain of one that has is walked once, and its rows follow
+-- `compile_collect::add_left` meets its contract: a left with no entry has no pairs; the chain of one that has is walked once, and its rows follow
 -- those of the lefts before it, with their order.
 -- Assumes nothing.
 use denote.Ref.{now}

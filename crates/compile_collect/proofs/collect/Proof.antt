@@ -1,4 +1,4 @@
--- `collect::collect` meets its contract: proofs/Zeroed, at the table of the font's entries.
+-- `compile_collect::collect` meets its contract: proofs/Zeroed, at the table of the font's entries.
 -- Assumes nothing.
 use mathlib.Core.Path.{_∙_, ap}
 use Rattle.words.proofs.Bits.{number-word}

@@ -1,4 +1,4 @@
--- `collect::collect_rows` meets its contract. The loop's invariant: the rows are those of the lefts passed, the boundary's first. The measure is
+-- `compile_collect::collect_rows` meets its contract. The loop's invariant: the rows are those of the lefts passed, the boundary's first. The measure is
 -- how many lefts remain.
 -- Assumes nothing.
 use mathlib.Core.Path.{refl, _∙_}

@@ -1,4 +1,4 @@
--- `collect::edge_rows` meets its contract: the two ways out are the boundary and any other left.
+-- `compile_collect::edge_rows` meets its contract: the two ways out are the boundary and any other left.
 -- Assumes nothing.
 use Rattle.compile_collect.proofs.Lefts.{edge-first, edge-later}
 use Rattle.compile_collect.proofs.edge_rows.Statement.{statement}

@@ -1,4 +1,4 @@
--- `collect::entry_of` meets its contract: the table has 257 places, so none that is asked is past its end.
+-- `compile_collect::entry_of` meets its contract: the table has 257 places, so none that is asked is past its end.
 -- Assumes nothing.
 use denote.Ref.{now}
 use Rattle.compiling.proofs.PairRowLaws.{entry-word}

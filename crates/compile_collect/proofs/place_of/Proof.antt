@@ -1,4 +1,4 @@
--- `collect::place_of` meets its contract: 256 for the boundary, and a character's own place.
+-- `compile_collect::place_of` meets its contract: 256 for the boundary, and a character's own place.
 -- Assumes nothing.
 use Rattle.compiling.proofs.PairRowLaws.{place-is}
 use borrow.Author.Needs.{needs}

@@ -1,4 +1,4 @@
--- `lists::left_word` meets its contract: 0 is the boundary, whose number is -1; any other is one more than its character.
+-- `compile_lists::left_word` meets its contract: 0 is the boundary, whose number is -1; any other is one more than its character.
 -- Assumes nothing.
 use mathlib.Core.Path.{sym, ap}
 use Prim.Native.Nat.{ℕ}

@@ -1,4 +1,4 @@
--- `lists::put_pair` meets its contract: six stores in a row.
+-- `compile_lists::put_pair` meets its contract: six stores in a row.
 -- Assumes nothing.
 use native.Mathlib.Omega.{arith}
 use Rattle.compiling.proofs.OpTables.{put-row}

@@ -1,4 +1,4 @@
--- `lists::write_lists` meets its contract: proofs/Building, of the font whose rows were counted and whose ops were written.
+-- `compile_lists::write_lists` meets its contract: proofs/Building, of the font whose rows were counted and whose ops were written.
 -- Assumes nothing.
 use lib.IntN.{pos}
 use lib.ListN.{length}

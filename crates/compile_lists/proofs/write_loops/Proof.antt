@@ -1,4 +1,4 @@
--- `lists::write_loops` meets its contract. The loop's invariant: the numbers of the pairs passed stand at the front, and the rest is as it
+-- `compile_lists::write_loops` meets its contract. The loop's invariant: the numbers of the pairs passed stand at the front, and the rest is as it
 -- came. Assumes nothing.
 use Prim.Native.Nat.{_≤_, _-_}
 use native.Mathlib.Omega.{arith}

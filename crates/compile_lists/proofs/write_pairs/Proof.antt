@@ -1,4 +1,5 @@
--- `lists::write_pairs` meets its contract. The invariant: the numbers of the finished ones among the rows passed stand at the front, and the rest is as it was.
+-- `compile_lists::write_pairs` meets its contract. The invariant: the numbers of the finished ones among the rows passed stand at the front, and the rest is as
+-- it was.
 -- Assumes nothing.
 use mathlib.Core.Path.{sym, _∙_}
 use mathlib.Core.Logic.{⊎-elim}

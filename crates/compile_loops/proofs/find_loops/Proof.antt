@@ -1,4 +1,4 @@
--- `walks::find_loops` meets its contract: proofs/WalkedFonts, of the rows that were settled.
+-- `compile_loops::find_loops` meets its contract: proofs/WalkedFonts, of the rows that were settled.
 -- Assumes nothing.
 use Prim.Native.Nat.{_/_, min}
 use lib.IntN.{pos}

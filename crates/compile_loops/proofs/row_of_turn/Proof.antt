@@ -1,4 +1,4 @@
--- `walks::row_of_turn` meets its contract: past the last row the boundary's rows are counted from the first.
+-- `compile_loops::row_of_turn` meets its contract: past the last row the boundary's rows are counted from the first.
 -- Assumes nothing.
 use mathlib.Core.Path.{_∙_}
 use borrow.Author.Needs.{needs}

@@ -1,4 +1,4 @@
--- `walks::take_turn` meets its contract: the walk ends at one of the rows, and the tests are those of a turn.
+-- `compile_loops::take_turn` meets its contract: the walk ends at one of the rows, and the tests are those of a turn.
 -- Assumes nothing.
 use mathlib.Core.Path.{refl, sym, _∙_}
 use Prim.Native.Nat.{_<_}

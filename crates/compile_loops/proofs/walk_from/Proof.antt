@@ -1,4 +1,4 @@
--- `walks::walk_from` meets its contract. The loop's invariant: what the rest of the walk leaves, all of it leaves, and the rows can be
+-- `compile_loops::walk_from` meets its contract. The loop's invariant: what the rest of the walk leaves, all of it leaves, and the rows can be
 -- walked over still. The measure is how many rows have no mark. Assumes nothing.
 use mathlib.Core.Path.{sym, _∙_}
 use borrow.Author.Needs.{needs}

@@ -1,4 +1,4 @@
--- `walks::walk_rows` meets its contract. The loop's invariant: after s turns the rows that are listed are those of the walks from the
+-- `compile_loops::walk_rows` meets its contract. The loop's invariant: after s turns the rows that are listed are those of the walks from the
 -- pairs of these turns, and a row has a mark where its pair was met.
 -- Assumes nothing.
 use mathlib.Core.Path.{sym, subst}

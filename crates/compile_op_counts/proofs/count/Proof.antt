@@ -1,4 +1,4 @@
--- `counts::count` meets its contract: proofs/CountedFonts, of the font whose loops were found.
+-- `compile_op_counts::count` meets its contract: proofs/CountedFonts, of the font whose loops were found.
 -- Assumes nothing.
 use mathlib.Core.Path.{refl}
 use Prim.Native.Nat.{_/_, min}

@@ -1,4 +1,5 @@
--- `counts::count_ops` meets its contract: the counts are zeroed, found in the order in which rows finished, and summed; no pass changes what the rows say.
+-- `compile_op_counts::count_ops` meets its contract: the counts are zeroed, found in the order in which rows finished, and summed; no pass changes what the
+-- rows say.
 -- Assumes nothing.
 use mathlib.Core.Path.{ap, _∙_}
 use native.Mathlib.Omega.{arith}

@@ -1,4 +1,4 @@
--- `counts::count_rows` meets its contract. The invariant: the rows that finished before this turn have their counts, those that never finish have 0,
+-- `compile_op_counts::count_rows` meets its contract. The invariant: the rows that finished before this turn have their counts, those that never finish have 0,
 -- and nothing else has changed.
 -- Assumes nothing.
 use Prim.Native.Nat.{_-_}

@@ -1,4 +1,4 @@
--- `counts::first_ops` meets its contract. The invariant: number 13 of the rows passed is how many ops come before, nothing else has changed, and
+-- `compile_op_counts::first_ops` meets its contract. The invariant: number 13 of the rows passed is how many ops come before, nothing else has changed, and
 -- the total is that of the rows passed.
 -- Assumes nothing.
 use mathlib.Core.Path.{_≡_}

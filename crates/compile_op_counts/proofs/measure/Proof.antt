@@ -1,4 +1,4 @@
--- `counts::measure` meets its contract: proofs/CountedFonts.
+-- `compile_op_counts::measure` meets its contract: proofs/CountedFonts.
 -- Assumes nothing.
 use mathlib.Core.Path.{sym, ap, _∙_}
 use Prim.Native.Nat.{ℕ}

@@ -1,4 +1,4 @@
--- `counts::part_count` meets its contract: each arm is a clause of its definition.
+-- `compile_op_counts::part_count` meets its contract: each arm is a clause of its definition.
 -- Assumes nothing.
 use mathlib.Core.Path.{sym, ap, _∙_}
 use Rattle.compiling.specs.OpSteps.{partCount}

@@ -1,4 +1,4 @@
--- `counts::row_count` meets its contract: a kern and its left, or the sum of the counts of the row's two parts.
+-- `compile_op_counts::row_count` meets its contract: a kern and its left, or the sum of the counts of the row's two parts.
 -- Assumes nothing.
 use mathlib.Core.Path.{sym, ap, _∙_}
 use Prim.Native.Nat.{_+_}

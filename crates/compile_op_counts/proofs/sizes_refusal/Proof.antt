@@ -1,4 +1,4 @@
--- `counts::sizes_refusal` meets its contract: proofs/Totals, test by test.
+-- `compile_op_counts::sizes_refusal` meets its contract: proofs/Totals, test by test.
 -- Assumes nothing.
 use borrow.Author.Tests.{not-true, not-false}
 use Rattle.compile_op_counts.proofs.Totals.{too-many, no-room, no-loop-room, taken}

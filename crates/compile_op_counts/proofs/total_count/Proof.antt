@@ -1,4 +1,4 @@
--- `counts::total_count` meets its contract. The invariant: the total is the capped sum of the counts passed.
+-- `compile_op_counts::total_count` meets its contract. The invariant: the total is the capped sum of the counts passed.
 -- Assumes nothing.
 use mathlib.Core.Path.{_≡_, ap, _∙_}
 use Prim.Native.Nat.{ℕ, _-_, _+_, _≤_}

@@ -1,4 +1,4 @@
--- `counts::zero_counts` meets its contract. The invariant: number 12 of the rows passed is 0, and nothing else has changed.
+-- `compile_op_counts::zero_counts` meets its contract. The invariant: number 12 of the rows passed is 0, and nothing else has changed.
 -- Assumes nothing.
 use mathlib.Core.Path.{refl}
 use Prim.Native.Nat.{ℕ, _-_}

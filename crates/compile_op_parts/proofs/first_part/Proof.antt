@@ -1,4 +1,4 @@
--- `parts::first_part` meets its contract: the tests of the op are those of its definition.
+-- `compile_op_parts::first_part` meets its contract: the tests of the op are those of its definition.
 -- Assumes nothing.
 use mathlib.Core.Path.{_∙_}
 use mathlib.Core.Logic.{inl, inr}

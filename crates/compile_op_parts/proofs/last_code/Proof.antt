@@ -1,4 +1,4 @@
--- `parts::last_code` meets its contract: the last of the row that `find` answers, or the right where it answers none.
+-- `compile_op_parts::last_code` meets its contract: the last of the row that `find` answers, or the right where it answers none.
 -- Assumes nothing.
 use mathlib.Core.Path.{sym, ap, _∙_}
 use Rattle.compiling.specs.Rows.{rowOf}

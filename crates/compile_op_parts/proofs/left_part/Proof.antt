@@ -1,4 +1,4 @@
--- `parts::left_part` meets its contract: a number above 0 is one more than its character.
+-- `compile_op_parts::left_part` meets its contract: a number above 0 is one more than its character.
 -- Assumes nothing.
 use Rattle.compiling.proofs.OpLaws.{left-is}
 use borrow.Author.Needs.{needs}

@@ -1,4 +1,4 @@
--- `parts::pair_part` meets its contract: what `find` answers is the row of the pair, or that it has none.
+-- `compile_op_parts::pair_part` meets its contract: what `find` answers is the row of the pair, or that it has none.
 -- Assumes nothing.
 use mathlib.Core.Path.{sym, ap, _∙_}
 use Rattle.compiling.specs.Rows.{rowOf}

@@ -1,4 +1,4 @@
--- `parts::second_part` meets its contract: the arms of the match are the tests of its definition.
+-- `compile_op_parts::second_part` meets its contract: the arms of the match are the tests of its definition.
 -- Assumes nothing.
 use mathlib.Core.Path.{_≡_, ap, _∙_}
 use mathlib.Core.Logic.{_⊎_, inl, inr}

@@ -1,4 +1,4 @@
--- `ops::copy_numbers` meets its contract. The invariant: the numbers passed are copied, and nothing else has changed; the places that are read and
+-- `compile_ops::copy_numbers` meets its contract. The invariant: the numbers passed are copied, and nothing else has changed; the places that are read and
 -- those that are written do not meet.
 -- Assumes nothing.
 use mathlib.Core.Path.{_≡_, refl, ap, _∙_}

@@ -1,4 +1,4 @@
--- `ops::copy_row` meets its contract: a copy from where the row says that its ops stand.
+-- `compile_ops::copy_row` meets its contract: a copy from where the row says that its ops stand.
 -- Assumes nothing.
 use native.Mathlib.Omega.{arith}
 use Rattle.compiling.proofs.OpTables.{copies-apart, copied-row}

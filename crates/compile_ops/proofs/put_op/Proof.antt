@@ -1,4 +1,4 @@
--- `ops::put_op` meets its contract: two stores in a row.
+-- `compile_ops::put_op` meets its contract: two stores in a row.
 -- Assumes nothing.
 use mathlib.Core.Path.{refl}
 use Rattle.words.specs.Words.{numberOf}

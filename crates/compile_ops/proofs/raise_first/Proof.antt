@@ -1,4 +1,4 @@
--- `ops::raise_first` meets its contract. The invariant: nothing is stored yet, and the ops passed are kerns.
+-- `compile_ops::raise_first` meets its contract. The invariant: nothing is stored yet, and the ops passed are kerns.
 -- Assumes nothing.
 use mathlib.Core.Path.{_≡_, refl, ap, subst, _∙_}
 use mathlib.Core.List.{List}

@@ -1,4 +1,4 @@
--- `ops::write_first` meets its contract: a kern's left, or the part as it is found.
+-- `compile_ops::write_first` meets its contract: a kern's left, or the part as it is found.
 -- Assumes nothing.
 use mathlib.Core.Path.{sym, subst, _∙_}
 use Rattle.compiling.specs.OpSteps.{PartFits, PartWritten}

@@ -1,4 +1,4 @@
--- `ops::write_ops` meets its contract: proofs/WrittenOps, of the font whose rows were counted.
+-- `compile_ops::write_ops` meets its contract: proofs/WrittenOps, of the font whose rows were counted.
 -- Assumes nothing.
 use lib.IntN.{pos}
 use lib.ListN.{length}

@@ -1,4 +1,4 @@
--- `ops::write_part` meets its contract: each arm is a clause of its definition.
+-- `compile_ops::write_part` meets its contract: each arm is a clause of its definition.
 -- Assumes nothing.
 use mathlib.Core.Path.{sym, subst}
 use Rattle.compiling.specs.OpSteps.{PartFits, PartWritten}

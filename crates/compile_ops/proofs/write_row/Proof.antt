@@ -1,5 +1,5 @@
--- `ops::write_row` meets its contract: the first part, and after it the second, whose first character becomes a ligature. What is written does not touch
--- the rows that are copied from.
+-- `compile_ops::write_row` meets its contract: the first part, and after it the second, whose first character becomes a ligature. What is written does not
+-- touch the rows that are copied from.
 -- Assumes nothing.
 use mathlib.Core.Path.{refl}
 use Rattle.compiling.specs.OpSteps.{firstPart, secondPart}

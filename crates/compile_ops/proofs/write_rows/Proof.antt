@@ -1,4 +1,4 @@
--- `ops::write_rows` meets its contract. The invariant: the ops of the rows that finished before this turn stand where they are to, and nothing past the
+-- `compile_ops::write_rows` meets its contract. The invariant: the ops of the rows that finished before this turn stand where they are to, and nothing past the
 -- ops is touched. At the end every row is written, so that the ops of the first rows stand at the front, one after the other.
 -- Assumes nothing.
 use Prim.Native.Nat.{_-_}

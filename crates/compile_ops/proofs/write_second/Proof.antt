@@ -1,4 +1,4 @@
--- `ops::write_second` meets its contract: a kern, or the part as it is found.
+-- `compile_ops::write_second` meets its contract: a kern, or the part as it is found.
 -- Assumes nothing.
 use mathlib.Core.Path.{sym, subst, _∙_}
 use Rattle.compiling.specs.OpSteps.{PartFits, PartWritten}

@@ -1,4 +1,4 @@
--- `prepare::prepare` meets its contract: proofs/Preparing, of the rows that were collected and encoded.
+-- `compile_prepare::prepare` meets its contract: proofs/Preparing, of the rows that were collected and encoded.
 -- Assumes nothing.
 use Prim.Native.Nat.{_/_, min}
 use lib.ListN.{length}

@@ -1,5 +1,5 @@
--- `rows::find` meets its contract. The loop's invariant: in ascending rows, those before `lo` come before the pair, and those from `hi` on do not. Where
--- the two meet, the row there has the pair or none has. The measure is what is left between them.
+-- `compile_rows::find` meets its contract. The loop's invariant: in ascending rows, those before `lo` come before the pair, and those from `hi` on do not.
+-- Where the two meet, the row there has the pair or none has. The measure is what is left between them.
 -- Assumes nothing.
 use mathlib.Core.Path.{sym, _∙_}
 use Prim.Native.Nat.{_+_, _-_, _*_, _/_, _≤_}

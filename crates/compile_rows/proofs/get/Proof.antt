@@ -1,4 +1,4 @@
--- `rows::get` meets its contract: past the end it is 0.
+-- `compile_rows::get` meets its contract: past the end it is 0.
 -- Assumes nothing.
 use mathlib.Core.Path.{sym}
 use Prim.Native.Nat.{_+_, _*_}

@@ -1,4 +1,4 @@
--- `rows::put` meets its contract: past the end nothing is stored.
+-- `compile_rows::put` meets its contract: past the end nothing is stored.
 -- Assumes nothing.
 use mathlib.Core.Path.{sym}
 use Prim.Native.Nat.{_+_, _*_}

@@ -1,4 +1,4 @@
--- `settle::as_ligature` meets its contract, by the arm that is taken.
+-- `compile_settle::as_ligature` meets its contract, by the arm that is taken.
 -- Assumes nothing.
 use borrow.Author.Needs.{needs}
 use Rattle.compile_settle.proofs.as_ligature.Statement.{statement}

@@ -1,4 +1,4 @@
--- `settle::by_rule` meets its contract, by the arm that is taken: the classes simple (0, 6 and `_`), left_z (1 and 7), right_z (2) and both_z (3) of
+-- `compile_settle::by_rule` meets its contract, by the arm that is taken: the classes simple (0, 6 and `_`), left_z (1 and 7), right_z (2) and both_z (3) of
 -- TFtoPL 89. `_` is a kern, or op byte 5 or 11.
 -- Assumes nothing.
 use mathlib.Core.Path.{_≡_, sym, _∙_}

@@ -1,4 +1,4 @@
--- `settle::finish` meets its contract: one store after the other.
+-- `compile_settle::finish` meets its contract: one store after the other.
 -- Assumes nothing.
 use mathlib.Core.Path.{_∙_, ap}
 use mathlib.Core.List.{List}

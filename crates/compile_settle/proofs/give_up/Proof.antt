@@ -1,4 +1,4 @@
--- `settle::give_up` meets its contract. The loop's invariant: the rows from place i of the path on are given up, each waiting for the row after it, and
+-- `compile_settle::give_up` meets its contract. The loop's invariant: the rows from place i of the path on are given up, each waiting for the row after it, and
 -- `next` is what the row before them waits for. The measure is i.
 -- Assumes nothing.
 use mathlib.Core.Path.{_≡_, sym, ap, _∙_, subst}

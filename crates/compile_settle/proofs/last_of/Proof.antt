@@ -1,4 +1,4 @@
--- `settle::last_of` meets its contract: a pair without a row has its right as its last; a row that has finished has its last stored.
+-- `compile_settle::last_of` meets its contract: a pair without a row has its right as its last; a row that has finished has its last stored.
 -- Assumes nothing.
 use mathlib.Core.Path.{_≡_, sym, _∙_}
 use mathlib.Core.Option.{some}

@@ -1,4 +1,4 @@
--- `settle::open_row` meets its contract: one store after the other.
+-- `compile_settle::open_row` meets its contract: one store after the other.
 -- Assumes nothing.
 use mathlib.Core.Path.{_∙_, ap}
 use mathlib.Core.List.{List}

@@ -1,5 +1,5 @@
--- `settle::search` meets its contract: a kern finishes at once. The loop's invariant: the state of the search, with rows, rules and marks as they were; row k
--- and every row that was not new are not new. The measure is twice the rows that are new and the rows that are open.
+-- `compile_settle::search` meets its contract: a kern finishes at once. The loop's invariant: the state of the search, with rows, rules and marks as they were;
+-- row k and every row that was not new are not new. The measure is twice the rows that are new and the rows that are open.
 -- Assumes nothing.
 use mathlib.Core.Path.{_∙_, ap}
 use native.Mathlib.Omega.{arith}

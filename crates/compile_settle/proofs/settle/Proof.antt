@@ -1,4 +1,4 @@
--- `settle::settle` meets its contract: proofs/SettledFonts, of the rows that were prepared.
+-- `compile_settle::settle` meets its contract: proofs/SettledFonts, of the rows that were prepared.
 -- Assumes nothing.
 use Prim.Native.Nat.{_/_, min}
 use lib.IntN.{pos}

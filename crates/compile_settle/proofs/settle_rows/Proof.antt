@@ -1,5 +1,5 @@
--- `settle::settle_rows` meets its contract. The loop's invariant: no row is open, and none of the first k is new. Where k is n, each row has finished or waits
--- for rows that never do. The measure is what is left of the rows.
+-- `compile_settle::settle_rows` meets its contract. The loop's invariant: no row is open, and none of the first k is new. Where k is n, each row has finished
+-- or waits for rows that never do. The measure is what is left of the rows.
 -- Assumes nothing.
 use mathlib.Core.Path.{sym, _∙_}
 use mathlib.Core.Logic.{⊎-elim}

@@ -1,4 +1,4 @@
--- `settle::then_right` meets its contract: a last that is known is a character, and is looked up as a left.
+-- `compile_settle::then_right` meets its contract: a last that is known is a character, and is looked up as a left.
 -- Assumes nothing.
 use native.Mathlib.Omega.{arith}
 use denote.Ref.{now}

@@ -1,4 +1,4 @@
--- `settle::turn` meets its contract: where the rule of the last row of the path is done by what is known, the row finishes; else it waits.
+-- `compile_settle::turn` meets its contract: where the rule of the last row of the path is done by what is known, the row finishes; else it waits.
 -- Assumes nothing.
 use native.Mathlib.Omega.{arith}
 use denote.Ref.{now}

@@ -1,4 +1,4 @@
--- `settle::wait` meets its contract: a row that is new opens, and there is room on the path; any other makes a loop or leads to one.
+-- `compile_settle::wait` meets its contract: a row that is new opens, and there is room on the path; any other makes a loop or leads to one.
 -- Assumes nothing.
 use mathlib.Core.Path.{_≡_, sym, _∙_}
 use native.Mathlib.Omega.{arith}

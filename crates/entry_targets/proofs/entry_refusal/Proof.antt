@@ -1,4 +1,4 @@
--- `targets::entry_refusal` meets its contract: one answer for each way through the tests, in the definition's order.
+-- `entry_targets::entry_refusal` meets its contract: one answer for each way through the tests, in the definition's order.
 -- Assumes nothing.
 use mathlib.Core.Path.{sym, _∙_}
 use denote.Ref.{now}

@@ -1,4 +1,4 @@
--- `targets::is_redirect` meets its contract: the kind that was read is 3.
+-- `entry_targets::is_redirect` meets its contract: the kind that was read is 3.
 -- Assumes nothing.
 use mathlib.Core.Path.{ap}
 use Prim.Native.Nat.{ℕ}

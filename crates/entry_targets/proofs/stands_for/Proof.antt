@@ -1,4 +1,4 @@
--- `targets::stands_for` meets its contract: by whether the entry is a redirect.
+-- `entry_targets::stands_for` meets its contract: by whether the entry is a redirect.
 -- Assumes nothing.
 use mathlib.Core.Path.{sym, _∙_}
 use denote.Ref.{now}

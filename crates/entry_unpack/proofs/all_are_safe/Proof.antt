@@ -1,4 +1,4 @@
--- `unpack::all_are_safe` meets its contract. The loop's invariant: the entries passed are safe. The measure is what is left of the entries.
+-- `entry_unpack::all_are_safe` meets its contract. The loop's invariant: the entries passed are safe. The measure is what is left of the entries.
 -- Assumes nothing.
 use mathlib.Core.Path.{_≡_, sym, _∙_}
 use mathlib.Core.Bool.{true}

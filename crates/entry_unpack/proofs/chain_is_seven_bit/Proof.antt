@@ -1,4 +1,4 @@
--- `unpack::chain_is_seven_bit` meets its contract. The loop's invariant: the test of the chain from the entry is that of the chain from
+-- `entry_unpack::chain_is_seven_bit` meets its contract. The loop's invariant: the test of the chain from the entry is that of the chain from
 -- where the walk is. The measure is what is left of the instructions.
 -- Assumes nothing.
 use mathlib.Core.Path.{_≡_, refl, sym, _∙_}

@@ -1,4 +1,4 @@
--- `unpack::entry_is_safe` meets its contract: by the character that was read, and the chain from the entry that was read.
+-- `entry_unpack::entry_is_safe` meets its contract: by the character that was read, and the chain from the entry that was read.
 -- Assumes nothing.
 use mathlib.Core.Path.{sym, _∙_}
 use denote.Ref.{now}

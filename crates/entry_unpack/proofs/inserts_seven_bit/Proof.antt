@@ -1,4 +1,4 @@
--- `unpack::inserts_seven_bit` meets its contract: one answer for each way through the tests, in the definition's order.
+-- `entry_unpack::inserts_seven_bit` meets its contract: one answer for each way through the tests, in the definition's order.
 -- Assumes nothing.
 use mathlib.Core.Path.{sym}
 use denote.Ref.{now}

@@ -1,4 +1,4 @@
--- `unpack::is_seven_bit_safe` meets its contract: the refusals in ascending order, then the test.
+-- `entry_unpack::is_seven_bit_safe` meets its contract: the refusals in ascending order, then the test.
 -- Assumes nothing.
 use mathlib.Core.Path.{sym, ap, _∙_}
 use mathlib.Core.Bool.{Bool}

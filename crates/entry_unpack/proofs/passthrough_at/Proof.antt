@@ -1,4 +1,4 @@
--- `unpack::passthrough_at` meets its contract. Where the two ways past the first test meet, the place is no entry or the entry no redirect:
+-- `entry_unpack::passthrough_at` meets its contract. Where the two ways past the first test meet, the place is no entry or the entry no redirect:
 -- `same` says what passthrough is there.
 -- Assumes nothing.
 use mathlib.Core.Path.{_≡_, sym, ap, _∙_}

@@ -1,4 +1,4 @@
--- `unpack::put_passthrough` meets its contract. The loop's invariant: the places passed hold what passthrough is afterwards, and the rest is as it came.
+-- `entry_unpack::put_passthrough` meets its contract. The loop's invariant: the places passed hold what passthrough is afterwards, and the rest is as it came.
 -- The measure is what is left of passthrough.
 -- Assumes nothing.
 use mathlib.Core.Path.{_≡_}

@@ -1,4 +1,4 @@
--- `unpack::refused` meets its contract: 8 and 9 by their names, and any other by its number.
+-- `entry_unpack::refused` meets its contract: 8 and 9 by their names, and any other by its number.
 -- Assumes nothing.
 use mathlib.Core.Path.{refl}
 use Rattle.entry_unpack.proofs.Unpacking.{other-named}

@@ -1,4 +1,4 @@
--- `unpack::unpack_entrypoint` meets its contract: the list is zeros, and over them stands passthrough where the entry is taken.
+-- `entry_unpack::unpack_entrypoint` meets its contract: the list is zeros, and over them stands passthrough where the entry is taken.
 -- Assumes nothing.
 use mathlib.Core.Path.{_≡_, ap, _∙_}
 use mathlib.Core.List.{List}

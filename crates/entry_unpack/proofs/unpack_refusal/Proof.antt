@@ -1,4 +1,4 @@
--- `unpack::unpack_refusal` meets its contract: the first number that is not 0, asked in the definition's order.
+-- `entry_unpack::unpack_refusal` meets its contract: the first number that is not 0, asked in the definition's order.
 -- Assumes nothing.
 use mathlib.Core.Path.{_≡_, ap, _∙_}
 use Prim.Native.Nat.{ℕ}

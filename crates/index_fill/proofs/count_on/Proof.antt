@@ -1,4 +1,4 @@
--- `fill_index::count_on` meets its contract. The loop's invariant: no more pairs are passed than come before those of the left. The measure is what is left of
+-- `index_fill::count_on` meets its contract. The loop's invariant: no more pairs are passed than come before those of the left. The measure is what is left of
 -- the pairs.
 -- Assumes nothing.
 use Prim.Native.Nat.{_-_, _≤_}

@@ -1,4 +1,4 @@
--- `fill_index::count_pairs` meets its contract. The loop's invariant: the pairs before each left passed are counted, and no more pairs are passed than come
+-- `index_fill::count_pairs` meets its contract. The loop's invariant: the pairs before each left passed are counted, and no more pairs are passed than come
 -- before those of the next. The measure is what is left of the lefts.
 -- Assumes nothing.
 use mathlib.Core.Path.{_≡_, refl}

@@ -1,4 +1,4 @@
--- `fill_index::fill_index` meets its contract: zeros where it is refused, else the bits and then the counts.
+-- `index_fill::fill_index` meets its contract: zeros where it is refused, else the bits and then the counts.
 -- Assumes nothing.
 use mathlib.Core.Path.{_≡_, refl, sym, ap, _∙_}
 use mathlib.Core.Bool.{true}

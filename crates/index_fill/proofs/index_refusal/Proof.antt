@@ -1,4 +1,4 @@
--- `fill_index::index_refusal` meets its contract: each return by the tests that lead to it.
+-- `index_fill::index_refusal` meets its contract: each return by the tests that lead to it.
 -- Assumes nothing.
 use mathlib.Core.Path.{_≡_, sym, _∙_}
 use mathlib.Core.Bool.{true}

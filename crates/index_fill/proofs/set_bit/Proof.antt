@@ -1,4 +1,4 @@
--- `fill_index::set_bit` meets its contract: the shift loses nothing.
+-- `index_fill::set_bit` meets its contract: the shift loses nothing.
 -- Assumes nothing.
 use mathlib.Core.Path.{ap}
 use Prim.Native.Nat.{ℕ, _+_, _*_, _/_, _%_}

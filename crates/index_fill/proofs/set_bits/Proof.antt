@@ -1,4 +1,4 @@
--- `fill_index::set_bits` meets its contract. The loop's invariant: the bits of the pairs passed are set. The measure is what is left of the pairs.
+-- `index_fill::set_bits` meets its contract. The loop's invariant: the bits of the pairs passed are set. The measure is what is left of the pairs.
 -- Assumes nothing.
 use mathlib.Core.Path.{_≡_, sym}
 use mathlib.Core.List.{List}

@@ -1,4 +1,4 @@
--- `plain_letters::after_letters` meets its contract, by whether there are letters.
+-- `index_plain_letters::after_letters` meets its contract, by whether there are letters.
 -- Assumes nothing.
 use Rattle.index_plain_letters.proofs.Running.{letters-some}
 use borrow.Author.Needs.{needs}

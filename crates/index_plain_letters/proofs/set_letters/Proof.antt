@@ -1,4 +1,4 @@
--- `plain_letters::set_letters` meets its contract: no letter where the state is not quick or there is no room, else those that are alone.
+-- `index_plain_letters::set_letters` meets its contract: no letter where the state is not quick or there is no room, else those that are alone.
 -- Assumes nothing.
 use mathlib.Core.Path.{_≡_, sym, ap, subst, _∙_}
 use Prim.Native.Nat.{_+_, _-_, _/_, _≤_}

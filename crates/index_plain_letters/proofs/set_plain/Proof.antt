@@ -1,4 +1,4 @@
--- `plain_letters::set_plain` meets its contract. The loop's invariant: the letters passed were set as they stand. The measure is what is left of them.
+-- `index_plain_letters::set_plain` meets its contract. The loop's invariant: the letters passed were set as they stand. The measure is what is left of them.
 -- Assumes nothing.
 use mathlib.Core.Path.{refl, sym, _∙_}
 use mathlib.Core.List.{[], _∷_}

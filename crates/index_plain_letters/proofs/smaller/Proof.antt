@@ -1,4 +1,4 @@
--- `plain_letters::smaller` meets its contract, by the test.
+-- `index_plain_letters::smaller` meets its contract, by the test.
 -- Assumes nothing.
 use borrow.Author.Tests.{lt-ltb, le-ltb}
 use Rattle.index_plain_letters.proofs.smaller.Statement.{statement}

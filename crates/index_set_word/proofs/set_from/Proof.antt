@@ -1,4 +1,4 @@
--- `indexed_setting::set_from` meets its contract. The loop's invariant: the items of the steps so far are written, and those of the steps from the state on
+-- `index_set_word::set_from` meets its contract. The loop's invariant: the items of the steps so far are written, and those of the steps from the state on
 -- come after them. The measure is the room that is left. Assumes nothing.
 use mathlib.Core.Path.{_≡_, sym, subst, _∙_}
 use Prim.Native.Nat.{_+_, _-_, _*_, _/_, _≤_}

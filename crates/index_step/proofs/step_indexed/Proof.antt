@@ -1,4 +1,4 @@
--- `indexed::step_indexed` meets its contract: the step where the state is not quick, else by what the index says.
+-- `index_step::step_indexed` meets its contract: the step where the state is not quick, else by what the index says.
 -- Assumes nothing.
 use mathlib.Core.Path.{_≡_, ap, _∙_}
 use lib.IntN.{ℤ}

@@ -1,4 +1,4 @@
--- `chain::chain_length` meets its contract. The loop's invariant: what is counted and the chain from where the walk is are together as many as
+-- `program_chain::chain_length` meets its contract. The loop's invariant: what is counted and the chain from where the walk is are together as many as
 -- the whole chain has. The measure is what is left of the instructions, since a step moves ahead.
 -- Assumes nothing.
 use mathlib.Core.Path.{_≡_, sym, ap, _∙_}

@@ -1,4 +1,4 @@
--- `chain::instructions_for_entrypoint` meets its contract: where the walk is refused the list is zeros, else the chain is written over them.
+-- `program_chain::instructions_for_entrypoint` meets its contract: where the walk is refused the list is zeros, else the chain is written over them.
 -- Assumes nothing.
 use mathlib.Core.Path.{_≡_, sym, ap, _∙_}
 use mathlib.Core.List.{List}

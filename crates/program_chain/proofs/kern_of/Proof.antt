@@ -1,4 +1,4 @@
--- `chain::kern_of` meets its contract: a kern index is the kern there, past the list `getD` is its default, and all else is kept.
+-- `program_chain::kern_of` meets its contract: a kern index is the kern there, past the list `getD` is its default, and all else is kept.
 -- Assumes nothing.
 use mathlib.Core.Path.{_≡_, refl}
 use mathlib.Core.List.{List, [], _∷_}

@@ -1,4 +1,4 @@
--- `chain::next_instruction` meets its contract: past the last instruction the walk ends, below 2 ^ 31 the word of next is the number skipped,
+-- `program_chain::next_instruction` meets its contract: past the last instruction the walk ends, below 2 ^ 31 the word of next is the number skipped,
 -- and from there on it is negative.
 -- Assumes nothing.
 use mathlib.Core.Path.{ap}

@@ -1,4 +1,4 @@
--- `chain::operation_at` meets its contract: the three calls, one after the other, are `actsAs` of the instruction's operation.
+-- `program_chain::operation_at` meets its contract: the three calls, one after the other, are `actsAs` of the instruction's operation.
 -- Assumes nothing.
 use mathlib.Core.Path.{_∙_, ap}
 use denote.Ref.{now}

@@ -1,4 +1,4 @@
--- `chain::redirect` meets its contract: a redirect is what its target's two bytes mean, and all else is kept.
+-- `program_chain::redirect` meets its contract: a redirect is what its target's two bytes mean, and all else is kept.
 -- Assumes nothing.
 use mathlib.Core.Path.{_≡_, refl, _∙_}
 use mathlib.Core.Bool.{Bool}

@@ -1,4 +1,4 @@
--- `chain::rule_index` meets its contract. The loop's invariant: the rule on the chain from where the walk is is the rule on the whole chain.
+-- `program_chain::rule_index` meets its contract. The loop's invariant: the rule on the chain from where the walk is is the rule on the whole chain.
 -- The measure is what is left of the instructions, since a step moves ahead.
 -- Assumes nothing.
 use mathlib.Core.Path.{_≡_, refl, sym, ap, _∙_}

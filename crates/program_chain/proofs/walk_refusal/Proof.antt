@@ -1,4 +1,4 @@
--- `chain::walk_refusal` meets its contract: each refusal is asked where the ones before it are 0, and the first that is not 0 is the answer.
+-- `program_chain::walk_refusal` meets its contract: each refusal is asked where the ones before it are 0, and the first that is not 0 is the answer.
 -- Assumes nothing.
 use mathlib.Core.Path.{_≡_, ap, _∙_}
 use mathlib.Core.List.{List}

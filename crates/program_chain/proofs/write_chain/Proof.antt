@@ -1,4 +1,4 @@
--- `chain::write_chain` meets its contract. The loop's invariant: what is written, with the chain from where the walk is, is the whole chain.
+-- `program_chain::write_chain` meets its contract. The loop's invariant: what is written, with the chain from where the walk is, is the whole chain.
 -- The measure is what is left of the instructions, since a step moves ahead.
 -- Assumes nothing.
 use mathlib.Core.Path.{sym, _∙_}

@@ -1,4 +1,4 @@
--- `checks::is_absent_or` meets its contract: of the bits, -1 is 2 ^ 32 - 1, and a number from 0 on is its own.
+-- `program_checks::is_absent_or` meets its contract: of the bits, -1 is 2 ^ 32 - 1, and a number from 0 on is its own.
 -- Assumes nothing.
 use mathlib.Core.Path.{sym}
 use Rattle.lang.proofs.Records.{absent-within, absent-past}

@@ -1,4 +1,4 @@
--- `checks::is_instruction` meets its contract: the three tests of the words that were read are those of the numbers.
+-- `program_checks::is_instruction` meets its contract: the three tests of the words that were read are those of the numbers.
 -- Assumes nothing.
 use mathlib.Core.Path.{_∙_}
 use borrow.Author.Needs.{needs}

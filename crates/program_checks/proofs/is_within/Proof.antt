@@ -1,4 +1,4 @@
--- `checks::is_within` meets its contract: the bits of a negative number are past 2 ^ 31, above n.
+-- `program_checks::is_within` meets its contract: the bits of a negative number are past 2 ^ 31, above n.
 -- Assumes nothing.
 use mathlib.Core.Path.{sym}
 use Rattle.lang.proofs.Records.{within-word}

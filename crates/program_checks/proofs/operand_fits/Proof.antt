@@ -1,4 +1,4 @@
--- `checks::operand_fits` meets its contract: one return for each kind.
+-- `program_checks::operand_fits` meets its contract: one return for each kind.
 -- Assumes nothing.
 use mathlib.Core.Path.{sym}
 use borrow.Author.Needs.{needs}

@@ -1,4 +1,4 @@
--- `checks::program_refusal` meets its contract: the first refusal that is not 0.
+-- `program_checks::program_refusal` meets its contract: the first refusal that is not 0.
 -- Assumes nothing.
 use borrow.Author.Needs.{needs}
 use Rattle.lang.proofs.Refusals.{first-refusal, later-refusal}

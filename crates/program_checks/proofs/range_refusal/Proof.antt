@@ -1,4 +1,4 @@
--- `checks::range_refusal` meets its contract: the test of the number's bits is the test of the number.
+-- `program_checks::range_refusal` meets its contract: the test of the number's bits is the test of the number.
 -- Assumes nothing.
 use mathlib.Core.Path.{sym, ap}
 use borrow.Author.Needs.{needs}

@@ -1,4 +1,4 @@
--- `checks::record_refusal` meets its contract. The loop's invariant: every record passed is an instruction. The measure is what is left.
+-- `program_checks::record_refusal` meets its contract. The loop's invariant: every record passed is an instruction. The measure is what is left.
 -- Assumes nothing.
 use mathlib.Core.Path.{_≡_, sym, ap, _∙_}
 use mathlib.Core.Bool.{true}

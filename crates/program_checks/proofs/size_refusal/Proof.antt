@@ -1,4 +1,4 @@
--- `checks::size_refusal` meets its contract: each return by the tests that lead to it.
+-- `program_checks::size_refusal` meets its contract: each return by the tests that lead to it.
 -- Assumes nothing.
 use lib.ListN.{length}
 use denote.Ref.{now}

@@ -1,4 +1,4 @@
--- `kerns::pack_kerns` meets its contract: zeros where it is refused, else the packed program and zeros.
+-- `program_kerns::pack_kerns` meets its contract: zeros where it is refused, else the packed program and zeros.
 -- Assumes nothing.
 use mathlib.Core.Path.{_≡_, sym, _∙_}
 use mathlib.Core.List.{List, _++_}

@@ -1,4 +1,4 @@
--- `kerns::pack_refusal` meets its contract: the first of three numbers that is not 0.
+-- `program_kerns::pack_refusal` meets its contract: the first of three numbers that is not 0.
 -- Assumes nothing.
 use Rattle.lang.proofs.Refusals.{first-refusal, later-refusal}
 use borrow.Author.Needs.{needs}

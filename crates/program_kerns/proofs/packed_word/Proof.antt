@@ -1,4 +1,4 @@
--- `kerns::packed_word` meets its contract, case by case: another instruction, a kind, an operand, and the other numbers of a kern index.
+-- `program_kerns::packed_word` meets its contract, case by case: another instruction, a kind, an operand, and the other numbers of a kern index.
 -- Assumes nothing.
 use Prim.Native.Nat.{_/_}
 use lib.Dec.{lit<}

@@ -1,4 +1,4 @@
--- `kerns::unpack_kerns` meets its contract: zeros where it is refused, also where the kerns turn out to be too many, else the unpacked program, the
+-- `program_kerns::unpack_kerns` meets its contract: zeros where it is refused, also where the kerns turn out to be too many, else the unpacked program, the
 -- kerns, and zeros. Assumes nothing.
 use mathlib.Core.Path.{_≡_, refl, sym, _∙_}
 use mathlib.Core.List.{List, _++_}

@@ -1,4 +1,4 @@
--- `kerns::unpack_refusal` meets its contract: the first of two numbers that is not 0.
+-- `program_kerns::unpack_refusal` meets its contract: the first of two numbers that is not 0.
 -- Assumes nothing.
 use Rattle.lang.proofs.Refusals.{first-refusal, later-refusal}
 use borrow.Author.Needs.{needs}

@@ -1,4 +1,4 @@
--- `kerns::unpacked_word` meets its contract, case by case: another instruction, a kind, an operand, and the other numbers of a kern value.
+-- `program_kerns::unpacked_word` meets its contract, case by case: another instruction, a kind, an operand, and the other numbers of a kern value.
 -- Assumes nothing.
 use mathlib.Core.Path.{_≡_}
 use mathlib.Core.List.{List}

@@ -1,4 +1,4 @@
--- `kerns::write_unpacked` meets its contract. The loop's invariant: the first j numbers are those of the unpacked program, and the rest is as it came.
+-- `program_kerns::write_unpacked` meets its contract. The loop's invariant: the first j numbers are those of the unpacked program, and the rest is as it came.
 -- The measure is what is left of the instructions' numbers. Assumes nothing.
 use mathlib.Core.List.{List}
 use Prim.Native.Nat.{ℕ, _-_, _≤_}

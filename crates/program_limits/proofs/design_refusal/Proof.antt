@@ -1,4 +1,4 @@
--- `limits::design_refusal` meets its contract: the code's test of the bits is the number's sign.
+-- `program_limits::design_refusal` meets its contract: the code's test of the bits is the number's sign.
 -- Assumes nothing.
 use mathlib.Core.Path.{sym, ap, _∙_}
 use mathlib.Core.Bool.{not}

@@ -1,4 +1,4 @@
--- `limits::entries_refusal` meets its contract. The loop's invariant: every entry passed fits, and a character's mark is 0 exactly when no
+-- `program_limits::entries_refusal` meets its contract. The loop's invariant: every entry passed fits, and a character's mark is 0 exactly when no
 -- entry passed has it. The measure is what is left of the entries.
 -- Assumes nothing.
 use mathlib.Core.Path.{_≡_, sym, _∙_}

@@ -1,4 +1,4 @@
--- `limits::entry_fits` meets its contract: each return by the tests, of the two words that were read, that lead to it.
+-- `program_limits::entry_fits` meets its contract: each return by the tests, of the two words that were read, that lead to it.
 -- Assumes nothing.
 use mathlib.Core.Path.{_≡_, _∙_}
 use mathlib.Core.Bool.{Bool, false}

@@ -1,4 +1,4 @@
--- `limits::kerns_refusal` meets its contract: each return by the test that leads to it.
+-- `program_limits::kerns_refusal` meets its contract: each return by the test that leads to it.
 -- Assumes nothing.
 use lib.ListN.{length}
 use denote.Ref.{now}

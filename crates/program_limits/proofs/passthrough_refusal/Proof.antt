@@ -1,4 +1,4 @@
--- `limits::passthrough_refusal` meets its contract: each return by the test that leads to it.
+-- `program_limits::passthrough_refusal` meets its contract: each return by the test that leads to it.
 -- Assumes nothing.
 use Prim.Native.Nat.{_/_}
 use lib.ListN.{length}

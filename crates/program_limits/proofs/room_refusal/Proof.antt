@@ -1,4 +1,4 @@
--- `limits::room_refusal` meets its contract.
+-- `program_limits::room_refusal` meets its contract.
 -- Assumes nothing.
 use mathlib.Core.Path.{sym}
 use Rattle.lang.proofs.Refusals.{room-is, room-short}

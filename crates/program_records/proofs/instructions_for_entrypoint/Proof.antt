@@ -1,6 +1,6 @@
--- `records::instructions_for_entrypoint` meets its contract: a walk of its MIR, by hand. The loop's invariant is `Walked`: the indices that are passed are
--- written, as long as there is room. It is ordered by what is left of the records, since a step moves ahead. `put` is lent the list again for each call, and
--- `finish` takes it for good. All that the proof knows of what it calls is that each meets its contract.
+-- `program_records::instructions_for_entrypoint` meets its contract: a walk of its MIR, by hand. The loop's invariant is `Walked`: the indices that are passed
+-- are written, as long as there is room. It is ordered by what is left of the records, since a step moves ahead. `put` is lent the list again for each call,
+-- and `finish` takes it for good. All that the proof knows of what it calls is that each meets its contract.
 -- Assumes nothing.
 use mathlib.Core.Path.{_≡_, refl, sym, ap, subst, _∙_}
 use mathlib.Core.Bool.{Bool}

@@ -1,4 +1,4 @@
--- `records::next_instruction` meets its contract: a walk of its MIR, by hand. The record is asked of `record_at`, and the step of `step`, which takes
+-- `program_records::next_instruction` meets its contract: a walk of its MIR, by hand. The record is asked of `record_at`, and the step of `step`, which takes
 -- it by value. All that the proof knows of the two is that each meets its contract.
 -- Assumes nothing.
 use mathlib.Core.Path.{refl}

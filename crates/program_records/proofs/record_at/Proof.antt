@@ -1,4 +1,4 @@
--- `records::record_at` meets its contract: a walk of its MIR, by hand. Inside the slice the record is read at its place, 12 bytes a record; past
+-- `program_records::record_at` meets its contract: a walk of its MIR, by hand. Inside the slice the record is read at its place, 12 bytes a record; past
 -- its end `zeros` is called.
 -- Assumes nothing.
 use mathlib.Core.Path.{_≡_, refl, sym}

@@ -1,4 +1,4 @@
--- `records::rule_index` meets its contract: a walk of its MIR, by hand. The loop's invariant: the rule on the chain from where the search is is the
+-- `program_records::rule_index` meets its contract: a walk of its MIR, by hand. The loop's invariant: the rule on the chain from where the search is is the
 -- entry's. It is ordered by what is left of the records, since a step moves ahead. All that the proof knows of what it calls is that each meets its
 -- contract.
 -- Assumes nothing.

@@ -1,4 +1,4 @@
--- `marks::mark_entries` meets its contract. The loop's invariant: the marks are those of the entries passed.
+-- `reach_marks::mark_entries` meets its contract. The loop's invariant: the marks are those of the entries passed.
 -- The measure is what is left of the entries. Assumes nothing.
 use mathlib.Core.Path.{_≡_, ap, _∙_}
 use Prim.Native.Nat.{_-_, _/_, _≤_}

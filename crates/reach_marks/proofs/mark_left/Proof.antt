@@ -1,4 +1,4 @@
--- `marks::mark_left` meets its contract: the entry's bits are its index, and a store past the end is none.
+-- `reach_marks::mark_left` meets its contract: the entry's bits are its index, and a store past the end is none.
 -- Assumes nothing.
 use borrow.Author.Needs.{needs}
 use Rattle.reach_marks.proofs.Marks.{left-last, left-other}

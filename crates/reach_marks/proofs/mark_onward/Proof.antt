@@ -1,4 +1,4 @@
--- `marks::mark_onward` meets its contract: below the count a step of a walk is no end, and goes where the definition says.
+-- `reach_marks::mark_onward` meets its contract: below the count a step of a walk is no end, and goes where the definition says.
 -- Assumes nothing.
 use mathlib.Core.Path.{sym, _∙_}
 use borrow.Author.Needs.{needs}

@@ -1,4 +1,4 @@
--- `marks::mark_reached` meets its contract. The loop's invariant: the marks are those after a pass over the instructions before i.
+-- `reach_marks::mark_reached` meets its contract. The loop's invariant: the marks are those after a pass over the instructions before i.
 -- The measure is what is left of the instructions. Assumes nothing.
 use mathlib.Core.Path.{_≡_, sym, ap, _∙_}
 use Prim.Native.Nat.{ℕ, _-_, _≤_}

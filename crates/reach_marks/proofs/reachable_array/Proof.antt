@@ -1,4 +1,4 @@
--- `marks::reachable_array` meets its contract: by whether the list has a byte an instruction.
+-- `reach_marks::reachable_array` meets its contract: by whether the list has a byte an instruction.
 -- Assumes nothing.
 use mathlib.Core.Path.{ap, _∙_}
 use lib.IntN.{ℤ}

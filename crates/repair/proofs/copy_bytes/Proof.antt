@@ -1,4 +1,4 @@
--- `validate::copy_bytes` meets its contract. The loop's invariant: what was passed stands at the front, and the rest is as it came.
+-- `repair::copy_bytes` meets its contract. The loop's invariant: what was passed stands at the front, and the rest is as it came.
 -- Assumes nothing.
 use Prim.Native.Nat.{_-_, _≤_}
 use native.Mathlib.Omega.{arith}

@@ -1,4 +1,4 @@
--- `validate::damaged_refusal` meets its contract: the first refusal that is not 0.
+-- `repair::damaged_refusal` meets its contract: the first refusal that is not 0.
 -- Assumes nothing.
 use mathlib.Core.Path.{_≡_, sym, ap, _∙_}
 use mathlib.Core.List.{List}

@@ -1,4 +1,4 @@
--- `validate::edge_refusal` meets its contract: the first refusal that is not 0.
+-- `repair::edge_refusal` meets its contract: the first refusal that is not 0.
 -- Assumes nothing.
 use mathlib.Core.Path.{_≡_, sym, ap, _∙_}
 use Prim.Native.Nat.{ℕ, _≤_, _<_}

@@ -1,4 +1,4 @@
--- `validate::finish` meets its contract: proofs/Repairing, by whether the lists are long enough.
+-- `repair::finish` meets its contract: proofs/Repairing, by whether the lists are long enough.
 -- Assumes nothing.
 use mathlib.Core.Path.{_≡_, sym, _∙_}
 use mathlib.Core.List.{List}

@@ -1,4 +1,4 @@
--- `validate::fits_refusal` meets its contract: the first refusal that is not 0.
+-- `repair::fits_refusal` meets its contract: the first refusal that is not 0.
 -- Assumes nothing.
 use mathlib.Core.Path.{sym}
 use Prim.Native.Nat.{_*_}

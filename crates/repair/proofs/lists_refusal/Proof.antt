@@ -1,4 +1,4 @@
--- `validate::lists_refusal` meets its contract: the first refusal that is not 0.
+-- `repair::lists_refusal` meets its contract: the first refusal that is not 0.
 -- Assumes nothing.
 use Rattle.lang.proofs.Refusals.{first-refusal, later-refusal}
 use borrow.Author.Needs.{needs}

@@ -1,4 +1,4 @@
--- `validate::validate_and_fix` meets its contract: proofs/Repairing, by what the refusals and the passes answer.
+-- `repair::validate_and_fix` meets its contract: proofs/Repairing, by what the refusals and the passes answer.
 -- Assumes nothing.
 use mathlib.Core.Path.{_≡_, sym, ap, _∙_, subst}
 use mathlib.Core.List.{List, _++_}

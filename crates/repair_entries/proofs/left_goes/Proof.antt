@@ -1,4 +1,4 @@
--- `entrypoints::left_goes` meets its contract: the sign by the highest of the 32 bits.
+-- `repair_entries::left_goes` meets its contract: the sign by the highest of the 32 bits.
 -- Assumes nothing.
 use mathlib.Core.Path.{ap, _∙_}
 use borrow.Author.Needs.{needs}

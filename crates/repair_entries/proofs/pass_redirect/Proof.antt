@@ -1,4 +1,4 @@
--- `entrypoints::pass_redirect` meets its contract: by the two tests.
+-- `repair_entries::pass_redirect` meets its contract: by the two tests.
 -- Assumes nothing.
 use mathlib.Core.Path.{sym, _∙_}
 use borrow.Author.Needs.{needs}

@@ -1,4 +1,4 @@
--- `entrypoints::pass_redirects` meets its contract. The loop's invariant: the redirects by which the entries passed unpack are passed over.
+-- `repair_entries::pass_redirects` meets its contract. The loop's invariant: the redirects by which the entries passed unpack are passed over.
 -- Assumes nothing.
 use mathlib.Core.Path.{_≡_, refl, ap, _∙_}
 use mathlib.Core.List.{List}

@@ -1,4 +1,4 @@
--- `entrypoints::put_entries` meets its contract. The loop's invariant: the entries passed are placed, those that unpack.
+-- `repair_entries::put_entries` meets its contract. The loop's invariant: the entries passed are placed, those that unpack.
 -- Assumes nothing.
 use mathlib.Core.Path.{_≡_, refl, _∙_}
 use Prim.Native.Nat.{_-_, _/_, _≤_}

@@ -1,4 +1,4 @@
--- `entrypoints::put_entry` meets its contract: the entry and its refusal by the tests, and two stores one after the other.
+-- `repair_entries::put_entry` meets its contract: the entry and its refusal by the tests, and two stores one after the other.
 -- Assumes nothing.
 use native.Mathlib.Omega.{arith}
 use borrow.Author.Needs.{needs}

@@ -1,4 +1,4 @@
--- `entrypoints::put_passthrough` meets its contract. The loop's invariant: the places passed are stored.
+-- `repair_entries::put_passthrough` meets its contract. The loop's invariant: the places passed are stored.
 -- Assumes nothing.
 use mathlib.Core.Path.{_≡_, ap, _∙_}
 use mathlib.Core.Logic.{⊎-elim}

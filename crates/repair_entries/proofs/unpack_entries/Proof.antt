@@ -1,4 +1,4 @@
--- `entrypoints::unpack_entries` meets its contract: the passes one after the other.
+-- `repair_entries::unpack_entries` meets its contract: the passes one after the other.
 -- Assumes nothing.
 use mathlib.Core.Path.{ap, _∙_}
 use lib.IntN.{ℤ}

@@ -1,4 +1,4 @@
--- `entrypoints::warn_entries` meets its contract. The loop's invariant: the warnings of the entries passed have been pushed.
+-- `repair_entries::warn_entries` meets its contract. The loop's invariant: the warnings of the entries passed have been pushed.
 -- Assumes nothing.
 use mathlib.Core.Path.{_≡_, refl, _∙_}
 use Prim.Native.Nat.{_-_, _/_, _≤_}

@@ -1,4 +1,4 @@
--- `faults::exists` meets its contract: the bit of a word that was read.
+-- `repair_faults::exists` meets its contract: the bit of a word that was read.
 -- Assumes nothing.
 use mathlib.Core.Path.{ap}
 use Prim.Native.Nat.{ℕ, _/_, _%_, _^_}

@@ -1,4 +1,4 @@
--- `faults::faults` meets its contract: what each test answers, at the boundary character that was lent.
+-- `repair_faults::faults` meets its contract: what each test answers, at the boundary character that was lent.
 -- Assumes nothing.
 use denote.Ref.{now}
 use Rattle.lang.proofs.Records.{word-passed}

@@ -1,4 +1,4 @@
--- `faults::is_boundary` meets its contract: by whether there is a boundary character.
+-- `repair_faults::is_boundary` meets its contract: by whether there is a boundary character.
 -- Assumes nothing.
 use Rattle.repair_faults.proofs.Steps.{edge-none, edge-same}
 use Rattle.repair_faults.proofs.is_boundary.Statement.{statement}

@@ -1,4 +1,4 @@
--- `faults::kern_goes` meets its contract: one answer for each way through the test.
+-- `repair_faults::kern_goes` meets its contract: one answer for each way through the test.
 -- Assumes nothing.
 use denote.Ref.{now}
 use Rattle.repair_faults.proofs.Steps.{kern-none, kern-index}

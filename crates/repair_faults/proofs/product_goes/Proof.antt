@@ -1,4 +1,4 @@
--- `faults::product_goes` meets its contract: one answer for each way through the test.
+-- `repair_faults::product_goes` meets its contract: one answer for each way through the test.
 -- Assumes nothing.
 use denote.Ref.{now}
 use Rattle.repair_faults.proofs.Steps.{product-none, product-by}

@@ -1,4 +1,4 @@
--- `faults::redirect_warns` meets its contract: one answer for each way through the tests, in the definition's order.
+-- `repair_faults::redirect_warns` meets its contract: one answer for each way through the tests, in the definition's order.
 -- Assumes nothing.
 use denote.Ref.{now}
 use Rattle.repair_faults.proofs.Steps.{redirect-none, redirect-followed, redirect-reached, redirect-unreached}

@@ -1,4 +1,4 @@
--- `faults::right_goes` meets its contract: one answer for each way through the tests, in the definition's order.
+-- `repair_faults::right_goes` meets its contract: one answer for each way through the tests, in the definition's order.
 -- Assumes nothing.
 use denote.Ref.{now}
 use Rattle.words.specs.Words.{numberOf}

@@ -1,4 +1,4 @@
--- `faults::skip_goes` meets its contract: one answer for each way through the tests, in the definition's order.
+-- `repair_faults::skip_goes` meets its contract: one answer for each way through the tests, in the definition's order.
 -- Assumes nothing.
 use denote.Ref.{now}
 use Rattle.repair_faults.proofs.Steps.{skip-unreachable, skip-none, skip-past, skip-lands}

@@ -1,4 +1,4 @@
--- `faults::tag_goes` meets its contract: one answer for each way through the test.
+-- `repair_faults::tag_goes` meets its contract: one answer for each way through the test.
 -- Assumes nothing.
 use mathlib.Core.List.{[]}
 use denote.Ref.{now}

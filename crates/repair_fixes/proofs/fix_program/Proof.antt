@@ -1,4 +1,5 @@
--- `fixes::fix_program` meets its contract. A program that it does nothing to is refused; else the warnings of skips are pushed, and after them those of steps.
+-- `repair_fixes::fix_program` meets its contract. A program that it does nothing to is refused; else the warnings of skips are pushed, and after them those of
+-- steps.
 -- Assumes nothing.
 use native.Mathlib.Omega.{arith}
 use denote.Ref.{now}

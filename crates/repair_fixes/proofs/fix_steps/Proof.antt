@@ -1,4 +1,5 @@
--- `fixes::fix_steps` meets its contract. The loop's invariant: the steps passed have been warned of and repaired. The measure is how many steps are left.
+-- `repair_fixes::fix_steps` meets its contract. The loop's invariant: the steps passed have been warned of and repaired. The measure is how many steps are
+-- left.
 -- Assumes nothing.
 use mathlib.Core.Path.{_≡_, refl, _∙_}
 use Prim.Native.Nat.{ℕ, _-_, _≤_}

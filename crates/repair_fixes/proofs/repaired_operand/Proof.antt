@@ -1,4 +1,4 @@
--- `fixes::repaired_operand` meets its contract: a kern's or a redirect's operand as it is, or zero; a ligature's two bytes.
+-- `repair_fixes::repaired_operand` meets its contract: a kern's or a redirect's operand as it is, or zero; a ligature's two bytes.
 -- Assumes nothing.
 use native.Mathlib.Omega.{arith}
 use denote.Ref.{now}

@@ -1,4 +1,4 @@
--- `fixes::right_warning` meets its contract: by whether the step is a ligature.
+-- `repair_fixes::right_warning` meets its contract: by whether the step is a ligature.
 -- Assumes nothing.
 use denote.Ref.{now}
 use Rattle.repair_faults.proofs.Steps.{of-kind, not-kind}

@@ -1,4 +1,5 @@
--- `fixes::warn_skips` meets its contract. The loop's invariant: the warnings of the steps passed have been pushed. The measure is how many steps are left.
+-- `repair_fixes::warn_skips` meets its contract. The loop's invariant: the warnings of the steps passed have been pushed. The measure is how many steps are
+-- left.
 -- Assumes nothing.
 use Prim.Native.Nat.{ℕ, _-_, _≤_}
 use native.Mathlib.Omega.{arith}

@@ -1,4 +1,4 @@
--- `fixes::warn_step` meets its contract: five warnings, each by its test, one after the other.
+-- `repair_fixes::warn_step` meets its contract: five warnings, each by its test, one after the other.
 -- Assumes nothing.
 use denote.Ref.{now}
 use Rattle.repair_fixes.proofs.Pushes.{step-pushed}

@@ -1,4 +1,4 @@
--- `fixes::write_step` meets its contract: four stores, one after the other.
+-- `repair_fixes::write_step` meets its contract: four stores, one after the other.
 -- Assumes nothing.
 use mathlib.Core.Path.{refl}
 use denote.Ref.{now}

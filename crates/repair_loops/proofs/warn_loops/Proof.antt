@@ -1,4 +1,4 @@
--- `loop_warnings::warn_loops` meets its contract: proofs/Laws, of the rows in which the loops are listed.
+-- `repair_loops::warn_loops` meets its contract: proofs/Laws, of the rows in which the loops are listed.
 -- Assumes nothing.
 use mathlib.Core.Path.{refl}
 use Prim.Native.Nat.{_/_, min}

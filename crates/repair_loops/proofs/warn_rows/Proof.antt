@@ -1,4 +1,4 @@
--- `loop_warnings::warn_rows` meets its contract. The loop's invariant: the warnings of the rows passed have been pushed.
+-- `repair_loops::warn_rows` meets its contract. The loop's invariant: the warnings of the rows passed have been pushed.
 -- Assumes nothing.
 use mathlib.Core.Path.{_≡_, refl, _∙_}
 use Prim.Native.Nat.{_<_, _≤_, _-_}

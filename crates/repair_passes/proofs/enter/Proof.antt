@@ -1,4 +1,4 @@
--- `mending::enter` meets its contract: proofs/Laws, of the entries that were unpacked.
+-- `repair_passes::enter` meets its contract: proofs/Laws, of the entries that were unpacked.
 -- Assumes nothing.
 use mathlib.Core.Path.{refl, sym, _∙_, subst}
 use mathlib.Core.List.{List, []}

@@ -1,4 +1,4 @@
--- `mending::lists_fit` meets its contract.
+-- `repair_passes::lists_fit` meets its contract.
 -- Assumes nothing.
 use borrow.Author.Tests.{le-leb, lt-leb, eq-eqb, ne-eqb}
 use borrow.Author.Needs.{needs}

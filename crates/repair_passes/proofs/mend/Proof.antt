@@ -1,4 +1,4 @@
--- `mending::mend` meets its contract: proofs/Laws, of what each pass left.
+-- `repair_passes::mend` meets its contract: proofs/Laws, of what each pass left.
 -- Assumes nothing.
 use mathlib.Core.Path.{_≡_, refl, sym, ap, _∙_}
 use mathlib.Core.Bool.{Bool, true, false, cond}

@@ -1,4 +1,4 @@
--- `mending::repaired_left` meets its contract: a negative number has the top bit.
+-- `repair_passes::repaired_left` meets its contract: a negative number has the top bit.
 -- Assumes nothing.
 use mathlib.Core.Path.{_≡_, sym, ap, _∙_}
 use Prim.Native.Nat.{ℕ, _<_, _≤_, _^_}

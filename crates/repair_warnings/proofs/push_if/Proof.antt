@@ -1,4 +1,4 @@
--- `warnings::push_if` meets its contract: four stores one after the other, or none.
+-- `repair_warnings::push_if` meets its contract: four stores one after the other, or none.
 -- Assumes nothing.
 use mathlib.Core.Path.{_≡_, refl}
 use mathlib.Core.Bool.{Bool, true, false}

@@ -1,4 +1,4 @@
--- `places::comes_before` meets its contract: the left decides, or the right.
+-- `step_quick_find::comes_before` meets its contract: the left decides, or the right.
 -- Assumes nothing.
 use native.Mathlib.Omega.{arith}
 use Rattle.words.proofs.Bits.{read-lt}

@@ -1,4 +1,4 @@
--- `places::found_place` meets its contract: the pair where the search ends has the key, or there is none.
+-- `step_quick_find::found_place` meets its contract: the pair where the search ends has the key, or there is none.
 -- Assumes nothing.
 use mathlib.Core.Path.{refl, sym, ap, _∙_}
 use Prim.Native.Nat.{ℕ}

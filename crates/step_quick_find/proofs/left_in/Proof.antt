@@ -1,4 +1,4 @@
--- `places::left_in` meets its contract: the sum wraps at -1.
+-- `step_quick_find::left_in` meets its contract: the sum wraps at -1.
 -- Assumes nothing.
 use denote.Ref.{now}
 use Rattle.step_quick_find.proofs.Laws.{left-word}

@@ -1,4 +1,4 @@
--- `places::place_for` meets its contract. The loop's invariant: the search goes on between `lo` and `hi`, and ends where the definition's does. The
+-- `step_quick_find::place_for` meets its contract. The loop's invariant: the search goes on between `lo` and `hi`, and ends where the definition's does. The
 -- measure is what is left between them.
 -- Assumes nothing.
 use Prim.Native.Nat.{_-_}

@@ -1,4 +1,4 @@
--- `first_ops::after_letter` meets its contract, by the flag.
+-- `step_quick_op::after_letter` meets its contract, by the flag.
 -- Assumes nothing.
 use Rattle.step_quick_op.proofs.after_letter.Statement.{statement}
 use Rattle.step_quick_op.proofs.after_letter.Tie as tie

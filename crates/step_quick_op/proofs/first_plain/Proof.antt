@@ -1,4 +1,4 @@
--- `first_ops::first_plain` meets its contract, by its tests.
+-- `step_quick_op::first_plain` meets its contract, by its tests.
 -- Assumes nothing.
 use mathlib.Core.Path.{_∙_}
 use denote.Ref.{now}

@@ -1,4 +1,4 @@
--- `first_ops::given_first` meets its contract, from the words of the entry and of its first op.
+-- `step_quick_op::given_first` meets its contract, from the words of the entry and of its first op.
 -- Assumes nothing.
 use native.Mathlib.Numerals.{add-one}
 use borrow.Author.Needs.{needs}

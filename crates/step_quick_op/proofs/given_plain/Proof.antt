@@ -1,4 +1,4 @@
--- `first_ops::given_plain` meets its contract: there is a letter.
+-- `step_quick_op::given_plain` meets its contract: there is a letter.
 -- Assumes nothing.
 use native.Mathlib.Omega.{arith}
 use denote.Ref.{now}

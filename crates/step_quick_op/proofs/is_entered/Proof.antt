@@ -1,4 +1,4 @@
--- `first_ops::is_entered` meets its contract: the last fits, the ops are among the ops, and the first is a character.
+-- `step_quick_op::is_entered` meets its contract: the last fits, the ops are among the ops, and the first is a character.
 -- Assumes nothing.
 use mathlib.Core.Path.{sym, _∙_}
 use Prim.Native.Nat.{_+_}

@@ -1,4 +1,4 @@
--- `first_ops::is_ready` meets its contract, by whether there is an entry.
+-- `step_quick_op::is_ready` meets its contract, by whether there is an entry.
 -- Assumes nothing.
 use denote.Ref.{now}
 use borrow.Author.Tests.{lt-ltb, le-ltb}

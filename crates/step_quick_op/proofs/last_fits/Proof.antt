@@ -1,4 +1,4 @@
--- `first_ops::last_fits` meets its contract: each return by the tests, of the words that were read, that lead to it.
+-- `step_quick_op::last_fits` meets its contract: each return by the tests, of the words that were read, that lead to it.
 -- Assumes nothing.
 use denote.Ref.{now}
 use Rattle.captions.specs.Tables.{number}

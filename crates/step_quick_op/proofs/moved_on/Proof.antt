@@ -1,4 +1,4 @@
--- `first_ops::moved_on` meets its contract.
+-- `step_quick_op::moved_on` meets its contract.
 -- Assumes nothing.
 use native.Mathlib.Numerals.{add-one}
 use borrow.Author.Needs.{needs}

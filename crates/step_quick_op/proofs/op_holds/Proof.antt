@@ -1,4 +1,4 @@
--- `first_ops::op_holds` meets its contract: the tests of the words that were read are those of the numbers.
+-- `step_quick_op::op_holds` meets its contract: the tests of the words that were read are those of the numbers.
 -- Assumes nothing.
 use denote.Ref.{now}
 use Rattle.captions.specs.Tables.{opKind, opValue}

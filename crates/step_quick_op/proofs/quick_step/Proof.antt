@@ -1,4 +1,4 @@
--- `first_ops::quick_step` meets its contract, by whether there is a letter and an entry.
+-- `step_quick_op::quick_step` meets its contract, by whether there is a letter and an entry.
 -- Assumes nothing.
 use mathlib.Core.Path.{_≡_, sym, _∙_}
 use mathlib.Core.Bool.{true}

@@ -1,4 +1,4 @@
--- `turns::give_last` meets its contract.
+-- `step_turns::give_last` meets its contract.
 -- Assumes nothing.
 use borrow.Author.Needs.{needs}
 use Rattle.step_turns.proofs.give_last.Statement.{statement}

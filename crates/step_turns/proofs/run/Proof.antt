@@ -1,4 +1,4 @@
--- `turns::run` meets its contract, by whether the state points inside: no slice has so many letters that a sum of two lengths does not fit.
+-- `step_turns::run` meets its contract, by whether the state points inside: no slice has so many letters that a sum of two lengths does not fit.
 -- Assumes nothing.
 use mathlib.Core.Path.{_∙_, sym}
 use native.Mathlib.Omega.{arith}

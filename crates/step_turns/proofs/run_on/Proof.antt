@@ -1,5 +1,5 @@
--- `turns::run_on` meets its contract. The loop's invariant: the state is within the word, and the turns that are left answer what those from the first state
--- answer. The measure is the turns that are left. Assumes nothing.
+-- `step_turns::run_on` meets its contract. The loop's invariant: the state is within the word, and the turns that are left answer what those from the first
+-- state answer. The measure is the turns that are left. Assumes nothing.
 use lib.ListN.{length}
 use denote.Ref.{now}
 use Rattle.words.specs.Words.{numberOf}

@@ -1,4 +1,4 @@
--- `turns::turn_next` meets its contract, by the arm that is taken.
+-- `step_turns::turn_next` meets its contract, by the arm that is taken.
 -- Assumes nothing.
 use mathlib.Core.Path.{_≡_, refl, sym}
 use mathlib.Core.List.{[], _∷_}

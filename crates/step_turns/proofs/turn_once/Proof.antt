@@ -1,4 +1,4 @@
--- `turns::turn_once` meets its contract, by whether ops are to be given.
+-- `step_turns::turn_once` meets its contract, by whether ops are to be given.
 -- Assumes nothing.
 use borrow.Author.Tests.{eq-eqb, ne-eqb}
 use borrow.Author.Needs.{needs}

@@ -1,4 +1,4 @@
--- `lookup::find` meets its contract. The loop's invariant: the search goes on between `lo` and `hi`, and ends where the definition's does. The
+-- `table_find::find` meets its contract. The loop's invariant: the search goes on between `lo` and `hi`, and ends where the definition's does. The
 -- measure is what is left between them.
 -- Assumes nothing.
 use mathlib.Core.Path.{sym, _∙_}

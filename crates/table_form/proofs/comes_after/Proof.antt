@@ -1,4 +1,4 @@
--- `form::comes_after` meets its contract: the keys of the pair before and of the pair.
+-- `table_form::comes_after` meets its contract: the keys of the pair before and of the pair.
 -- Assumes nothing.
 use denote.Ref.{now}
 use Rattle.table_form.proofs.KeyLaws.{after-other}

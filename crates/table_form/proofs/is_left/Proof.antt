@@ -1,4 +1,4 @@
--- `form::is_left` meets its contract: of the bits, -1 is 2 ^ 32 - 1, and a number from 0 on is its own.
+-- `table_form::is_left` meets its contract: of the bits, -1 is 2 ^ 32 - 1, and a number from 0 on is its own.
 -- Assumes nothing.
 use mathlib.Core.Path.{sym}
 use native.Mathlib.Omega.{arith}

@@ -1,4 +1,4 @@
--- `form::key_form` meets its contract: the tests of the words that were read are those of the numbers.
+-- `table_form::key_form` meets its contract: the tests of the words that were read are those of the numbers.
 -- Assumes nothing.
 use mathlib.Core.Path.{_∙_}
 use native.Mathlib.Omega.{arith}

@@ -1,4 +1,4 @@
--- `form::table_refusal` meets its contract: 7 where the table is not of the form.
+-- `table_form::table_refusal` meets its contract: 7 where the table is not of the form.
 -- Assumes nothing.
 use mathlib.Core.Path.{sym, _∙_}
 use borrow.Author.Needs.{needs}

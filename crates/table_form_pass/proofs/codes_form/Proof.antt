@@ -1,4 +1,4 @@
--- `one_pass::codes_form` meets its contract, by its tests.
+-- `table_form_pass::codes_form` meets its contract, by its tests.
 -- Assumes nothing.
 use Rattle.table_form_pass.proofs.PairReads.{no-left, no-right, last-right, last-flagged, last-other}
 use borrow.Author.Needs.{needs}

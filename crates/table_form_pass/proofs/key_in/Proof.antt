@@ -1,4 +1,4 @@
--- `one_pass::key_in` meets its contract: the words of the left and of the right.
+-- `table_form_pass::key_in` meets its contract: the words of the left and of the right.
 -- Assumes nothing.
 use mathlib.Core.Path.{refl}
 use Prim.Native.Nat.{_+_, _/_}

@@ -1,4 +1,4 @@
--- `one_pass::pair_passes` meets its contract: each return by the tests that lead to it.
+-- `table_form_pass::pair_passes` meets its contract: each return by the tests that lead to it.
 -- Assumes nothing.
 use mathlib.Core.Path.{refl, sym, _∙_}
 use mathlib.Core.List.{List}

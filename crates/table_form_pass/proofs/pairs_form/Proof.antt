@@ -1,4 +1,4 @@
--- `one_pass::pairs_form` meets its contract. The loop's invariant: the pairs passed are of the form, and their ops fit and end here. The
+-- `table_form_pass::pairs_form` meets its contract. The loop's invariant: the pairs passed are of the form, and their ops fit and end here. The
 -- measure is what is left of the pairs.
 -- Assumes nothing.
 use mathlib.Core.Path.{_≡_, refl, sym, _∙_}

@@ -1,4 +1,4 @@
--- `one_pass::sizes_form` meets its contract, by its tests.
+-- `table_form_pass::sizes_form` meets its contract, by its tests.
 -- Assumes nothing.
 use mathlib.Core.Path.{refl}
 use Prim.Native.Nat.{_%_}

@@ -1,4 +1,4 @@
--- `one_pass::table_form` meets its contract: the sizes, and then all else.
+-- `table_form_pass::table_form` meets its contract: the sizes, and then all else.
 -- Assumes nothing.
 use mathlib.Core.Path.{_≡_, sym, _∙_}
 use mathlib.Core.Bool.{true}

@@ -1,4 +1,4 @@
--- `tables::last_fits` meets its contract: each return by the tests, of the words that were read, that lead to it.
+-- `table_numbers::last_fits` meets its contract: each return by the tests, of the words that were read, that lead to it.
 -- Assumes nothing.
 use denote.Ref.{now}
 use borrow.Author.Needs.{needs}

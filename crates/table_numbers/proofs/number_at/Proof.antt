@@ -1,4 +1,4 @@
--- `tables::number_at` meets its contract: past the end it is 0.
+-- `table_numbers::number_at` meets its contract: past the end it is 0.
 -- Assumes nothing.
 use Prim.Native.Nat.{_+_, _*_}
 use native.Mathlib.Omega.{arith}

@@ -1,4 +1,4 @@
--- `tables::op_fits` meets its contract: the tests of the words that were read are those of the numbers.
+-- `table_numbers::op_fits` meets its contract: the tests of the words that were read are those of the numbers.
 -- Assumes nothing.
 use mathlib.Core.Path.{_≡_}
 use mathlib.Core.Bool.{true}

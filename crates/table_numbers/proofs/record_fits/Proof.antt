@@ -1,4 +1,4 @@
--- `tables::record_fits` meets its contract: the last fits, and the words of the first op and of the count end among the ops.
+-- `table_numbers::record_fits` meets its contract: the last fits, and the words of the first op and of the count end among the ops.
 -- Assumes nothing.
 use mathlib.Core.Path.{sym, _∙_}
 use denote.Ref.{now}

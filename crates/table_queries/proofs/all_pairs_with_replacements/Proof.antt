@@ -1,4 +1,4 @@
--- `queries::all_pairs_with_replacements` meets its contract: zeros where it is refused, else the lefts and rights and zeros.
+-- `table_queries::all_pairs_with_replacements` meets its contract: zeros where it is refused, else the lefts and rights and zeros.
 -- Assumes nothing.
 use mathlib.Core.Path.{_≡_, sym, _∙_}
 use mathlib.Core.List.{List, _++_}

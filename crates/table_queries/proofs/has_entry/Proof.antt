@@ -1,4 +1,4 @@
--- `queries::has_entry` meets its contract: the right where it is there, else the boundary character, each by its word.
+-- `table_queries::has_entry` meets its contract: the right where it is there, else the boundary character, each by its word.
 -- Assumes nothing.
 use mathlib.Core.Path.{_∙_}
 use denote.Ref.{now}

@@ -1,4 +1,4 @@
--- `queries::has_pair` meets its contract: what was found, or nothing.
+-- `table_queries::has_pair` meets its contract: what was found, or nothing.
 -- Assumes nothing.
 use mathlib.Core.Path.{sym, _∙_}
 use denote.Ref.{now}

@@ -1,4 +1,4 @@
--- `queries::has_refusal` meets its contract: the first of four numbers that is not 0.
+-- `table_queries::has_refusal` meets its contract: the first of four numbers that is not 0.
 -- Assumes nothing.
 use mathlib.Core.Path.{_≡_, refl, sym, ap, _∙_}
 use Prim.Native.Nat.{_%_}

@@ -1,4 +1,4 @@
--- `queries::has_replacement` meets its contract: the answer, or the number of the refusal.
+-- `table_queries::has_replacement` meets its contract: the answer, or the number of the refusal.
 -- Assumes nothing.
 use mathlib.Core.Path.{_≡_}
 use denote.Ref.{now}

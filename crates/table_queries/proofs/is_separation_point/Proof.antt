@@ -1,4 +1,4 @@
--- `queries::is_separation_point` meets its contract: each return by the test that leads to it.
+-- `table_queries::is_separation_point` meets its contract: each return by the test that leads to it.
 -- Assumes nothing.
 use mathlib.Core.Path.{_∙_}
 use Rattle.table_queries.proofs.Laws.{not-parted, parted}

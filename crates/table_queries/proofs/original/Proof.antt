@@ -1,4 +1,4 @@
--- `queries::original` meets its contract: each return by the tests that lead to it.
+-- `table_queries::original` meets its contract: each return by the tests that lead to it.
 -- Assumes nothing.
 use native.Mathlib.Omega.{arith}
 use denote.Ref.{now}

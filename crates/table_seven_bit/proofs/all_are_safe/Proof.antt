@@ -1,4 +1,4 @@
--- `seven_bit::all_are_safe` meets its contract. The loop's invariant: every pair passed is safe. The measure is what is left of the pairs.
+-- `table_seven_bit::all_are_safe` meets its contract. The loop's invariant: every pair passed is safe. The measure is what is left of the pairs.
 -- Assumes nothing.
 use mathlib.Core.Path.{_≡_, sym, _∙_}
 use mathlib.Core.Bool.{true}

@@ -1,4 +1,4 @@
--- `seven_bit::becomes_seven_bit` meets its contract: its ops, and then its last.
+-- `table_seven_bit::becomes_seven_bit` meets its contract: its ops, and then its last.
 -- Assumes nothing.
 use mathlib.Core.Path.{_≡_, sym, _∙_}
 use lib.Dec.{ltb}

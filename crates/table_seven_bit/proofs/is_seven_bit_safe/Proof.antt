@@ -1,4 +1,4 @@
--- `seven_bit::is_seven_bit_safe` meets its contract: the answer, or the number of the refusal.
+-- `table_seven_bit::is_seven_bit_safe` meets its contract: the answer, or the number of the refusal.
 -- Assumes nothing.
 use mathlib.Core.Path.{sym, _∙_}
 use Rattle.captions.proofs.Replies.{told-refused, told-is}

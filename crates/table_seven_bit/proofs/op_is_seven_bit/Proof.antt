@@ -1,4 +1,4 @@
--- `seven_bit::op_is_seven_bit` meets its contract: the tests of the words that were read are those of the numbers.
+-- `table_seven_bit::op_is_seven_bit` meets its contract: the tests of the words that were read are those of the numbers.
 -- Assumes nothing.
 use denote.Ref.{now}
 use Rattle.table_seven_bit.proofs.Laws.{seven-kern, seven-code}

@@ -1,4 +1,4 @@
--- `seven_bit::ops_are_seven_bit` meets its contract. The loop's invariant: every op passed is a kern or of seven bits. The measure is what is
+-- `table_seven_bit::ops_are_seven_bit` meets its contract. The loop's invariant: every op passed is a kern or of seven bits. The measure is what is
 -- left of the ops.
 -- Assumes nothing.
 use mathlib.Core.Path.{_≡_, sym, _∙_}

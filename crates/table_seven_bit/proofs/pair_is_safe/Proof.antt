@@ -1,4 +1,4 @@
--- `seven_bit::pair_is_safe` meets its contract: each return by the tests, of the words that were read, that lead to it.
+-- `table_seven_bit::pair_is_safe` meets its contract: each return by the tests, of the words that were read, that lead to it.
 -- Assumes nothing.
 use mathlib.Core.Path.{_∙_}
 use denote.Ref.{now}

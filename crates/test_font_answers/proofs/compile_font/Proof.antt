@@ -1,4 +1,4 @@
--- `font_answers::compile_font`: a refusal has a number.
+-- `test_font_answers::compile_font`: a refusal has a number.
 -- Assumes nothing.
 use Rattle.test_font_answers.proofs.Numbers.{numbered}
 use borrow.Author.Needs.{needs}

@@ -1,4 +1,4 @@
--- `font_answers::put_pairs` keeps the length of the list: the invariant.
+-- `test_font_answers::put_pairs` keeps the length of the list: the invariant.
 -- Assumes nothing.
 use native.Mathlib.Omega.{arith}
 use Prim.Native.Nat.{_-_}

@@ -1,4 +1,4 @@
--- `texts::answer_all` stays within the texts. The invariant: at is within them, and the reply is as long as it came.
+-- `test_texts::answer_all` stays within the texts. The invariant: at is within them, and the reply is as long as it came.
 -- Assumes nothing.
 use mathlib.Core.Path.{_≡_, refl, _∙_}
 use Prim.Native.Nat.{_≤_, _-_}

@@ -1,4 +1,4 @@
--- `texts::answer_in` lends no more than there is.
+-- `test_texts::answer_in` lends no more than there is.
 -- Assumes nothing.
 use mathlib.Core.Path.{sym}
 use lib.Seq.{length-take-le}

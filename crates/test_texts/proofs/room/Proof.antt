@@ -1,4 +1,4 @@
--- `texts::room` is as long as it says: by a law, since to compute the length costs by the length.
+-- `test_texts::room` is as long as it says: by a law, since to compute the length costs by the length.
 -- Assumes nothing.
 use Prim.Native.Nat.{ℕ}
 use mathlib.Core.Path.{sym}

@@ -1,4 +1,4 @@
--- `vectors::answer_all` stays within the text. The invariant: at is at most one past the end.
+-- `test_vectors::answer_all` stays within the text. The invariant: at is at most one past the end.
 -- Assumes nothing.
 use native.Mathlib.Omega.{arith}
 use Prim.Native.Nat.{_≤_, _-_, _+_}

@@ -1,4 +1,4 @@
--- `vectors::room` is as long as it says: by a law, since to compute the length costs by the length.
+-- `test_vectors::room` is as long as it says: by a law, since to compute the length costs by the length.
 -- Assumes nothing.
 use Prim.Native.Nat.{ℕ}
 use mathlib.Core.Path.{sym}

@@ -1,4 +1,4 @@
--- `waits::rows` is as long as it says.
+-- `test_waits::rows` is as long as it says.
 -- Assumes nothing.
 use Prim.Native.Nat.{ℕ}
 use Rattle.test_waits.proofs.Zeros.{replicated}

@@ -1,4 +1,4 @@
--- `waits::table` is as long as it says.
+-- `test_waits::table` is as long as it says.
 -- Assumes nothing.
 use lib.IntN.{ℤ, pos}
 use Rattle.test_waits.proofs.Zeros.{replicated}

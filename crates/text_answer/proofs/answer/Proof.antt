@@ -1,4 +1,4 @@
--- `host::answer` meets its contract: 16, or what `answer_font` answers for what the text says.
+-- `text_answer::answer` meets its contract: 16, or what `answer_font` answers for what the text says.
 -- Assumes nothing.
 use mathlib.Core.Path.{_≡_, sym, ap, subst, _∙_}
 use mathlib.Core.Option.{Option}

@@ -1,4 +1,4 @@
--- `host::length_of` meets its contract.
+-- `text_answer::length_of` meets its contract.
 -- Assumes nothing.
 use borrow.Author.Needs.{needs}
 use Rattle.lang.proofs.Records.{word-passed}

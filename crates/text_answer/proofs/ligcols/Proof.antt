@@ -1,4 +1,4 @@
--- `host::ligcols` meets its contract: the length of the reply, or minus the number.
+-- `text_answer::ligcols` meets its contract: the length of the reply, or minus the number.
 -- Assumes nothing.
 use mathlib.Core.Path.{_≡_, sym, ap, subst, _∙_}
 use Prim.Native.Nat.{_-_, _<_, _≤_}

@@ -1,4 +1,4 @@
--- `digits::digit_pair` meets its contract: below 100, 103 of 1024 parts are a tenth.
+-- `text_digits::digit_pair` meets its contract: below 100, 103 of 1024 parts are a tenth.
 -- Assumes nothing.
 use mathlib.Core.Path.{_≡_}
 use Prim.Native.Nat.{_+_, _-_, _*_, _/_, _%_}

@@ -1,4 +1,4 @@
--- `digits::put_digits` meets its contract: after each two digits, those before them are left (`Written`).
+-- `text_digits::put_digits` meets its contract: after each two digits, those before them are left (`Written`).
 -- Assumes nothing.
 use Prim.Native.Nat.{_-_, _<_}
 use native.Mathlib.Omega.{arith}

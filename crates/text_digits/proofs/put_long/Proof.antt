@@ -1,4 +1,4 @@
--- `digits::put_long` meets its contract: the digits, and before those of a negative number its sign, where there is room.
+-- `text_digits::put_long` meets its contract: the digits, and before those of a negative number its sign, where there is room.
 -- Assumes nothing.
 use mathlib.Core.Path.{sym, _∙_}
 use Prim.Native.Nat.{_+_, _≤_}

@@ -1,4 +1,4 @@
--- `digits::put_low` meets its contract: two digits of what is left over a hundred.
+-- `text_digits::put_low` meets its contract: two digits of what is left over a hundred.
 -- Assumes nothing.
 use mathlib.Core.Path.{_≡_, refl, _∙_}
 use mathlib.Core.List.{[], _∷_}

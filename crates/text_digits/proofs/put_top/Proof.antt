@@ -1,4 +1,4 @@
--- `digits::put_top` meets its contract: one digit or two.
+-- `text_digits::put_top` meets its contract: one digit or two.
 -- Assumes nothing.
 use mathlib.Core.Path.{_≡_, sym, ap, _∙_}
 use mathlib.Core.List.{[], _∷_}

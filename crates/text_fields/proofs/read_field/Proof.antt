@@ -1,4 +1,4 @@
--- `fields::read_field` meets its contract: a field of 12 columns, or what is left of the text. Assumes nothing.
+-- `text_fields::read_field` meets its contract: a field of 12 columns, or what is left of the text. Assumes nothing.
 use mathlib.Core.Path.{sym, ap, _∙_}
 use Prim.Native.Nat.{_+_}
 use native.Mathlib.Omega.{arith}

@@ -1,4 +1,4 @@
--- `fields::read_number` meets its contract. Assumes nothing.
+-- `text_fields::read_number` meets its contract. Assumes nothing.
 use mathlib.Core.Path.{sym, ap, _∙_}
 use native.Mathlib.Omega.{arith}
 use borrow.Author.Needs.{needs}

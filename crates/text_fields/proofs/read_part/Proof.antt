@@ -1,4 +1,4 @@
--- `fields::read_part` meets its contract. Assumes nothing.
+-- `text_fields::read_part` meets its contract. Assumes nothing.
 use mathlib.Core.Path.{sym, ap, _∙_}
 use borrow.Author.Needs.{needs}
 use Rattle.columns.specs.Scanned.{numberReply}

@@ -1,4 +1,4 @@
--- `font_reply::answer_font` meets its contract: the lowest number of compiling and of the word, or what `answer_table` answers for what compiling wrote.
+-- `text_font_reply::answer_font` meets its contract: the lowest number of compiling and of the word, or what `answer_table` answers for what compiling wrote.
 -- Assumes nothing.
 use mathlib.Core.Path.{_≡_, sym, ap, subst, subst₃, _∙_}
 use Prim.Native.Nat.{ℕ, _*_, _<_, _≤_}

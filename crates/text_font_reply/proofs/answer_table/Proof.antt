@@ -1,4 +1,4 @@
--- `font_reply::answer_table` meets its contract: without a word the table and the loops alone, else with the items, or the number of the run.
+-- `text_font_reply::answer_table` meets its contract: without a word the table and the loops alone, else with the items, or the number of the run.
 -- Assumes nothing.
 use mathlib.Core.Path.{_≡_, sym, subst}
 use mathlib.Core.List.{List, []}

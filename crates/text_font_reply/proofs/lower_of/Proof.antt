@@ -1,4 +1,4 @@
--- `font_reply::lower_of` meets its contract.
+-- `text_font_reply::lower_of` meets its contract.
 -- Assumes nothing.
 use borrow.Author.Needs.{needs}
 use Rattle.text_font_reply.proofs.Laws.{lower-first, lower-less, lower-more}

@@ -1,4 +1,4 @@
--- `justify::fields_fit` meets its contract: each test is one of its definition.
+-- `text_justify::fields_fit` meets its contract: each test is one of its definition.
 -- Assumes nothing.
 use borrow.Author.Tests.{le-leb, lt-leb}
 use borrow.Author.Needs.{needs}

@@ -1,5 +1,5 @@
--- `justify::put_fields` meets its contract. The loop's invariant: the fields of the first j numbers are written, with blanks after them, and the next comes
--- there. Assumes nothing.
+-- `text_justify::put_fields` meets its contract. The loop's invariant: the fields of the first j numbers are written, with blanks after them, and the next
+-- comes there. Assumes nothing.
 use mathlib.Core.Path.{_≡_, sym, ap, _∙_}
 use mathlib.Core.Bool.{true, false}
 use mathlib.Core.List.{_++_}

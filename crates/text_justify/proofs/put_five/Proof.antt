@@ -1,4 +1,4 @@
--- `justify::put_five` meets its contract: blanks, and five numbers spelled over them.
+-- `text_justify::put_five` meets its contract: blanks, and five numbers spelled over them.
 -- Assumes nothing.
 use native.Mathlib.Omega.{arith}
 use Rattle.text_justify.proofs.Fill.{five-filled}

@@ -1,4 +1,4 @@
--- `justify::put_pair_fields` meets its contract: as the list is long.
+-- `text_justify::put_pair_fields` meets its contract: as the list is long.
 -- Assumes nothing.
 use mathlib.Core.Path.{_≡_, sym, _∙_}
 use mathlib.Core.Bool.{true, false}

@@ -1,4 +1,4 @@
--- `line_numbers::line_ends` meets its contract. Assumes nothing.
+-- `text_line_numbers::line_ends` meets its contract. Assumes nothing.
 use mathlib.Core.Path.{sym}
 use native.Mathlib.Omega.{arith}
 use borrow.Author.Needs.{needs}

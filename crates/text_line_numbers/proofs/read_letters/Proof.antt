@@ -1,4 +1,4 @@
--- `line_numbers::read_letters` meets its contract. Assumes nothing.
+-- `text_line_numbers::read_letters` meets its contract. Assumes nothing.
 use mathlib.Core.Path.{sym, ap, _∙_}
 use native.Mathlib.Omega.{arith}
 use lib.ListN.{length, drop}

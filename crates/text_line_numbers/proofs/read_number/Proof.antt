@@ -1,4 +1,4 @@
--- `line_numbers::read_number` meets its contract. Assumes nothing.
+-- `text_line_numbers::read_number` meets its contract. Assumes nothing.
 use mathlib.Core.Path.{sym, _∙_}
 use borrow.Author.Tests.{not-true, not-false}
 use borrow.Author.Needs.{needs}

@@ -1,4 +1,4 @@
--- `line_numbers::read_numbers` meets its contract. Assumes nothing.
+-- `text_line_numbers::read_numbers` meets its contract. Assumes nothing.
 use mathlib.Core.Path.{sym, _∙_}
 use Prim.Native.Nat.{_-_}
 use native.Mathlib.Omega.{arith}

@@ -1,4 +1,4 @@
--- `line_numbers::read_words` meets its contract. The loop's invariant: the first j fields are read, and the words of their numbers stored.
+-- `text_line_numbers::read_words` meets its contract. The loop's invariant: the first j fields are read, and the words of their numbers stored.
 -- Assumes nothing.
 use mathlib.Core.Path.{_≡_, sym, ap, _∙_}
 use Prim.Native.Nat.{_-_, _<_, _≤_}

@@ -1,4 +1,4 @@
--- `lines::lines_fit` meets its contract: each test is one of its definition.
+-- `text_lines::lines_fit` meets its contract: each test is one of its definition.
 -- Assumes nothing.
 use borrow.Author.Tests.{le-leb, lt-leb}
 use borrow.Author.Needs.{needs}

@@ -1,4 +1,4 @@
--- `lines::put_line` meets its contract: the letter, the fields, a line feed.
+-- `text_lines::put_line` meets its contract: the letter, the fields, a line feed.
 -- Assumes nothing.
 use mathlib.Core.Path.{_∙_}
 use Prim.Native.Nat.{_+_, _*_}

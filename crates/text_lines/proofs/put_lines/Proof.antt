@@ -1,4 +1,4 @@
--- `lines::put_lines` meets its contract. The loop's invariant: the first i lines are written, up to `next`.
+-- `text_lines::put_lines` meets its contract. The loop's invariant: the first i lines are written, up to `next`.
 -- Assumes nothing.
 use mathlib.Core.Path.{_≡_, sym, subst, _∙_}
 use mathlib.Core.Bool.{true, false}

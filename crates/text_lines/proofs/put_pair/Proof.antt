@@ -1,4 +1,4 @@
--- `lines::put_pair` meets its contract: the letter, five fields, a line feed.
+-- `text_lines::put_pair` meets its contract: the letter, five fields, a line feed.
 -- Assumes nothing.
 use mathlib.Core.Path.{_≡_, sym, _∙_}
 use mathlib.Core.Bool.{true, false}

@@ -1,4 +1,4 @@
--- `reply::has_room` meets its contract.
+-- `text_reply::has_room` meets its contract.
 -- Assumes nothing.
 use borrow.Author.Tests.{le-leb, lt-leb}
 use Rattle.text_reply.proofs.has_room.Statement.{statement}

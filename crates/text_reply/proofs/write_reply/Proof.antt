@@ -1,4 +1,4 @@
--- `reply::write_reply` meets its contract: by the length, 15 and zeros, or the reply and zeros after it.
+-- `text_reply::write_reply` meets its contract: by the length, 15 and zeros, or the reply and zeros after it.
 -- Assumes nothing.
 use mathlib.Core.Path.{_≡_, subst}
 use mathlib.Core.List.{List}

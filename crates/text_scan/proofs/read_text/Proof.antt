@@ -1,4 +1,4 @@
--- `scan::read_text` meets its contract. Assumes nothing.
+-- `text_scan::read_text` meets its contract. Assumes nothing.
 use Rattle.text_scan.proofs.Clearing.{clears}
 use borrow.Author.Needs.{needs}
 use Rattle.text_scan.proofs.read_text.Statement.{statement}

@@ -1,4 +1,4 @@
--- `scan::read_zeroed` meets its contract. Assumes nothing.
+-- `text_scan::read_zeroed` meets its contract. Assumes nothing.
 use mathlib.Core.Path.{refl}
 use Rattle.columns.specs.declared.TextRead.the-variants as whole
 use Rattle.text_scan.proofs.Ending.{reads-none}

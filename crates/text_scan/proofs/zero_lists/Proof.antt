@@ -1,4 +1,4 @@
--- `scan::zero_lists` meets its contract. Assumes nothing.
+-- `text_scan::zero_lists` meets its contract. Assumes nothing.
 use lib.IntN.{pos}
 use Rattle.text_scan.proofs.Clearing.{zeroed}
 use borrow.Author.Needs.{needs}

@@ -1,4 +1,4 @@
--- `item_lists::is_small` meets its contract, arm by arm.
+-- `word_items::is_small` meets its contract, arm by arm.
 -- Assumes nothing.
 use borrow.Author.Tests.{le-leb, lt-leb, lt-ltb, le-ltb}
 use borrow.Author.Needs.{needs}

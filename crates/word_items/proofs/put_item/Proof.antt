@@ -1,4 +1,4 @@
--- `item_lists::put_item` meets its contract, by whether the numbers are small.
+-- `word_items::put_item` meets its contract, by whether the numbers are small.
 -- Assumes nothing.
 use mathlib.Core.Path.{sym, ap, _∙_}
 use mathlib.Core.Bool.{Bool, cond}

@@ -1,4 +1,4 @@
--- `item_lists::stopped` meets its contract: each arm is a clause of its definition.
+-- `word_items::stopped` meets its contract: each arm is a clause of its definition.
 -- Assumes nothing.
 use mathlib.Core.Path.{refl}
 use borrow.Author.Needs.{needs}

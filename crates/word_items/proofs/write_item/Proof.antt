@@ -1,4 +1,4 @@
--- `item_lists::write_item` meets its contract, by the arm that is taken: the numbers of its case; the end and a refusal have none.
+-- `word_items::write_item` meets its contract, by the arm that is taken: the numbers of its case; the end and a refusal have none.
 -- Assumes nothing.
 use mathlib.Core.Path.{subst}
 use native.Mathlib.Omega.{arith}

@@ -1,5 +1,5 @@
--- `stretch::give` meets its contract. The loop's invariant: the letters so far were free and are given, and `l` is the left that is next. The measure is what
--- is left of n. Assumes nothing.
+-- `word_plain_letters::give` meets its contract. The loop's invariant: the letters so far were free and are given, and `l` is the left that is next. The
+-- measure is what is left of n. Assumes nothing.
 use mathlib.Core.Path.{refl, sym, subst}
 use Prim.Native.Nat.{_+_, _-_}
 use native.Mathlib.Omega.{arith}

@@ -1,4 +1,4 @@
--- `stretch::give_letters` meets its contract: nothing from a state that is not quick, and else what the loop leaves.
+-- `word_plain_letters::give_letters` meets its contract: nothing from a state that is not quick, and else what the loop leaves.
 -- Assumes nothing.
 use mathlib.Core.Path.{_≡_, ap, _∙_}
 use mathlib.Core.Bool.{true}

@@ -1,4 +1,4 @@
--- `stretch::least` meets its contract.
+-- `word_plain_letters::least` meets its contract.
 -- Assumes nothing.
 use borrow.Author.Tests.{le-leb, lt-leb}
 use Rattle.word_plain_letters.proofs.least.Statement.{statement}

@@ -1,4 +1,4 @@
--- `stretch::moved_by` meets its contract.
+-- `word_plain_letters::moved_by` meets its contract.
 -- Assumes nothing.
 use borrow.Author.Tests.{eq-eqb, ne-eqb}
 use borrow.Author.Needs.{needs}

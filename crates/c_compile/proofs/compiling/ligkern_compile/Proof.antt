@@ -1,4 +1,4 @@
--- `c_counts::compiling::ligkern_compile` meets its contract: proofs/Counts.
+-- `c_compile::compiling::ligkern_compile` meets its contract: proofs/Counts.
 -- Assumes nothing.
 use mathlib.Core.Path.{subst}
 use Rattle.words.proofs.Bits.{number-word}

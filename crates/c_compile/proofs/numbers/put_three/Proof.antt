@@ -1,4 +1,4 @@
--- `c_counts::numbers::put_three` meets its contract: three stores in a row.
+-- `c_compile::numbers::put_three` meets its contract: three stores in a row.
 -- Assumes nothing.
 use native.Mathlib.Omega.{arith}
 use lib.ListN.{length-set}

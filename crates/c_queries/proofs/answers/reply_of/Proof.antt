@@ -1,4 +1,4 @@
--- `c_questions::answers::reply_of` meets its contract: each case has the same number and values. Assumes nothing.
+-- `c_queries::answers::reply_of` meets its contract: each case has the same number and values. Assumes nothing.
 use mathlib.Core.Path.{refl}
 use borrow.Author.Needs.{needs}
 use Rattle.c_queries.proofs.answers.reply_of.Statement.{statement}

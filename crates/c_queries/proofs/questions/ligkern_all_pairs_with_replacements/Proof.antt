@@ -1,4 +1,4 @@
--- `c_questions::questions::ligkern_all_pairs_with_replacements` meets its contract. Assumes nothing.
+-- `c_queries::questions::ligkern_all_pairs_with_replacements` meets its contract. Assumes nothing.
 use mathlib.Core.List.{[], _∷_}
 use lib.IntN.{pos}
 use lib.ListN.{length}

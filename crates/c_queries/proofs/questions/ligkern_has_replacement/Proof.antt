@@ -1,4 +1,4 @@
--- `c_questions::questions::ligkern_has_replacement` meets its contract. Assumes nothing.
+-- `c_queries::questions::ligkern_has_replacement` meets its contract. Assumes nothing.
 use mathlib.Core.Path.{_∙_}
 use lib.IntN.{ℤ}
 use Rattle.words.proofs.Bits.{number-word}

@@ -1,4 +1,4 @@
--- `c_questions::questions::ligkern_table_is_seven_bit_safe` meets its contract. Assumes nothing.
+-- `c_queries::questions::ligkern_table_is_seven_bit_safe` meets its contract. Assumes nothing.
 use mathlib.Core.Path.{_∙_}
 use Rattle.c_values.proofs.Telling.{tells-as}
 use borrow.Author.Needs.{needs}

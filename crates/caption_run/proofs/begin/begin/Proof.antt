@@ -1,4 +1,4 @@
--- `ligkern::begin::begin` meets its contract: a fresh state, or the number of the refusal.
+-- `caption_run::begin::begin` meets its contract: a fresh state, or the number of the refusal.
 -- Assumes nothing.
 use mathlib.Core.Path.{_≡_, ap, _∙_}
 use lib.IntN.{ℤ}

@@ -1,4 +1,4 @@
--- `ligkern::begin::begin_refusal` meets its contract: the first of four numbers that is not 0.
+-- `caption_run::begin::begin_refusal` meets its contract: the first of four numbers that is not 0.
 -- Assumes nothing.
 use mathlib.Core.Path.{_≡_, ap, _∙_}
 use lib.IntN.{ℤ}

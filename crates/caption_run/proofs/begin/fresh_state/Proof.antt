@@ -1,4 +1,4 @@
--- `ligkern::begin::fresh_state` meets its contract: each return by the tests that lead to it.
+-- `caption_run::begin::fresh_state` meets its contract: each return by the tests that lead to it.
 -- Assumes nothing.
 use mathlib.Core.Path.{_∙_}
 use denote.Ref.{now}

@@ -1,4 +1,4 @@
--- `ligkern::begin::letters_refusal` meets its contract. The loop's invariant: the letters passed, or-ed together, are in range exactly when each of
+-- `caption_run::begin::letters_refusal` meets its contract. The loop's invariant: the letters passed, or-ed together, are in range exactly when each of
 -- them is. The measure is what is left of the word.
 -- Assumes nothing.
 use mathlib.Core.Path.{_≡_, sym}

@@ -1,4 +1,4 @@
--- `ligkern::edges::edges_refusal` meets its contract: the first of two numbers that is not 0.
+-- `caption_run::edges::edges_refusal` meets its contract: the first of two numbers that is not 0.
 -- Assumes nothing.
 use mathlib.Core.Path.{_≡_, sym, _∙_}
 use mir.Syntax.{w32}

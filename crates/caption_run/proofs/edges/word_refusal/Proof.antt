@@ -1,4 +1,4 @@
--- `ligkern::edges::word_refusal` meets its contract: each return by the test that leads to it.
+-- `caption_run::edges::word_refusal` meets its contract: each return by the test that leads to it.
 -- Assumes nothing.
 use lib.ListN.{length}
 use denote.Ref.{now}

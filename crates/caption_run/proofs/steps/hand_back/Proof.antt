@@ -1,4 +1,4 @@
--- `ligkern::steps::hand_back` meets its contract, by the arm that is taken.
+-- `caption_run::steps::hand_back` meets its contract, by the arm that is taken.
 -- Assumes nothing.
 use borrow.Author.Needs.{needs}
 use Rattle.caption_run.proofs.steps.hand_back.Statement.{statement}

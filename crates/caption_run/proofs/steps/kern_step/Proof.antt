@@ -1,4 +1,4 @@
--- `ligkern::steps::kern_step` meets its contract: a last kern is what the step gives.
+-- `caption_run::steps::kern_step` meets its contract: a last kern is what the step gives.
 -- Assumes nothing.
 use mathlib.Core.Path.{_≡_, sym, ap, _∙_}
 use lib.IntN.{ℤ}

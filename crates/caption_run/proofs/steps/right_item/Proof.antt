@@ -1,4 +1,4 @@
--- `ligkern::steps::right_item` meets its contract, by the sign of the override.
+-- `caption_run::steps::right_item` meets its contract, by the sign of the override.
 -- Assumes nothing.
 use Rattle.lang.proofs.Records.{word-passed}
 use Rattle.caption_run.proofs.StepLaws.{right-over, right-boundary}

@@ -1,4 +1,4 @@
--- `ligkern::steps::step` meets its contract: a quick step is the step, and else it is the step by turns.
+-- `caption_run::steps::step` meets its contract: a quick step is the step, and else it is the step by turns.
 -- Assumes nothing.
 use mathlib.Core.Path.{_≡_, sym, ap, _∙_}
 use mathlib.Core.Bool.{true}

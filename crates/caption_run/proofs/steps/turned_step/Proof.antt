@@ -1,4 +1,4 @@
--- `ligkern::steps::turned_step` meets its contract: it is refused, or runs.
+-- `caption_run::steps::turned_step` meets its contract: it is refused, or runs.
 -- Assumes nothing.
 use mathlib.Core.Path.{_≡_, _∙_}
 use denote.Ref.{now}

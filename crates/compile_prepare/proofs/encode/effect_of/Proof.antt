@@ -1,4 +1,4 @@
--- `prepare::encode::effect_of` meets its contract: a kern scaled, a ligature by its op byte.
+-- `compile_prepare::encode::effect_of` meets its contract: a kern scaled, a ligature by its op byte.
 -- Assumes nothing.
 use Rattle.words.proofs.Bits.{number-word}
 use Rattle.compiling.proofs.EncodeLaws.{kern-effect-is, ligature-effect, other-effect}

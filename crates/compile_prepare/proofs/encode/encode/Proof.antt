@@ -1,5 +1,5 @@
--- `prepare::encode::encode` meets its contract. The loop's invariant: numbers 3 and 4 of the rows passed say their rules, `scaled` is whether each of their
--- kerns has a scaled value, and nothing else has changed. The measure is how many rows are left.
+-- `compile_prepare::encode::encode` meets its contract. The loop's invariant: numbers 3 and 4 of the rows passed say their rules, `scaled` is whether each of
+-- their kerns has a scaled value, and nothing else has changed. The measure is how many rows are left.
 -- Assumes nothing.
 use Prim.Native.Nat.{_-_}
 use native.Mathlib.Omega.{arith}

@@ -1,4 +1,4 @@
--- `prepare::encode::kern_effect` meets its contract: a kern with a scaled value is 128 and the bits of that value.
+-- `compile_prepare::encode::kern_effect` meets its contract: a kern with a scaled value is 128 and the bits of that value.
 -- Assumes nothing.
 use mathlib.Core.Path.{_≡_, ap, _∙_}
 use mir.Syntax.{w32}

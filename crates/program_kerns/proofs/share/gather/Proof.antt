@@ -1,4 +1,4 @@
--- `kerns::share::gather` meets its contract. The loop's invariant: the values of the first i instructions stand in the list, which keeps its length.
+-- `program_kerns::share::gather` meets its contract. The loop's invariant: the values of the first i instructions stand in the list, which keeps its length.
 -- The measure is what is left of the instructions. Assumes nothing.
 use mathlib.Core.Path.{_≡_, refl, _∙_}
 use Prim.Native.Nat.{_-_, _≤_}

@@ -1,4 +1,4 @@
--- `kerns::share::place_of` meets its contract: the slot at which the search ends has the value's link, or none.
+-- `program_kerns::share::place_of` meets its contract: the slot at which the search ends has the value's link, or none.
 -- Assumes nothing.
 use mathlib.Core.Path.{sym}
 use native.Mathlib.Omega.{arith}

@@ -1,5 +1,5 @@
--- `kerns::share::share_kern` meets its contract: the instruction has no kern value, or one that is there, or a new one, which is stored, and linked in the slot
--- at which the search for it ended. Assumes nothing.
+-- `program_kerns::share::share_kern` meets its contract: the instruction has no kern value, or one that is there, or a new one, which is stored, and linked in
+-- the slot at which the search for it ended. Assumes nothing.
 use mathlib.Core.Path.{sym}
 use mathlib.Core.List.{List}
 use Prim.Native.Nat.{ℕ, _<_}

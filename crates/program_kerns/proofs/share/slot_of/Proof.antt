@@ -1,5 +1,5 @@
--- `kerns::share::slot_of` meets its contract. The loop's invariant: the search came to the slot by `bit` values, all others. The measure is what is left of the
--- 32 values that a search passes at most. Assumes nothing.
+-- `program_kerns::share::slot_of` meets its contract. The loop's invariant: the search came to the slot by `bit` values, all others. The measure is what is
+-- left of the 32 values that a search passes at most. Assumes nothing.
 use mathlib.Core.Path.{_≡_, refl, sym, _∙_}
 use mathlib.Core.List.{List}
 use Prim.Native.Nat.{ℕ, _+_, _-_, _*_, _/_, _%_, _^_, _<_}

@@ -1,4 +1,4 @@
--- `records::steps::begin` meets its contract, by whether the walk is refused.
+-- `program_records::steps::begin` meets its contract, by whether the walk is refused.
 -- Assumes nothing.
 use mathlib.Core.Path.{_≡_, sym, ap, _∙_}
 use Prim.Native.Nat.{ℕ}

@@ -1,4 +1,4 @@
--- `records::steps::early_refusal` meets its contract: over 32,767 records it is 1, else the refusal of the entry.
+-- `program_records::steps::early_refusal` meets its contract: over 32,767 records it is 1, else the refusal of the entry.
 -- Assumes nothing.
 use mathlib.Core.Path.{_≡_, _∙_}
 use Prim.Native.Nat.{ℕ, _<_, _≤_}

@@ -1,4 +1,4 @@
--- `records::steps::finish` meets its contract: where the walk is refused the list is zeroed, else what comes after the indices is.
+-- `program_records::steps::finish` meets its contract: where the walk is refused the list is zeroed, else what comes after the indices is.
 -- Assumes nothing.
 use mathlib.Core.Path.{_≡_, sym, _∙_}
 use mathlib.Core.List.{List, _++_, append-nil}

@@ -1,4 +1,4 @@
--- `records::steps::put` meets its contract: a step that goes on is written at the count, where there is room; the end of a walk changes nothing.
+-- `program_records::steps::put` meets its contract: a step that goes on is written at the count, where there is room; the end of a walk changes nothing.
 -- Assumes nothing.
 use mathlib.Core.Path.{_≡_}
 use mathlib.Core.List.{List}

@@ -1,4 +1,4 @@
--- `records::steps::refusal` meets its contract: 15 is asked where nothing before it is refused.
+-- `program_records::steps::refusal` meets its contract: 15 is asked where nothing before it is refused.
 -- Assumes nothing.
 use mathlib.Core.Path.{sym}
 use native.Mathlib.Omega.{arith}

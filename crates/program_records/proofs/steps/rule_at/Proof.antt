@@ -1,4 +1,4 @@
--- `records::steps::rule_at` meets its contract, by the test of the index.
+-- `program_records::steps::rule_at` meets its contract, by the test of the index.
 -- Assumes nothing.
 use native.Mathlib.Omega.{arith}
 use borrow.Author.Tests.{lt-ltb, le-ltb}

@@ -1,4 +1,4 @@
--- `records::steps::searches_on` meets its contract: past the last record it is false, else the test of the right character.
+-- `program_records::steps::searches_on` meets its contract: past the last record it is false, else the test of the right character.
 -- Assumes nothing.
 use native.Mathlib.Omega.{arith}
 use borrow.Author.Tests.{lt-ltb, le-ltb}

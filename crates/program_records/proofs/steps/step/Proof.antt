@@ -1,4 +1,4 @@
--- `records::steps::step` meets its contract: past the last record the walk ends, else it goes on where the record says.
+-- `program_records::steps::step` meets its contract: past the last record the walk ends, else it goes on where the record says.
 -- Assumes nothing.
 use native.Mathlib.Omega.{arith}
 use borrow.Author.Tests.{le-ltb}

@@ -1,4 +1,4 @@
--- `items::give::give_character` meets its contract, by whether a ligature is pending.
+-- `step_items::give::give_character` meets its contract, by whether a ligature is pending.
 -- Assumes nothing.
 use mathlib.Core.Path.{_∙_, sym}
 use Rattle.step_items.proofs.Laws.{character-plain, character-pending}

@@ -1,4 +1,4 @@
--- `items::give::give_item` meets its contract, by the two tests: what is given then does not pass what was read.
+-- `step_items::give::give_item` meets its contract, by the two tests: what is given then does not pass what was read.
 -- Assumes nothing.
 use mathlib.Core.Path.{_∙_, sym}
 use native.Mathlib.Omega.{arith}

@@ -1,4 +1,4 @@
--- `items::give::give_ligature` meets its contract: what it takes in is at most what was read, and so its sum fits.
+-- `step_items::give::give_ligature` meets its contract: what it takes in is at most what was read, and so its sum fits.
 -- Assumes nothing.
 use mathlib.Core.Path.{_∙_, sym}
 use native.Mathlib.Omega.{arith}

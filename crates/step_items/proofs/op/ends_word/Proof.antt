@@ -1,4 +1,4 @@
--- `items::op::ends_word` meets its contract, by its tests.
+-- `step_items::op::ends_word` meets its contract, by its tests.
 -- Assumes nothing.
 use mathlib.Core.Path.{_∙_, sym}
 use native.Mathlib.Omega.{arith}

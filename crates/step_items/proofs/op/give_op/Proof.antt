@@ -1,4 +1,4 @@
--- `items::op::give_op` meets its contract, by the kind of the op.
+-- `step_items::op::give_op` meets its contract, by the kind of the op.
 -- Assumes nothing.
 use mathlib.Core.Path.{_∙_, sym}
 use native.Mathlib.Omega.{arith}

@@ -1,4 +1,4 @@
--- `items::op::ops_fit` meets its contract, by its tests.
+-- `step_items::op::ops_fit` meets its contract, by its tests.
 -- Assumes nothing.
 use mathlib.Core.Path.{_∙_, sym}
 use native.Mathlib.Numerals.{add-one}

@@ -1,4 +1,4 @@
--- `items::op::read_op` meets its contract.
+-- `step_items::op::read_op` meets its contract.
 -- Assumes nothing.
 use mathlib.Core.Path.{_∙_, sym}
 use denote.Ref.{now}

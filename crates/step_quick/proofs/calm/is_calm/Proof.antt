@@ -1,4 +1,4 @@
--- `quick::calm::is_calm` meets its contract, by its tests.
+-- `step_quick::calm::is_calm` meets its contract, by its tests.
 -- Assumes nothing.
 use Prim.Native.Nat.{_≤_}
 use native.Mathlib.Omega.{arith}

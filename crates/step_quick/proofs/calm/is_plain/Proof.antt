@@ -1,4 +1,4 @@
--- `quick::calm::is_plain` meets its contract: both tests hold.
+-- `step_quick::calm::is_plain` meets its contract: both tests hold.
 -- Assumes nothing.
 use mathlib.Core.Path.{sym, ap, _∙_}
 use lib.IntN.{ℤ}

@@ -1,4 +1,4 @@
--- `quick::calm::is_taken` meets its contract: each of the three refusals of a call is 0.
+-- `step_quick::calm::is_taken` meets its contract: each of the three refusals of a call is 0.
 -- Assumes nothing.
 use mathlib.Core.Path.{_≡_, sym, _∙_}
 use lib.ListN.{length}

@@ -1,4 +1,4 @@
--- `quick::calm::ops_placed` meets its contract: the sum is not made.
+-- `step_quick::calm::ops_placed` meets its contract: the sum is not made.
 -- Assumes nothing.
 use mathlib.Core.Path.{_≡_, sym}
 use mathlib.Core.Bool.{true}

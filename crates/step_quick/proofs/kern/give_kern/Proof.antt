@@ -1,4 +1,4 @@
--- `quick::kern::give_kern` meets its contract, by whether the op is there.
+-- `step_quick::kern::give_kern` meets its contract, by whether the op is there.
 -- Assumes nothing.
 use native.Mathlib.Omega.{arith}
 use denote.Ref.{now}

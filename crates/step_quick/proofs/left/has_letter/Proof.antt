@@ -1,4 +1,4 @@
--- `quick::left::has_letter` meets its contract, by its tests.
+-- `step_quick::left::has_letter` meets its contract, by its tests.
 -- Assumes nothing.
 use lib.ListN.{length}
 use denote.Ref.{now}

@@ -1,4 +1,4 @@
--- `quick::left::is_quick` meets its contract, by its tests.
+-- `step_quick::left::is_quick` meets its contract, by its tests.
 -- Assumes nothing.
 use mathlib.Core.Path.{_≡_, sym, ap, _∙_}
 use mathlib.Core.Bool.{true}

@@ -1,4 +1,4 @@
--- `quick::left::quick_left` meets its contract, by whether the state is quick.
+-- `step_quick::left::quick_left` meets its contract, by whether the state is quick.
 -- Assumes nothing.
 use mathlib.Core.Path.{_≡_, sym, ap, _∙_}
 use mathlib.Core.Bool.{true}

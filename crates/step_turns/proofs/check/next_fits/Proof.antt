@@ -1,4 +1,4 @@
--- `turns::check::next_fits` meets its contract, by the arm that is taken.
+-- `step_turns::check::next_fits` meets its contract, by the arm that is taken.
 -- Assumes nothing.
 use borrow.Author.Needs.{needs}
 use Rattle.step_turns.proofs.check.next_fits.Statement.{statement}

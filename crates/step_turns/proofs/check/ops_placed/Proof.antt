@@ -1,4 +1,4 @@
--- `turns::check::ops_placed` meets its contract: the sum is not made.
+-- `step_turns::check::ops_placed` meets its contract: the sum is not made.
 -- Assumes nothing.
 use mathlib.Core.Path.{_≡_, refl, sym}
 use mathlib.Core.Bool.{true}

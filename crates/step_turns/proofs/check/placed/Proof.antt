@@ -1,4 +1,4 @@
--- `turns::check::placed` meets its contract, by its tests.
+-- `step_turns::check::placed` meets its contract, by its tests.
 -- Assumes nothing.
 use mathlib.Core.Path.{_∙_, sym}
 use borrow.Author.Tests.{not-true, not-false}

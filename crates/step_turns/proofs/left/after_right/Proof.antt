@@ -1,4 +1,4 @@
--- `turns::left::after_right` meets its contract, by the two tests.
+-- `step_turns::left::after_right` meets its contract, by the two tests.
 -- Assumes nothing.
 use borrow.Author.Needs.{needs}
 use Rattle.step_turns.proofs.left.after_right.Statement.{statement}

@@ -1,4 +1,4 @@
--- `turns::left::gathered` meets its contract, by the arm that is taken.
+-- `step_turns::left::gathered` meets its contract, by the arm that is taken.
 -- Assumes nothing.
 use borrow.Author.Needs.{needs}
 use Rattle.step_turns.proofs.left.gathered.Statement.{statement}

@@ -1,4 +1,4 @@
--- `turns::left::give_left` meets its contract, by whether the left is a character.
+-- `step_turns::left::give_left` meets its contract, by whether the left is a character.
 -- Assumes nothing.
 use mathlib.Core.Path.{_∙_, sym}
 use borrow.Author.Tests.{not-true, not-false}

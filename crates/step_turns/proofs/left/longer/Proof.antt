@@ -1,4 +1,4 @@
--- `turns::left::longer` meets its contract, by what the next ligature takes in of its left.
+-- `step_turns::left::longer` meets its contract, by what the next ligature takes in of its left.
 -- Assumes nothing.
 use mathlib.Core.Path.{_∙_}
 use Rattle.step_turns.proofs.Laws.{longer-nothing, longer-letter, longer-boundary}

@@ -1,4 +1,4 @@
--- `turns::left::read_on` meets its contract.
+-- `step_turns::left::read_on` meets its contract.
 -- Assumes nothing.
 use native.Mathlib.Numerals.{add-one}
 use borrow.Author.Needs.{needs}

@@ -1,4 +1,4 @@
--- `turns::turn::entered` meets its contract: each number of the entry is read.
+-- `step_turns::turn::entered` meets its contract: each number of the entry is read.
 -- Assumes nothing.
 use borrow.Author.Needs.{needs}
 use Rattle.step_turns.proofs.turn.entered.Statement.{statement}

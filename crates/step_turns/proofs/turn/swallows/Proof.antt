@@ -1,4 +1,4 @@
--- `turns::turn::swallows` meets its contract: by whether the left is a character, by the op count, and by the flag.
+-- `step_turns::turn::swallows` meets its contract: by whether the left is a character, by the op count, and by the flag.
 -- Assumes nothing.
 use mathlib.Core.Path.{_≡_, _∙_, sym}
 use mathlib.Core.Bool.{true}

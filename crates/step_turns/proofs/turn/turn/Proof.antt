@@ -1,4 +1,4 @@
--- `turns::turn::turn` meets its contract: a turn reads a letter, or is at the end of the word.
+-- `step_turns::turn::turn` meets its contract: a turn reads a letter, or is at the end of the word.
 -- Assumes nothing.
 use mathlib.Core.Path.{_∙_, sym, ap}
 use Prim.Native.Nat.{_<_}

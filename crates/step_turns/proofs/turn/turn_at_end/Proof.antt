@@ -1,4 +1,4 @@
--- `turns::turn::turn_at_end` meets its contract, by whether the left is a character, and by the sign of the right item.
+-- `step_turns::turn::turn_at_end` meets its contract, by whether the left is a character, and by the sign of the right item.
 -- Assumes nothing.
 use mathlib.Core.Path.{_≡_, _∙_, sym}
 use mathlib.Core.Bool.{true}

@@ -1,4 +1,4 @@
--- `turns::turn::turn_at_letter` meets its contract, by the test of the letter.
+-- `step_turns::turn::turn_at_letter` meets its contract, by the test of the letter.
 -- Assumes nothing.
 use mathlib.Core.Path.{sym}
 use denote.Ref.{now}

@@ -1,4 +1,4 @@
--- `turns::turn::turn_entered` meets its contract, by the tests of the record and of what it gives.
+-- `step_turns::turn::turn_entered` meets its contract, by the tests of the record and of what it gives.
 -- Assumes nothing.
 use mathlib.Core.Path.{_≡_, _∙_, sym}
 use mathlib.Core.Bool.{true}

@@ -1,4 +1,4 @@
--- `turns::turn::turn_free` meets its contract.
+-- `step_turns::turn::turn_free` meets its contract.
 -- Assumes nothing.
 use borrow.Author.Needs.{needs}
 use Rattle.step_turns.proofs.turn.turn_free.Statement.{statement}

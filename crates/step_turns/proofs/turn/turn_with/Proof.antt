@@ -1,4 +1,4 @@
--- `turns::turn::turn_with` meets its contract, by whether the pair is found.
+-- `step_turns::turn::turn_with` meets its contract, by whether the pair is found.
 -- Assumes nothing.
 use mathlib.Core.Path.{_≡_, _∙_, sym, ap}
 use mathlib.Core.Option.{some}

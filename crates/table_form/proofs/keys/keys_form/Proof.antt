@@ -1,4 +1,4 @@
--- `form::keys::keys_form` meets its contract. The loop's invariant: every pair passed has its left and right in range, and ascends. The measure
+-- `table_form::keys::keys_form` meets its contract. The loop's invariant: every pair passed has its left and right in range, and ascends. The measure
 -- is what is left of the pairs.
 -- Assumes nothing.
 use mathlib.Core.Path.{_≡_, sym, _∙_}

@@ -1,4 +1,4 @@
--- `one_pass::pair_ops::later_pass` meets its contract. The loop's invariant: the ops from here on pass exactly when all do. The measure is
+-- `table_form_pass::pair_ops::later_pass` meets its contract. The loop's invariant: the ops from here on pass exactly when all do. The measure is
 -- what is left of the ops.
 -- Assumes nothing.
 use mathlib.Core.Path.{_≡_, refl, sym, _∙_}

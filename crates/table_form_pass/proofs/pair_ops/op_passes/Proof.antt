@@ -1,4 +1,4 @@
--- `one_pass::pair_ops::op_passes` meets its contract, by its tests.
+-- `table_form_pass::pair_ops::op_passes` meets its contract, by its tests.
 -- Assumes nothing.
 use borrow.Author.Tests.{le-leb, lt-leb, ne-eqb}
 use Rattle.table_form_pass.proofs.pair_ops.op_passes.Statement.{statement}

@@ -1,4 +1,4 @@
--- `one_pass::pair_ops::ops_pass` meets its contract: the left as it stands and a kern, or all ops.
+-- `table_form_pass::pair_ops::ops_pass` meets its contract: the left as it stands and a kern, or all ops.
 -- Assumes nothing.
 use mathlib.Core.Path.{_∙_}
 use lib.Dec.{eqb}

@@ -1,4 +1,4 @@
--- `queries::keys::keys_refusal` meets its contract: each return by the tests that lead to it.
+-- `table_queries::keys::keys_refusal` meets its contract: each return by the tests that lead to it.
 -- Assumes nothing.
 use mathlib.Core.Path.{_≡_, sym, _∙_}
 use mathlib.Core.Bool.{true}

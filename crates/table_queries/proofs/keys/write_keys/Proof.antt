@@ -1,4 +1,4 @@
--- `queries::keys::write_keys` meets its contract. The loop's invariant: the first j numbers are lefts and rights, and the rest is as it came. The measure
+-- `table_queries::keys::write_keys` meets its contract. The loop's invariant: the first j numbers are lefts and rights, and the rest is as it came. The measure
 -- is what is left of them.
 -- Assumes nothing.
 use mathlib.Core.List.{List}

@@ -1,4 +1,4 @@
--- `change_answers::instructions::put_instructions` keeps the length of the list: the invariant.
+-- `test_packing_answers::instructions::put_instructions` keeps the length of the list: the invariant.
 -- Assumes nothing.
 use native.Mathlib.Omega.{arith}
 use Prim.Native.Nat.{_-_}

@@ -1,4 +1,4 @@
--- `requests::answer::put_one` meets its contract: each return by the tests that lead to it.
+-- `test_requests::answer::put_one` meets its contract: each return by the tests that lead to it.
 -- Assumes nothing.
 use native.Mathlib.Omega.{arith}
 use denote.Ref.{now}

@@ -1,4 +1,4 @@
--- `requests::answer::put_words` stays within the list: the invariant.
+-- `test_requests::answer::put_words` stays within the list: the invariant.
 -- Assumes nothing.
 use native.Mathlib.Omega.{arith}
 use Prim.Native.Nat.{_-_}

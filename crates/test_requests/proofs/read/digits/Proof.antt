@@ -1,4 +1,4 @@
--- `requests::read::digits` goes on. The invariant: i is not before at.
+-- `test_requests::read::digits` goes on. The invariant: i is not before at.
 -- Assumes nothing.
 use native.Mathlib.Omega.{arith}
 use Prim.Native.Nat.{_≤_, _-_}

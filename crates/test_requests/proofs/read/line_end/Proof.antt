@@ -1,4 +1,4 @@
--- `requests::read::line_end` stays within the text. The invariant: i is between at and the end, where at is within the text.
+-- `test_requests::read::line_end` stays within the text. The invariant: i is between at and the end, where at is within the text.
 -- Assumes nothing.
 use native.Mathlib.Omega.{arith}
 use Prim.Native.Nat.{_≤_, _-_}

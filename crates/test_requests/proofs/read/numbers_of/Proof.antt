@@ -1,4 +1,4 @@
--- `requests::read::numbers_of` counts no more numbers than bytes: the invariant. The length of the list stays.
+-- `test_requests::read::numbers_of` counts no more numbers than bytes: the invariant. The length of the list stays.
 -- Assumes nothing.
 use native.Mathlib.Omega.{arith}
 use Prim.Native.Nat.{_≤_, _<_, _-_}

@@ -1,4 +1,4 @@
--- `requests::request::entries_of` meets its contract.
+-- `test_requests::request::entries_of` meets its contract.
 -- Assumes nothing.
 use borrow.Author.Needs.{needs}
 use Rattle.test_requests.proofs.request.entries_of.Statement.{statement}

@@ -1,4 +1,4 @@
--- `requests::request::front` meets its contract.
+-- `test_requests::request::front` meets its contract.
 -- Assumes nothing.
 use native.Mathlib.Omega.{arith}
 use mathlib.Core.Path.{sym}

@@ -1,4 +1,4 @@
--- `requests::request::items` meets its contract: each return by the tests that lead to it.
+-- `test_requests::request::items` meets its contract: each return by the tests that lead to it.
 -- Assumes nothing.
 use native.Mathlib.Omega.{arith}
 use denote.Ref.{now}

@@ -1,4 +1,4 @@
--- `requests::request::kerns_of` meets its contract.
+-- `test_requests::request::kerns_of` meets its contract.
 -- Assumes nothing.
 use borrow.Author.Needs.{needs}
 use Rattle.test_requests.proofs.request.kerns_of.Statement.{statement}

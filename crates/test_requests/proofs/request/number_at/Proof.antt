@@ -1,4 +1,4 @@
--- `requests::request::number_at` meets its contract.
+-- `test_requests::request::number_at` meets its contract.
 -- Assumes nothing.
 use Rattle.test_requests.proofs.Parts.{number-read}
 use borrow.Author.Needs.{needs}

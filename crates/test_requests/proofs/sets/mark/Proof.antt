@@ -1,4 +1,4 @@
--- `requests::sets::mark` marks each listed index. The invariant: the marks of the numbers before i.
+-- `test_requests::sets::mark` marks each listed index. The invariant: the marks of the numbers before i.
 -- Assumes nothing.
 use native.Mathlib.Omega.{arith}
 use Prim.Native.Nat.{_-_}

@@ -1,4 +1,4 @@
--- `requests::sets::put_if_set` goes on, and stays within the list.
+-- `test_requests::sets::put_if_set` goes on, and stays within the list.
 -- Assumes nothing.
 use borrow.Author.Needs.{needs}
 use Rattle.test_requests.proofs.Parts.{kept-none, kept-more}

@@ -1,4 +1,4 @@
--- `requests::sets::put_marked` goes on, and stays within the list: the invariant.
+-- `test_requests::sets::put_marked` goes on, and stays within the list: the invariant.
 -- Assumes nothing.
 use native.Mathlib.Omega.{arith}
 use Prim.Native.Nat.{_-_}

@@ -1,4 +1,4 @@
--- `requests::sets::put_set` stays within the list.
+-- `test_requests::sets::put_set` stays within the list.
 -- Assumes nothing.
 use borrow.Author.Needs.{needs}
 use Rattle.test_requests.proofs.Marking.{kept-set}

@@ -1,4 +1,4 @@
--- `requests::write::put_byte`: the place after a byte is within the line.
+-- `test_requests::write::put_byte`: the place after a byte is within the line.
 -- Assumes nothing.
 use native.Mathlib.Omega.{arith}
 use lib.ListN.{length-set}

@@ -1,4 +1,4 @@
--- `requests::write::put_digits` stays within the line. The invariant: the place is within the line, whose length stays.
+-- `test_requests::write::put_digits` stays within the line. The invariant: the place is within the line, whose length stays.
 -- Assumes nothing.
 use Prim.Native.Nat.{ℕ, _≤_, _<_, _/_}
 use mathlib.Core.Path.{_≡_}

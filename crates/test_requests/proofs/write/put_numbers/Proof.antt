@@ -1,4 +1,4 @@
--- `requests::write::put_numbers` stays within the line. The invariant: the place is within the line, whose length stays.
+-- `test_requests::write::put_numbers` stays within the line. The invariant: the place is within the line, whose length stays.
 -- Assumes nothing.
 use native.Mathlib.Omega.{arith}
 use Prim.Native.Nat.{_≤_, _-_}

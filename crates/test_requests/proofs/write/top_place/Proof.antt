@@ -1,4 +1,4 @@
--- `requests::write::top_place`: the place only falls.
+-- `test_requests::write::top_place`: the place only falls.
 -- Assumes nothing.
 use Prim.Native.Nat.{_≤_}
 use native.Mathlib.Omega.{arith}

@@ -1,4 +1,4 @@
--- `table_answers::questions::are_replaced` counts up to the end of the list.
+-- `test_table_answers::questions::are_replaced` counts up to the end of the list.
 -- Assumes nothing.
 use native.Mathlib.Omega.{arith}
 use Prim.Native.Nat.{_-_}

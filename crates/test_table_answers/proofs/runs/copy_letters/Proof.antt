@@ -1,4 +1,4 @@
--- `table_answers::runs::copy_letters` keeps the length of the word: the invariant.
+-- `test_table_answers::runs::copy_letters` keeps the length of the word: the invariant.
 -- Assumes nothing.
 use native.Mathlib.Omega.{arith}
 use Prim.Native.Nat.{_-_}

@@ -1,4 +1,4 @@
--- `table_answers::runs::first` lends no more than there is.
+-- `test_table_answers::runs::first` lends no more than there is.
 -- Assumes nothing.
 use mathlib.Core.Path.{sym}
 use lib.Seq.{length-take-le}

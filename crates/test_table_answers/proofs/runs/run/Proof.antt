@@ -1,4 +1,4 @@
--- `table_answers::runs::run` makes at most 1,024 calls. The invariant: the length of the list stays.
+-- `test_table_answers::runs::run` makes at most 1,024 calls. The invariant: the length of the list stays.
 -- Assumes nothing.
 use native.Mathlib.Omega.{arith}
 use Prim.Native.Nat.{_-_}

@@ -1,5 +1,5 @@
--- `two_forms::caption::by_reader` meets its contract: a walk of its MIR, by hand. The reader that `run_iter` returns is held in a local and lent to `next` in
--- each turn (proofs/ReaderCalls). The loop is ordered by how many items are to come, which `item` lowers. All that the proof knows of what it calls is that
+-- `test_two_forms::caption::by_reader` meets its contract: a walk of its MIR, by hand. The reader that `run_iter` returns is held in a local and lent to `next`
+-- in each turn (proofs/ReaderCalls). The loop is ordered by how many items are to come, which `item` lowers. All that the proof knows of what it calls is that
 -- each meets its contract. Assumes nothing.
 use mathlib.Core.Path.{refl, ap, subst}
 use mathlib.Core.Bool.{Bool}

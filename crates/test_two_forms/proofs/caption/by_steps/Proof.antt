@@ -1,4 +1,4 @@
--- `two_forms::caption::by_steps` meets its contract: it ends, since `item` lowers how many items are to come.
+-- `test_two_forms::caption::by_steps` meets its contract: it ends, since `item` lowers how many items are to come.
 -- Assumes nothing.
 use borrow.Author.Needs.{needs}
 use Rattle.test_two_forms.proofs.caption.by_steps.Statement.{statement}

@@ -1,4 +1,4 @@
--- `two_forms::chains::chain_of_records` meets its contract: a walk of its MIR, by hand. The array is copied into a local and lent to
+-- `test_two_forms::chains::chain_of_records` meets its contract: a walk of its MIR, by hand. The array is copied into a local and lent to
 -- `instructions_for_entrypoint` for the call (proofs/RecordArray), which takes the list for good. All that the proof knows of it is that it meets its contract.
 -- Assumes nothing.
 use mathlib.Core.Path.{_≡_, refl, sym}

@@ -1,5 +1,5 @@
--- `two_forms::chains::rule_of_records` meets its contract: a walk of its MIR, by hand. The array is copied into a local and lent to `rule_index` for the call
--- (proofs/RecordArray). All that the proof knows of `rule_index` is that it meets its contract.
+-- `test_two_forms::chains::rule_of_records` meets its contract: a walk of its MIR, by hand. The array is copied into a local and lent to `rule_index` for the
+-- call (proofs/RecordArray). All that the proof knows of `rule_index` is that it meets its contract.
 -- Assumes nothing.
 use mathlib.Core.Path.{refl, sym}
 use Prim.Native.Nat.{ℕ, _<_, _^_}

@@ -1,4 +1,4 @@
--- `two_forms::print::indices` meets its contract: it ends.
+-- `test_two_forms::print::indices` meets its contract: it ends.
 -- Assumes nothing.
 use Prim.Native.Nat.{_-_}
 use borrow.Author.Needs.{needs}

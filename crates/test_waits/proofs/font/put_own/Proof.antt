@@ -1,4 +1,4 @@
--- `waits::font::put_own` keeps the length of the list: the invariant.
+-- `test_waits::font::put_own` keeps the length of the list: the invariant.
 -- Assumes nothing.
 use Prim.Native.Nat.{_-_}
 use mathlib.Core.Path.{_≡_}

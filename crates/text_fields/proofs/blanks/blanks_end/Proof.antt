@@ -1,4 +1,4 @@
--- `fields::blanks::blanks_end` meets its contract. The loop's invariant: only blanks were passed. Assumes nothing.
+-- `text_fields::blanks::blanks_end` meets its contract. The loop's invariant: only blanks were passed. Assumes nothing.
 use Prim.Native.Nat.{_≤_, _-_}
 use native.Mathlib.Omega.{arith}
 use Rattle.text_fields.specs.Steps.{Blank}

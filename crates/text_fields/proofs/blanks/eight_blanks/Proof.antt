@@ -1,4 +1,4 @@
--- `fields::blanks::eight_blanks` meets its contract: twice four bytes. Assumes nothing.
+-- `text_fields::blanks::eight_blanks` meets its contract: twice four bytes. Assumes nothing.
 use Prim.Native.Nat.{_+_, _*_}
 use native.Mathlib.Omega.{arith}
 use borrow.Author.Needs.{needs}

@@ -1,4 +1,4 @@
--- `fields::blanks::four` meets its contract: twice two bytes. Assumes nothing.
+-- `text_fields::blanks::four` meets its contract: twice two bytes. Assumes nothing.
 use native.Mathlib.Omega.{arith}
 use borrow.Author.Needs.{needs}
 use Rattle.text_fields.proofs.Leading.{blank-twice}

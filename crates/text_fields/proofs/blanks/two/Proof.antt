@@ -1,4 +1,4 @@
--- `fields::blanks::two` meets its contract. Assumes nothing.
+-- `text_fields::blanks::two` meets its contract. Assumes nothing.
 use Prim.Native.Nat.{_+_, _<_}
 use native.Mathlib.Omega.{arith}
 use borrow.Author.Needs.{needs}

@@ -1,4 +1,4 @@
--- `fields::numbers::digits` meets its contract. The loop's invariant: n is the value of the digits passed, of which there are at most 12. Assumes nothing.
+-- `text_fields::numbers::digits` meets its contract. The loop's invariant: n is the value of the digits passed, of which there are at most 12. Assumes nothing.
 use mathlib.Core.Path.{sym}
 use Prim.Native.Nat.{_-_, _<_}
 use native.Mathlib.Omega.{arith}

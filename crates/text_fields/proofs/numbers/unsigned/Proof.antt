@@ -1,4 +1,4 @@
--- `fields::numbers::unsigned` meets its contract. Assumes nothing.
+-- `text_fields::numbers::unsigned` meets its contract. Assumes nothing.
 use mathlib.Core.Path.{sym, _∙_}
 use native.Mathlib.Omega.{arith}
 use borrow.Author.Needs.{needs}

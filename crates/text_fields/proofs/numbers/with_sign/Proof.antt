@@ -1,4 +1,4 @@
--- `fields::numbers::with_sign` meets its contract. Assumes nothing.
+-- `text_fields::numbers::with_sign` meets its contract. Assumes nothing.
 use borrow.Author.Needs.{needs}
 use Rattle.text_fields.proofs.Decimals.{with-zero, with-beyond, with-is}
 use Rattle.text_fields.proofs.numbers.with_sign.Statement.{statement}

@@ -1,4 +1,4 @@
--- `fields::numbers::without_sign` meets its contract. Assumes nothing.
+-- `text_fields::numbers::without_sign` meets its contract. Assumes nothing.
 use borrow.Author.Needs.{needs}
 use Rattle.text_fields.proofs.Decimals.{without-beyond, without-is}
 use Rattle.text_fields.proofs.numbers.without_sign.Statement.{statement}

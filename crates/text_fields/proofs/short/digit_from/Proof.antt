@@ -1,4 +1,4 @@
--- `fields::short::digit_from` meets its contract. Assumes nothing.
+-- `text_fields::short::digit_from` meets its contract. Assumes nothing.
 use native.Mathlib.Omega.{arith}
 use borrow.Author.Tests.{leb-true}
 use borrow.Author.Needs.{needs}

@@ -1,4 +1,4 @@
--- `fields::short::read_last` meets its contract. Assumes nothing.
+-- `text_fields::short::read_last` meets its contract. Assumes nothing.
 use mathlib.Core.Path.{_≡_, sym, ap, subst, _∙_}
 use Prim.Native.Nat.{_+_}
 use native.Mathlib.Omega.{arith}

@@ -1,4 +1,4 @@
--- `fields::short::three_digits` meets its contract. Assumes nothing.
+-- `text_fields::short::three_digits` meets its contract. Assumes nothing.
 use mathlib.Core.Path.{sym, ap, _∙_}
 use mathlib.Core.Option.{some}
 use Prim.Native.Nat.{ℕ, _+_, _-_, _*_}

@@ -1,4 +1,4 @@
--- `justify::number::put_blanks` meets its contract. The loop's invariant: so many blanks are stored.
+-- `text_justify::number::put_blanks` meets its contract. The loop's invariant: so many blanks are stored.
 -- Assumes nothing.
 use mathlib.Core.Path.{_≡_, refl, ap, _∙_}
 use Prim.Native.Nat.{ℕ, _-_, _≤_}

@@ -1,4 +1,4 @@
--- `justify::number::put_character` meets its contract: three digits, or as any number. Below 1,000, 41 of 4096 parts are a hundredth.
+-- `text_justify::number::put_character` meets its contract: three digits, or as any number. Below 1,000, 41 of 4096 parts are a hundredth.
 -- Assumes nothing.
 use mathlib.Core.Path.{refl, _∙_}
 use Prim.Native.Nat.{_+_, _*_, _/_}

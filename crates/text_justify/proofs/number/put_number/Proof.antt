@@ -1,4 +1,4 @@
--- `justify::number::put_number` meets its contract: one digit, two, or more.
+-- `text_justify::number::put_number` meets its contract: one digit, two, or more.
 -- Assumes nothing.
 use mathlib.Core.Path.{_∙_}
 use Rattle.text_digits.proofs.Decimal.{spells-one, spells-two, room-is}

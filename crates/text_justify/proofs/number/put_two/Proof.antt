@@ -1,4 +1,4 @@
--- `justify::number::put_two` meets its contract.
+-- `text_justify::number::put_two` meets its contract.
 -- Assumes nothing.
 use native.Mathlib.Omega.{arith}
 use lib.ListN.{length-set}

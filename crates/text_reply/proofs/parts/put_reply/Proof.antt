@@ -1,4 +1,4 @@
--- `reply::parts::put_reply` meets its contract: the table, the loops and the word, each where the one before it ends.
+-- `text_reply::parts::put_reply` meets its contract: the table, the loops and the word, each where the one before it ends.
 -- Assumes nothing.
 use mathlib.Core.List.{_++_}
 use native.Mathlib.Omega.{arith}

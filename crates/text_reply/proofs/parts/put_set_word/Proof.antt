@@ -1,4 +1,4 @@
--- `reply::parts::put_set_word` meets its contract: W and its number, then T for each item; nothing where the length is negative.
+-- `text_reply::parts::put_set_word` meets its contract: W and its number, then T for each item; nothing where the length is negative.
 -- Assumes nothing.
 use mathlib.Core.Path.{sym, ap}
 use lib.Seq.{sets}

@@ -1,4 +1,4 @@
--- `reply::parts::put_table` meets its contract. The loop's invariant: the first k pairs with their ops are written, up to `next`.
+-- `text_reply::parts::put_table` meets its contract. The loop's invariant: the first k pairs with their ops are written, up to `next`.
 -- Assumes nothing.
 use mathlib.Core.Path.{_≡_, subst}
 use Prim.Native.Nat.{ℕ, _-_, _≤_}

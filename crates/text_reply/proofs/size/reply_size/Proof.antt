@@ -1,4 +1,4 @@
--- `reply::size::reply_size` meets its contract: the parts are counted one after the other.
+-- `text_reply::size::reply_size` meets its contract: the parts are counted one after the other.
 -- Assumes nothing.
 use mathlib.Core.Path.{sym, subst}
 use mathlib.Core.List.{[]}

@@ -1,4 +1,4 @@
--- `reply::size::table_size` meets its contract. The loop's invariant: the bytes of the first k pairs are counted, and are at most 65,536.
+-- `text_reply::size::table_size` meets its contract. The loop's invariant: the bytes of the first k pairs are counted, and are at most 65,536.
 -- Assumes nothing.
 use mathlib.Core.Path.{_≡_}
 use mathlib.Core.List.{List}

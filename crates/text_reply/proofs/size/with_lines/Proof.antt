@@ -1,4 +1,4 @@
--- `reply::size::with_lines` meets its contract: more than 65,536 lines have more than 65,536 bytes; fewer are counted.
+-- `text_reply::size::with_lines` meets its contract: more than 65,536 lines have more than 65,536 bytes; fewer are counted.
 -- Assumes nothing.
 use mathlib.Core.Path.{sym}
 use Prim.Native.Nat.{_+_, _*_}

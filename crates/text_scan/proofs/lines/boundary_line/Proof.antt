@@ -1,4 +1,4 @@
--- `scan::lines::boundary_line` meets its contract. Assumes nothing.
+-- `text_scan::lines::boundary_line` meets its contract. Assumes nothing.
 use mathlib.Core.Path.{sym, ap, _∙_}
 use Rattle.columns.specs.Scanned.{fieldReply}
 use Rattle.text_scan.specs.Standing.{pastBoundary}

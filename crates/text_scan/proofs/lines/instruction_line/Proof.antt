@@ -1,4 +1,4 @@
--- `scan::lines::instruction_line` meets its contract. Assumes nothing.
+-- `text_scan::lines::instruction_line` meets its contract. Assumes nothing.
 use Prim.Native.Nat.{_+_}
 use lib.ListN.{drop}
 use borrow.Author.Tests.{not-true, not-false}

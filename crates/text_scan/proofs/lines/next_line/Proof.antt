@@ -1,4 +1,4 @@
--- `scan::lines::next_line` meets its contract, by the letter. Assumes nothing.
+-- `text_scan::lines::next_line` meets its contract, by the letter. Assumes nothing.
 use mathlib.Core.Path.{refl}
 use lib.ListN.{getD}
 use Rattle.text_scan.proofs.Letters.{instructions-fit, kerns-fit, entries-fit, instruction-goes, kern-goes, entry-goes, boundary-goes, left-goes}

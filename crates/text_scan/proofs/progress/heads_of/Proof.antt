@@ -1,4 +1,4 @@
--- `scan::progress::heads_of` meets its contract. Assumes nothing.
+-- `text_scan::progress::heads_of` meets its contract. Assumes nothing.
 use mathlib.Core.Path.{_≡_, _∙_}
 use mathlib.Core.List.{[], _∷_}
 use lib.IntN.{pos}

@@ -1,5 +1,5 @@
--- `scan::whole::read_lines` meets its contract. The loop's invariant: the lines passed are read, and nothing is in the word's list. The measure is what is left
--- of the text. Assumes nothing.
+-- `text_scan::whole::read_lines` meets its contract. The loop's invariant: the lines passed are read, and nothing is in the word's list. The measure is what is
+-- left of the text. Assumes nothing.
 use mathlib.Core.Path.{_≡_, refl}
 use Prim.Native.Nat.{_-_}
 use lib.ListN.{length}

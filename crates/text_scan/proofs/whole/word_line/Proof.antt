@@ -1,4 +1,4 @@
--- `scan::whole::word_line` meets its contract. Assumes nothing.
+-- `text_scan::whole::word_line` meets its contract. Assumes nothing.
 use native.Mathlib.Omega.{arith}
 use borrow.Author.Tests.{not-true, not-false}
 use Rattle.text_scan.proofs.WordLine.{word-unended, word-unread, word-all}
