@@ -1,5 +1,5 @@
--- What packing is for (specs/Purpose): `packed-unpacks`. The packed program is a program, each entry is one byte, and it unpacks to the old entry,
--- shifted. Assumes nothing.
+-- What packing is for (specs/Purpose). `packed-unpacks`: the packed program is a program, each entry is one byte, and it unpacks to the old entry,
+-- shifted. `packed-chains`: the old program stands whole in the packed one, and the left entry behind it. Assumes nothing.
 use mathlib.Core.Path.{_≡_, refl, sym, ap, _∙_}
 use mathlib.Core.Bool.{Bool, true, false, cond}
 use mathlib.Core.List.{List, [], _∷_, List·Memᴰ}
@@ -12,6 +12,7 @@ use lib.Signed.{nonNeg}
 use borrow.Author.Tests.{lt-ltb, le-leb, eq-eqb, ne-eqb, ltb-true, ltb-false}
 use Rattle.words.specs.Words.{wordOf}
 use Rattle.words.proofs.Lists.{getD-tabulate}
+use Rattle.lang.specs.declared.operation.Operation.the-variants.{EntrypointRedirect}
 use Rattle.lang.specs.declared.instruction.Instruction.{Instruction}
 use Rattle.lang.specs.Every.{both}
 use Rattle.lang.specs.Records.{count, field, within, absentOr, operandFits, nextOf, operationOf, instructionAt, isInstruction, isKind}
@@ -26,10 +27,11 @@ use Rattle.pack_labels.specs.Labels.{labelsOf}
 use Rattle.pack_labels.proofs.Redirects.{offset-some, labels-has, unredirected}
 use Rattle.pack.specs.Packing.{Packable, redirect, presentOr, leftOr, back, fontRedirects, fontOffset, packableRefusal, packingRefusal}
 use Rattle.pack.specs.Packing.{packedInstructions, packedEntry, packedEntryNumber, packedEntries, placeAmong}
-use Rattle.pack.specs.Purpose.{oldEntry, UnpacksAt, PackedUnpacks}
+use Rattle.pack.specs.Purpose.{oldEntry, UnpacksAt, PackedUnpacks, StaysInside, ChainShifted, PackedChains}
 use Rattle.pack.proofs.Places.{place-is, place-lt}
 use Rattle.pack.proofs.Packing.{Plan, Taken, taken, laterRefusal, targetOf, target-le, number-front, number-old, number-back, plan-few, plan-size}
 use Rattle.pack.proofs.Packing.{plan-shifts, back-some, back-none, under, entry-char, entry-entry}
+use Rattle.pack.proofs.Shifts.{chain-below, chain-moved, rule-moved}
 
 -- ---- an instruction by its four numbers
 
@@ -54,6 +56,15 @@ redirect-fits right operand h l = rw (h, le-leb operand 131071 l)
 right-fits : (z : ℤ) → absentOr 255 z ≡ true → within 255 (presentOr z) ≡ true
 right-fits (pos b) h = h
 right-fits (negsuc n) h = refl
+
+operation-same : {c c′ d d′ : ℤ} → c ≡ c′ → d ≡ d′ → operationOf (wordOf c) d ≡ operationOf (wordOf c′) d′
+operation-same p q = rw (p, q)
+
+-- the operation of a redirect without a flag
+redirect-operation : (t : ℕ) → t ≤ 65535 → operationOf 3 (pos (t + 0)) ≡ EntrypointRedirect t false
+redirect-operation t h =
+    let a : (t + 0) % 65536 ≡ t = omega arith in
+    rw (a, ne-eqb ((t + 0) / 65536 % 2) 1 (λ z. omega arith))
 
 -- ---- refusals of which none holds
 
@@ -281,5 +292,39 @@ module _ (f : Packable) where
             same = packed-same (oldEntry f i) l;
           }
 
-pub packed-unpacks : (f : Packable) (room entryRoom : ℕ) → PackedUnpacks f room entryRoom
+pub packed-unpacks : PackedUnpacks
 packed-unpacks f room entryRoom accepted few i h l k = unpacks-at f room entryRoom accepted few i h l k
+
+-- ---- chains
+
+module _ (f : Packable) where
+  fits-behind : count (f .instructions) + fontOffset f ≤ count (packedInstructions f)
+  fits-behind = omega (arith, whole-size f)
+
+  chain-shifted : (e : ℕ) → e < count (f .instructions) → StaysInside (f .instructions) e → ChainShifted f e
+  chain-shifted e h s =
+      let n = count (f .instructions) in
+      let n′ = count (packedInstructions f) in
+      let p = instructionAt (f .instructions) in
+      let p′ = instructionAt (packedInstructions f) in
+      record {
+        indices = chain-moved n n′ (fontOffset f) p p′ fits-behind (packed-same f) e h s;
+        same = λ i m. packed-same f i (chain-below n p n e i m);
+        rule = λ right. rule-moved n n′ (fontOffset f) p p′ fits-behind (packed-same f) right e h s;
+      }
+
+  module _ (room entryRoom : ℕ) (accepted : packingRefusal f room entryRoom ≡ 0) where
+    left-held : (e : ℕ) → f .left ≡ pos e →
+        instructionAt (packedInstructions f) (count (packedInstructions f) - 1) .operation ≡ EntrypointRedirect (e + fontOffset f) false
+    left-held e q =
+        let t : nonNeg (f .left) ≡ true = ap nonNeg q in
+        let z = old-fours f room entryRoom accepted in
+        let last : count (packedInstructions f) - 1 ≡ fontOffset f + count (f .instructions) =
+        omega (arith, whole-size f, z, ap length (back-some (f .left) (fontOffset f) t)) in
+        ap (λ (i : ℕ). instructionAt (packedInstructions f) i .operation) last
+        ∙ operation-same (back-field f 2 z t (omega arith)) (back-field f 3 z t (omega arith))
+        ∙ redirect-operation (leftOr (f .left) + fontOffset f) (packs f room entryRoom accepted .shifts-left)
+        ∙ ap (λ (z : ℤ). EntrypointRedirect (leftOr z + fontOffset f) false) q
+
+pub packed-chains : PackedChains
+packed-chains f room entryRoom accepted = record { chains = chain-shifted f; left = left-held f room entryRoom accepted }
