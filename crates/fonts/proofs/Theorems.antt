@@ -1,22 +1,32 @@
 -- What is proved of the definitions that compile's contract is an equation with: the table is exactly the finished pairs of the one-by-one reading over the
 -- font's rules (R79), and the loop list is that of R83. Each statement can be read without its proof.
 -- Assumes nothing.
-use mathlib.Core.Path.{_≡_, refl, sym, _∙_, subst}
+use mathlib.Core.Path.{_≡_, refl, sym, ap, _∙_, subst, fun-ext}
 use mathlib.Core.List.{List, [], _∷_, _++_, List·Memᴰ}
 use mathlib.Core.Logic.{_↔_}
 use mathlib.Core.Option.{Option, none, some}
 use Prim.Native.Nat.{ℕ, _<_}
 use native.Mathlib.Omega.{arith}
 use lib.Dec.{T}
+use lib.IntN.{ℤ}
+use Rattle.tfm.specs.declared.ToScaled.{ToScaled}
+use Rattle.tfm.specs.declared.ToScaled.the-variants.{Scaled, NegativeDesignSize, TooLarge}
+use Rattle.tfm.specs.Scaled.{toScaled}
+use Rattle.lang.specs.declared.operation.Operation.{Operation}
+use Rattle.lang.specs.declared.operation.Operation.the-variants.{Kern, KernAtIndex, Ligature, EntrypointRedirect}
+use Rattle.lang.specs.Records.{instructionAt}
+use Rattle.program_chain.specs.Chains.{actsAs}
 use Rattle.reading.specs.Items.{Left, Rule, free, Rules, plain, Head, at, key, head, Out}
 use Rattle.reading.specs.Reading.{act, read, done, more, NeverEnds, Ends}
 use Rattle.reading.specs.Depth.{Res, Pair}
+use Rattle.reading.specs.Loops.{loopList}
 use Rattle.reading.specs.Cycles.{OnePerCycle}
 use Rattle.reading.specs.Form.{formed}
 use Rattle.reading.proofs.Steps.{key-head, more-not-done, nothing-right, turn-more}
 use Rattle.reading.proofs.Theorems as Reading
-use Rattle.fonts.specs.Fonts.{Font, numberOfLeft, pairsOf, rulesOf}
+use Rattle.fonts.specs.Fonts.{Font, numberOfLeft, tableOf, indexOf, pairsOf, scaledKern, ruleOfOperation, ruleOfIndex, rulesOf}
 use Rattle.fonts.specs.Compiled.{finishedOf, loopsOfFont}
+use Rattle.fonts.specs.Sizes.{atSize, LoopsAtAnySize}
 use Rattle.fonts.proofs.FontLaws.{covers-font, ruled-in-range}
 
 -- Every entry of the table is the reading of its pair: those ops, and that last.
@@ -72,3 +82,30 @@ free-ends rule l r e h =
 -- A pair that never ends has a left of -1 to 255 and a right of 0 to 255: no other pair has a rule.
 pub never-in-range : (f : Font) (l : Left) (r : ℕ) → NeverEnds (rulesOf f) l r → (numberOfLeft l < 257) × (r < 256)
 never-in-range f l r h = ruled-in-range f l r (λ e. free-ends (rulesOf f) l r e h)
+
+-- ---- design sizes
+
+-- without its kern a kern is free, scaled or not
+kern-free : (t : ToScaled) → Reading.unkerned (scaledKern t) ≡ free
+kern-free (Scaled v) = refl
+kern-free NegativeDesignSize = refl
+kern-free TooLarge = refl
+
+-- so what an operation does without its kern is the same at two sizes
+same-operation : (a b : ℤ) (op : Operation) → Reading.unkerned (ruleOfOperation a op) ≡ Reading.unkerned (ruleOfOperation b op)
+same-operation a b (Kern k) = kern-free (toScaled (k .0) a) ∙ sym (kern-free (toScaled (k .0) b))
+same-operation a b (KernAtIndex i) = refl
+same-operation a b (Ligature c p t) = refl
+same-operation a b (EntrypointRedirect t g) = refl
+
+same-rule : (f : Font) (size : ℤ) (o : Option ℕ) → Reading.unkerned (ruleOfIndex (atSize f size) o) ≡ Reading.unkerned (ruleOfIndex f o)
+same-rule f size none = refl
+same-rule f size (some i) = same-operation size (f .design) (actsAs (f .kerns) (instructionAt (f .instructions) i .operation))
+
+-- The loops of a font are the same at every design size.
+pub loops-at-any-size : LoopsAtAnySize
+loops-at-any-size f size =
+    Reading.loops-unkerned (rulesOf (atSize f size)) (pairsOf f)
+    ∙ ap (λ (rule : Rules). loopList rule (pairsOf f))
+    (fun-ext (λ l. fun-ext (λ r. same-rule f size (indexOf (f .instructions) (tableOf f) l r))))
+    ∙ sym (Reading.loops-unkerned (rulesOf f) (pairsOf f))

@@ -25,6 +25,8 @@ use Rattle.reading.proofs.Never
 use Rattle.reading.proofs.Complete
 use Rattle.reading.proofs.LoopList
 use Rattle.reading.proofs.Cycles
+use Rattle.reading.proofs.Unkerned
+pub use Rattle.reading.proofs.Unkerned.{unkerned, unkernedRules}
 use Rattle.reading.proofs.RunAll
 use Rattle.reading.proofs.RunRight
 
@@ -106,6 +108,10 @@ loops-never rule ps c p m = LoopList.loops-never rule ps c p m
 -- One pair per cycle: each listed pair is on a cycle of waiting, no two are on one, and from every pair that never ends and is on a cycle a listed pair is met.
 pub one-per-cycle : (rule : Rules) (ps : List Ruled) → Covers rule ps → OnePerCycle rule ps
 one-per-cycle rule ps c = Cycles.one-per-cycle rule ps c
+
+-- Kerns make no loop: the loop list is that of the rules without them.
+pub loops-unkerned : (rule : Rules) (ps : List Ruled) → loopList rule ps ≡ loopList (unkernedRules rule) ps
+loops-unkerned rule ps = Unkerned.loops-unkerned rule ps
 
 -- ---- runs
 

@@ -23,10 +23,15 @@ use Rattle.repairs.proofs.Warned.{StepSound, ProgramSound}
 
 -- ---- an instruction
 
--- the next of an instruction, and a ligature's operand
+-- the next of an instruction, its right character, its operand, and a ligature's
 pub next-fits : (s : List ℤ) (i : ℕ) → isInstruction s i ≡ true → absentOr 255 (field s i 0) ≡ true
 next-fits s i t =
     both-left (absentOr 255 (field s i 0)) (both (within 255 (field s i 1)) (operandFits (wordOf (field s i 2)) (field s i 3))) t
+
+pub right-fits : (s : List ℤ) (i : ℕ) → isInstruction s i ≡ true → within 255 (field s i 1) ≡ true
+right-fits s i t =
+    both-left (within 255 (field s i 1)) (operandFits (wordOf (field s i 2)) (field s i 3))
+    (both-right (absentOr 255 (field s i 0)) (both (within 255 (field s i 1)) (operandFits (wordOf (field s i 2)) (field s i 3))) t)
 
 pub operand-fits : (s : List ℤ) (i : ℕ) → isInstruction s i ≡ true → operandFits (wordOf (field s i 2)) (field s i 3) ≡ true
 operand-fits s i t =

@@ -5,10 +5,14 @@
 --   Kept       a step of which no test holds is as it was lent
 --   SameReach  what is reachable is the same in the repaired program
 --   Once       of the repaired program, lent again, no test holds
+--   Taken      the repaired font, lent again, is not refused
+--   Loopless   without a warning of kind 10 the repaired font has no loop at any design size
 pub mod Pushing
 pub mod Steps
 pub mod Warned
 pub mod Kept
 pub mod SameReach
 pub mod Once
+pub mod Taken
+pub mod Loopless
 pub mod Theorems

@@ -18,7 +18,8 @@ use Rattle.lang.specs.Checks.{charAt}
 use Rattle.fonts.specs.Compiled.{loopsOfFont}
 use Rattle.repairs.specs.Damaged.{Damaged, DamagedProgram, programOf, unpacks, leftGoes}
 use Rattle.repairs.specs.Repaired.{skipGoes, redirectWarns, isLigature, rightGoes, kernGoes, productGoes, tagGoes, insertedBy, repairedFont}
-use Rattle.repairs.specs.Warnings.{warning, warnIf, leftWarning, entryWarnings, skipWarnings, stepWarnings, stepsWarnings, loopWarnings, warningsOf}
+use Rattle.repairs.specs.Warnings.{warning, warnIf, leftWarning, entryWarnings, skipWarnings, stepWarnings, stepsWarnings, loopWarnings}
+use Rattle.repairs.specs.Warnings.{repairWarnings, warningsOf}
 use Rattle.repairs.specs.Pushed.{Pushed}
 
 -- stores after others, which end where they begin
@@ -109,17 +110,19 @@ unfolding stepsWarnings
 four-steps p zero = refl
 four-steps p (suc k) = four-append (stepsWarnings p k) (stepWarnings p k) (four-steps p k) (four-step p k)
 
-pub fours : (d : Damaged) → length (warningsOf d) % 4 ≡ 0
-fours d =
+pub repair-fours : (d : Damaged) → length (repairWarnings d) % 4 ≡ 0
+repair-fours d =
     let n = count (d .instructions) in
     let l = leftWarning d in
     let e = entryWarnings d (length (d .entries) / 2) in
     let s = skipWarnings (programOf d) n in
     let t = stepsWarnings (programOf d) n in
-    let o = loopWarnings (loopsOfFont (repairedFont d)) in
-    four-append (l ++ e ++ s ++ t) o
-    (four-append (l ++ e ++ s) t
+    four-append (l ++ e ++ s) t
     (four-append (l ++ e) s (four-append l e (four-warn (leftGoes d) 1 (pos 0) (pos 0) (pos 0)) (four-entries d (length (d .entries) / 2)))
     (four-skips (programOf d) n))
-    (four-steps (programOf d) n))
-    (omega (arith, loop-count (loopsOfFont (repairedFont d))))
+    (four-steps (programOf d) n)
+
+pub fours : (d : Damaged) → length (warningsOf d) % 4 ≡ 0
+fours d =
+    let ps = loopsOfFont (repairedFont d) in
+    four-append (repairWarnings d) (loopWarnings ps) (repair-fours d) (omega (arith, loop-count ps))

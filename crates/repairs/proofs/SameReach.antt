@@ -114,7 +114,7 @@ module _ (d : Damaged) where
       (cond-same (isKind 3 s′ e) (isKind 3 s e) (unless 9 (ltb (targetAt s′ e) (count s))) (unless 9 (ltb (targetAt s e) (count s))) 0 (same-redirect e)
       (λ h. ap (λ (t : ℕ). unless 9 (ltb t (count s))) (same-target e h)))
 
-  same-unpacked : (k : ℕ) → unpackedUpto (again d) k ≡ unpackedUpto d k
+  pub same-unpacked : (k : ℕ) → unpackedUpto (again d) k ≡ unpackedUpto d k
   unfolding unpackedUpto
   same-unpacked zero = refl
   same-unpacked (suc k) =

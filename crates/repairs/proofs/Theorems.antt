@@ -1,24 +1,34 @@
 -- What is proved of repair: the statements of specs/Purpose.
 -- Assumes nothing.
-use Prim.Native.Nat.{ℕ, _<_}
+use Prim.Native.Nat.{ℕ, _/_, _<_}
 use native.Mathlib.Omega.{arith}
 use lib.IntN.{negsuc}
+use lib.ListN.{length}
 use Rattle.lang.specs.Records.{count}
 use Rattle.fonts.proofs.Theorems.{no-loops, reported-never}
-use Rattle.repairs.specs.Damaged.{Damaged, leftGoes}
+use Rattle.repairs.specs.Damaged.{leftGoes}
 use Rattle.repairs.specs.Repaired.{repairedFont}
-use Rattle.repairs.specs.Purpose.{Untouched, RepairedOnce, RepairedInVain, again, LoopsTrue}
+use Rattle.repairs.specs.Purpose.{Untouched, again, TakenAgain, UnpackedAgain, RepairedOnce, RepairedInVain, LoopsTrue, NoLoopAtAnySize}
 use Rattle.repairs.proofs.Steps.{same-count}
 use Rattle.repairs.proofs.Warned.{none-warned}
 use Rattle.repairs.proofs.Kept.{cond-false, program-kept}
-use Rattle.repairs.proofs.SameReach.{left-sound}
+use Rattle.repairs.proofs.SameReach.{same-unpacked, left-sound}
 use Rattle.repairs.proofs.Once.{skip-sound, right-sound, right-back, kern-sound, product-sound, product-back, tag-sound}
+use Rattle.repairs.proofs.Taken
+use Rattle.repairs.proofs.Loopless
 
 -- A program without a warning of kinds 1 to 9 is left as it is.
 pub untouched : Untouched
 untouched d e w =
     let g = none-warned d w in
     record { left = cond-false (leftGoes d) (negsuc 0) (d .left) (g .left); instructions = program-kept d e g }
+
+-- A font that is not refused is not refused when it is repaired and lent again, and its entries unpack to the same instructions.
+pub taken-again : TakenAgain
+taken-again d e = Taken.taken-again d e
+
+pub unpacked-again : UnpackedAgain
+unpacked-again d = same-unpacked d (length (d .entries) / 2)
 
 -- The repaired program lent again, with a replacement that exists, is not warned of with kinds 1, 3, 4, 5, 6, 7, 8.
 pub repaired-once : RepairedOnce
@@ -41,5 +51,9 @@ repaired-in-vain d small none =
     record { rights = λ i h. right-back d i h none; products = λ i h. product-back d i h small none }
 
 -- The loops warned of never end in the repaired font, and there are none exactly when every pair of it ends.
-pub loops-true : (d : Damaged) → LoopsTrue d
+pub loops-true : LoopsTrue
 loops-true d = record { never = reported-never (repairedFont d); none = no-loops (repairedFont d) }
+
+-- Repaired without a warning of kind 10, a font compiles without a loop at every design size.
+pub no-loop-at-any-size : NoLoopAtAnySize
+no-loop-at-any-size d h size = Loopless.no-loop-at-any-size d h size

@@ -1,22 +1,26 @@
 -- What is proved of repair (proofs/Theorems). No contract cites this.
 use mathlib.Core.Path.{_≡_}
 use mathlib.Core.Bool.{true, false, not}
-use mathlib.Core.List.{[], List·Memᴰ}
+use mathlib.Core.List.{List, [], List·Memᴰ}
 use mathlib.Core.Logic.{_↔_}
-use Prim.Native.Nat.{ℕ, _<_}
-use lib.IntN.{pos}
+use Prim.Native.Nat.{ℕ, _*_, _/_, _<_}
+use lib.IntN.{ℤ, pos}
+use lib.ListN.{length, getD, replicate}
 use Rattle.lang.specs.Every.{both}
 use Rattle.lang.specs.Checks.{programRefusal}
 use Rattle.lang.specs.Records.{count}
 use Rattle.reading.specs.Items.{Left}
 use Rattle.reading.specs.Reading.{NeverEnds, Ends}
 use Rattle.reading.specs.Depth.{Pair}
-use Rattle.fonts.specs.Fonts.{rulesOf}
-use Rattle.fonts.specs.Compiled.{loopsOfFont}
-use Rattle.repairs.specs.Damaged.{Damaged, programOf, repairedPassthrough, leftGoes, repairedLeft}
+use Rattle.fonts.specs.declared.Compiled.{Compiled}
+use Rattle.fonts.specs.declared.Compiled.the-variants.{Tables}
+use Rattle.fonts.specs.Fonts.{Font, fontOf, rulesOf}
+use Rattle.fonts.specs.Compiled.{loopsOfFont, fontLoops, Compiles}
+use Rattle.repairs.specs.Damaged.{Damaged, programOf, unpackedEntries, repairedPassthrough, leftGoes, repairedLeft}
 use Rattle.repairs.specs.Repaired.{exists, isBoundary, skipGoes, rightGoes, kernGoes, productGoes, tagGoes, repairedInstructions}
 use Rattle.repairs.specs.Repaired.{repairedFont}
-use Rattle.repairs.specs.Warnings.{repairWarnings}
+use Rattle.repairs.specs.Warnings.{repairWarnings, warningsOf}
+use Rattle.repairs.specs.Repairs.{damagedRefusal}
 
 -- repair leaves the left entry and the instructions as they are
 pub record LeftAsItIs (d : Damaged) : Type 0 where
@@ -40,6 +44,14 @@ again d =
       existing = d .existing;
       passthrough = repairedPassthrough d;
     }
+
+-- a font that is not refused with 1 to 4 is not refused with them when it is repaired and lent again
+abbrev pub TakenAgain : Type 0
+TakenAgain = (d : Damaged) → damagedRefusal d ≡ 0 → damagedRefusal (again d) ≡ 0
+
+-- its entries unpack in the repaired program as they do in the damaged one: the same ones, to the same instructions
+abbrev pub UnpackedAgain : Type 0
+UnpackedAgain = (d : Damaged) → unpackedEntries (again d) ≡ unpackedEntries d
 
 -- what it is not warned of: kinds 1, 3, 4, 5, 6, 7, 8
 pub record Sound (d : Damaged) : Type 0 where
@@ -67,7 +79,37 @@ pub record ComesBack (d : Damaged) : Type 0 where
 abbrev pub RepairedInVain : Type 0
 RepairedInVain = (d : Damaged) → d .replacement < 256 → exists (programOf d) (d .replacement) ≡ false → ComesBack d
 
--- the loops warned of never end in the repaired font, and there are none exactly when every pair of it ends
-pub record LoopsTrue (d : Damaged) : Type 0 where
+-- ---- loops (R178)
+
+-- those of the repaired font, which are warned of, never end, and there are none exactly when every pair of it ends
+pub record WarnedLoops (d : Damaged) : Type 0 where
   pub never : (p : Pair) → List·Memᴰ p (loopsOfFont (repairedFont d)) → NeverEnds (rulesOf (repairedFont d)) (p .left) (p .right)
   pub none : (loopsOfFont (repairedFont d) ≡ []) ↔ ((l : Left) (r : ℕ) → Ends (rulesOf (repairedFont d)) l r)
+
+-- so it is of every font
+abbrev pub LoopsTrue : Type 0
+LoopsTrue = (d : Damaged) → WarnedLoops d
+
+-- the repaired font as it is lent to compile, at a design size: its entries are those that unpack, unpacked; its kerns and its boundary
+-- character are those that repair was lent
+abbrev pub compiledAt : Damaged → ℤ → Font
+compiledAt d size = fontOf (repairedInstructions d) (d .kerns) (unpackedEntries d) (d .boundary) (repairedLeft d) size
+
+-- no warning of a list is of a kind: they are four numbers each, the kind first (R167)
+abbrev pub NoneOfKind : ℕ → List ℤ → Type 0
+NoneOfKind kind warnings = (i : ℕ) → i < length warnings / 4 → getD warnings (4 * i) (pos 0) ≡ pos kind → ⊥
+
+-- compile, which answers r, reports no loop: it counts none (R91), and leaves zeros in the loop list that it was lent
+pub record ReportsNoLoop (r : Compiled) (loops loops′ : List ℤ) : Type 0 where
+  pub counted : (p o l : ℕ) → r ≡ Tables p o l → l ≡ 0
+  pub listed : loops′ ≡ replicate (length loops) (pos 0)
+
+-- a font has no loop, and compile reports none whatever lists it is lent beside it
+pub record CompilesWithoutLoop (f : Font) : Type 0 where
+  pub none : fontLoops f ≡ []
+  pub reported : (pairs ops loops : List ℤ) (work : List ℕ) (r : Compiled) (pairs′ ops′ loops′ : List ℤ) (work′ : List ℕ) →
+      Compiles f pairs ops loops work r pairs′ ops′ loops′ work′ → ReportsNoLoop r loops loops′
+
+-- repaired without a warning of kind 10, a font compiles without a loop at every design size
+abbrev pub NoLoopAtAnySize : Type 0
+NoLoopAtAnySize = (d : Damaged) → NoneOfKind 10 (warningsOf d) → (size : ℤ) → CompilesWithoutLoop (compiledAt d size)
