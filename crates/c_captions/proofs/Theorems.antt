@@ -22,7 +22,7 @@ use Rattle.captions.specs.declared.Step.{Step}
 use Rattle.captions.specs.Replies.{bitNumber, answerReply}
 use Rattle.captions.specs.Begin.{beginRefusal, freshState}
 use Rattle.captions.specs.Steps.{ranFrom, rightItem, stepRefusal, handBack, steppedBy, stepOf}
-use Rattle.captions.specs.Runs.{answers, shown}
+use Rattle.captions.specs.Runs.{answers}
 use Rattle.captions.proofs.Theorems.{demand-3}
 use Rattle.c_compile.specs.Counts.{countsOf, CompilesCounts}
 use Rattle.c_states.specs.States.{flagBit, stateRead, movedTo}
@@ -137,8 +137,9 @@ every-run f pairs ops word options items a state r state′ l h =
       z,
       λ room n fits calls cs.
           record {
-            answers = answers pairs ops (f .boundary) word options n (freshState word options);
-            seen-as = calls-answer pairs ops (f .boundary) word options room fits n state′ (freshState word options) calls (h .again z) cs;
-            same = ap (λ (s : State). map shown (answers pairs ops (f .boundary) word options n s)) (sym (q .1)) ∙ a .answered n;
+            start = a .start;
+            begins = a .begins;
+            seen-as = calls-answer pairs ops (f .boundary) word options room fits n state′ (a .start) calls (h .again z ∙ ap some (sym (q .1))) cs;
+            same = a .answered n;
           },
     )

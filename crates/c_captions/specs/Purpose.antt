@@ -12,7 +12,9 @@ use Rattle.fonts.specs.Fonts.{Font}
 use Rattle.captions.specs.declared.RunOptions.{RunOptions}
 use Rattle.captions.specs.declared.State.{State}
 use Rattle.captions.specs.declared.Answer.{Answer}
+use Rattle.captions.specs.declared.Begun.the-variants.{Run}
 use Rattle.captions.specs.Replies.{nextCode, stateNumbers, answerReply}
+use Rattle.captions.specs.Begin.{beginOf}
 use Rattle.captions.specs.Runs.{answers, shown, thenEnds}
 use Rattle.captions.specs.Demand3.{Answered, Demand3}
 use Rattle.c_compile.specs.Counts.{CompilesCounts}
@@ -68,12 +70,14 @@ EveryHostFont =
     Demand3 f (getD counts′ 2 0) (take (6 * getD counts′ 0 0) pairs′) (take (2 * getD counts′ 1 0) ops′)
     (take (2 * getD counts′ 2 0) loops′)
 
--- n calls from a state's list see these items, by kind and by code or scaled kern, and then the end
+-- n calls see the answers of n steps from the state that begin returns, with originals and flags; and these are the items, by kind and by
+-- code or scaled kern (R22), and then the end
 pub record Sees (pairs ops : List ℤ) (boundary : ℤ) (word : List ℕ) (options : RunOptions) (items : List Out) (room n : ℕ)
     (calls : List Call) : Type 0 where
-  pub answers : List Answer
-  pub seen-as : calls ≡ map (seen room) answers
-  pub same : map shown answers ≡ thenEnds n items
+  pub start : State
+  pub begins : beginOf pairs ops boundary word options ≡ Run start
+  pub seen-as : calls ≡ map (seen room) (answers pairs ops boundary word options n start)
+  pub same : map shown (answers pairs ops boundary word options n start) ≡ thenEnds n items
 
 -- where demand 3 says that a run answers these items, ligkern_begin, lent a list with room for a state, is not refused, and any number
 -- of calls of ligkern_step on that list, each lent a list with room for an item, see them and then the end

@@ -45,6 +45,12 @@ by-calls f pairs ops word options items d =
     }
 
 pub reader-reads : ReaderReads
-reader-reads f pairs ops loops work p o l pairs′ ops′ loops′ work′ c no-loop word options caption =
-    let d = demand-3 f pairs ops loops work p o l pairs′ ops′ loops′ work′ c .set-as-read no-loop word options caption in
-    (d .0, d .1, by-calls f (take (6 * p) pairs′) (take (2 * o) ops′) word options (d .0) (d .2))
+reader-reads f pairs ops loops work p o l pairs′ ops′ loops′ work′ c word options caption =
+    let d = demand-3 f pairs ops loops work p o l pairs′ ops′ loops′ work′ c in
+    let give = by-calls f (take (6 * p) pairs′) (take (2 * o) ops′) word options in
+    let ends = d .run-ends word options caption in
+    record {
+      set-as-read = λ z. let r = d .set-as-read z word options caption in (r .0, r .1, give (r .0) (r .2));
+      run-ends = (ends .0, give (ends .0) (ends .1));
+      run-reads = λ items r. give items (d .run-reads word options caption items r);
+    }

@@ -77,11 +77,19 @@ pub record ReaderAnswered (f : Font) (pairs ops : List ℤ) (word : List ℕ) (o
   pub called : (n : ℕ) (r : RunIter) (given : List Answer) → now (r .word) ≡ word → r .state ≡ start →
       Calls pairs ops (f .boundary) options n r given → map shown given ≡ thenEnds n items
 
--- DEMAND 3 of the reader (R21): whatever font compile is lent, with whatever lists, if its answer is no refusal and it has no loops, then
--- the reading of every word ends, and the calls of next give its items in order, then the end for ever
+-- Demand 3 of the reader, of a font with l loops whose table this is, and of a word. Where there are no loops, the reading of the word
+-- ends, and the calls of next give its items in order, then the end for ever (R20, R21). Loops or not: no call is refused, and every run
+-- ends; and whatever the reading of the word gives once it ends, the calls give (R23).
+pub record ReaderDemand3 (f : Font) (l : ℕ) (pairs ops : List ℤ) (word : List ℕ) (options : RunOptions) : Type 0 where
+  pub set-as-read : l ≡ 0 → (items : List Out) × Reads f word options items × ReaderAnswered f pairs ops word options items
+  pub run-ends : (items : List Out) × ReaderAnswered f pairs ops word options items
+  pub run-reads : (items : List Out) → Reads f word options items → ReaderAnswered f pairs ops word options items
+
+-- DEMAND 3 of the reader, whole: whatever font compile is lent, with whatever lists, if its answer is no refusal, then that holds of the
+-- pairs and ops that it wrote, cut to their counts, and of every word
 abbrev pub ReaderReads : Type 0
 ReaderReads =
     (f : Font) (pairs ops loops : List ℤ) (work : List ℕ) (p o l : ℕ) (pairs′ ops′ loops′ : List ℤ) (work′ : List ℕ) →
-    Compiles f pairs ops loops work (Tables p o l) pairs′ ops′ loops′ work′ → l ≡ 0 →
+    Compiles f pairs ops loops work (Tables p o l) pairs′ ops′ loops′ work′ →
     (word : List ℕ) (options : RunOptions) → Caption word options →
-    (items : List Out) × Reads f word options items × ReaderAnswered f (take (6 * p) pairs′) (take (2 * o) ops′) word options items
+    ReaderDemand3 f l (take (6 * p) pairs′) (take (2 * o) ops′) word options

@@ -1,7 +1,7 @@
 -- After the end comes only the end. A turn that goes on leaves ops to be given or a left character to be looked up, since an entry that gives nothing
 -- is not followed from a left character; so the end is answered from the state that the step was handed, or not at all.
 -- Assumes nothing.
-use mathlib.Core.Path.{_≡_, refl, ap, _∙_}
+use mathlib.Core.Path.{_≡_, refl}
 use mathlib.Core.Bool.{Bool, true, false, cond, not}
 use mathlib.Core.List.{List}
 use mathlib.Core.Option.{Option, none, some}
@@ -233,6 +233,7 @@ module _ (pairs ops : List ℤ) (boundary : ℤ) (word : List ℕ) (options : Ru
     ends-for-ever zero = refl
     ends-for-ever (suc n) = rw (e, unmoves e, ends-for-ever n) refl
 
-    pub end-stays : EndStays pairs ops boundary word options s
-    end-stays =
-        record { unmoved = unmoves e; again = ap (λ (t : State). stepOf pairs ops boundary word options t .answer) (unmoves e) ∙ e; for-ever = ends-for-ever }
+pub end-stays : EndStays
+end-stays pairs ops boundary word options s e =
+    let u = unmoves pairs ops boundary word options s e in
+    (u, λ n. rw u (ends-for-ever pairs ops boundary word options s e n))

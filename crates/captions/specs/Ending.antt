@@ -1,5 +1,4 @@
--- After the end comes only the end (R114), for any table, any word and any state: a step that answers the end hands back the state that it
--- was handed, and so the next one answers the end too, and so on for ever. The theorem is `end-stays` of proofs/Ending.
+-- After the end comes only the end (R114). The theorem is `end-stays` of proofs/Ending.
 use mathlib.Core.Path.{_≡_}
 use mathlib.Core.List.{List}
 use Prim.Native.Nat.{ℕ}
@@ -11,8 +10,11 @@ use Rattle.captions.specs.declared.Answer.the-variants.{End}
 use Rattle.captions.specs.Steps.{stepOf}
 use Rattle.captions.specs.Runs.{answers}
 
--- once a step from the state s answers the end: it leaves s as it is, and every step after it answers the end too
-pub record EndStays (pairs ops : List ℤ) (boundary : ℤ) (word : List ℕ) (options : RunOptions) (s : State) : Type 0 where
-  pub unmoved : stepOf pairs ops boundary word options s .state ≡ s
-  pub again : stepOf pairs ops boundary word options (stepOf pairs ops boundary word options s .state) .answer ≡ End
-  pub for-ever : (n : ℕ) → answers pairs ops boundary word options n s ≡ replicate n End
+-- whatever the table, the boundary character, the word, the options and the state s: once a step from s answers the end, it hands back s,
+-- and each of the n steps after it answers the end, for every n
+abbrev pub EndStays : Type 0
+EndStays =
+    (pairs ops : List ℤ) (boundary : ℤ) (word : List ℕ) (options : RunOptions) (s : State) →
+    stepOf pairs ops boundary word options s .answer ≡ End →
+    (stepOf pairs ops boundary word options s .state ≡ s)
+    × ((n : ℕ) → answers pairs ops boundary word options n (stepOf pairs ops boundary word options s .state) ≡ replicate n End)

@@ -19,8 +19,8 @@ use Rattle.program_chain.specs.Chains.{actsAs}
 use Rattle.reading.specs.Items.{Left, Rule, free, Rules, plain, Head, at, key, head, Out}
 use Rattle.reading.specs.Reading.{act, read, done, more, NeverEnds, Ends}
 use Rattle.reading.specs.Depth.{Res, Pair}
-use Rattle.reading.specs.Loops.{loopList}
-use Rattle.reading.specs.Cycles.{OnePerCycle}
+use Rattle.reading.specs.Loops.{loopList, waits}
+use Rattle.reading.specs.Cycles.{CyclesListed}
 use Rattle.reading.specs.Form.{formed}
 use Rattle.reading.proofs.Steps.{key-head, more-not-done, nothing-right, turn-more}
 use Rattle.reading.proofs.Theorems as Reading
@@ -65,7 +65,7 @@ pub reported-never : (f : Font) (p : Pair) → List·Memᴰ p (loopsOfFont f) �
 reported-never f p m = Reading.loops-never (rulesOf f) (pairsOf f) (covers-font f) p m
 
 -- The loop list has one pair of each cycle.
-pub one-per-cycle : (f : Font) → OnePerCycle (rulesOf f) (pairsOf f)
+pub one-per-cycle : (f : Font) → CyclesListed (rulesOf f) (waits (rulesOf f) (finishedOf f)) (loopsOfFont f)
 one-per-cycle f = Reading.one-per-cycle (rulesOf f) (pairsOf f) (covers-font f)
 
 -- where a pair has no rule, one step ends it

@@ -47,6 +47,7 @@ module _ (s : List ℤ) (xs : List Instruction) (size : length xs ≡ count s)
   pub alike : SameWalks s xs
   alike =
       record {
+        steps = λ i. rw (size, nexts i);
         chains = chains;
         rules = rules;
         walks = λ entry out r out′. (

@@ -22,11 +22,13 @@ use Rattle.lang.specs.declared.instruction.NextInstruction.the-variants.{Stop, 
 use Rattle.lang.specs.declared.instruction.Instruction.{Instruction}
 use Rattle.lang.specs.Records.{count, instructionAt}
 use Rattle.lang.specs.Checks.{programRefusal}
-use Rattle.program_chain.specs.Chains.{chain, ruleIndex, chainOf, ruleIndexOf, WalksChain}
+use Rattle.program_chain.specs.Chains.{stepAt, chain, ruleIndex, chainOf, ruleIndexOf, WalksChain}
 use Rattle.program_records.specs.RecordChains.{recordAt, recordsRefusal, WalksRecords}
 
--- numbers and records walk alike: the same chains, the same rules, and the contracts of the two whole walks say the same of answer and list
+-- numbers and records walk alike: next_instruction and rule_index promise the same of both, the chains are the same, and the contracts of
+-- the two whole walks say the same of answer and list
 pub record SameWalks (s : List ℤ) (xs : List Instruction) : Type 0 where
+  pub steps : (i : ℕ) → stepAt (length xs) (recordAt xs) i ≡ stepAt (count s) (instructionAt s) i
   pub chains : (entry : ℕ) → chain (length xs) (recordAt xs) entry ≡ chainOf s entry
   pub rules : (entry right : ℕ) → ruleIndex (length xs) (recordAt xs) entry right ≡ ruleIndexOf s entry right
   pub walks : (entry : ℤ) (out : List ℕ) (r : Written) (out′ : List ℕ) →

@@ -273,5 +273,5 @@ module _ (s es : List ℤ) (left : ℤ) where
       let d = chain-all (count s) (c .start) i (in-time (c .start) (c .starts)) (c .on) in
       one (count s) i (stays i (count s) i (omega (arith, d .0)) (d .1))
 
-pub reached-exactly : (s es : List ℤ) (left : ℤ) → ReachedExactly s es left
-reached-exactly s es left = record { only = marked-only s es left (count s); all = marked-all s es left }
+pub reached-exactly : ReachedExactly
+reached-exactly s es left i = (marked-only s es left (count s) i, marked-all s es left i)

@@ -21,7 +21,9 @@ pub record OnChain (s es : List ℤ) (left : ℤ) (i : ℕ) : Type 0 where
   pub starts : Starts s es left start
   pub on : List·Memᴰ i (chainOf s start)
 
--- an instruction that is marked is on a chain, and one that is on a chain is marked by 1
-pub record ReachedExactly (s es : List ℤ) (left : ℤ) : Type 0 where
-  pub only : (i : ℕ) → (getD (reachable s es left) i 0 ≡ 0 → ⊥) → OnChain s es left i
-  pub all : (i : ℕ) → OnChain s es left i → getD (reachable s es left) i 0 ≡ 1
+-- whatever the instructions, the entries, the left entry and the index: an instruction that is marked is on a chain, and one that is on a
+-- chain is marked by 1
+abbrev pub ReachedExactly : Type 0
+ReachedExactly =
+    (s es : List ℤ) (left : ℤ) (i : ℕ) →
+    ((getD (reachable s es left) i 0 ≡ 0 → ⊥) → OnChain s es left i) × (OnChain s es left i → getD (reachable s es left) i 0 ≡ 1)

@@ -14,12 +14,12 @@ use Rattle.reading.specs.Items.{Rules}
 use Rattle.reading.specs.Reading.{NeverEnds}
 use Rattle.reading.specs.Depth.{Res, Pair}
 use Rattle.reading.specs.Loops.{Ruled, member, waits, Walked, walk, walks, finished, loopList}
-use Rattle.reading.specs.Cycles.{followed, Meets, OnCycle, OnCyclesApart, one, none as none-apart, OnePerCycle}
+use Rattle.reading.specs.Cycles.{followed, Meets, OnCycle, OnCyclesApart, one, none as none-apart, CyclesListed}
 use Rattle.reading.proofs.Right.{right}
 use Rattle.reading.proofs.Covers.{Covers}
 use Rattle.reading.proofs.Never.{not-both}
 use Rattle.reading.proofs.LoopList.{in-member, member-in, followed-last, Leads, StopsAt, earlier, again, Stops, stops-first, Open, us, all-open, open-on}
-use Rattle.reading.proofs.LoopList.{within-us}
+use Rattle.reading.proofs.LoopList.{within-us, loops-never}
 
 -- ---- following
 
@@ -168,14 +168,14 @@ module _ (rule : Rules) (ps : List Ruled) (c : Covers rule ps) where
       stops-first (Open (finished rule ps)) (waits rule (finished rule ps)) (open-on rule ps c) (us rule ps c) (within-us rule ps c) met (v .pair)
       (all-open rule ps c v m)
 
-  pub one-per-cycle : OnePerCycle rule ps
+  pub one-per-cycle : CyclesListed rule (waits rule (finished rule ps)) (loopList rule ps)
   unfolding loopList
   one-per-cycle =
       let next = waits rule (finished rule ps) in
       let n = suc (length (us rule ps c)) in
       let closed : Closed next [] = λ q m. absurd (List·Memᴰ·not-nil m) in
       record {
-        comes-back = all-cycles next n (us rule ps c) [] all-stop;
+        comes-back = λ p m. (loops-never rule ps c p m, all-cycles next n (us rule ps c) [] all-stop p m);
         one-each = all-apart next n (us rule ps c) [] all-stop closed;
         all-listed = λ p h o. all-found next n (us rule ps c) [] all-stop closed _ (within-us rule ps c p (never-open p h) .1) o List·Memᴰ·not-nil;
       }

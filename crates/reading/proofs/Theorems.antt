@@ -105,9 +105,9 @@ loops-some rule ps c e = LoopList.loops-some rule ps c e
 pub loops-never : (rule : Rules) (ps : List Ruled) → Covers rule ps → (p : Pair) → List·Memᴰ p (loopList rule ps) → NeverEnds rule (p .left) (p .right)
 loops-never rule ps c p m = LoopList.loops-never rule ps c p m
 
--- One pair per cycle: each listed pair is on a cycle of waiting, no two are on one, and from every pair that never ends and is on a cycle a listed pair is met.
-pub one-per-cycle : (rule : Rules) (ps : List Ruled) → Covers rule ps → OnePerCycle rule ps
-one-per-cycle rule ps c = Cycles.one-per-cycle rule ps c
+-- One pair per cycle: the statement is specs/Cycles.
+pub one-per-cycle : OnePerCycle
+one-per-cycle = Cycles.one-per-cycle
 
 -- Kerns make no loop: the loop list is that of the rules without them.
 pub loops-unkerned : (rule : Rules) (ps : List Ruled) → loopList rule ps ≡ loopList (unkernedRules rule) ps

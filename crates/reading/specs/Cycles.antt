@@ -1,9 +1,9 @@
 -- One pair for every cycle (R83): what the loop list is, said of cycles. Each pair that never ends is followed to the one that it waits
--- for.
+-- for. The theorem is `one-per-cycle` of proofs/Theorems.
 use mathlib.Core.Path.{_≡_}
 use mathlib.Core.List.{List, [], _∷_, List·Memᴰ}
 use Prim.Native.Nat.{ℕ, zero, suc}
-use Rattle.reading.specs.Items.{Rules}
+use Rattle.reading.specs.Items.{Left, free, Rules}
 use Rattle.reading.specs.Reading.{NeverEnds}
 use Rattle.reading.specs.Depth.{Pair}
 use Rattle.reading.specs.Loops.{Ruled, finished, waits, loopList}
@@ -29,9 +29,19 @@ pub data OnCyclesApart (next : Pair → Pair) : List Pair → Type 0 where
   one : {p : Pair} {ps : List Pair} → ((q : Pair) → List·Memᴰ q ps → Meets next p q → ⊥) → OnCyclesApart next ps →
       OnCyclesApart next (p ∷ ps)
 
--- The loop list has one pair of each cycle of pairs that never end, and nothing else.
-pub record OnePerCycle (rule : Rules) (ps : List Ruled) : Type 0 where
-  pub comes-back : (p : Pair) → List·Memᴰ p (loopList rule ps) → OnCycle (waits rule (finished rule ps)) p
-  pub one-each : OnCyclesApart (waits rule (finished rule ps)) (loopList rule ps)
-  pub all-listed : (p : Pair) → NeverEnds rule (p .left) (p .right) → OnCycle (waits rule (finished rule ps)) p →
-      (q : Pair) × List·Memᴰ q (loopList rule ps) × Meets (waits rule (finished rule ps)) p q
+-- A list has one pair of each cycle of pairs that never end, and nothing else: each of its pairs never ends and is on a cycle; no two are
+-- on one cycle; and from every pair that never ends and is on a cycle one of the list is met, which is then on that cycle.
+pub record CyclesListed (rule : Rules) (next : Pair → Pair) (listed : List Pair) : Type 0 where
+  pub comes-back : (p : Pair) → List·Memᴰ p listed → NeverEnds rule (p .left) (p .right) × OnCycle next p
+  pub one-each : OnCyclesApart next listed
+  pub all-listed : (p : Pair) → NeverEnds rule (p .left) (p .right) → OnCycle next p → (q : Pair) × List·Memᴰ q listed × Meets next p q
+
+-- the pairs that have a rule are among ps
+pub record Covers (rule : Rules) (ps : List Ruled) : Type 0 where
+  pub covers : (l : Left) (r : ℕ) → (rule l r ≡ free → ⊥) →
+      (i : ℕ) × List·Memᴰ (record { pair = record { left = l; right = r }; index = i }) ps
+
+-- R83, whole: whatever the rules, and whatever the pairs that are given to compiling, if all that have a rule are among them, then the loop
+-- list has one pair of each cycle of pairs that never end, each followed to the one that it waits for
+abbrev pub OnePerCycle : Type 0
+OnePerCycle = (rule : Rules) (ps : List Ruled) → Covers rule ps → CyclesListed rule (waits rule (finished rule ps)) (loopList rule ps)

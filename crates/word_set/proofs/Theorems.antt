@@ -2,8 +2,8 @@
 -- last is the end. Assumes nothing.
 use mathlib.Core.Path.{_≡_, refl, sym, ap, _∙_}
 use mathlib.Core.Bool.{true}
-use mathlib.Core.List.{List, [], _∷_, _++_, map}
-use Prim.Native.Nat.{ℕ, zero, suc, _+_, _*_, _/_, _≤_}
+use mathlib.Core.List.{List, [], _∷_, map}
+use Prim.Native.Nat.{ℕ, zero, suc, _*_, _/_, _≤_}
 use native.Mathlib.Omega.{arith}
 use lib.IntN.{ℤ}
 use lib.ListN.{length, length-append}
@@ -19,7 +19,7 @@ use Rattle.captions.specs.Steps.{stepOf}
 use Rattle.captions.specs.Runs.{answers, Shown, shows, ends, shown, thenEnds}
 use Rattle.word_items.specs.ItemLists.{isItem}
 use Rattle.word_items.proofs.Laws.{item-six}
-use Rattle.word_set.specs.Setting.{numbersBefore, itemsFrom, setReply}
+use Rattle.word_set.specs.Setting.{numbersBefore, itemsFrom}
 use Rattle.word_set.specs.Purpose.{valuesOf, EveryWord}
 use Rattle.word_set.proofs.Standing.{item-then, from-suc, from-stops}
 use Rattle.word_set.proofs.Laws.{set-run}
@@ -48,25 +48,33 @@ abbrev othersOf : List Shown → List Shown
 othersOf [] = []
 othersOf (x ∷ xs) = xs
 
+-- as many steps as there are items give them all
+all-shown : (items : List Out) → thenEnds (length items) items ≡ map shows items
+unfolding thenEnds
+all-shown [] = refl
+all-shown (o ∷ items) = ap (λ (xs : List Shown). shows o ∷ xs) (all-shown items)
+
 -- ---- the items of a run that answers them
 
--- the reply has these items, as answers
-record Holds (r : Reply) (items : List Out) : Type 0 where
-  held : List Answer
-  same : map shown held ≡ map shows items
-  values : r ≡ replyOf 0 (valuesOf held)
-  many : length (valuesOf held) ≡ 6 * length items
-
 module _ (pairs ops : List ℤ) (boundary : ℤ) (word : List ℕ) (options : RunOptions) where
+  -- the numbers of the answers of n steps
+  abbrev stepsNumbers : ℕ → State → List ℤ
+  stepsNumbers n s = valuesOf (answers pairs ops boundary word options n s)
+
+  -- of at most n items from s on, the reply has the numbers of so many steps
+  record Holds (n : ℕ) (s : State) (items : List Out) : Type 0 where
+    values : itemsFrom pairs ops boundary word options n s ≡ replyOf 0 (stepsNumbers (length items) s)
+    many : length (stepsNumbers (length items) s) ≡ 6 * length items
+
   module _ (s : State) where
     abbrev t : Step
     t = stepOf pairs ops boundary word options s
 
-    no-items : (n : ℕ) → map shown (answers pairs ops boundary word options 1 s) ≡ thenEnds 1 [] → Holds (itemsFrom pairs ops boundary word options n s) []
+    no-items : (n : ℕ) → map shown (answers pairs ops boundary word options 1 s) ≡ thenEnds 1 [] → Holds n s []
     unfolding answers thenEnds valuesOf
     no-items n e =
         let q : t .answer ≡ End = shown-end (t .answer) (ap firstOf e) in
-        record { held = []; same = refl; values = from-stops (stepOf pairs ops boundary word options) s t refl n End (replyOf 0 []) q (λ r. refl); many = refl }
+        record { values = from-stops (stepOf pairs ops boundary word options) s t refl n End (replyOf 0 []) q (λ r. refl); many = refl }
 
     first-item : (o : Out) (items : List Out) → map shown (answers pairs ops boundary word options 1 s) ≡ thenEnds 1 (o ∷ items) → shown (t .answer) ≡ shows o
     unfolding answers thenEnds
@@ -77,16 +85,13 @@ module _ (pairs ops : List ℤ) (boundary : ℤ) (word : List ℕ) (options : Ru
     unfolding answers thenEnds
     other-items o items n e = ap othersOf e
 
-    one-more : (n : ℕ) (o : Out) (items : List Out) → shown (t .answer) ≡ shows o → Holds (itemsFrom pairs ops boundary word options n (t .state)) items →
-        Holds (itemsFrom pairs ops boundary word options (suc n) s) (o ∷ items)
-    unfolding valuesOf
+    one-more : (n : ℕ) (o : Out) (items : List Out) → shown (t .answer) ≡ shows o → Holds n (t .state) items → Holds (suc n) s (o ∷ items)
+    unfolding answers valuesOf
     one-more n o items e h =
         let v = answerReply (t .answer) .values in
         let i : isItem (t .answer) ≡ true = shown-item (t .answer) o e in
-        let sum : length (v ++ valuesOf (h .held)) ≡ length v + length (valuesOf (h .held)) = length-append v (valuesOf (h .held)) in
+        let sum = length-append v (stepsNumbers (length items) (t .state)) in
         record {
-          held = t .answer ∷ h .held;
-          same = λ j. e j ∷ h .same j;
           values =
               from-suc (stepOf pairs ops boundary word options) s t refl n
               ∙ item-then (t .answer) (itemsFrom pairs ops boundary word options n (t .state)) i
@@ -95,7 +100,7 @@ module _ (pairs ops : List ℤ) (boundary : ℤ) (word : List ℕ) (options : Ru
         }
 
   holds : (items : List Out) (n : ℕ) (s : State) → length items ≤ n → ((m : ℕ) → map shown (answers pairs ops boundary word options m s) ≡ thenEnds m items) →
-      Holds (itemsFrom pairs ops boundary word options n s) items
+      Holds n s items
   holds [] n s l h = no-items s n (h 1)
   holds (o ∷ items) zero s l h = absurd (omega arith)
   holds (o ∷ items) (suc n) s l h =
@@ -105,12 +110,13 @@ module _ (pairs ops : List ℤ) (boundary : ℤ) (word : List ℕ) (options : Ru
 pub every-word : EveryWord
 every-word f pairs ops word options items room a l =
     let h = holds pairs ops (f .boundary) word options items (room / 6) (a .start) (omega (arith, l)) (a .answered) in
-    let q : setReply pairs ops (f .boundary) word options room
-    ≡ replyOf 0 (valuesOf (h .held)) = set-run pairs ops (f .boundary) word options (a .start) (sym (a .begins)) room ∙ h .values in
+    let q = set-run pairs ops (f .boundary) word options (a .start) (sym (a .begins)) room ∙ h .values in
+    let n : length (stepsNumbers pairs ops (f .boundary) word options (length items) (a .start)) / 6 ≡ length items = omega (arith, h .many) in
     record {
+      start = a .start;
+      begins = a .begins;
       accepted = ap (λ (r : Reply). r .number) q;
-      answers = h .held;
-      same = h .same;
       numbers = ap (λ (r : Reply). r .values) q;
-      counted = ap (λ (r : Reply). length (r .values) / 6) q ∙ (let n : length (valuesOf (h .held)) / 6 ≡ length items = omega (arith, h .many) in n);
+      same = a .answered (length items) ∙ all-shown items;
+      counted = ap (λ (r : Reply). length (r .values) / 6) q ∙ n;
     }
