@@ -10,6 +10,7 @@ use lib.Dec.{ltb, leb, eqb}
 use lib.ListN.{length, getD}
 use Rattle.words.specs.Words.{wordOf}
 use Rattle.lang.specs.Every.{both}
+use Rattle.lang.specs.Bisection.{bisected, foundBy}
 use Rattle.lang.specs.Records.{within}
 use Rattle.reading.specs.Items.{Left, item, plain, inserted, Out, glyph, kern}
 use Rattle.reading.specs.Depth.{Res, Finished}
@@ -56,25 +57,13 @@ leftPlace z = (wordOf z + 1) % 4294967296
 abbrev pub keyAt : List ℤ → ℕ → ℕ
 keyAt pairs k = keyBy (leftPlace (number pairs k 0)) (wordOf (number pairs k 1))
 
--- the first of the pairs from lo up to hi that does not come before the wanted key, if they ascend; at most n halvings
-unfoldable pub bisect : List ℤ → ℕ → ℕ → ℕ → ℕ → ℕ
-bisect pairs wanted zero lo hi = lo
-bisect pairs wanted (suc n) lo hi =
-    let mid = lo + (hi - lo) / 2 in
-    cond (ltb lo hi)
-    (cond (ltb (keyAt pairs mid) wanted) (bisect pairs wanted n (suc mid) hi) (bisect pairs wanted n lo mid))
-    lo
-
 -- where the search for a key ends
 abbrev pub placeFor : List ℤ → ℕ → ℕ
-placeFor pairs wanted = bisect pairs wanted (pairCount pairs) 0 (pairCount pairs)
+placeFor pairs wanted = bisected (keyAt pairs) (pairCount pairs) wanted
 
 -- the pair of a key
 abbrev pub find : List ℤ → ℕ → Option ℕ
-find pairs wanted =
-    cond (both (ltb (placeFor pairs wanted) (pairCount pairs)) (eqb (keyAt pairs (placeFor pairs wanted)) wanted))
-    (some (placeFor pairs wanted))
-    none
+find pairs wanted = foundBy (keyAt pairs) (pairCount pairs) wanted
 
 -- what a search answers: the place of the pair, or nothing
 abbrev pub foundAt : Option ℕ → Found

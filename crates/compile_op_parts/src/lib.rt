@@ -1,10 +1,8 @@
-// The parts that a row's ops are made of, over settled rows: counting and writing both go by them. What they are is
-// said in specs/OpSteps.antt of crate `compiling`, after lines 171 to 398 of ligkern/compiler.rs. Each function answers
-// for any rows, and what it promises is of rows whose rules are written.
+// The parts that a row's ops are made of, over any rows: counting and writing both go by them. On rows whose rules are
+// written they are those of specs/OpSteps.antt of crate `compiling`, after lines 171 to 398 of ligkern/compiler.rs.
 ghost use mathlib.Core.Path.{_≡_};
-ghost use Prim.Native.Nat.{_+_, _<_};
-ghost use Rattle.compiling.specs.Rows.{Ascending, Encoded};
-ghost use Rattle.compiling.specs.OpSteps.{leftPart, pairPart, rowLastCode, firstPart, secondPart, LastFits};
+ghost use Rattle.compiling.specs.OpSteps.{leftPart};
+ghost use Rattle.compile_op_parts.specs.FoundParts.{pairFound, lastFound, placeOf, firstFound, secondFound};
 use compile_rows::find;
 use compile_rows::get;
 use compiling::Part;
@@ -23,8 +21,7 @@ fn left_part(left: u32) -> Part
 
 // The ops of a pair: those of its row; where it has none, its left finished.
 fn pair_part(work: &[u32], n: usize, left: u32, right: u32) -> Part
-    ensures { λ r. ⌜ (Ascending n (now (work .entry)) → right < 256 →
-        r ≡ pairPart n (now (work .entry)) left right) ⌝ }
+    ensures { λ r. ⌜ r ≡ pairFound n (now (work .entry)) left right ⌝ }
 {
     match find(work, n, left, right) {
         Row::Found(k) => Part::OfRow(k),
@@ -34,8 +31,7 @@ fn pair_part(work: &[u32], n: usize, left: u32, right: u32) -> Part
 
 // The code of a pair's last: its row's; where it has none, its right's.
 fn last_code(work: &[u32], n: usize, left: u32, right: u32) -> u32
-    ensures { λ r. ⌜ (Ascending n (now (work .entry)) → right < 256 →
-        r ≡ rowLastCode n (now (work .entry)) left right) ⌝ }
+    ensures { λ r. ⌜ r ≡ lastFound n (now (work .entry)) left right ⌝ }
 {
     match find(work, n, left, right) {
         Row::Found(k) => get(work, k, 6),
@@ -45,14 +41,14 @@ fn last_code(work: &[u32], n: usize, left: u32, right: u32) -> u32
 
 // The place of a character among the lefts.
 fn place_of(code: u32) -> u32
-    ensures { λ r. ⌜ (code < 256 → r ≡ code + 1) ⌝ }
+    ensures { λ r. ⌜ r ≡ placeOf code ⌝ }
 {
     if code < 256 { code + 1 } else { 0 }
 }
 
 // What stands first in row k's ops.
 pub fn first_part(work: &[u32], n: usize, k: usize) -> Part
-    ensures { λ r. ⌜ (Encoded n (now (work .entry)) → k < n → r ≡ firstPart n (now (work .entry)) k) ⌝ }
+    ensures { λ r. ⌜ r ≡ firstFound n (now (work .entry)) k ⌝ }
 {
     let op = get(work, k, 3);
     let left = get(work, k, 0);
@@ -71,8 +67,7 @@ pub fn first_part(work: &[u32], n: usize, k: usize) -> Part
 
 // What follows it, with its first character a ligature.
 pub fn second_part(work: &[u32], n: usize, k: usize) -> Part
-    ensures { λ r. ⌜ (Encoded n (now (work .entry)) → k < n → LastFits n (now (work .entry)) k →
-        r ≡ secondPart n (now (work .entry)) k) ⌝ }
+    ensures { λ r. ⌜ r ≡ secondFound n (now (work .entry)) k ⌝ }
 {
     let op = get(work, k, 3);
     let left = get(work, k, 0);

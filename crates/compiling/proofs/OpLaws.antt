@@ -450,58 +450,10 @@ module _ (n : ℕ) (w : List ℕ) (op t v r : ℕ) where
   unfolding firstOf
   first-high h = rw (le-leb 6 op h)
 
-  pub first-pair : (op ≡ 2) ⊎ (op ≡ 3) → pairPart n w t v ≡ firstOf n w op t v
-  unfolding firstOf
-  first-pair (inl j) = rw j
-  first-pair (inr j) = rw j
-
-  pub first-none : op < 6 → (op ≡ 2 → ⊥) → (op ≡ 3 → ⊥) → Nothing ≡ firstOf n w op t v
-  unfolding firstOf
-  first-none h a b = rw (lt-leb 6 op h, ne-eqb op 2 a, ne-eqb op 3 b)
-
   pub second-kern : op ≡ 128 → Kern v ≡ secondOf n w op t v r
   unfolding secondOf
   second-kern j = rw j
 
-  pub second-ligature : (op ≡ 5) ⊎ (op ≡ 11) → Ligature v ≡ secondOf n w op t v r
-  unfolding secondOf
-  second-ligature (inl j) = rw j
-  second-ligature (inr j) = rw j
-
-  pub second-inserted : (op ≡ 1) ⊎ (op ≡ 7) → pairPart n w (v + 1) r ≡ secondOf n w op t v r
-  unfolding secondOf
-  second-inserted (inl j) = rw (j, add-one v)
-  second-inserted (inr j) = rw (j, add-one v)
-
-  pub second-last : op ≡ 3 → (c : ℕ) → c ≡ rowLastCode n w t v → pairPart n w (c + 1) r ≡ secondOf n w op t v r
-  unfolding secondOf
-  second-last j c l = rw (j, add-one c, l)
-
-  pub second-none : (op ≡ 128 → ⊥) → ((op ≡ 5) ⊎ (op ≡ 11) → ⊥) → ((op ≡ 1) ⊎ (op ≡ 7) → ⊥) → (op ≡ 3 → ⊥) → Nothing ≡ secondOf n w op t v r
-  unfolding secondOf
-  second-none a b c d =
-      rw (
-        ne-eqb op 128 a,
-        ne-eqb op 5 (λ j. b (inl j)),
-        ne-eqb op 11 (λ j. b (inr j)),
-        ne-eqb op 1 (λ j. c (inl j)),
-        ne-eqb op 7 (λ j. c (inr j)),
-        ne-eqb op 3 d,
-      )
-
-module _ (n : ℕ) (w : List ℕ) (k : ℕ) {op t v : ℕ} (i : op ≡ at w k 3) (j : t ≡ at w k 0) (l : v ≡ at w k 4) where
-  pub first-is : {p : Part} → p ≡ firstOf n w op t v → p ≡ firstPart n w k
-  first-is x = x ∙ (λ a. firstOf n w (i a) (j a) (l a))
-
-  pub second-is : {r : ℕ} → r ≡ at w k 1 → {p : Part} → p ≡ secondOf n w op t v r → p ≡ secondPart n w k
-  second-is y x = x ∙ (λ a. secondOf n w (i a) (j a) (l a) (y a))
-
--- a character that the op of row k inserts, and a last that it consults
+-- a character that the op of row k inserts
 pub small-value : (n : ℕ) (w : List ℕ) (k : ℕ) → Encoded n w → k < n → {op v : ℕ} → op ≡ at w k 3 → v ≡ at w k 4 → op < 128 → v < 256
 small-value n w k e h i j l = omega (arith, value-small (at w k 3) (at w k 4) (e .ops k h) (omega arith))
-
-pub small-last : (n : ℕ) (w : List ℕ) (k : ℕ) → LastFits n w k → {op t v x : ℕ} → op ≡ at w k 3 → t ≡ at w k 0 → v ≡ at w k 4 → op ≡ 3 →
-    x ≡ rowLastCode n w t v → x < 256
-small-last n w k f i j l three e =
-    let same : rowLastCode n w _ _ ≡ rowLastCode n w (at w k 0) (at w k 4) = λ a. rowLastCode n w (j a) (l a) in
-    omega (arith, f (sym i ∙ three), e, same)

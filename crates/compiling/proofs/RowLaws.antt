@@ -21,7 +21,7 @@ use Rattle.reading.specs.Items.{Left, bnd, chr, free}
 use Rattle.reading.specs.Depth.{Res}
 use Rattle.reading.specs.Loops.{finished, waits}
 use Rattle.reading.proofs.Covers.{Covers}
-use Rattle.compiling.specs.Rows.{at, pairAt, ruledAt, ruleOf, ruleAt, pairs, isPair, orRow, rowOf, ruleBy, rules, ruleFits, Ascending, Encoded, SameRows}
+use Rattle.compiling.specs.Rows.{rowKey, at, pairAt, ruledAt, ruleOf, ruleAt, pairs, isPair, orRow, rowOf, ruleBy, rules, ruleFits, Ascending, Encoded, SameRows}
 use Rattle.fonts.specs.Fonts.{leftOf, numberOfLeft}
 use Rattle.compiling.specs.SettledRows.{finishedRows, outcome, consults, FinishedRow, NeverRow, RowSays, Settled}
 use Rattle.compiling.specs.OpRows.{OnlyField}
@@ -91,16 +91,12 @@ module _ (w : List ℕ) (t r : ℕ) where
       go none e = e
       go (some k) e = let s = row-found n k e in absurd (h k (s .0) (s .1))
 
--- the place of a row's pair in the order of rows
-abbrev pub keyAt : List ℕ → ℕ → ℕ
-keyAt w k = 256 * at w k 0 + at w k 1
-
 module _ (n : ℕ) (w : List ℕ) (a : Ascending n w) where
-  ascend-by : (i j : ℕ) → suc j < n → (i < j → keyAt w i < keyAt w j) → (i ≡ j) ⊎ (i < j) → keyAt w i < keyAt w (suc j)
+  ascend-by : (i j : ℕ) → suc j < n → (i < j → rowKey w i < rowKey w j) → (i ≡ j) ⊎ (i < j) → rowKey w i < rowKey w (suc j)
   ascend-by i j l h (inl e) = rw e (a .ascends j l)
   ascend-by i j l h (inr k) = omega (arith, a .ascends j l, h k)
 
-  pub keys-ascend : (i j : ℕ) → i < j → j < n → keyAt w i < keyAt w j
+  pub keys-ascend : (i j : ℕ) → i < j → j < n → rowKey w i < rowKey w j
   keys-ascend i zero h l = absurd (omega arith)
   keys-ascend i (suc j) h l = ascend-by i j l (λ k. keys-ascend i j k (omega arith)) (eq-or-lt-of-le (le-of-suc-le-suc h))
 

@@ -17,6 +17,7 @@ use lib.Dec.{ltb, eqb}
 use lib.ListN.{length, getD}
 use Rattle.words.specs.Words.{numberOf}
 use Rattle.words.specs.Lists.{tabulate}
+use Rattle.lang.specs.Bisection.{foundBy}
 use Rattle.lang.specs.Operations.{retains, keepsLeft, keepsRight, advance, isStandard}
 use Rattle.compiling.specs.declared.Row.{Row}
 use Rattle.compiling.specs.declared.Row.the-variants.{Found, Missing}
@@ -64,6 +65,14 @@ orRow none false n = none
 unfoldable pub rowOf : List ℕ → ℕ → ℕ → ℕ → Option ℕ
 rowOf w zero t r = none
 rowOf w (suc n) t r = orRow (rowOf w n t r) (isPair w n t r) n
+
+-- the place of row k's pair in the order of rows
+abbrev pub rowKey : List ℕ → ℕ → ℕ
+rowKey w k = 256 * at w k 0 + at w k 1
+
+-- the row of left t and right r among the first n, as a search by halves finds it; on rows that ascend it is `rowOf`
+abbrev pub searchRow : List ℕ → ℕ → ℕ → ℕ → Option ℕ
+searchRow w n t r = foundBy (rowKey w) n (256 * t + r)
 
 -- what a search answers: the row of the pair, or that it is missing
 abbrev pub foundRow : Option ℕ → Row

@@ -3,6 +3,7 @@
 --   Arms      what the `_` of a `match` on a number knows
 --   Standard  the eight standard op bytes
 --   Every     every index below a number passes a test
+--   Bisection a search by halves, turn by turn, and over keys that ascend
 --   Records   the numbers of an instruction
 --   Refusals  refusals in a row, room, and the answer by the refusal
 --   Filled    a list that is filled from the front, and the list by the refusal
@@ -13,6 +14,7 @@ pub mod Table
 pub mod Arms
 pub mod Standard
 pub mod Every
+pub mod Bisection
 pub mod Records
 pub mod Refusals
 pub mod Filled

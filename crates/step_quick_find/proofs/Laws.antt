@@ -9,8 +9,8 @@ use lib.Dec.{ltb}
 use lib.ListN.{getD}
 use borrow.Author.Tests.{ltb-true, ltb-false, lt-ltb, le-ltb, eq-eqb, ne-eqb}
 use Rattle.words.specs.Words.{Word, wordOf}
-use Rattle.captions.specs.Tables.{pairCount, number, leftPlace, keyBy, keyAt, bisect, placeFor}
-use Rattle.table_find.proofs.Bisection.{Searching, searching-up, searching-down}
+use Rattle.captions.specs.Tables.{pairCount, number, leftPlace, keyBy, keyAt, placeFor}
+use Rattle.lang.proofs.Bisection.{Bisecting, bisecting-up, bisecting-down, bisect-ended}
 use Rattle.step_quick.specs.Quick.{foundPlace}
 
 -- ---- the place of a pair
@@ -54,19 +54,22 @@ module _ (pairs : List ℤ) (left right : ℕ) where
 
 -- ---- the search, halving by halving
 
-module _ (pairs : List ℤ) (w lo hi : ℕ) (s : Searching pairs w lo hi) where
-  pub search-up : lo < hi → (b : Bool) → b ≡ ltb (keyAt pairs ((lo + hi) / 2)) w → b ≡ true → Searching pairs w ((lo + hi) / 2 + 1) hi
+module _ (pairs : List ℤ) (w lo hi : ℕ) (s : Bisecting (keyAt pairs) (pairCount pairs) w lo hi) where
+  pub search-up : lo < hi → (b : Bool) → b ≡ ltb (keyAt pairs ((lo + hi) / 2)) w → b ≡ true →
+      Bisecting (keyAt pairs) (pairCount pairs) w ((lo + hi) / 2 + 1) hi
   search-up h b e t =
       let m = middle lo hi (s .order) in
-      subst (λ (i : ℕ). Searching pairs w (i + 1) hi) (sym m)
-      (searching-up pairs w lo hi s h (subst (λ (i : ℕ). keyAt pairs i < w) m (ltb-true (keyAt pairs ((lo + hi) / 2)) w (sym e ∙ t))))
+      subst (λ (i : ℕ). Bisecting (keyAt pairs) (pairCount pairs) w (i + 1) hi) (sym m)
+      (bisecting-up (keyAt pairs) (pairCount pairs) w lo hi s h
+      (subst (λ (i : ℕ). keyAt pairs i < w) m (ltb-true (keyAt pairs ((lo + hi) / 2)) w (sym e ∙ t))))
 
-  pub search-down : lo < hi → (b : Bool) → b ≡ ltb (keyAt pairs ((lo + hi) / 2)) w → b ≡ false → Searching pairs w lo ((lo + hi) / 2)
+  pub search-down : lo < hi → (b : Bool) → b ≡ ltb (keyAt pairs ((lo + hi) / 2)) w → b ≡ false →
+      Bisecting (keyAt pairs) (pairCount pairs) w lo ((lo + hi) / 2)
   search-down h b e t =
       let m = middle lo hi (s .order) in
-      subst (λ (i : ℕ). Searching pairs w lo i) (sym m)
-      (searching-down pairs w lo hi s h (subst (λ (i : ℕ). w ≤ keyAt pairs i) m (ltb-false (keyAt pairs ((lo + hi) / 2)) w (sym e ∙ t))))
+      subst (λ (i : ℕ). Bisecting (keyAt pairs) (pairCount pairs) w lo i) (sym m)
+      (bisecting-down (keyAt pairs) (pairCount pairs) w lo hi s h
+      (subst (λ (i : ℕ). w ≤ keyAt pairs i) m (ltb-false (keyAt pairs ((lo + hi) / 2)) w (sym e ∙ t))))
 
   pub search-ends : hi ≤ lo → lo ≡ placeFor pairs w
-  unfolding bisect
-  search-ends h = s .goes 0 (omega arith)
+  search-ends h = sym (bisect-ended (keyAt pairs) (pairCount pairs) w lo hi s h)

@@ -4,6 +4,7 @@ use mathlib.Core.Path.{sym, ap, _∙_}
 use Prim.Native.Nat.{_+_}
 use Rattle.compiling.specs.OpRows.{capped}
 use Rattle.compiling.specs.OpSteps.{partCount}
+use Rattle.compile_op_parts.proofs.Laws.{first-written, second-written}
 use Rattle.compile_op_counts.proofs.KernRows.{edge-kern, character-kern}
 use borrow.Author.Needs.{needs}
 use Rattle.compile_op_counts.proofs.row_count.Statement.{statement}
@@ -49,8 +50,10 @@ returns-3 c =
     let s = c .before .before .before .before .before .before .before .before in
     let p = s .pre in
     let w = s .args .work .now in
-    let x = c .before .before .before .part-count .ensures ∙ ap (partCount w) (c .before .before .before .before .first-part .ensures (p .0) (p .1)) in
-    let y = c .before .part-count2 .ensures ∙ ap (partCount w) (c .before .before .second-part .ensures (p .0) (p .1) (p .2)) in
+    let f = c .before .before .before .before .first-part .ensures ∙ first-written (s .args .n) w (s .args .k) (p .0) (p .1) in
+    let g = c .before .before .second-part .ensures ∙ second-written (s .args .n) w (s .args .k) (p .0) (p .1) (p .2) in
+    let x = c .before .before .before .part-count .ensures ∙ ap (partCount w) f in
+    let y = c .before .part-count2 .ensures ∙ ap (partCount w) g in
     c .capped-sum .ensures ∙ (λ i. capped (x i + y i))
 
 pub row-count-spec : {M : Type 1} → statement M

@@ -2,8 +2,7 @@
 -- Assumes nothing.
 use mathlib.Core.Path.{_∙_}
 use mathlib.Core.Logic.{inl, inr}
-use native.Mathlib.Omega.{arith}
-use Rattle.compiling.proofs.OpLaws.{small-value, first-is, first-high, first-pair, first-none}
+use Rattle.compile_op_parts.proofs.Laws.{first-is, first-high, first-pair, first-none}
 use borrow.Author.Needs.{needs}
 use Rattle.compile_op_parts.proofs.first_part.Statement.{statement}
 use Rattle.compile_op_parts.proofs.first_part.Tie as tie
@@ -21,47 +20,40 @@ left-part-requires : tie.Need-left-part-requires
 left-part-requires c κs = search needs
 
 returns : tie.Need-returns
-returns c = λ en h.
+returns c =
     let g = c .before .before in
-    let s = g .before .before .before .before in
-    let a = s .args in
+    let a = g .before .before .before .before .args in
     first-is (a .n) (a .work .now) (a .k) (g .before .before .get .ensures) (g .before .get2 .ensures) (g .get3 .ensures)
-    (c .left-part .ensures
-    ∙ first-high (a .n) (a .work .now) (g .before .before .get .result) (g .before .get2 .result) (g .get3 .result) 0 (c .before .if1 .taken))
+    (c .left-part .ensures ∙ first-high (a .n) (a .work .now) (g .before .before .get .result) (g .before .get2 .result) (g .get3 .result) (c .before .if1 .taken))
 
 pair-part-requires : tie.Need-pair-part-requires
 pair-part-requires c κs = search needs
 
 returns-2 : tie.Need-returns-2
-returns-2 c = λ en h.
+returns-2 c =
     let g = c .before .before .before in
-    let s = g .before .before .before .before in
-    let a = s .args in
+    let a = g .before .before .before .before .args in
     first-is (a .n) (a .work .now) (a .k) (g .before .before .get .ensures) (g .before .get2 .ensures) (g .get3 .ensures)
-    (c .pair-part .ensures (en .ascending)
-    (small-value (a .n) (a .work .now) (a .k) en h (g .before .before .get .ensures) (g .get3 .ensures) (omega (arith, c .before .if2 .taken)))
-    ∙ first-pair (a .n) (a .work .now) (g .before .before .get .result) (g .before .get2 .result) (g .get3 .result) 0 (inl (c .before .if2 .taken)))
+    (c .pair-part .ensures
+    ∙ first-pair (a .n) (a .work .now) (g .before .before .get .result) (g .before .get2 .result) (g .get3 .result) (inl (c .before .if2 .taken)))
 
 pair-part-requires-2 : tie.Need-pair-part-requires-2
 pair-part-requires-2 c κs = search needs
 
 returns-3 : tie.Need-returns-3
-returns-3 c = λ en h.
+returns-3 c =
     let g = c .before .before .before .before in
-    let s = g .before .before .before .before in
-    let a = s .args in
+    let a = g .before .before .before .before .args in
     first-is (a .n) (a .work .now) (a .k) (g .before .before .get .ensures) (g .before .get2 .ensures) (g .get3 .ensures)
-    (c .pair-part2 .ensures (en .ascending)
-    (small-value (a .n) (a .work .now) (a .k) en h (g .before .before .get .ensures) (g .get3 .ensures) (omega (arith, c .before .if3 .taken)))
-    ∙ first-pair (a .n) (a .work .now) (g .before .before .get .result) (g .before .get2 .result) (g .get3 .result) 0 (inr (c .before .if3 .taken)))
+    (c .pair-part2 .ensures
+    ∙ first-pair (a .n) (a .work .now) (g .before .before .get .result) (g .before .get2 .result) (g .get3 .result) (inr (c .before .if3 .taken)))
 
 returns-4 : tie.Need-returns-4
-returns-4 c = λ en h.
+returns-4 c =
     let g = c .before .before .before in
-    let s = g .before .before .before .before in
-    let a = s .args in
+    let a = g .before .before .before .before .args in
     first-is (a .n) (a .work .now) (a .k) (g .before .before .get .ensures) (g .before .get2 .ensures) (g .get3 .ensures)
-    (first-none (a .n) (a .work .now) (g .before .before .get .result) (g .before .get2 .result) (g .get3 .result) 0 (c .before .before .if1 .left)
+    (first-none (a .n) (a .work .now) (g .before .before .get .result) (g .before .get2 .result) (g .get3 .result) (c .before .before .if1 .left)
     (c .before .if2 .left) (c .if3 .left))
 
 pub first-part-spec : {M : Type 1} → statement M

@@ -1,7 +1,7 @@
 -- `compile_op_parts::last_code` meets its contract: the last of the row that `find` answers, or the right where it answers none.
 -- Assumes nothing.
 use mathlib.Core.Path.{sym, ap, _∙_}
-use Rattle.compiling.specs.Rows.{rowOf}
+use Rattle.compiling.specs.Rows.{searchRow}
 use Rattle.compiling.specs.OpSteps.{lastBy}
 use Rattle.compiling.proofs.OpLaws.{found-some, missing-none}
 use borrow.Author.Needs.{needs}
@@ -21,19 +21,19 @@ enum-told : tie.Need-enum-told
 enum-told c = search needs
 
 returns : tie.Need-returns
-returns c = λ up small.
+returns c =
     let f = c .before .before .before .before in
     let a = f .before .before .args in
     c .get .ensures
     ∙ sym (ap (lastBy (a .work .now) (a .right))
-    (found-some (rowOf (a .work .now) (a .n) (a .left) (a .right)) (f .find .ensures up small) (c .before .before .k .given .1)))
+    (found-some (searchRow (a .work .now) (a .n) (a .left) (a .right)) (f .find .ensures) (c .before .before .k .given .1)))
 
 returns-2 : tie.Need-returns-2
-returns-2 c = λ up small.
+returns-2 c =
     let f = c .before .before in
     let a = f .before .before .args in
     sym (ap (lastBy (a .work .now) (a .right))
-    (missing-none (rowOf (a .work .now) (a .n) (a .left) (a .right)) (f .find .ensures up small) (c .enum-told .given .1)))
+    (missing-none (searchRow (a .work .now) (a .n) (a .left) (a .right)) (f .find .ensures) (c .enum-told .given .1)))
 
 pub last-code-spec : {M : Type 1} → statement M
 last-code-spec =

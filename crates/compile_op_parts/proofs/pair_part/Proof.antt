@@ -1,7 +1,7 @@
 -- `compile_op_parts::pair_part` meets its contract: what `find` answers is the row of the pair, or that it has none.
 -- Assumes nothing.
 use mathlib.Core.Path.{sym, ap, _∙_}
-use Rattle.compiling.specs.Rows.{rowOf}
+use Rattle.compiling.specs.Rows.{searchRow}
 use Rattle.compiling.specs.OpSteps.{partBy}
 use Rattle.compiling.proofs.OpLaws.{found-some, missing-none}
 use borrow.Author.Needs.{needs}
@@ -21,18 +21,18 @@ left-part-requires : tie.Need-left-part-requires
 left-part-requires c κs = search needs
 
 returns : tie.Need-returns
-returns c = λ up small.
+returns c =
     let f = c .before .before .before in
     let a = f .before .before .args in
-    sym (ap (partBy (a .left)) (found-some (rowOf (a .work .now) (a .n) (a .left) (a .right)) (f .find .ensures up small) (c .before .k .given .1)))
+    sym (ap (partBy (a .left)) (found-some (searchRow (a .work .now) (a .n) (a .left) (a .right)) (f .find .ensures) (c .before .k .given .1)))
 
 returns-2 : tie.Need-returns-2
-returns-2 c = λ up small.
+returns-2 c =
     let f = c .before .before .before in
     let a = f .before .before .args in
     c .left-part .ensures
     ∙ sym (ap (partBy (a .left))
-    (missing-none (rowOf (a .work .now) (a .n) (a .left) (a .right)) (f .find .ensures up small) (c .before .enum-told .given .1)))
+    (missing-none (searchRow (a .work .now) (a .n) (a .left) (a .right)) (f .find .ensures) (c .before .enum-told .given .1)))
 
 pub pair-part-spec : {M : Type 1} → statement M
 pair-part-spec =

@@ -1,18 +1,12 @@
 -- `compile_op_parts::second_part` meets its contract: the arms of the match are the tests of its definition.
 -- Assumes nothing.
-use mathlib.Core.Path.{_≡_, ap, _∙_}
-use mathlib.Core.Logic.{_⊎_, inl, inr}
-use Prim.Native.Nat.{ℕ, _<_}
-use native.Mathlib.Omega.{arith}
-use Rattle.compiling.specs.OpSteps.{pairPart}
-use Rattle.compiling.proofs.OpLaws.{small-value, small-last, second-is, second-kern, second-ligature, second-inserted, second-last, second-none}
+use mathlib.Core.Path.{ap, _∙_}
+use Prim.Native.Nat.{ℕ}
+use Rattle.compile_op_parts.specs.FoundParts.{pairFound, placeOf}
+use Rattle.compile_op_parts.proofs.Laws.{second-is, second-kern, second-ligature, second-inserted, second-last, second-none}
 use borrow.Author.Needs.{needs}
 use Rattle.compile_op_parts.proofs.second_part.Statement.{statement}
 use Rattle.compile_op_parts.proofs.second_part.Tie as tie
-
-below : {op : ℕ} → (op ≡ 1) ⊎ (op ≡ 7) → op < 128
-below (inl e) = omega arith
-below (inr e) = omega arith
 
 get-requires : tie.Need-get-requires
 get-requires c κs = search needs
@@ -42,7 +36,7 @@ pair-part-requires-2 : tie.Need-pair-part-requires-2
 pair-part-requires-2 c κs = search needs
 
 returns : tie.Need-returns
-returns c = λ en h fits.
+returns c =
     let g = c .before in
     let a = g .before .before .before .before .before .args in
     second-is (a .n) (a .work .now) (a .k) (g .before .before .before .get .ensures) (g .before .before .get2 .ensures) (g .get4 .ensures)
@@ -51,7 +45,7 @@ returns c = λ en h fits.
     (g .before .get3 .result) (c .match .keys1))
 
 returns-2 : tie.Need-returns-2
-returns-2 c = λ en h fits.
+returns-2 c =
     let g = c .before in
     let a = g .before .before .before .before .before .args in
     second-is (a .n) (a .work .now) (a .k) (g .before .before .before .get .ensures) (g .before .before .get2 .ensures) (g .get4 .ensures)
@@ -60,39 +54,29 @@ returns-2 c = λ en h fits.
     (g .before .get3 .result) (c .match .keys2))
 
 returns-3 : tie.Need-returns-3
-returns-3 c = λ en h fits.
+returns-3 c =
     let g = c .before .before .before in
     let a = g .before .before .before .before .before .args in
-    let v = small-value (a .n) (a .work .now) (a .k) en h (g .before .before .before .get .ensures) (g .get4 .ensures) (below (c .before .before .match .keys3))
-    in
-    let r = c .pair-part .ensures (en .ascending) (omega (arith, en .ascending .right (a .k) h, g .before .get3 .ensures)) in
-    let p = ap (λ (x : ℕ). pairPart (a .n) (a .work .now) x (g .before .get3 .result)) (c .before .place-of .ensures v) in
     second-is (a .n) (a .work .now) (a .k) (g .before .before .before .get .ensures) (g .before .before .get2 .ensures) (g .get4 .ensures)
     (g .before .get3 .ensures)
-    (r ∙ p
+    (c .pair-part .ensures ∙ ap (λ (x : ℕ). pairFound (a .n) (a .work .now) x (g .before .get3 .result)) (c .before .place-of .ensures)
     ∙ second-inserted (a .n) (a .work .now) (g .before .before .before .get .result) (g .before .before .get2 .result) (g .get4 .result)
     (g .before .get3 .result) (c .before .before .match .keys3))
 
 returns-4 : tie.Need-returns-4
-returns-4 c = λ en h fits.
+returns-4 c =
     let l = c .before .before in
     let g = l .before .before in
     let a = g .before .before .before .before .before .args in
-    let v = small-value (a .n) (a .work .now) (a .k) en h (g .before .before .before .get .ensures) (g .get4 .ensures) (omega (arith, l .before .match .keys4))
-    in
-    let e = l .last-code .ensures (en .ascending) v in
-    let s = small-last (a .n) (a .work .now) (a .k) fits (g .before .before .before .get .ensures) (g .before .before .get2 .ensures) (g .get4 .ensures)
-    (l .before .match .keys4) e in
-    let r = c .pair-part2 .ensures (en .ascending) (omega (arith, en .ascending .right (a .k) h, g .before .get3 .ensures)) in
-    let p = ap (λ (x : ℕ). pairPart (a .n) (a .work .now) x (g .before .get3 .result)) (c .before .place-of2 .ensures s) in
     second-is (a .n) (a .work .now) (a .k) (g .before .before .before .get .ensures) (g .before .before .get2 .ensures) (g .get4 .ensures)
     (g .before .get3 .ensures)
-    (r ∙ p
+    (c .pair-part2 .ensures
+    ∙ ap (λ (x : ℕ). pairFound (a .n) (a .work .now) x (g .before .get3 .result)) (c .before .place-of2 .ensures ∙ ap placeOf (l .last-code .ensures))
     ∙ second-last (a .n) (a .work .now) (g .before .before .before .get .result) (g .before .before .get2 .result) (g .get4 .result)
-    (g .before .get3 .result) (l .before .match .keys4) (l .last-code .result) e)
+    (g .before .get3 .result) (l .before .match .keys4))
 
 returns-5 : tie.Need-returns-5
-returns-5 c = λ en h fits.
+returns-5 c =
     let g = c .before in
     let a = g .before .before .before .before .before .args in
     second-is (a .n) (a .work .now) (a .k) (g .before .before .before .get .ensures) (g .before .before .get2 .ensures) (g .get4 .ensures)

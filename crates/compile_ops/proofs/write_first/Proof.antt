@@ -3,6 +3,7 @@
 use mathlib.Core.Path.{sym, subst, _∙_}
 use Rattle.compiling.specs.OpSteps.{PartFits, PartWritten}
 use Rattle.compiling.proofs.OpTables.{nothing-written}
+use Rattle.compile_op_parts.proofs.Laws.{first-written}
 use Rattle.compile_ops.proofs.KernOps.{kern-edge, kern-left}
 use borrow.Author.Needs.{needs}
 use Rattle.compile_ops.proofs.write_first.Statement.{statement}
@@ -18,7 +19,7 @@ write-part-requires : tie.Need-write-part-requires
 write-part-requires c κs =
     let s = c .before .before .before .before .before in
     let a = s .args in
-    subst (PartFits (a .work .now) (a .ops .now) (a .p)) (sym (c .before .first-part .ensures (s .pre .0) (s .pre .1))) (s .pre .2)
+    subst (PartFits (a .work .now) (a .ops .now) (a .p)) (sym (c .before .first-part .ensures ∙ first-written (a .n) (a .work .now) (a .k) (s .pre .0) (s .pre .1))) (s .pre .2)
 
 same-length : tie.Need-same-length
 same-length c = search needs
@@ -29,7 +30,7 @@ returns c =
     let a = s .args in
     let x = c .before .write-part in
     subst (PartWritten (a .work .now) (a .ops .now) (x .last .1 .1 .0) (a .p) (x .result))
-    (c .before .before .before .first-part .ensures (s .pre .0) (s .pre .1)) (x .ensures)
+    (c .before .before .before .first-part .ensures ∙ first-written (a .n) (a .work .now) (a .k) (s .pre .0) (s .pre .1)) (x .ensures)
 
 get-requires-2 : tie.Need-get-requires-2
 get-requires-2 c κs = search needs

@@ -2,6 +2,7 @@
 -- Assumes nothing.
 use mathlib.Core.Path.{sym, subst, _∙_}
 use Rattle.compiling.specs.OpSteps.{PartFits, PartWritten}
+use Rattle.compile_op_parts.proofs.Laws.{second-written}
 use Rattle.compile_ops.proofs.KernOps.{kern-second}
 use borrow.Author.Needs.{needs}
 use Rattle.compile_ops.proofs.write_second.Statement.{statement}
@@ -17,7 +18,7 @@ write-part-requires : tie.Need-write-part-requires
 write-part-requires c κs =
     let s = c .before .before .before .before .before in
     let a = s .args in
-    subst (PartFits (a .work .now) (a .ops .now) (a .p)) (sym (c .before .second-part .ensures (s .pre .0) (s .pre .1) (s .pre .2))) (s .pre .3)
+    subst (PartFits (a .work .now) (a .ops .now) (a .p)) (sym (c .before .second-part .ensures ∙ second-written (a .n) (a .work .now) (a .k) (s .pre .0) (s .pre .1) (s .pre .2))) (s .pre .3)
 
 same-length : tie.Need-same-length
 same-length c = search needs
@@ -28,7 +29,7 @@ returns c =
     let a = s .args in
     let x = c .before .write-part in
     subst (PartWritten (a .work .now) (a .ops .now) (x .last .1 .1 .0) (a .p) (x .result))
-    (c .before .before .before .second-part .ensures (s .pre .0) (s .pre .1) (s .pre .2)) (x .ensures)
+    (c .before .before .before .second-part .ensures ∙ second-written (a .n) (a .work .now) (a .k) (s .pre .0) (s .pre .1) (s .pre .2)) (x .ensures)
 
 get-requires-2 : tie.Need-get-requires-2
 get-requires-2 c κs = search needs

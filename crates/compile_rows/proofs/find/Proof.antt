@@ -1,18 +1,18 @@
--- `compile_rows::find` meets its contract. The loop's invariant: in ascending rows, those before `lo` come before the pair, and those from `hi` on do not.
--- Where the two meet, the row there has the pair or none has. The measure is what is left between them.
+-- `compile_rows::find` meets its contract. The loop's invariant: the search goes on between `lo` and `hi`, and ends where the definition's does. The measure
+-- is what is left between them.
 -- Assumes nothing.
-use mathlib.Core.Path.{sym, _∙_}
-use Prim.Native.Nat.{_+_, _-_, _*_, _/_, _≤_}
+use mathlib.Core.Path.{sym, ap, _∙_}
+use Prim.Native.Nat.{_+_, _-_, _*_}
 use native.Mathlib.Omega.{arith}
 use denote.Ref.{now}
-use Rattle.compiling.specs.Rows.{Ascending}
-use Rattle.compiling.proofs.RowSearch.{Between, between-all, between-up, between-down, found, missing}
+use Rattle.lang.proofs.Bisection.{Bisecting, bisecting-all, bisecting-up, bisecting-down, bisect-found, bisect-other, bisect-past}
+use Rattle.compiling.specs.Rows.{rowKey, foundRow}
 use borrow.Author.Needs.{needs}
 use Rattle.compile_rows.proofs.find.Statement.{statement}
 use Rattle.compile_rows.proofs.find.Tie as tie
 
 abbrev Inv-loop : tie.InvT-loop
-Inv-loop work n left right wanted lo₀ hi₀ lo hi = (lo ≤ hi) × (hi ≤ n) × (Ascending n work → Between n work (256 * left + right) lo hi)
+Inv-loop work n left right wanted lo₀ hi₀ lo hi = Bisecting (rowKey work) n (256 * left + right) lo hi
 
 abbrev μ-loop : tie.MeasureT-loop
 μ-loop work n left right wanted lo₀ hi₀ lo hi = hi - lo
@@ -24,9 +24,7 @@ add-wanted : tie.Need-add-wanted Inv-loop μ-loop
 add-wanted c = omega arith
 
 loop-holds : tie.Need-loop-holds Inv-loop μ-loop
-loop-holds c =
-    let a = c .before .args in
-    (omega arith, omega arith, λ up. between-all (a .n) (now (a .work)) up (256 * a .left + a .right))
+loop-holds c = let a = c .before .args in bisecting-all (rowKey (now (a .work))) (a .n) (256 * a .left + a .right)
 
 sub-mid : tie.Need-sub-mid Inv-loop μ-loop
 sub-mid c = omega arith
@@ -48,12 +46,8 @@ loop-again c =
     let t = c .before .before in
     let l = t .before in
     let a = l .before .before .args in
-    let mid = l .loop .lo + (l .loop .hi - l .loop .lo) / 2 in (
-      omega arith,
-      l .loop .inv .1,
-      λ up. between-up (a .n) (now (a .work)) up (256 * a .left + a .right) (l .loop .lo) (l .loop .hi) mid (l .loop .inv .2 up) (omega arith)
-          (omega (arith, t .loop-test .taken)) (omega (arith, c .if1 .taken, c .before .key .ensures)),
-    )
+    bisecting-up (rowKey (now (a .work))) (a .n) (256 * a .left + a .right) (l .loop .lo) (l .loop .hi) (l .loop .inv) (t .loop-test .taken)
+    (omega (arith, c .if1 .taken, c .before .key .ensures))
 
 loop-less-2 : tie.Need-loop-less-2 Inv-loop μ-loop
 loop-less-2 c = omega arith
@@ -63,39 +57,37 @@ loop-again-2 c =
     let t = c .before .before in
     let l = t .before in
     let a = l .before .before .args in
-    let mid = l .loop .lo + (l .loop .hi - l .loop .lo) / 2 in (
-      omega arith,
-      omega arith,
-      λ up. between-down (a .n) (now (a .work)) up (256 * a .left + a .right) (l .loop .lo) (l .loop .hi) mid (l .loop .inv .2 up) (omega arith)
-          (omega (arith, t .loop-test .taken)) (omega (arith, c .if1 .left, c .before .key .ensures)),
-    )
+    bisecting-down (rowKey (now (a .work))) (a .n) (256 * a .left + a .right) (l .loop .lo) (l .loop .hi) (l .loop .inv) (t .loop-test .taken)
+    (omega (arith, c .if1 .left, c .before .key .ensures))
 
 key-requires-2 : tie.Need-key-requires-2 Inv-loop μ-loop
 key-requires-2 c κs = search needs
 
 returns : tie.Need-returns Inv-loop μ-loop
-returns c = λ up small.
+returns c =
     let t = c .before .before .before in
     let l = t .before in
     let a = l .before .before .args in
-    found (a .n) (now (a .work)) up (a .left) (a .right) (l .loop .lo) (l .loop .hi) small (l .loop .inv .2 up) (t .loop-test .left)
-    (c .before .before .if2 .taken) (sym (c .before .key2 .ensures) ∙ c .if3 .taken)
+    sym (ap foundRow
+    (bisect-found (rowKey (now (a .work))) (a .n) (256 * a .left + a .right) (l .loop .lo) (l .loop .hi) (l .loop .inv) (t .loop-test .left)
+    (c .before .before .if2 .taken) (sym (c .before .key2 .ensures) ∙ c .if3 .taken)))
 
 returns-2 : tie.Need-returns-2 Inv-loop μ-loop
-returns-2 c = λ up small.
+returns-2 c =
     let t = c .before .before .before in
     let l = t .before in
     let a = l .before .before .args in
-    missing (a .n) (now (a .work)) up (a .left) (a .right) (l .loop .lo) (l .loop .hi) small (l .loop .inv .2 up) (t .loop-test .left)
-    (λ _ e. c .if3 .left (c .before .key2 .ensures ∙ e))
+    sym (ap foundRow
+    (bisect-other (rowKey (now (a .work))) (a .n) (256 * a .left + a .right) (l .loop .lo) (l .loop .hi) (l .loop .inv) (t .loop-test .left)
+    (c .before .before .if2 .taken) (λ e. c .if3 .left (c .before .key2 .ensures ∙ e))))
 
 returns-3 : tie.Need-returns-3 Inv-loop μ-loop
-returns-3 c = λ up small.
+returns-3 c =
     let t = c .before in
     let l = t .before in
     let a = l .before .before .args in
-    missing (a .n) (now (a .work)) up (a .left) (a .right) (l .loop .lo) (l .loop .hi) small (l .loop .inv .2 up) (t .loop-test .left)
-    (λ h _. omega (arith, c .if2 .left))
+    sym (ap foundRow
+    (bisect-past (rowKey (now (a .work))) (a .n) (256 * a .left + a .right) (l .loop .lo) (l .loop .hi) (l .loop .inv) (t .loop-test .left) (c .if2 .left)))
 
 pub find-spec : {M : Type 1} → statement M
 find-spec =

@@ -1,12 +1,12 @@
 -- `compile_settle::last_of` meets its contract: a pair without a row has its right as its last; a row that has finished has its last stored.
 -- Assumes nothing.
-use mathlib.Core.Path.{_≡_, sym, _∙_}
+use mathlib.Core.Path.{_≡_, sym, ap, _∙_}
 use mathlib.Core.Option.{some}
 use Prim.Native.Nat.{_<_}
 use native.Mathlib.Omega.{arith}
 use denote.Ref.{now}
-use Rattle.compiling.specs.Rows.{rowOf}
-use Rattle.compiling.proofs.RowSearch.{found-is, missing-is}
+use Rattle.compiling.specs.Rows.{rowOf, foundRow}
+use Rattle.compiling.proofs.RowSearch.{search-row, found-is, missing-is}
 use Rattle.compiling.proofs.Known.{says-missing, says-done, says-open, found-less}
 use borrow.Author.Needs.{needs}
 use Rattle.compile_settle.proofs.last_of.Statement.{statement}
@@ -19,7 +19,7 @@ found-row c =
     let f = c .before .before .before in
     let a = f .before .before in
     found-is (rowOf (now (a .args .work)) (a .args .n) (a .args .left) (a .args .right)) (f .find .result) (c .before .j .given .0 .0)
-    (f .find .ensures (a .pre .0 .encoded .ascending) (a .pre .2)) (c .before .j .given .1)
+    (f .find .ensures ∙ ap foundRow (search-row (a .args .n) (now (a .args .work)) (a .pre .0 .encoded .ascending) (a .args .left) (a .args .right) (a .pre .2))) (c .before .j .given .1)
 
 row-few : (c : tie.After-known-told) → c .before .j .given .0 .0 < 65792
 row-few c =
@@ -46,7 +46,7 @@ returns c =
     let a = f .before .before in
     says-missing (a .args .n) (now (a .args .work)) (a .pre .0 .encoded .ascending) (a .args .left) (a .args .right) (a .pre .2)
     (missing-is (rowOf (now (a .args .work)) (a .args .n) (a .args .left) (a .args .right)) (f .find .result)
-    (f .find .ensures (a .pre .0 .encoded .ascending) (a .pre .2)) (c .enum-told .given .1))
+    (f .find .ensures ∙ ap foundRow (search-row (a .args .n) (now (a .args .work)) (a .pre .0 .encoded .ascending) (a .args .left) (a .args .right) (a .pre .2))) (c .enum-told .given .1))
 
 get-requires : tie.Need-get-requires
 get-requires c κs = search needs

@@ -4,20 +4,20 @@
 use Prim.Native.Nat.{_-_}
 use native.Mathlib.Omega.{arith}
 use denote.Ref.{now}
-use Rattle.captions.specs.Tables.{keyBy}
-use Rattle.table_find.proofs.Bisection.{Searching, searching-all}
+use Rattle.captions.specs.Tables.{keyBy, keyAt, pairCount}
+use Rattle.lang.proofs.Bisection.{Bisecting, bisecting-all}
 use Rattle.step_quick_find.proofs.Laws.{search-up, search-down, search-ends}
 use Rattle.step_quick_find.proofs.place_for.Statement.{statement}
 use Rattle.step_quick_find.proofs.place_for.Tie as tie
 
 abbrev Inv-loop : tie.InvT-loop
-Inv-loop pairs left right lo₀ hi₀ lo hi = Searching pairs (keyBy left right) lo hi
+Inv-loop pairs left right lo₀ hi₀ lo hi = Bisecting (keyAt pairs) (pairCount pairs) (keyBy left right) lo hi
 
 abbrev μ-loop : tie.MeasureT-loop
 μ-loop pairs left right lo₀ hi₀ lo hi = hi - lo
 
 loop-holds : tie.Need-loop-holds Inv-loop μ-loop
-loop-holds c = let a = c .args in searching-all (now (a .pairs)) (keyBy (a .left) (a .right))
+loop-holds c = let a = c .args in bisecting-all (keyAt (now (a .pairs))) (pairCount (now (a .pairs))) (keyBy (a .left) (a .right))
 
 add-mid : tie.Need-add-mid Inv-loop μ-loop
 add-mid c = omega arith

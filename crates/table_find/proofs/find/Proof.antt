@@ -5,14 +5,15 @@ use mathlib.Core.Path.{sym, _∙_}
 use Prim.Native.Nat.{_-_}
 use native.Mathlib.Omega.{arith}
 use denote.Ref.{now}
-use Rattle.captions.specs.Tables.{keyBy}
-use Rattle.table_find.proofs.Bisection.{Searching, searching-all, searching-up, searching-down, found, other, past}
+use Rattle.captions.specs.Tables.{keyBy, keyAt, pairCount}
+use Rattle.lang.proofs.Bisection.{Bisecting, bisecting-all, bisecting-up, bisecting-down}
+use Rattle.table_find.proofs.Bisection.{found, other, past}
 use borrow.Author.Needs.{needs}
 use Rattle.table_find.proofs.find.Statement.{statement}
 use Rattle.table_find.proofs.find.Tie as tie
 
 abbrev Inv-loop : tie.InvT-loop
-Inv-loop pairs left right wanted n lo₀ hi₀ lo hi = Searching pairs (keyBy left right) lo hi
+Inv-loop pairs left right wanted n lo₀ hi₀ lo hi = Bisecting (keyAt pairs) (pairCount pairs) (keyBy left right) lo hi
 
 abbrev μ-loop : tie.MeasureT-loop
 μ-loop pairs left right wanted n lo₀ hi₀ lo hi = hi - lo
@@ -24,7 +25,7 @@ add-wanted : tie.Need-add-wanted Inv-loop μ-loop
 add-wanted c = omega arith
 
 loop-holds : tie.Need-loop-holds Inv-loop μ-loop
-loop-holds c = let a = c .args in searching-all (now (a .pairs)) (keyBy (a .left) (a .right))
+loop-holds c = let a = c .args in bisecting-all (keyAt (now (a .pairs))) (pairCount (now (a .pairs))) (keyBy (a .left) (a .right))
 
 sub-mid : tie.Need-sub-mid Inv-loop μ-loop
 sub-mid c = omega arith
@@ -46,7 +47,7 @@ loop-again c =
     let t = c .before .before in
     let l = t .before in
     let a = l .before .args in
-    searching-up (now (a .pairs)) (keyBy (a .left) (a .right)) (l .loop .lo) (l .loop .hi) (l .loop .inv) (t .loop-test .taken)
+    bisecting-up (keyAt (now (a .pairs))) (pairCount (now (a .pairs))) (keyBy (a .left) (a .right)) (l .loop .lo) (l .loop .hi) (l .loop .inv) (t .loop-test .taken)
     (omega (arith, c .if1 .taken, c .before .key-at .ensures))
 
 loop-less-2 : tie.Need-loop-less-2 Inv-loop μ-loop
@@ -57,7 +58,7 @@ loop-again-2 c =
     let t = c .before .before in
     let l = t .before in
     let a = l .before .args in
-    searching-down (now (a .pairs)) (keyBy (a .left) (a .right)) (l .loop .lo) (l .loop .hi) (l .loop .inv) (t .loop-test .taken)
+    bisecting-down (keyAt (now (a .pairs))) (pairCount (now (a .pairs))) (keyBy (a .left) (a .right)) (l .loop .lo) (l .loop .hi) (l .loop .inv) (t .loop-test .taken)
     (omega (arith, c .if1 .left, c .before .key-at .ensures))
 
 key-at-requires-2 : tie.Need-key-at-requires-2 Inv-loop μ-loop

@@ -1,0 +1,2 @@
+-- What the functions of compile_op_parts answer, over any rows: FoundParts.
+pub mod FoundParts
