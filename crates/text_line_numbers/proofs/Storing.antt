@@ -23,7 +23,8 @@ use Rattle.columns.specs.Numbers.{unsigned, withSign, withoutSign, readField}
 use Rattle.columns.specs.Lines.{readFields}
 use Rattle.columns.specs.Scanned.{numberReply, fieldAt}
 use Rattle.columns.proofs.Options.{none-some, cond-some, and-some}
-use Rattle.text_line_numbers.specs.LineNumbers.{lineEnds, numbersOn, numbersIn, numbersAt, wordsOf, Stores}
+use Rattle.text_line_numbers.specs.LineNumbers.{lineEnds, numbersOn, numbersIn, numbersAt, wordsOf}
+use Rattle.text_line_numbers.specs.LineNumbers.{leadingFields, leadingOn, leadingIn, leadingAt, Stores}
 
 -- ---- as many numbers as fields
 
@@ -152,6 +153,72 @@ fields-stop (suc j) (suc n) bs zs e f h =
     let l : readField (take 12 (drop (12 * j) (drop 12 bs))) ≡ none = rw (drop-drop (12 * j) 12 bs, ← k) f in
     rw (g .is-first, fields-stop j n (drop 12 bs) (g .others) (g .are-others) l (omega arith))
 
+-- ---- the fields before one that is unreadable
+
+leading-stop : (j n : ℕ) (bs : List ℕ) (zs : List ℤ) → readFields j bs ≡ some zs → readField (take 12 (drop (12 * j) bs)) ≡ none → j < n →
+    leadingFields n bs ≡ zs
+unfolding readFields leadingFields
+leading-stop zero zero bs zs e f h = absurd (omega arith)
+leading-stop zero (suc n) bs zs e f h = let q : [] ≡ zs = Option·some-injective [] zs e in rw (f, ← q)
+leading-stop (suc j) zero bs zs e f h = absurd (omega arith)
+leading-stop (suc j) (suc n) bs zs e f h =
+    let g = and-some (readField (take 12 bs)) (readFields j (drop 12 bs)) zs e in
+    let k : 12 * suc j ≡ 12 + 12 * j = omega arith in
+    let l : readField (take 12 (drop (12 * j) (drop 12 bs))) ≡ none = rw (drop-drop (12 * j) 12 bs, ← k) f in
+    rw (g .is-first, leading-stop j n (drop 12 bs) (g .others) (g .are-others) l (omega arith)) (g .all)
+
+-- all of them, where every field is readable
+pub leading-all : (n : ℕ) (bs : List ℕ) (zs : List ℤ) → readFields n bs ≡ some zs → leadingFields n bs ≡ zs
+unfolding readFields leadingFields
+leading-all zero bs zs e = Option·some-injective [] zs e
+leading-all (suc n) bs zs e =
+    let g = and-some (readField (take 12 bs)) (readFields n (drop 12 bs)) zs e in
+    rw (g .is-first, leading-all n (drop 12 bs) (g .others) (g .are-others)) (g .all)
+
+-- what is stored of a line that is taken is what was read
+pub leading-at : (long place n : ℕ) (bs : List ℕ) (zs : List ℤ) → numbersAt long place n bs ≡ some zs → leadingAt long place n bs ≡ zs
+leading-at long place n bs zs e =
+    let c = cond-some (leb (place + n) long) (numbersOn n bs) zs e in
+    let d = cond-some (lineEnds n bs) (readFields n bs) zs (c .1) in
+    rw (c .0, d .0) (leading-all n bs zs (d .1))
+
+pub leading-in : (room n : ℕ) (bs : List ℕ) (zs : List ℤ) → numbersIn room n bs ≡ some zs → leadingIn room n bs ≡ zs
+leading-in room n bs zs e =
+    let c = cond-some (leb n room) (numbersOn n bs) zs e in
+    let d = cond-some (lineEnds n bs) (readFields n bs) zs (c .1) in
+    rw (c .0, d .0) (leading-all n bs zs (d .1))
+
+-- .. and so of its words
+pub leading-words : (room n : ℕ) (bs ws : List ℕ) → wordsOf (numbersIn room n bs) ≡ some ws → map wordOf (leadingIn room n bs) ≡ ws
+leading-words room n bs ws e = go (numbersIn room n bs) refl e
+  where
+    go : (o : Option (List ℤ)) → numbersIn room n bs ≡ o → wordsOf o ≡ some ws → map wordOf (leadingIn room n bs) ≡ ws
+    go none i j = absurd (none-some j)
+    go (some zs) i j = ap (map wordOf) (leading-in room n bs zs i) ∙ Option·some-injective (map wordOf zs) ws j
+
+-- nothing is stored of a line without room, or of one that does not end there
+pub leading-past : (long place n : ℕ) (bs : List ℕ) → long < place + n → leadingAt long place n bs ≡ []
+leading-past long place n bs h = rw (lt-leb (place + n) long h)
+
+pub leading-short : (room n : ℕ) (bs : List ℕ) → room < n → leadingIn room n bs ≡ []
+leading-short room n bs h = rw (lt-leb n room h)
+
+unended-by : (t : Bool) → cond {A = List ℤ} t [] [] ≡ []
+unended-by true = refl
+unended-by false = refl
+
+pub leading-unended : (room n : ℕ) (bs : List ℕ) → lineEnds n bs ≡ false → leadingIn room n bs ≡ []
+leading-unended room n bs e = rw e (unended-by (leb n room))
+
+pub leading-unended-at : (long place n : ℕ) (bs : List ℕ) → lineEnds n bs ≡ false → leadingAt long place n bs ≡ []
+leading-unended-at long place n bs e = rw e (unended-by (leb (place + n) long))
+
+pub leading-is : (room n : ℕ) (bs : List ℕ) → n ≤ room → lineEnds n bs ≡ true → leadingIn room n bs ≡ leadingFields n bs
+leading-is room n bs h e = rw (le-leb n room h, e)
+
+pub leading-is-at : (long place n : ℕ) (bs : List ℕ) → place + n ≤ long → lineEnds n bs ≡ true → leadingAt long place n bs ≡ leadingFields n bs
+leading-is-at long place n bs h e = rw (le-leb (place + n) long h, e)
+
 -- ---- stored
 
 -- the first j fields are read, and what f makes of their numbers is stored from a place on
@@ -160,13 +227,9 @@ pub record Storing {A : Type 0} (f : List ℤ → List A) (bs : List ℕ) (list�
   pub reads : readFields j bs ≡ some numbers
   pub stored : list ≡ sets list₀ place (f numbers)
 
-pub stores-none : {A : Type 0} (o : Option (List A)) (list list′ : List A) (place : ℕ) → o ≡ none → Stores o list place false list′
-stores-none o list list′ place e = record { answer = rw e; stored = λ vs s. absurd (none-some (sym e ∙ s)) }
-
-pub stores-some : {A : Type 0} (o : Option (List A)) (vs list list′ : List A) (place : ℕ) → o ≡ some vs → list′ ≡ sets list place vs →
-    Stores o list place true list′
-stores-some o vs list list′ place e h =
-    record { answer = rw e; stored = λ ws s. h ∙ ap (sets list place) (Option·some-injective vs ws (sym e ∙ s)) }
+-- nothing was read, and nothing stored
+pub stores-nothing : {A : Type 0} (o : Option (List A)) (vs list : List A) (place : ℕ) → o ≡ none → vs ≡ [] → Stores o vs list place false list
+stores-nothing o vs list place e i = record { answer = rw e; stored = rw i }
 
 module _ {A : Type 0} (f : List ℤ → List A) (g : ℤ → A) (one : (zs : List ℤ) (z : ℤ) → f (zs ++ (z ∷ [])) ≡ f zs ++ (g z ∷ []))
     (same : (zs : List ℤ) → length (f zs) ≡ length zs) (bs : List ℕ) (list₀ : List A) (place : ℕ) where
@@ -209,11 +272,15 @@ module _ (bs : List ℕ) (list₀ : List ℤ) (place : ℕ) where
       (storing-more plain (λ z. z) (λ zs z. refl) (λ zs. refl) bs list₀ place z s e)
 
   pub numbers-stop : {list : List ℤ} {j : ℕ} (n : ℕ) → Storing plain bs list₀ list place j → readField (take 12 (drop (12 * j) bs)) ≡ none → j < n →
-      Stores (readFields n bs) list₀ place false list
-  numbers-stop {list} {j} n s e h = stores-none (readFields n bs) list₀ list place (fields-stop j n bs (s .numbers) (s .reads) e h)
+      Stores (readFields n bs) (leadingFields n bs) list₀ place false list
+  numbers-stop {list} {j} n s e h =
+      record { answer = rw (fields-stop j n bs (s .numbers) (s .reads) e h); stored = rw (leading-stop j n bs (s .numbers) (s .reads) e h) (s .stored) }
 
-  pub numbers-all : {list : List ℤ} {j : ℕ} (n : ℕ) → Storing plain bs list₀ list place j → j ≡ n → Stores (readFields n bs) list₀ place true list
-  numbers-all {list} {j} n s e = stores-some (readFields n bs) (s .numbers) list₀ list place (rw (← e) (s .reads)) (s .stored)
+  pub numbers-all : {list : List ℤ} {j : ℕ} (n : ℕ) → Storing plain bs list₀ list place j → j ≡ n →
+      Stores (readFields n bs) (leadingFields n bs) list₀ place true list
+  numbers-all {list} {j} n s e =
+      let r : readFields n bs ≡ some (s .numbers) = rw (← e) (s .reads) in
+      record { answer = rw r; stored = rw (leading-all n bs (s .numbers) r) (s .stored) }
 
 module _ (bs : List ℕ) (word₀ : List ℕ) where
   abbrev last : (zs : List ℤ) (z : ℤ) → worded (zs ++ (z ∷ [])) ≡ worded zs ++ (wordOf z ∷ [])
@@ -235,8 +302,12 @@ module _ (bs : List ℕ) (word₀ : List ℕ) where
       rw (i, number-word z (field-fits (take 12 (drop (12 * j) bs)) z e)) (rw k at (storing-more worded wordOf last same bs word₀ 0 z s e))
 
   pub letters-stop : {word : List ℕ} {j : ℕ} (n : ℕ) → Storing worded bs word₀ word 0 j → readField (take 12 (drop (12 * j) bs)) ≡ none → j < n →
-      Stores (wordsOf (readFields n bs)) word₀ 0 false word
-  letters-stop {word} {j} n s e h = stores-none (wordsOf (readFields n bs)) word₀ word 0 (ap wordsOf (fields-stop j n bs (s .numbers) (s .reads) e h))
+      Stores (wordsOf (readFields n bs)) (worded (leadingFields n bs)) word₀ 0 false word
+  letters-stop {word} {j} n s e h =
+      record { answer = rw (fields-stop j n bs (s .numbers) (s .reads) e h); stored = rw (leading-stop j n bs (s .numbers) (s .reads) e h) (s .stored) }
 
-  pub letters-all : {word : List ℕ} {j : ℕ} (n : ℕ) → Storing worded bs word₀ word 0 j → j ≡ n → Stores (wordsOf (readFields n bs)) word₀ 0 true word
-  letters-all {word} {j} n s e = stores-some (wordsOf (readFields n bs)) (worded (s .numbers)) word₀ word 0 (rw (← e, s .reads)) (s .stored)
+  pub letters-all : {word : List ℕ} {j : ℕ} (n : ℕ) → Storing worded bs word₀ word 0 j → j ≡ n →
+      Stores (wordsOf (readFields n bs)) (worded (leadingFields n bs)) word₀ 0 true word
+  letters-all {word} {j} n s e =
+      let r : readFields n bs ≡ some (s .numbers) = rw (← e) (s .reads) in
+      record { answer = rw r; stored = rw (leading-all n bs (s .numbers) r) (s .stored) }

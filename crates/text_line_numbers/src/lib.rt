@@ -2,11 +2,13 @@
 // Each public function is total, and takes a line only where all of its numbers have a place.
 ghost use mathlib.Core.Path.{_≡_};
 ghost use Prim.Native.Nat.{_+_, _*_, _≤_};
+ghost use mathlib.Core.List.{map};
 ghost use lib.ListN.{length, drop};
+ghost use Rattle.words.specs.Words.{wordOf};
 ghost use Rattle.columns.specs.Lines.{readFields};
 ghost use Rattle.columns.specs.Scanned.{fieldReply, numberReply};
 ghost use Rattle.text_line_numbers.specs.LineNumbers.{lineEnds, numberOn, numbersIn, numbersAt, wordsOf};
-ghost use Rattle.text_line_numbers.specs.LineNumbers.{Stores};
+ghost use Rattle.text_line_numbers.specs.LineNumbers.{leadingFields, leadingIn, leadingAt, Stores};
 use columns::FieldRead;
 use text_fields::read_field;
 use words::word_of;
@@ -24,11 +26,11 @@ fn line_ends(text: &[u8], at: usize, n: usize) -> bool
     text[at + 12 * n] == 10
 }
 
-// n numbers, stored one after the other; only the first of them where a field is unreadable.
+// n numbers, stored one after the other; those before the first field that is unreadable, where one is.
 fn read_fields(text: &[u8], at: usize, n: usize, list: &mut [i32], place: usize) -> bool
     requires { ⌜ (at + 12 * n ≤ length (now text)) × (place + n ≤ length (now list)) ⌝ }
-    ensures { λ r. ⌜ Stores (readFields n (drop at (now (text .entry)))) (now (list .entry)) place r
-        (now (list .exit)) ⌝ }
+    ensures { λ r. ⌜ Stores (readFields n (drop at (now (text .entry))))
+        (leadingFields n (drop at (now (text .entry)))) (now (list .entry)) place r (now (list .exit)) ⌝ }
 {
     let mut j = 0;
     while j < n {
@@ -44,8 +46,8 @@ fn read_fields(text: &[u8], at: usize, n: usize, list: &mut [i32], place: usize)
 // The same, as the words of a word's letters.
 fn read_words(text: &[u8], at: usize, n: usize, word: &mut [u32]) -> bool
     requires { ⌜ (at + 12 * n ≤ length (now text)) × (n ≤ length (now word)) ⌝ }
-    ensures { λ r. ⌜ Stores (wordsOf (readFields n (drop at (now (text .entry))))) (now (word .entry)) 0 r
-        (now (word .exit)) ⌝ }
+    ensures { λ r. ⌜ Stores (wordsOf (readFields n (drop at (now (text .entry)))))
+        (map wordOf (leadingFields n (drop at (now (text .entry))))) (now (word .entry)) 0 r (now (word .exit)) ⌝ }
 {
     let mut j = 0;
     while j < n {
@@ -61,7 +63,8 @@ fn read_words(text: &[u8], at: usize, n: usize, word: &mut [u32]) -> bool
 // The n numbers of a line, stored from a place on, where the list has room for them.
 pub fn read_numbers(text: &[u8], at: usize, n: usize, list: &mut [i32], place: usize) -> bool
     ensures { λ r. ⌜ Stores (numbersAt (length (now (list .entry))) place n (drop at (now (text .entry))))
-        (now (list .entry)) place r (now (list .exit)) ⌝ }
+        (leadingAt (length (now (list .entry))) place n (drop at (now (text .entry)))) (now (list .entry)) place r
+        (now (list .exit)) ⌝ }
 {
     if list.len() < place {
         return false;
@@ -78,7 +81,8 @@ pub fn read_numbers(text: &[u8], at: usize, n: usize, list: &mut [i32], place: u
 // The n numbers of a line as the letters of a word, where it has room for them.
 pub fn read_letters(text: &[u8], at: usize, n: usize, word: &mut [u32]) -> bool
     ensures { λ r. ⌜ Stores (wordsOf (numbersIn (length (now (word .entry))) n (drop at (now (text .entry)))))
-        (now (word .entry)) 0 r (now (word .exit)) ⌝ }
+        (map wordOf (leadingIn (length (now (word .entry))) n (drop at (now (text .entry))))) (now (word .entry)) 0
+        r (now (word .exit)) ⌝ }
 {
     if word.len() < n {
         return false;

@@ -17,9 +17,9 @@ use Rattle.columns.specs.Scanned.{numberReply}
 use Rattle.columns.proofs.Options.{none-some, cond-some}
 use Rattle.text_scan.specs.declared.progress.TextProgress.{TextProgress}
 use Rattle.text_scan.specs.declared.progress.NextLine.the-variants as next
-use Rattle.text_line_numbers.specs.LineNumbers.{lineEnds, numberOn, numbersIn, numbersAt, isSome, Stores}
+use Rattle.text_line_numbers.specs.LineNumbers.{lineEnds, numberOn, numbersIn, numbersAt, leadingAt, isSome, Stores}
 use Rattle.text_scan.specs.Standing.{TakesLine, headLine}
-use Rattle.text_line_numbers.proofs.Storing.{number-some, number-none, field-fits, at-room}
+use Rattle.text_line_numbers.proofs.Storing.{number-some, number-none, field-fits, at-room, leading-at}
 
 -- ---- what is answered for a line
 
@@ -37,13 +37,14 @@ module _ (bs : List ℕ) (n limit place : ℕ) (q : TextProgress) (list list′ 
     placed-as : numbersAt (length list) place n bs ≡ numbersIn (limit - place) n bs
     placed-as = ap (λ (k : ℕ). numbersAt k place n bs) long ∙ at-room limit place n bs few
 
-    pub takes-none : (r : Bool) → Stores (numbersAt (length list) place n bs) list place r list′ → r ≡ false →
+    pub takes-none : (r : Bool) → Stores (numbersAt (length list) place n bs) (leadingAt (length list) place n bs) list place r list′ → r ≡ false →
         TakesLine (numbersIn (limit - place) n bs) q list place next.Unreadable list′
     takes-none r s e = rw (← placed-as) (by-none (numbersAt (length list) place n bs) (sym e ∙ s .answer))
 
-    pub takes-some : (r : Bool) → Stores (numbersAt (length list) place n bs) list place r list′ → r ≡ true →
+    pub takes-some : (r : Bool) → Stores (numbersAt (length list) place n bs) (leadingAt (length list) place n bs) list place r list′ → r ≡ true →
         TakesLine (numbersIn (limit - place) n bs) q list place (next.At q) list′
-    takes-some r s e = rw (← placed-as) (by-some (numbersAt (length list) place n bs) (sym e ∙ s .answer) (s .stored))
+    takes-some r s e = rw (← placed-as) (by-some (numbersAt (length list) place n bs) (sym e ∙ s .answer)
+        (λ vs i. s .stored ∙ ap (sets list place) (leading-at (length list) place n bs vs i)))
 
 -- ---- what is answered for a line that comes once
 

@@ -18,10 +18,10 @@ use Rattle.columns.specs.declared.TextRead.the-variants as whole
 use Rattle.columns.specs.Scanned.{headNumbers}
 use Rattle.columns.proofs.Options.{none-some}
 use Rattle.text_scan.specs.declared.progress.TextProgress.{TextProgress}
-use Rattle.text_line_numbers.specs.LineNumbers.{numbersIn, wordsOf, isSome, Stores}
+use Rattle.text_line_numbers.specs.LineNumbers.{numbersIn, leadingIn, wordsOf, isSome, Stores}
 use Rattle.text_scan.specs.Following.{wordOn}
 use Rattle.text_scan.specs.Standing.{headsOf, EndsWord}
-use Rattle.text_line_numbers.proofs.Storing.{fields-count, in-some}
+use Rattle.text_line_numbers.proofs.Storing.{fields-count, in-some, leading-words}
 
 module _ (text : List ℕ) (p : TextProgress) (word word′ : List ℕ) where
   abbrev bs : List ℕ
@@ -52,7 +52,7 @@ module _ (text : List ℕ) (p : TextProgress) (word word′ : List ℕ) where
     none-read (some zs) e = absurd (let z : _≡_ {A = ℕ} 0 1 = cc in omega arith)
 
     -- too many letters, no line feed, or a field that is unreadable
-    pub word-unread : (r : Bool) → Stores (wordsOf (numbersIn (length word) (rest / 12) bs)) word 0 r word′ → r ≡ false →
+    pub word-unread : (r : Bool) → Stores (wordsOf (numbersIn (length word) (rest / 12) bs)) (map wordOf (leadingIn (length word) (rest / 12) bs)) word 0 r word′ → r ≡ false →
         EndsWord (wordOn bs) p word whole.Unreadable word′
     word-unread r s i = none-ends (fields ∙ none-read (numbersIn (length word) (rest / 12) bs) (sym i ∙ s .answer))
 
@@ -66,6 +66,7 @@ module _ (text : List ℕ) (p : TextProgress) (word word′ : List ℕ) where
         let n : numberOf (rest / 12) ≡ pos (length zs) = number-pos (rest / 12) (omega (arith, c .0, long)) ∙ ap pos (sym m) in
         record { answer = ap (replyOf 0) (y ∙ ap (headsOf p) n); stored = λ ys j. k (map wordOf ys) (ap wordsOf j) }
 
-    pub word-all : (r : Bool) → Stores (wordsOf (numbersIn (length word) (rest / 12) bs)) word 0 r word′ → r ≡ true → (x : TextHeads) →
+    pub word-all : (r : Bool) → Stores (wordsOf (numbersIn (length word) (rest / 12) bs)) (map wordOf (leadingIn (length word) (rest / 12) bs)) word 0 r word′ → r ≡ true → (x : TextHeads) →
         headNumbers x ≡ headsOf p (numberOf (rest / 12)) → EndsWord (wordOn bs) p word (whole.Text x) word′
-    word-all r s i x y = rw fields (by-fields (numbersIn (length word) (rest / 12) bs) refl (sym i ∙ s .answer) (s .stored) x y)
+    word-all r s i x y = rw fields (by-fields (numbersIn (length word) (rest / 12) bs) refl (sym i ∙ s .answer)
+        (λ ws e. s .stored ∙ ap (sets word 0) (leading-words (length word) (rest / 12) bs ws e)) x y)

@@ -3,8 +3,9 @@ use mathlib.Core.Path.{sym, ap, _∙_}
 use native.Mathlib.Omega.{arith}
 use lib.ListN.{length, drop}
 use borrow.Author.Tests.{not-true, not-false}
-use Rattle.text_line_numbers.specs.LineNumbers.{numbersIn, wordsOf}
-use Rattle.text_line_numbers.proofs.Storing.{ends-inside, in-short, in-unended, in-is, stores-none}
+use Rattle.text_line_numbers.specs.LineNumbers.{numbersIn, leadingIn, wordsOf}
+use Rattle.text_line_numbers.proofs.Storing.{ends-inside, in-short, in-unended, in-is, leading-short, leading-unended, leading-is}
+use Rattle.text_line_numbers.proofs.Storing.{worded, stores-nothing}
 use borrow.Author.Needs.{needs}
 use Rattle.text_line_numbers.proofs.read_letters.Statement.{statement}
 use Rattle.text_line_numbers.proofs.read_letters.Tie as tie
@@ -14,7 +15,8 @@ returns c =
     let a = c .before .before .before .args in
     let bs = drop (a .at) (a .text .now) in
     let room = length (a .word .now) in
-    stores-none (wordsOf (numbersIn room (a .n) bs)) (a .word .now) (a .word .now) 0 (ap wordsOf (in-short room (a .n) bs (c .if1 .taken)))
+    stores-nothing (wordsOf (numbersIn room (a .n) bs)) (worded (leadingIn room (a .n) bs)) (a .word .now) 0
+    (ap wordsOf (in-short room (a .n) bs (c .if1 .taken))) (ap worded (leading-short room (a .n) bs (c .if1 .taken)))
 
 line-ends-requires : tie.Need-line-ends-requires
 line-ends-requires c κs = search needs
@@ -25,8 +27,9 @@ returns-2 c =
     let a = e .before .before .before .before .args in
     let bs = drop (a .at) (a .text .now) in
     let room = length (a .word .now) in
-    stores-none (wordsOf (numbersIn room (a .n) bs)) (a .word .now) (a .word .now) 0
-    (ap wordsOf (in-unended room (a .n) bs (sym (e .line-ends .ensures) ∙ not-true _ (c .if2 .taken))))
+    let u = sym (e .line-ends .ensures) ∙ not-true _ (c .if2 .taken) in
+    stores-nothing (wordsOf (numbersIn room (a .n) bs)) (worded (leadingIn room (a .n) bs)) (a .word .now) 0
+    (ap wordsOf (in-unended room (a .n) bs u)) (ap worded (leading-unended room (a .n) bs u))
 
 read-words-requires : tie.Need-read-words-requires
 read-words-requires c κs =
@@ -45,7 +48,9 @@ returns-3 c =
     let f = c .before .before .before .before in
     let e = f .before in
     let a = e .before .before .before .before .args in
-    rw (in-is (length (a .word .now)) (a .n) (drop (a .at) (a .text .now)) (e .before .if1 .left) (sym (e .line-ends .ensures) ∙ not-false _ (f .if2 .left)))
+    let bs = drop (a .at) (a .text .now) in
+    let u = sym (e .line-ends .ensures) ∙ not-false _ (f .if2 .left) in
+    rw (in-is (length (a .word .now)) (a .n) bs (e .before .if1 .left) u, leading-is (length (a .word .now)) (a .n) bs (e .before .if1 .left) u)
     (c .before .before .read-words .ensures)
 
 pub read-letters-spec : {M : Type 1} → statement M

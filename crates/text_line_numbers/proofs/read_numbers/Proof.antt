@@ -4,8 +4,9 @@ use Prim.Native.Nat.{_-_}
 use native.Mathlib.Omega.{arith}
 use lib.ListN.{length, drop}
 use borrow.Author.Tests.{not-true, not-false}
-use Rattle.text_line_numbers.specs.LineNumbers.{numbersAt}
-use Rattle.text_line_numbers.proofs.Storing.{ends-inside, at-past, at-room, in-unended, in-is, stores-none}
+use Rattle.text_line_numbers.specs.LineNumbers.{numbersAt, leadingAt}
+use Rattle.text_line_numbers.proofs.Storing.{ends-inside, at-past, at-room, in-unended, in-is, leading-past, leading-unended-at}
+use Rattle.text_line_numbers.proofs.Storing.{leading-is-at, stores-nothing}
 use borrow.Author.Needs.{needs}
 use Rattle.text_line_numbers.proofs.read_numbers.Statement.{statement}
 use Rattle.text_line_numbers.proofs.read_numbers.Tie as tie
@@ -15,8 +16,8 @@ returns c =
     let a = c .before .before .args in
     let bs = drop (a .at) (a .text .now) in
     let long = length (a .list .now) in
-    stores-none (numbersAt long (a .place) (a .n) bs) (a .list .now) (a .list .now) (a .place)
-    (at-past long (a .place) (a .n) bs (omega (arith, c .if1 .taken)))
+    stores-nothing (numbersAt long (a .place) (a .n) bs) (leadingAt long (a .place) (a .n) bs) (a .list .now) (a .place)
+    (at-past long (a .place) (a .n) bs (omega (arith, c .if1 .taken))) (leading-past long (a .place) (a .n) bs (omega (arith, c .if1 .taken)))
 
 sub-if2 : tie.Need-sub-if2
 sub-if2 c = search needs
@@ -27,8 +28,9 @@ returns-2 c =
     let a = i .before .before .args in
     let bs = drop (a .at) (a .text .now) in
     let long = length (a .list .now) in
-    stores-none (numbersAt long (a .place) (a .n) bs) (a .list .now) (a .list .now) (a .place)
+    stores-nothing (numbersAt long (a .place) (a .n) bs) (leadingAt long (a .place) (a .n) bs) (a .list .now) (a .place)
     (at-past long (a .place) (a .n) bs (omega (arith, i .if1 .left, c .if2 .taken)))
+    (leading-past long (a .place) (a .n) bs (omega (arith, i .if1 .left, c .if2 .taken)))
 
 line-ends-requires : tie.Need-line-ends-requires
 line-ends-requires c κs = search needs
@@ -40,8 +42,9 @@ returns-3 c =
     let a = i .before .before .args in
     let bs = drop (a .at) (a .text .now) in
     let long = length (a .list .now) in
-    stores-none (numbersAt long (a .place) (a .n) bs) (a .list .now) (a .list .now) (a .place)
-    (at-room long (a .place) (a .n) bs (i .if1 .left) ∙ in-unended (long - a .place) (a .n) bs (sym (e .line-ends .ensures) ∙ not-true _ (c .if3 .taken)))
+    let u = sym (e .line-ends .ensures) ∙ not-true _ (c .if3 .taken) in
+    stores-nothing (numbersAt long (a .place) (a .n) bs) (leadingAt long (a .place) (a .n) bs) (a .list .now) (a .place)
+    (at-room long (a .place) (a .n) bs (i .if1 .left) ∙ in-unended (long - a .place) (a .n) bs u) (leading-unended-at long (a .place) (a .n) bs u)
 
 read-fields-requires : tie.Need-read-fields-requires
 read-fields-requires c κs =
@@ -64,9 +67,11 @@ returns-4 c =
     let a = i .before .before .args in
     let bs = drop (a .at) (a .text .now) in
     let long = length (a .list .now) in
+    let u = sym (e .line-ends .ensures) ∙ not-false _ (f .if3 .left) in
     rw (
       at-room long (a .place) (a .n) bs (i .if1 .left),
-      in-is (long - a .place) (a .n) bs (e .before .if2 .left) (sym (e .line-ends .ensures) ∙ not-false _ (f .if3 .left)),
+      in-is (long - a .place) (a .n) bs (e .before .if2 .left) u,
+      leading-is-at long (a .place) (a .n) bs (omega (arith, i .if1 .left, e .before .if2 .left)) u,
     )
     (c .before .read-fields .ensures)
 
