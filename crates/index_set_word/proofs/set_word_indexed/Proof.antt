@@ -1,4 +1,4 @@
--- `indexed_setting::set_word_indexed` meets its contract: the number of begin, or the items of the run.
+-- `index_set_word::set_word_indexed` meets its contract: the number of begin, or the items of the run.
 -- Assumes nothing.
 use mathlib.Core.Path.{sym, subst, _∙_}
 use lib.IntN.{ℤ}

@@ -1,4 +1,4 @@
--- `stretch::put_in` meets its contract.
+-- `word_plain_letters::put_in` meets its contract.
 -- Assumes nothing.
 use mathlib.Core.Path.{ap}
 use lib.IntN.{ℤ}

@@ -1,4 +1,4 @@
--- `stretch::put_six` meets its contract, by whether there is room.
+-- `word_plain_letters::put_six` meets its contract, by whether there is room.
 -- Assumes nothing.
 use Prim.Native.Nat.{_+_}
 use native.Mathlib.Omega.{arith}

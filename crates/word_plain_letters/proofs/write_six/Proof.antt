@@ -1,4 +1,4 @@
--- `stretch::write_six` meets its contract: six stores in a row.
+-- `word_plain_letters::write_six` meets its contract: six stores in a row.
 -- Assumes nothing.
 use Rattle.words.specs.Words.{numberOf}
 use Rattle.compiling.proofs.OpTables as tables

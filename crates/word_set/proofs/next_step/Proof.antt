@@ -1,4 +1,4 @@
--- `setting::next_step` meets its contract: a quick step is the step, and else it is the step past the look-up.
+-- `word_set::next_step` meets its contract: a quick step is the step, and else it is the step past the look-up.
 -- Assumes nothing.
 use mathlib.Core.Path.{_≡_, sym, ap, _∙_}
 use lib.IntN.{ℤ}

@@ -1,4 +1,4 @@
--- `setting::set_fresh` meets its contract: the items from a fresh state on.
+-- `word_set::set_fresh` meets its contract: the items from a fresh state on.
 -- Assumes nothing.
 use mathlib.Core.Path.{subst}
 use Prim.Native.Nat.{_/_}

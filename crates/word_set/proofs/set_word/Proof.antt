@@ -1,4 +1,4 @@
--- `setting::set_word` meets its contract: the number of begin, or the items of the run.
+-- `word_set::set_word` meets its contract: the number of begin, or the items of the run.
 -- Assumes nothing.
 use mathlib.Core.Path.{sym, subst, _∙_}
 use lib.IntN.{ℤ}
