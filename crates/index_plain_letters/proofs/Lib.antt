@@ -1,2 +1,2 @@
--- Running: letters that are set as they stand are steps.
-pub mod Running
+-- Theorems: letters that have no bit are steps, as specs/NoBit states.
+pub mod Theorems

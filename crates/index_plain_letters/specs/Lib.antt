@@ -1,2 +1,2 @@
--- Some steps of a run, and letters that are set as they stand: Running.
-pub mod Running
+-- Letters given as they stand, by an index: NoBit.
+pub mod NoBit

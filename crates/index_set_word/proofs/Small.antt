@@ -6,23 +6,20 @@ use mathlib.Core.List.{List}
 use Prim.Native.Nat.{ℕ, suc, _≤_}
 use native.Mathlib.Omega.{arith}
 use lib.IntN.{ℤ}
-use lib.Dec.{leb, ltb, eqb}
-use lib.ListN.{length}
-use borrow.Author.Tests.{leb-true, eqb-true}
+use lib.Dec.{ltb, eqb}
+use borrow.Author.Tests.{eqb-true}
 use Rattle.words.specs.Words.{wordOf}
 use Rattle.lang.specs.Records.{within}
 use Rattle.lang.proofs.Every.{both-left, both-right}
 use Rattle.lang.proofs.Records.{within-bound}
-use Rattle.lang.proofs.Refusals.{orElse-none, unless-none}
 use Rattle.captions.specs.declared.RunOptions.{RunOptions}
 use Rattle.captions.specs.declared.State.{State}
 use Rattle.captions.specs.Tables.{opKind, opValue, firstOp, countOf, opHolds, recordFits}
-use Rattle.captions.specs.Begin.{edgesRefusal, wordRefusal}
 use Rattle.captions.specs.Steps.{stepOf}
 use Rattle.word_items.specs.ItemLists.{Small}
 use Rattle.word_set.proofs.Bounds.{step-small}
 use Rattle.step_quick.specs.Quick.{plainCode, nextLetter, isQuick, firstPlain, isEntered, givenFirst}
-use Rattle.step_quick.proofs.Theorems.{quick-is}
+use Rattle.word_plain_letters.proofs.Laws.{quick-short}
 use Rattle.index.specs.declared.Looked.{Looked}
 use Rattle.index.specs.declared.Looked.the-variants.{Missing, At, Wrong}
 use Rattle.index.specs.Index.{lookedUp}
@@ -35,24 +32,17 @@ holds-code z v false e k h = absurd (omega (arith, eqb-true (wordOf z) 2 h, k))
 
 module _ (pairs ops : List ℤ) (boundary : ℤ) (word : List ℕ) (options : RunOptions) (s : State) where
   module _ (q : isQuick ops boundary word options s ≡ true) where
-    within-word : s .given ≤ 65535
-    within-word =
-        let f = quick-is ops boundary word options s q in
-        let l = leb-true (length word) 65535
-        (unless-none 5 (leb (length word) 65535) (orElse-none (edgesRefusal boundary options) (wordRefusal word) (f .calm .taken) .1)) in
-        omega (arith, f .there, f .waits)
-
     entered-by : (k : ℕ) (t : Bool) → isEntered pairs ops k ≡ t → Small (cond t (givenFirst pairs ops k s) (stepOf pairs ops boundary word options s) .answer)
     entered-by k true e =
         let i = firstOp pairs k in
         let r = both-right (ltb 0 (countOf pairs k)) _ (both-right (recordFits pairs ops k) (firstPlain ops i (countOf pairs k)) e) in
         let z = eqb-true (wordOf (opKind ops i)) 0 (both-left (eqb (wordOf (opKind ops i)) 0) _ r) in
         let h = both-left (opHolds ops i) _ (both-right (eqb (wordOf (opKind ops i)) 0) _ r) in
-        (holds-code (opKind ops i) (opValue ops i) (within 1 (opKind ops i)) refl z h, within-word)
+        (holds-code (opKind ops i) (opValue ops i) (within 1 (opKind ops i)) refl z h, quick-short ops boundary word options s q .2)
     entered-by k false e = step-small pairs ops boundary word options s
 
     looked-small : (o : Looked) → Small (lookedStep pairs ops boundary word options s o .answer)
-    looked-small Missing = (quick-is ops boundary word options s q .calm .code, within-word)
+    looked-small Missing = let f = quick-short ops boundary word options s q in (f .1, f .2)
     looked-small (At k) = entered-by k (isEntered pairs ops k) refl
     looked-small Wrong = (omega arith, omega arith)
 

@@ -44,7 +44,7 @@ fn set_from(
     loop {
         let letters = set_letters(index, ops, boundary, word, options, s, items, k);
         let at = letters.state;
-        let count = letters.count;
+        let count = k + letters.count;
         let stepped = step_indexed(index, pairs, ops, boundary, word, options, at);
         let answer = stepped.answer;
         if !is_item(answer) {

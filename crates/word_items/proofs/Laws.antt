@@ -17,7 +17,7 @@ use Rattle.lang.proofs.Every.{both-left, both-right}
 use Rattle.captions.specs.declared.Answer.{Answer}
 use Rattle.captions.specs.declared.Answer.the-variants.{Char, Ligature, Kern, End, Refused}
 use Rattle.captions.specs.Replies.{bitNumber, answerReply}
-use Rattle.word_plain_letters.specs.Stretch.{sixAt}
+use Rattle.word_plain_letters.specs.PlainLetters.{sixAt}
 use Rattle.word_items.specs.ItemLists.{isItem, Small, isSmall, itemAt}
 
 pub no : {A : Type 0} → _≡_ {A = Bool} false true → A

@@ -13,7 +13,7 @@ use Rattle.lang.specs.Every.{both}
 use Rattle.captions.specs.declared.Answer.{Answer}
 use Rattle.captions.specs.declared.Answer.the-variants.{Char, Ligature, Kern, End, Refused}
 use Rattle.captions.specs.Replies.{answerReply}
-use Rattle.word_plain_letters.specs.Stretch.{sixAt}
+use Rattle.word_plain_letters.specs.PlainLetters.{sixAt}
 
 -- an item, and neither the end nor a refusal
 abbrev pub isItem : Answer → Bool

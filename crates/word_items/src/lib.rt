@@ -3,7 +3,7 @@
 ghost use mathlib.Core.Path.{_≡_};
 ghost use Rattle.words.specs.Words.{numberOf};
 ghost use Rattle.captions.specs.Replies.{bitNumber, answerReply};
-ghost use Rattle.word_plain_letters.specs.Stretch.{sixAt};
+ghost use Rattle.word_plain_letters.specs.PlainLetters.{sixAt};
 ghost use Rattle.word_items.specs.ItemLists.{isItem, Small, isSmall, itemAt, Stops};
 use captions::Answer;
 use lang::Written;

@@ -1,5 +1,5 @@
--- The laws of a stretch.
---   Theorems   its letters are steps, as specs/Purpose states
---   Laws       the loop, letter by letter
+-- The laws of letters given as they stand.
+--   Theorems   they are steps, as specs/Purpose states
+--   Laws       a loop over them, letter by letter, and where a pair stops it
 pub mod Theorems
 pub mod Laws

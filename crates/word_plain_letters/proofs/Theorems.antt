@@ -1,4 +1,4 @@
--- The letters of a stretch are steps: specs/Purpose. And the laws of `leading` and `plainState` that it rests on.
+-- Letters given as they stand are steps: specs/Purpose. And the laws of `leading` and `plainState` that it rests on.
 -- Assumes nothing.
 use mathlib.Core.Path.{_≡_, refl, sym, subst}
 use mathlib.Core.Bool.{Bool, true, false, cond}
@@ -16,13 +16,13 @@ use Rattle.lang.specs.Every.{every}
 use Rattle.lang.proofs.Every.{both-left, both-right, every-at}
 use Rattle.captions.specs.declared.RunOptions.{RunOptions}
 use Rattle.captions.specs.declared.State.{State}
+use Rattle.captions.specs.declared.Step.{Step}
 use Rattle.captions.specs.Tables.{pairCount, keyBy, find}
-use Rattle.captions.specs.Steps.{stepOf}
 use Rattle.captions.proofs.Finding.{find-inside}
 use Rattle.step_quick.specs.Quick.{nextLetter, isQuick, placeOr, foundPlace, givenPlain}
 use Rattle.step_quick.proofs.Theorems.{quick-passes, quick-moves}
-use Rattle.word_plain_letters.specs.Stretch.{leading, plainLeft, isFree, plainState, freeLetters, stopPlace}
-use Rattle.word_plain_letters.specs.Purpose.{StretchSteps, StretchStops}
+use Rattle.word_plain_letters.specs.PlainLetters.{leading, plainLeft, isFree, plainState, freeLetters, noPair}
+use Rattle.word_plain_letters.specs.Purpose.{GivesPlain, LettersAreSteps, StepGivesPlain, LettersStop}
 
 no : {A : Type 0} → _≡_ {A = Bool} false true → A
 no e = absurd (let z : _≡_ {A = ℕ} 0 1 = cc in omega arith)
@@ -97,25 +97,14 @@ module _ (word : List ℕ) (s : State) where
   state-op zero = refl
   state-op (suc n) = state-op n
 
--- ---- what stops a look-up
+-- ---- the letters are steps, by any test and any step that gives them
 
--- no entry
-place-none : (pairs : List ℤ) (w : ℕ) (o : Option ℕ) → find pairs w ≡ o → pairCount pairs ≤ placeOr (pairCount pairs) o → find pairs w ≡ none
-place-none pairs w none e h = e
-place-none pairs w (some k) e h = absurd (omega (arith, find-inside pairs w k e .0))
-
-module _ (pairs ops : List ℤ) (boundary : ℤ) (word : List ℕ) (options : RunOptions) where
-  free-letter : (u : State) → isFree pairs word u ≡ true → leb (nextLetter word u) 255 ≡ true
-  free-letter u h = both-left (leb (nextLetter word u) 255) _ h
-
-  free-none : (u : State) → isFree pairs word u ≡ true → find pairs (keyBy (plainLeft u) (nextLetter word u)) ≡ none
-  free-none u h =
-      let l = nextLetter word u in
-      place-none pairs (keyBy (plainLeft u) l) (find pairs (keyBy (plainLeft u) l)) refl
-      (leb-true (pairCount pairs) (foundPlace pairs (plainLeft u) l) (both-right (leb l 255) (leb (pairCount pairs) (foundPlace pairs (plainLeft u) l)) h))
+module _ (alone : ℕ → ℕ → Bool) (ops : List ℤ) (boundary : ℤ) (word : List ℕ) (options : RunOptions) where
+  free-letter : (u : State) → isFree alone word u ≡ true → leb (nextLetter word u) 255 ≡ true
+  free-letter u h = both-left (leb (nextLetter word u) 255) (alone (plainLeft u) (nextLetter word u)) h
 
   -- a state before the end of the word, once the letters before it were free, is quick if its letter is in range
-  pub quick-along : (s : State) → isQuick ops boundary word options s ≡ true → (m : ℕ) → ((j : ℕ) → j < m → isFree pairs word (plainState word s j) ≡ true) →
+  quick-along : (s : State) → isQuick ops boundary word options s ≡ true → (m : ℕ) → ((j : ℕ) → j < m → isFree alone word (plainState word s j) ≡ true) →
       s .read + m < length word → leb (nextLetter word (plainState word s m)) 255 ≡ true → isQuick ops boundary word options (plainState word s m) ≡ true
   unfolding plainState
   quick-along s q zero f l e = q
@@ -127,39 +116,56 @@ module _ (pairs ops : List ℤ) (boundary : ℤ) (word : List ℕ) (options : Ru
 
   module _ (s : State) (n : ℕ) (q : isQuick ops boundary word options s ≡ true) (l : s .read + n ≤ length word) where
     abbrev free : ℕ → Bool
-    free i = isFree pairs word (plainState word s i)
+    free i = isFree alone word (plainState word s i)
 
     abbrev m : ℕ
-    m = freeLetters pairs word s n
+    m = freeLetters alone word s n
 
-    pub steps-along : (i : ℕ) → i < m → stepOf pairs ops boundary word options (plainState word s i) ≡ givenPlain word (plainState word s i)
-    steps-along i h =
+    pub quick-within : (i : ℕ) → i < m → isQuick ops boundary word options (plainState word s i) ≡ true
+    quick-within i h =
+        quick-along s q i (λ j k. leading-below free n j (omega arith)) (omega (arith, leading-few free n))
+        (free-letter (plainState word s i) (leading-below free n i h))
+
+    pub quick-after : m < n → leb (nextLetter word (plainState word s m)) 255 ≡ true → isQuick ops boundary word options (plainState word s m) ≡ true
+    quick-after h e = quick-along s q m (λ j k. leading-below free n j k) (omega arith) e
+
+    pub steps-along : (step : State → Step) → GivesPlain alone ops boundary word options step → (i : ℕ) → i < m →
+        step (plainState word s i) ≡ givenPlain word (plainState word s i)
+    steps-along step g i h =
         let u = plainState word s i in
-        let f = leading-below free n i h in
-        quick-passes pairs ops boundary word options u
-        (quick-along s q i (λ j k. leading-below free n j (omega arith)) (omega (arith, leading-few free n)) (free-letter u f))
-        (free-none u f)
+        g u (quick-within i h) (both-right (leb (nextLetter word u) 255) (alone (plainLeft u) (nextLetter word u)) (leading-below free n i h))
 
-    stops-by : (u : State) (a b : Bool) → ltb m n ≡ a → leb (nextLetter word u) 255 ≡ b →
-        (m < n → leb (nextLetter word u) 255 ≡ true → isQuick ops boundary word options u ≡ true) →
-        cond a (cond b (foundPlace pairs (plainLeft u) (nextLetter word u)) (pairCount pairs)) (pairCount pairs) < pairCount pairs →
-        (isQuick ops boundary word options u ≡ true)
-        × (cond a (cond b (foundPlace pairs (plainLeft u) (nextLetter word u)) (pairCount pairs)) (pairCount pairs)
-        ≡ foundPlace pairs (plainLeft u) (nextLetter word u))
-    stops-by u true true e f k h = (k (ltb-true m n e) f, refl)
-    stops-by u true false e f k h = absurd (omega arith)
-    stops-by u false b e f k h = absurd (omega arith)
+pub letters-are-steps : LettersAreSteps
+letters-are-steps alone ops boundary word options step g s n i q l h = steps-along alone ops boundary word options s n q l step g i h
 
-    pub stops-at : stopPlace pairs word s n m < pairCount pairs →
-        (isQuick ops boundary word options (plainState word s m) ≡ true)
-        × (stopPlace pairs word s n m ≡ foundPlace pairs (plainLeft (plainState word s m)) (nextLetter word (plainState word s m)))
-    stops-at h =
-        let u = plainState word s m in
-        stops-by u (ltb m n) (leb (nextLetter word u) 255) refl refl
-        (λ i e. quick-along s q m (λ j k. leading-below free n j k) (omega arith) e) h
+-- ---- by bisection
 
-pub stretch-steps : StretchSteps
-stretch-steps pairs ops boundary word options s n i q l h = steps-along pairs ops boundary word options s n q l i h
+-- no entry
+place-none : (pairs : List ℤ) (w : ℕ) (o : Option ℕ) → find pairs w ≡ o → pairCount pairs ≤ placeOr (pairCount pairs) o → find pairs w ≡ none
+place-none pairs w none e h = e
+place-none pairs w (some k) e h = absurd (omega (arith, find-inside pairs w k e .0))
 
-pub stretch-stops : StretchStops
-stretch-stops pairs ops boundary word options s n q l h = stops-at pairs ops boundary word options s n q l h
+pub step-gives-plain : StepGivesPlain
+step-gives-plain pairs ops boundary word options u q h =
+    let l = nextLetter word u in
+    quick-passes pairs ops boundary word options u q
+    (place-none pairs (keyBy (plainLeft u) l) (find pairs (keyBy (plainLeft u) l)) refl
+    (leb-true (pairCount pairs) (foundPlace pairs (plainLeft u) l) h))
+
+-- what stops them is the pair that is looked up next
+stops-by : (pairs : List ℤ) (word : List ℕ) (u : State) (m n : ℕ) (Q : Type 0) (a b : Bool) → ltb m n ≡ a → leb (nextLetter word u) 255 ≡ b →
+    (m < n → leb (nextLetter word u) 255 ≡ true → Q) →
+    cond a (cond b (foundPlace pairs (plainLeft u) (nextLetter word u)) (pairCount pairs)) (pairCount pairs) < pairCount pairs →
+    Q
+    × (cond a (cond b (foundPlace pairs (plainLeft u) (nextLetter word u)) (pairCount pairs)) (pairCount pairs)
+    ≡ foundPlace pairs (plainLeft u) (nextLetter word u))
+stops-by pairs word u m n Q true true e f k h = (k (ltb-true m n e) f, refl)
+stops-by pairs word u m n Q true false e f k h = absurd (omega arith)
+stops-by pairs word u m n Q false b e f k h = absurd (omega arith)
+
+pub letters-stop : LettersStop
+letters-stop pairs ops boundary word options s n q l h =
+    let m = freeLetters (noPair pairs) word s n in
+    let u = plainState word s m in
+    stops-by pairs word u m n (isQuick ops boundary word options u ≡ true) (ltb m n) (leb (nextLetter word u) 255) refl refl
+    (quick-after (noPair pairs) ops boundary word options s n q l) h

@@ -1,4 +1,4 @@
--- A stretch of letters, to be read in this order: Stretch (the letters that a quick state gives as they stand, and their items),
+-- Letters given as they stand, to be read in this order: PlainLetters (how many they are, the state after them, and their items),
 -- Purpose (that they are the steps of the run).
-pub mod Stretch
+pub mod PlainLetters
 pub mod Purpose

@@ -1,14 +1,15 @@
-// Letters that a quick state gives as they stand, one after the other, each written as an item of six numbers: what a
-// run of a word does most often. After the loop over what `run_with_options` of ligkern/mod.rs returns. Each function
-// is the definition of the same name in specs/Stretch.antt.
+// Letters that have no pair with the character left of them, which a quick state gives as they stand, one after the
+// other, each written as an item of six numbers: what a run of a word does most often. After the loop over what
+// `run_with_options` of ligkern/mod.rs returns. Each function is the definition of the same name in
+// specs/PlainLetters.antt.
 ghost use mathlib.Core.Path.{_≡_};
 ghost use mathlib.Core.List.{[], _∷_};
-ghost use Prim.Native.Nat.{_+_, _-_, _/_, _<_, _≤_};
+ghost use Prim.Native.Nat.{_+_, _<_, _≤_};
 ghost use lib.ListN.{length, set};
 ghost use lib.Seq.{sets};
 ghost use Rattle.words.specs.Words.{numberOf};
-ghost use Rattle.word_plain_letters.specs.Stretch as stretch;
-ghost use Rattle.word_plain_letters.specs.Stretch.{sixAt, plainLeft, lettersMoved, stopAt, Gave, Stretched};
+ghost use Rattle.word_plain_letters.specs.PlainLetters.{sixAt, lettersMoved, MayGive, GivesFree, GivesLetters};
+ghost use Rattle.word_plain_letters.specs.PlainLetters.{noPair, stopPlace, stopPair, lettersEnd};
 use captions::Consumes;
 use captions::NextLeft;
 use captions::RunOptions;
@@ -16,17 +17,19 @@ use captions::State;
 use step_quick::left::quick_left;
 use step_quick_find::found_place;
 use words::number_of;
+use words::sizes::minus;
+use words::sizes::smaller;
 
-// Where a stretch ends: the left that is next (one more than its code), how many letters were given, and the pair that
-// stopped it; the number of pairs where none did.
-pub struct Stop {
+// Where letters end: the left that is next (one more than its code), how many letters were given, and the pair that
+// stopped them; the number of pairs where none did.
+pub struct LettersEnd {
     pub left: u32,
     pub count: usize,
     pub pair: usize,
 }
 
 // The same, with the state that is left.
-pub struct Stretch {
+pub struct LettersGiven {
     pub state: State,
     pub count: usize,
     pub pair: usize,
@@ -89,25 +92,32 @@ pub fn put_six(
     write_six(items, at, kind, value, start, count, left, right);
 }
 
-// The smaller of two.
-fn least(a: usize, b: usize) -> usize
-    ensures { λ r. ⌜ r ≡ stretch.least a b ⌝ }
+// The state once n letters more are given, by the code that is then next.
+pub fn letters_moved(s: State, code: u32, n: usize) -> State
+    ensures { λ r. ⌜ r ≡ lettersMoved s code n ⌝ }
 {
-    if a <= b { a } else { b }
+    if n == 0 {
+        return s;
+    }
+    let read = std::num::wrapping_add_usize(s.read, n);
+    let given = std::num::wrapping_add_usize(s.given, n);
+    State {
+        next_left: NextLeft::Char(code),
+        op: s.op,
+        ops: 0,
+        read: read,
+        given: given,
+        pending: 0,
+        pending_boundary: false,
+        consumes_left: Consumes::Nothing,
+    }
 }
 
-// What b leaves of a, or nothing.
-fn minus(a: usize, b: usize) -> usize
-    ensures { λ r. ⌜ r ≡ a - b ⌝ }
+// Where n letters end.
+fn letters_end(left: u32, n: usize, pair: usize) -> LettersEnd
+    ensures { λ r. ⌜ r ≡ lettersEnd left n pair ⌝ }
 {
-    if a < b { 0 } else { a - b }
-}
-
-// Where a stretch of n letters ends.
-fn stop_at(left: u32, n: usize, pair: usize) -> Stop
-    ensures { λ r. ⌜ r ≡ stopAt left n pair ⌝ }
-{
-    Stop {
+    LettersEnd {
         left: left,
         count: n,
         pair: pair,
@@ -123,11 +133,11 @@ fn give(
     items: &mut [i32],
     k: usize,
     n: usize,
-) -> Stop
-    requires { ⌜ (left ≡ plainLeft s) × (s .read + n ≤ length (now word)) × (length (now word) ≤ 65535)
-        × (s .given ≤ 65535) × (n ≤ length (now items) / 6 - k) ⌝ }
-    ensures { λ r. ⌜ Gave (now (pairs .entry)) (now (word .entry)) s n (now (items .entry)) k r
-        (now (items .exit)) ⌝ }
+) -> LettersEnd
+    requires { ⌜ MayGive (now word) s n (now items) k left ⌝ }
+    ensures { λ r. ⌜ GivesFree (noPair (now (pairs .entry))) (now (word .entry)) s n (now (items .entry)) k
+        (r .left) (r .count) (now (items .exit))
+        × (r .pair ≡ stopPlace (now (pairs .entry)) (now (word .entry)) s n (r .count)) ⌝ }
 {
     let none = pairs.len() / 6;
     let mut l = left;
@@ -136,37 +146,17 @@ fn give(
         let at = s.read + i;
         let y = word[at];
         if 255 < y {
-            return stop_at(l, i, none);
+            return letters_end(l, i, none);
         }
         let p = found_place(pairs, l, y);
         if p < none {
-            return stop_at(l, i, p);
+            return letters_end(l, i, p);
         }
         write_six(items, 6 * (k + i), 0, l - 1, (s.given + i) as u32, 1, 0, 0);
         l = y + 1;
         i += 1;
     }
-    stop_at(l, i, none)
-}
-
-// The state once n letters more are given, by the left that is then next.
-fn moved_by(s: State, left: u32, n: usize) -> State
-    requires { ⌜ (0 < left) × (s .read + n ≤ 65535) × (s .given + n ≤ 65535) ⌝ }
-    ensures { λ r. ⌜ r ≡ lettersMoved s left n ⌝ }
-{
-    if n == 0 {
-        return s;
-    }
-    State {
-        next_left: NextLeft::Char(left - 1),
-        op: s.op,
-        ops: 0,
-        read: s.read + n,
-        given: s.given + n,
-        pending: 0,
-        pending_boundary: false,
-        consumes_left: Consumes::Nothing,
-    }
+    letters_end(l, i, none)
 }
 
 // The letters that a quick state gives as they stand, written from item k on.
@@ -179,24 +169,26 @@ pub fn give_letters(
     s: State,
     items: &mut [i32],
     k: usize,
-) -> Stretch
-    ensures { λ r. ⌜ Stretched (now (pairs .entry)) (now (ops .entry)) boundary (now (word .entry)) options s
-        (now (items .entry)) k r (now (items .exit)) ⌝ }
+) -> LettersGiven
+    ensures { λ r. ⌜ GivesLetters (noPair (now (pairs .entry))) (now (ops .entry)) boundary (now (word .entry))
+        options s (now (items .entry)) k (r .state) (r .count) (now (items .exit))
+        × (r .pair ≡ stopPair (now (pairs .entry)) (now (ops .entry)) boundary (now (word .entry)) options s
+        (now (items .entry)) k (r .count)) ⌝ }
 {
     let left = quick_left(ops, boundary, word, options, s);
     if left == 0 {
-        return Stretch {
+        return LettersGiven {
             state: s,
             count: 0,
             pair: pairs.len() / 6,
         };
     }
-    let n = least(minus(items.len() / 6, k), minus(word.len(), s.read));
-    let stop = give(pairs, word, left, s, items, k, n);
-    let state = moved_by(s, stop.left, stop.count);
-    Stretch {
+    let n = smaller(minus(items.len() / 6, k), minus(word.len(), s.read));
+    let end = give(pairs, word, left, s, items, k, n);
+    let state = letters_moved(s, end.left - 1, end.count);
+    LettersGiven {
         state: state,
-        count: stop.count,
-        pair: stop.pair,
+        count: end.count,
+        pair: end.pair,
     }
 }

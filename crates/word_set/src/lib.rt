@@ -25,8 +25,8 @@ use word_items::stopped;
 use word_plain_letters::give_letters;
 use words::i32s::zero_i32;
 
-// The step from a state in which a stretch of letters ended, and the pair that ended it if there is one: its first op
-// at once, or a last kern, and else by turns.
+// The step from a state in which letters ended, and the pair that stopped them if there is one: its first op at once,
+// or a last kern, and else by turns.
 fn next_step(
     pairs: &[i32],
     ops: &[i32],
@@ -68,10 +68,10 @@ fn set_from(
     let mut s = state;
     let mut k = 0;
     loop {
-        let stretch = give_letters(pairs, ops, boundary, word, options, s, items, k);
-        let moved = stretch.state;
-        k += stretch.count;
-        let stepped = next_step(pairs, ops, boundary, word, options, moved, stretch.pair);
+        let letters = give_letters(pairs, ops, boundary, word, options, s, items, k);
+        let moved = letters.state;
+        k += letters.count;
+        let stepped = next_step(pairs, ops, boundary, word, options, moved, letters.pair);
         let answer = stepped.answer;
         if !is_item(answer) {
             return stopped(items, k, answer);

@@ -1,49 +1,38 @@
--- `index_plain_letters::set_letters` meets its contract: no letter where the state is not quick or there is no room, else those that are alone.
+-- `index_plain_letters::set_letters` meets its contract: nothing from a state that is not quick, and else what the loop leaves.
 -- Assumes nothing.
-use mathlib.Core.Path.{_≡_, sym, ap, subst, _∙_}
-use Prim.Native.Nat.{_+_, _-_, _/_, _≤_}
+use mathlib.Core.Path.{_≡_, refl, ap, _∙_}
+use mathlib.Core.Bool.{true}
+use Prim.Native.Nat.{_+_, _-_, min}
 use native.Mathlib.Omega.{arith}
 use lib.IntN.{ℤ}
-use lib.ListN.{length}
 use denote.Ref.{now}
 use Rattle.words.proofs.Bits.{number-word}
-use Rattle.captions.specs.declared.State.{State}
-use Rattle.step_quick.specs.Quick.{quickLeft}
-use Rattle.index_step.specs.Indexed.{indexedStepOf}
-use Rattle.index_plain_letters.specs.Running.{Runs, none, lettersAlone}
-use Rattle.index_plain_letters.proofs.Running.{Quickly, quickly, from-none, from-quick, from-full, lesser-fits}
+use Rattle.step_quick.specs.Quick.{isQuick, quickLeft}
+use Rattle.step_quick.proofs.Theorems.{left-quick}
+use Rattle.word_plain_letters.specs.PlainLetters.{plainLeft, mostLetters}
+use Rattle.word_plain_letters.proofs.Laws.{may-give, gives-none, gives-letters}
+use Rattle.index_plain_letters.specs.NoBit.{noBit}
 use borrow.Author.Needs.{needs}
 use Rattle.index_plain_letters.proofs.set_letters.Statement.{statement}
 use Rattle.index_plain_letters.proofs.set_letters.Tie as tie
 
-left-is : (c : tie.After-quick-left) →
-    c .quick-left .result ≡ quickLeft (now (c .before .before .before .args .ops)) (c .before .before .before .args .boundary)
-    (now (c .before .before .before .args .word)) (c .before .before .before .args .options) (c .before .before .before .args .state)
-left-is c =
-    let st = c .before .before .before in
-    let a = st .args in
-    c .quick-left .ensures ∙ ap (λ (z : ℤ). quickLeft (now (a .ops)) z (now (a .word)) (a .options) (a .state)) (number-word (a .boundary) (st .fits .boundary))
+-- the left, of a boundary character that is passed as its bits
+left : (c : tie.After-quick-left) → let a = c .before .before .before .args in
+    c .quick-left .result ≡ quickLeft (now (a .ops)) (a .boundary) (now (a .word)) (a .options) (a .s)
+left c =
+    let b = c .before .before .before in
+    let a = b .args in
+    c .quick-left .ensures ∙ ap (λ (z : ℤ). quickLeft (now (a .ops)) z (now (a .word)) (a .options) (a .s)) (number-word (a .boundary) (b .fits .boundary))
 
--- a left that is not 0 is a quick state's
-facts : (c : tie.Else1) →
-    Quickly (now (c .before .before .before .before .args .ops)) (c .before .before .before .before .args .boundary)
-    (now (c .before .before .before .before .args .word)) (c .before .before .before .before .args .options) (c .before .before .before .before .args .state)
-    (c .before .quick-left .result)
-facts c =
-    quickly (now (c .before .before .before .before .args .ops)) (c .before .before .before .before .args .boundary)
-    (now (c .before .before .before .before .args .word)) (c .before .before .before .before .args .options) (c .before .before .before .before .args .state)
-    (c .before .quick-left .result) (left-is (c .before)) (c .if1 .left)
+quick : (c : tie.Else1) → let a = c .before .before .before .before .args in
+    (isQuick (now (a .ops)) (a .boundary) (now (a .word)) (a .options) (a .s) ≡ true) × (c .before .quick-left .result ≡ plainLeft (a .s))
+quick c =
+    let a = c .before .before .before .before .args in
+    left-quick (now (a .ops)) (a .boundary) (now (a .word)) (a .options) (a .s) (c .before .quick-left .result) (left (c .before)) (c .if1 .left)
 
--- at most as many as there is room for, and as there are letters
-most : (c : tie.After-smaller) → let c6 = c .before .before .before .before .before .before in
-    (c .smaller .result ≤ length (now (c6 .args .items)) / 6 - c6 .args .count) × (c .smaller .result ≤ length (now (c6 .args .word)) - c6 .args .state .read)
-most c =
-    let a = c .before .before .before .before .before .before .args in
-    let room = length (now (a .items)) / 6 - a .count in
-    let rest = length (now (a .word)) - a .state .read in
-    let e = c .smaller .ensures in
-    let l = lesser-fits room rest in
-    (omega (arith, e, l .0), omega (arith, e, l .1))
+most : (c : tie.After-smaller) → let a = c .before .before .before .before .before .before .before .args in
+    c .smaller .result ≡ mostLetters (now (a .word)) (a .s) (a .items .now) (a .k)
+most c = c .smaller .ensures ∙ (λ i. min (c .before .before .minus .ensures i) (c .before .minus2 .ensures i))
 
 quick-left-requires : tie.Need-quick-left-requires
 quick-left-requires c κs = search needs
@@ -51,19 +40,14 @@ quick-left-requires c κs = search needs
 returns : tie.Need-returns
 returns c =
     let a = c .before .before .before .before .args in
-    let z = from-none (now (a .index)) (now (a .ops)) (a .boundary) (now (a .word)) (a .options) (a .state) (left-is (c .before)) (c .if1 .taken)
-    (length (now (a .items)) / 6 - a .count) in
-    record { many = omega (arith, z); runs = λ pairs. none }
+    gives-none (now (a .ops)) (a .boundary) (now (a .word)) (a .options) (a .s) (a .items .now) (a .k) (noBit (now (a .index))) (c .before .quick-left .result)
+    (left (c .before)) (c .if1 .taken)
 
-returns-2 : tie.Need-returns-2
-returns-2 c =
-    let a = c .before .before .before .before .before .args in
-    let z = from-full (now (a .index)) (now (a .ops)) (a .boundary) (now (a .word)) (a .options) (a .state) (length (now (a .items)) / 6 - a .count)
-    (omega (arith, c .if2 .taken)) in
-    record { many = omega (arith, z); runs = λ pairs. none }
+minus-requires : tie.Need-minus-requires
+minus-requires c κs = search needs
 
-sub-smaller : tie.Need-sub-smaller
-sub-smaller c = omega (arith, facts (c .before) .there)
+minus-requires-2 : tie.Need-minus-requires-2
+minus-requires-2 c κs = search needs
 
 smaller-requires : tie.Need-smaller-requires
 smaller-requires c κs = search needs
@@ -73,55 +57,29 @@ sub-set-plain c = search needs
 
 set-plain-requires : tie.Need-set-plain-requires
 set-plain-requires c κs =
-    let f = facts (c .before .before .before) in
-    let m = most (c .before) in
-    let w = f .goes .waits in
-    (f .code, omega (arith, m .1, f .there), omega (arith, m .1, f .there, f .short, w), omega (arith, m .0, c .before .before .if2 .left))
+    let m = c .before in
+    let q = m .before .before .before in
+    let a = q .before .before .before .before .args in
+    let l = q .before .quick-left .result in
+    let e : l - 1 + 1 ≡ l = omega (arith, q .if1 .left) in
+    may-give (now (a .ops)) (a .boundary) (now (a .word)) (a .options) (a .s) (a .items .now) (a .k) (quick q .0) (l - 1 + 1) (m .smaller .result)
+    (e ∙ quick q .1) (most m)
 
-after-letters-requires : tie.Need-after-letters-requires
-after-letters-requires c κs =
-    let f = facts (c .before .before .before .before .before) in
-    let m = most (c .before .before .before) in
-    let n = c .before .set-plain .ensures .set .few in
-    let w = f .goes .waits in
-    (omega (arith, m .1, f .there, f .short, n), omega (arith, m .1, f .there, f .short, n, w))
-
-add-t17 : tie.Need-add-t17
-add-t17 c =
-    let m = most (c .before .before .before .before .before) in
-    let n = c .before .before .before .set-plain .ensures .set .few in
-    omega (
-      arith,
-      m .0,
-      n,
-      c .before .before .before .before .before .before .if2 .left,
-      c .before .before .before .before .before .before .before .before .before .before .before .good .1 .1 .1 .1 .1 .1 .0 .0,
-    )
+letters-moved-requires : tie.Need-letters-moved-requires
+letters-moved-requires c κs = search needs
 
 same-length : tie.Need-same-length
 same-length c = search needs
 
-returns-3 : tie.Need-returns-3
-returns-3 c =
-    let f = facts (c .before .before .before .before .before .before .before) in
-    let a = c .before .before .before .before .before .before .before .before .before .before .before .args in
-    let x = c .before .before .before .set-plain in
-    let room = length (now (a .items)) / 6 - a .count in
-    let m = c .before .before .before .before .before .smaller .ensures in
-    let n = from-quick (now (a .index)) (now (a .ops)) (a .boundary) (now (a .word)) (a .options) (a .state)
-    (left-is (c .before .before .before .before .before .before .before .before)) (c .before .before .before .before .before .before .before .if1 .left)
-    room (x .result .count)
-    (ap (lettersAlone (now (a .index)) (now (a .word)) (c .before .before .before .before .before .before .before .before .quick-left .result - 1)
-    (a .state .read)) (sym m) ∙ x .ensures .all) in
-    record {
-      many = omega (arith, n);
-      runs =
-          λ pairs.
-          subst (λ (u : State). Runs (indexedStepOf (now (a .index)) pairs (now (a .ops)) (a .boundary) (now (a .word)) (a .options)) (a .state) (a .count)
-          (now (a .items)) u (a .count + x .result .count) (x .last .1 .1 .1 .1 .1 .0))
-          (sym (c .before .after-letters .ensures))
-          (x .ensures .set .runs pairs (now (a .ops)) (a .boundary) (a .options) (a .state) (f .goes));
-    }
+returns-2 : tie.Need-returns-2
+returns-2 c =
+    let g = c .before .before in
+    let m = g .before .before in
+    let q = m .before .before .before in
+    let a = q .before .before .before .before .args in
+    let x = g .set-plain in
+    gives-letters (now (a .ops)) (a .boundary) (now (a .word)) (a .options) (a .s) (a .items .now) (a .k) (noBit (now (a .index))) (quick q .0)
+    (m .smaller .result) (most m) (x .ensures) (x .result .code) refl (c .letters-moved .result) (c .letters-moved .ensures)
 
 pub set-letters-spec : {M : Type 1} → statement M
 set-letters-spec =
@@ -129,12 +87,11 @@ set-letters-spec =
     (tie.spec
     quick-left-requires
     returns
-    returns-2
-    sub-smaller
+    minus-requires
+    minus-requires-2
     smaller-requires
     sub-set-plain
     set-plain-requires
-    after-letters-requires
-    add-t17
+    letters-moved-requires
     same-length
-    returns-3)
+    returns-2)

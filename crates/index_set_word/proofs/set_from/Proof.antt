@@ -1,7 +1,7 @@
 -- `index_set_word::set_from` meets its contract. The loop's invariant: the items of the steps so far are written, and those of the steps from the state on
 -- come after them. The measure is the room that is left. Assumes nothing.
 use mathlib.Core.Path.{_≡_, sym, subst, _∙_}
-use Prim.Native.Nat.{_+_, _-_, _*_, _/_, _≤_}
+use Prim.Native.Nat.{_+_, _-_, _*_, _/_, _<_, _≤_}
 use native.Mathlib.Omega.{arith}
 use lib.IntN.{ℤ}
 use lib.ListN.{length}
@@ -15,10 +15,12 @@ use Rattle.word_items.proofs.Laws.{item-there}
 use Rattle.word_set.specs.Setting.{itemsBy}
 use Rattle.word_set.specs.Writing.{Tells}
 use Rattle.word_set.proofs.Standing.{Standing, standing-none, standing-more, standing-full, standing-stop}
+use Rattle.word_set.proofs.PlainLetters.{standing-letters}
 use Rattle.index_step.specs.Indexed.{indexedStepOf}
 use Rattle.index_step.proofs.Laws.{answered-is}
+use Rattle.index_plain_letters.specs.NoBit.{noBit}
+use Rattle.index_plain_letters.proofs.Theorems.{index-gives-plain}
 use Rattle.index_set_word.proofs.Small.{indexed-small}
-use Rattle.index_set_word.proofs.Running.{standing-runs, runs-up}
 use borrow.Author.Needs.{needs}
 use Rattle.index_set_word.proofs.set_from.Statement.{statement}
 use Rattle.index_set_word.proofs.set_from.Tie as tie
@@ -31,41 +33,37 @@ abbrev μ-loop : tie.MeasureT-loop
 μ-loop index pairs ops boundary word options items₀ s₀ k₀ items s k = length items₀ / 6 - k
 
 -- where the run stands after the letters that have no pair
-stands : (c : tie.After-step-indexed Inv-loop μ-loop) → let c8 = c .before .before .before .before .before .before .before .before in
-    Standing
-    (indexedStepOf (c8 .args .index .now) (c8 .args .pairs .now) (c8 .args .ops .now) (numberOf (wordOf (c8 .args .boundary))) (c8 .args .word .now)
-    (c8 .args .options)) (c8 .args .state) (c8 .args .items .now) (c .before .before .before .set-letters .last .1 .1 .1 .1 .1 .1 .0)
-    (c .before .before .before .set-letters .result .state) (c .before .before .before .set-letters .result .count)
-stands c =
-    let c8 = c .before .before .before .before .before .before .before .before in
-    let c5 = c .before .before .before .before .before in
-    standing-runs
-    (indexedStepOf (c8 .args .index .now) (c8 .args .pairs .now) (c8 .args .ops .now) (numberOf (wordOf (c8 .args .boundary))) (c8 .args .word .now)
-    (c8 .args .options)) (c8 .args .state) (c8 .args .items .now) (c .before .before .before .set-letters .ensures .runs (c8 .args .pairs .now))
-    (c5 .loop .inv)
+stands : (g : tie.After-set-letters Inv-loop μ-loop) → let l = g .before .before in let a = l .before .before .before .args in
+    Standing (indexedStepOf (a .index .now) (a .pairs .now) (a .ops .now) (numberOf (wordOf (a .boundary))) (a .word .now) (a .options)) (a .state)
+    (a .items .now) (g .set-letters .last .1 .1 .1 .1 .1 .1 .0) (g .set-letters .result .state) (l .loop .k + g .set-letters .result .count)
+stands g =
+    let l = g .before .before in
+    let a = l .before .before .before .args in
+    standing-letters (noBit (a .index .now)) (a .ops .now) (numberOf (wordOf (a .boundary))) (a .word .now) (a .options)
+    (indexedStepOf (a .index .now) (a .pairs .now) (a .ops .now) (numberOf (wordOf (a .boundary))) (a .word .now) (a .options))
+    (index-gives-plain (a .index .now) (a .pairs .now) (a .ops .now) (numberOf (wordOf (a .boundary))) (a .word .now) (a .options)) (a .state) (a .items .now)
+    (l .loop .items) (l .loop .s) (l .loop .k) (l .loop .inv) (g .set-letters .ensures)
 
-held : (c : tie.After-step-indexed Inv-loop μ-loop) →
-    length (c .before .before .before .set-letters .last .1 .1 .1 .1 .1 .1 .0)
-    ≡ length (c .before .before .before .before .before .before .before .before .args .items .now)
-held c = appending-length (c .before .before .before .before .before .before .before .before .args .items .now) (stands c .stored)
+held : (g : tie.After-set-letters Inv-loop μ-loop) →
+    length (g .set-letters .last .1 .1 .1 .1 .1 .1 .0) ≡ length (g .before .before .before .before .before .args .items .now)
+held g = appending-length (g .before .before .before .before .before .args .items .now) (stands g .stored)
 
-up : (c : tie.After-step-indexed Inv-loop μ-loop) → c .before .before .before .before .before .loop .k ≤ c .before .before .before .set-letters .result .count
-up c = runs-up (c .before .before .before .set-letters .ensures .runs (c .before .before .before .before .before .before .before .before .args .pairs .now))
-
-step-is : (c : tie.After-step-indexed Inv-loop μ-loop) → let c8 = c .before .before .before .before .before .before .before .before in
-    c .step-indexed .result ≡ (indexedStepOf (c8 .args .index .now) (c8 .args .pairs .now) (c8 .args .ops .now) (numberOf (wordOf (c8 .args .boundary)))
-    (c8 .args .word .now) (c8 .args .options)) (c .before .before .before .set-letters .result .state)
+-- the step that is next
+step-is : (c : tie.After-step-indexed Inv-loop μ-loop) → let g = c .before .before .before .before in let a = g .before .before .before .before .before .args in
+    c .step-indexed .result ≡ indexedStepOf (a .index .now) (a .pairs .now) (a .ops .now) (numberOf (wordOf (a .boundary))) (a .word .now) (a .options)
+    (g .set-letters .result .state)
 step-is c =
-    let c8 = c .before .before .before .before .before .before .before .before in
-    answered-is (c8 .args .index .now) (c8 .args .pairs .now) (c8 .args .ops .now) (numberOf (wordOf (c8 .args .boundary))) (c8 .args .word .now)
-    (c8 .args .options) (c .before .before .before .set-letters .result .state) (c .step-indexed .ensures)
+    let g = c .before .before .before .before in
+    let a = g .before .before .before .before .before .args in
+    answered-is (a .index .now) (a .pairs .now) (a .ops .now) (numberOf (wordOf (a .boundary))) (a .word .now) (a .options) (g .set-letters .result .state)
+    (c .step-indexed .ensures)
 
 small : (c : tie.After-step-indexed Inv-loop μ-loop) → Small (c .step-indexed .result .answer)
 small c =
-    let c8 = c .before .before .before .before .before .before .before .before in
+    let g = c .before .before .before .before in
+    let a = g .before .before .before .before .before .args in
     subst (λ (t : Step). Small (t .answer)) (sym (step-is c))
-    (indexed-small (c8 .args .index .now) (c8 .args .pairs .now) (c8 .args .ops .now) (numberOf (wordOf (c8 .args .boundary))) (c8 .args .word .now)
-    (c8 .args .options) (c .before .before .before .set-letters .result .state))
+    (indexed-small (a .index .now) (a .pairs .now) (a .ops .now) (numberOf (wordOf (a .boundary))) (a .word .now) (a .options) (g .set-letters .result .state))
 
 loop-holds : tie.Need-loop-holds Inv-loop μ-loop
 loop-holds c =
@@ -75,6 +73,11 @@ loop-holds c =
 
 set-letters-requires : tie.Need-set-letters-requires Inv-loop μ-loop
 set-letters-requires c κs = search needs
+
+add-count : tie.Need-add-count Inv-loop μ-loop
+add-count c =
+    let g = c .before .before .before in
+    omega (arith, stands g .few, g .before .before .before .before .before .good .1 .1 .1 .1 .1 .1 .1 .0 .0)
 
 step-indexed-requires : tie.Need-step-indexed-requires Inv-loop μ-loop
 step-indexed-requires c κs = search needs
@@ -86,13 +89,14 @@ stopped-requires : tie.Need-stopped-requires Inv-loop μ-loop
 stopped-requires c κs = search needs
 
 same-length : tie.Need-same-length Inv-loop μ-loop
-same-length c = omega (arith, c .before .stopped .kept .0, held (c .before .before .before .before .before))
+same-length c = omega (arith, c .before .stopped .kept .0, held (c .before .before .before .before .before .before .before .before .before))
 
 returns : tie.Need-returns Inv-loop μ-loop
 returns c =
     let t = c .before .before .before .before .before in
-    let x = t .before .before .before .set-letters in
-    let l = t .before .before .before .before .before in
+    let g = t .before .before .before .before in
+    let x = g .set-letters in
+    let l = g .before .before in
     let st = l .before .before .before in
     let a = st .args in
     let y = c .before .stopped in
@@ -100,7 +104,7 @@ returns c =
     (itemsBy (indexedStepOf (a .index .now) (a .pairs .now) (a .ops .now) z (a .word .now) (a .options)) (length (a .items .now) / 6) (a .state))
     (a .items .now) (y .result) (y .last .0)) (number-word (a .boundary) (st .fits .boundary))
     (standing-stop (indexedStepOf (a .index .now) (a .pairs .now) (a .ops .now) (numberOf (wordOf (a .boundary))) (a .word .now) (a .options)) (a .state)
-    (a .items .now) (x .last .1 .1 .1 .1 .1 .1 .0) (x .result .state) (x .result .count) (stands t) (t .step-indexed .result) (step-is t) (small t)
+    (a .items .now) (x .last .1 .1 .1 .1 .1 .1 .0) (x .result .state) (l .loop .k + x .result .count) (stands g) (t .step-indexed .result) (step-is t) (small t)
     (sym (c .before .before .before .before .is-item .ensures) ∙ not-true _ (c .before .before .before .if1 .taken)) (y .result) (y .last .0) (y .ensures)
     (st .pre))
 
@@ -108,13 +112,14 @@ stopped-requires-2 : tie.Need-stopped-requires-2 Inv-loop μ-loop
 stopped-requires-2 c κs = search needs
 
 same-length-2 : tie.Need-same-length-2 Inv-loop μ-loop
-same-length-2 c = omega (arith, c .before .stopped2 .kept .0, held (c .before .before .before .before .before .before))
+same-length-2 c = omega (arith, c .before .stopped2 .kept .0, held (c .before .before .before .before .before .before .before .before .before .before))
 
 returns-2 : tie.Need-returns-2 Inv-loop μ-loop
 returns-2 c =
     let t = c .before .before .before .before .before .before in
-    let x = t .before .before .before .set-letters in
-    let l = t .before .before .before .before .before in
+    let g = t .before .before .before .before in
+    let x = g .set-letters in
+    let l = g .before .before in
     let st = l .before .before .before in
     let a = st .args in
     let y = c .before .stopped2 in
@@ -122,46 +127,45 @@ returns-2 c =
     (itemsBy (indexedStepOf (a .index .now) (a .pairs .now) (a .ops .now) z (a .word .now) (a .options)) (length (a .items .now) / 6) (a .state))
     (a .items .now) (y .result) (y .last .0)) (number-word (a .boundary) (st .fits .boundary))
     (standing-full (indexedStepOf (a .index .now) (a .pairs .now) (a .ops .now) (numberOf (wordOf (a .boundary))) (a .word .now) (a .options)) (a .state)
-    (a .items .now) (x .last .1 .1 .1 .1 .1 .1 .0) (x .result .state) (x .result .count) (stands t) (t .step-indexed .result) (step-is t)
+    (a .items .now) (x .last .1 .1 .1 .1 .1 .1 .0) (x .result .state) (l .loop .k + x .result .count) (stands g) (t .step-indexed .result) (step-is t)
     (sym (c .before .before .before .before .before .is-item .ensures) ∙ not-false _ (c .before .before .before .before .if1 .left))
     (c .before .before .before .if2 .taken) (y .result) (y .last .0) (y .ensures))
 
+-- there is room for the item of the step
+room : (c : tie.Else2 Inv-loop μ-loop) → let g = c .before .before .before .before .before .before .before in let l = g .before .before in
+    l .loop .k + g .set-letters .result .count < length (l .before .before .before .args .items .now) / 6
+room c = omega (arith, c .if2 .left, held (c .before .before .before .before .before .before .before))
+
 mul-put-item : tie.Need-mul-put-item Inv-loop μ-loop
 mul-put-item c =
-    let c12 = c .before .before .before .before .before .before .before .before .before .before .before .before in
-    omega (arith, c .before .if2 .left, held (c .before .before .before .before), c12 .good .1 .1 .1 .1 .1 .1 .1 .0 .0)
+    let e = c .before in
+    omega (arith, room e, e .before .before .before .before .before .before .before .before .before .before .before .before .good .1 .1 .1 .1 .1 .1 .1 .0 .0)
 
 put-item-requires : tie.Need-put-item-requires Inv-loop μ-loop
 put-item-requires c κs = search needs
 
 add-k : tie.Need-add-k Inv-loop μ-loop
 add-k c =
-    let c15 = c .before .before .before .before .before .before .before .before .before .before .before .before .before .before .before in
-    let c7 = c .before .before .before .before .before .before .before in
-    omega (arith, c .before .before .before .before .if2 .left, held c7, c15 .good .1 .1 .1 .1 .1 .1 .1 .0 .0)
+    let e = c .before .before .before .before in
+    omega (arith, room e, e .before .before .before .before .before .before .before .before .before .before .before .before .good .1 .1 .1 .1 .1 .1 .1 .0 .0)
 
 loop-less : tie.Need-loop-less Inv-loop μ-loop
-loop-less c =
-    omega (
-      arith,
-      c .before .before .before .before .if2 .left,
-      held (c .before .before .before .before .before .before .before),
-      up (c .before .before .before .before .before .before .before),
-    )
+loop-less c = omega (arith, room (c .before .before .before .before))
 
 loop-again : tie.Need-loop-again Inv-loop μ-loop
 loop-again c =
     let t = c .before .before .before .before .before .before .before in
-    let x = t .before .before .before .set-letters in
-    let l = t .before .before .before .before .before in
+    let g = t .before .before .before .before in
+    let x = g .set-letters in
+    let l = g .before .before in
     let st = l .before .before .before in
     let a = st .args in
     let y = c .before .before .put-item in
     let d = x .last .1 .1 .1 .1 .1 .1 .0 in
-    let k = x .result .count in
+    let k = l .loop .k + x .result .count in
     let fits : 6 * k + 6 ≤ length d = omega (arith, c .before .before .before .before .if2 .left) in
     standing-more (indexedStepOf (a .index .now) (a .pairs .now) (a .ops .now) (numberOf (wordOf (a .boundary))) (a .word .now) (a .options)) (a .state)
-    (a .items .now) d (x .result .state) k (stands t) (t .step-indexed .result) (step-is t)
+    (a .items .now) d (x .result .state) k (stands g) (t .step-indexed .result) (step-is t)
     (sym (c .before .before .before .before .before .before .is-item .ensures) ∙ not-false _ (c .before .before .before .before .before .if1 .left))
     (c .before .before .before .before .if2 .left) (y .last .0)
     (item-there d (y .last .0) (6 * k) (t .step-indexed .result .answer) fits (small t) (y .ensures))
@@ -174,6 +178,7 @@ set-from-spec =
     μ-loop
     loop-holds
     set-letters-requires
+    add-count
     step-indexed-requires
     is-item-requires
     stopped-requires

@@ -3,7 +3,7 @@
 use mathlib.Core.Path.{sym, ap, _∙_}
 use mathlib.Core.Bool.{Bool, cond}
 use Rattle.captions.specs.Replies.{answerReply}
-use Rattle.word_plain_letters.specs.Stretch.{sixAt}
+use Rattle.word_plain_letters.specs.PlainLetters.{sixAt}
 use Rattle.word_items.proofs.Laws.{test-small}
 use borrow.Author.Needs.{needs}
 use Rattle.word_items.proofs.put_item.Statement.{statement}

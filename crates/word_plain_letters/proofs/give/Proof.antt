@@ -1,187 +1,164 @@
 -- `word_plain_letters::give` meets its contract. The loop's invariant: the letters so far were free and are given, and `l` is the left that is next. The
 -- measure is what is left of n. Assumes nothing.
-use mathlib.Core.Path.{refl, sym, subst}
-use Prim.Native.Nat.{_+_, _-_}
+use mathlib.Core.Path.{_≡_, refl}
+use mathlib.Core.Bool.{true, false}
+use mathlib.Core.List.{List}
+use Prim.Native.Nat.{ℕ, _+_, _-_, _/_, _<_, _≤_}
 use native.Mathlib.Omega.{arith}
-use lib.ListN.{getD}
+use lib.IntN.{ℤ}
+use lib.ListN.{length, getD}
 use denote.Ref.{now}
-use Rattle.word_plain_letters.specs.declared.Stop.{Stop}
-use Rattle.word_plain_letters.specs.Stretch.{Gave}
-use Rattle.word_plain_letters.proofs.Laws.{Giving, giving-none, giving-length, giving-more, gave-range, gave-pair, gave-all}
+use borrow.Author.Tests.{le-leb, lt-leb}
+use Rattle.captions.specs.Tables.{pairCount}
+use Rattle.step_quick.specs.Quick.{foundPlace}
+use Rattle.word_plain_letters.specs.PlainLetters.{noPair}
+use Rattle.word_plain_letters.proofs.Laws.{LettersSoFar, letters-none, letters-length, letter-inside, letters-all, letter-next, letters-range}
+use Rattle.word_plain_letters.proofs.Laws.{letters-pair, letters-more, stop-all, stop-range, stop-pair}
 use Rattle.word_plain_letters.proofs.give.Statement.{statement}
 use Rattle.word_plain_letters.proofs.give.Tie as tie
 
+-- what the place that was found says
+module _ (pairs : List ℤ) (l y p : ℕ) (e : p ≡ foundPlace pairs l y) where
+  has-pair : p < pairCount pairs → noPair pairs l y ≡ false
+  has-pair h = rw (← e) (lt-leb (pairCount pairs) p h)
+
+  has-none : pairCount pairs ≤ p → noPair pairs l y ≡ true
+  has-none h = rw (← e) (le-leb (pairCount pairs) p h)
+
 abbrev Inv-loop : tie.InvT-loop
-Inv-loop pairs word left s items₀ k n none l₀ i₀ items l i = Giving pairs word s n items₀ k l items i
+Inv-loop pairs word left s items₀ k n none l₀ i₀ items l i = LettersSoFar (noPair pairs) word s n items₀ k l items i
 
 abbrev μ-loop : tie.MeasureT-loop
 μ-loop pairs word left s items₀ k n none l₀ i₀ items l i = n - i
 
 loop-holds : tie.Need-loop-holds Inv-loop μ-loop
 loop-holds c =
-    let a = c .before in
-    giving-none (now (a .args .pairs)) (now (a .args .word)) (a .args .s) (a .args .n) (a .args .items .now) (a .args .k) (a .args .left) (a .pre .0)
+    let b = c .before in
+    let a = b .args in
+    letters-none (noPair (now (a .pairs))) (now (a .word)) (a .s) (a .n) (a .items .now) (a .k) (a .left) (b .pre)
+
+-- the list is as long as it was
+long : (l : tie.At-loop Inv-loop μ-loop) → length (l .loop .items) ≡ length (l .before .before .args .items .now)
+long l =
+    let a = l .before .before .args in
+    letters-length (noPair (now (a .pairs))) (now (a .word)) (a .s) (a .n) (a .items .now) (a .k) (l .loop .inv)
+
+-- there is a letter, and room for its item
+inside : (c : tie.In-loop Inv-loop μ-loop) → let l = c .before in let a = l .before .before .args in
+    (a .s .read + l .loop .i < length (a .word .now)) × (a .s .given + l .loop .i ≤ 65535) × (a .k + l .loop .i < length (l .loop .items) / 6)
+inside c =
+    let l = c .before in
+    let b = l .before .before in
+    let a = b .args in
+    letter-inside (noPair (now (a .pairs))) (now (a .word)) (a .s) (a .n) (a .items .now) (a .k) (l .loop .inv) (b .pre) (c .loop-test .taken)
 
 add-at : tie.Need-add-at Inv-loop μ-loop
-add-at c = omega arith
+add-at c = omega (arith, inside (c .before) .0)
 
 mul-y : tie.Need-mul-y Inv-loop μ-loop
-mul-y c = omega arith
+mul-y c = omega (arith, inside (c .before) .0)
 
 shared-slice-read-y : tie.Need-shared-slice-read-y Inv-loop μ-loop
-shared-slice-read-y c = omega arith
+shared-slice-read-y c = inside (c .before .before) .0
 
-stop-at-requires : tie.Need-stop-at-requires Inv-loop μ-loop
-stop-at-requires c κs = tt
+letters-end-requires : tie.Need-letters-end-requires Inv-loop μ-loop
+letters-end-requires c κs = tt
 
 same-length : tie.Need-same-length Inv-loop μ-loop
-same-length c =
-    let l = c .before .before .before .before .before in
-    let a = c .before .before .before .before .before .before .before .args in
-    omega (
-      arith,
-      giving-length (now (a .pairs)) (now (a .word)) (a .s) (a .n) (a .items .now) (a .k) (l .loop .l) (l .loop .items) (l .loop .i) (l .loop .inv),
-    )
+same-length c = long (c .before .before .before .before .before)
 
 returns : tie.Need-returns Inv-loop μ-loop
 returns c =
-    let l = c .before .before .before .before .before in
-    let a = c .before .before .before .before .before .before .before .args in
-    subst (λ (r : Stop). Gave (now (a .pairs)) (now (a .word)) (a .s) (a .n) (a .items .now) (a .k) r (l .loop .items)) (sym (c .stop-at .ensures))
-    (gave-range (now (a .pairs)) (now (a .word)) (a .s) (a .n) (a .items .now) (a .k) (l .loop .l) (l .loop .items) (l .loop .i) (l .loop .inv)
-    (c .before .before .before .before .loop-test .taken) (getD (now (a .word)) (a .s .read + l .loop .i) 0) refl (c .before .if1 .taken))
+    let t = c .before .before .before .before in
+    let l = t .before in
+    let a = l .before .before .args in
+    let h = t .loop-test .taken in
+    let o = c .before .if1 .taken in
+    rw (c .letters-end .ensures) (
+      letters-range (noPair (now (a .pairs))) (now (a .word)) (a .s) (a .n) (a .items .now) (a .k) (l .loop .inv) h refl o,
+      stop-range (now (a .pairs)) (now (a .word)) (a .s) (a .n) (l .loop .i) h
+          (letter-next (noPair (now (a .pairs))) (now (a .word)) (a .s) (a .n) (a .items .now) (a .k) (l .loop .inv) h refl) o,
+    )
 
 found-place-requires : tie.Need-found-place-requires Inv-loop μ-loop
 found-place-requires c κs = tt
 
-stop-at-requires-2 : tie.Need-stop-at-requires-2 Inv-loop μ-loop
-stop-at-requires-2 c κs = tt
+letters-end-requires-2 : tie.Need-letters-end-requires-2 Inv-loop μ-loop
+letters-end-requires-2 c κs = tt
 
 same-length-2 : tie.Need-same-length-2 Inv-loop μ-loop
-same-length-2 c =
-    let l = c .before .before .before .before .before .before .before in
-    let a = c .before .before .before .before .before .before .before .before .before .args in
-    omega (
-      arith,
-      giving-length (now (a .pairs)) (now (a .word)) (a .s) (a .n) (a .items .now) (a .k) (l .loop .l) (l .loop .items) (l .loop .i) (l .loop .inv),
-    )
+same-length-2 c = long (c .before .before .before .before .before .before .before)
 
 returns-2 : tie.Need-returns-2 Inv-loop μ-loop
 returns-2 c =
-    let l = c .before .before .before .before .before .before .before in
-    let a = c .before .before .before .before .before .before .before .before .before .args in
-    subst (λ (r : Stop). Gave (now (a .pairs)) (now (a .word)) (a .s) (a .n) (a .items .now) (a .k) r (l .loop .items)) (sym (c .stop-at2 .ensures))
-    (gave-pair (now (a .pairs)) (now (a .word)) (a .s) (a .n) (a .items .now) (a .k) (l .loop .l) (l .loop .items) (l .loop .i) (l .loop .inv)
-    (c .before .before .before .before .before .before .loop-test .taken) (getD (now (a .word)) (a .s .read + l .loop .i) 0) refl
-    (c .before .before .before .if1 .left) (c .before .before .found-place .result) (c .before .before .found-place .ensures) (c .before .if2 .taken))
+    let t = c .before .before .before .before .before .before in
+    let l = t .before in
+    let a = l .before .before .args in
+    let h = t .loop-test .taken in
+    let o = c .before .before .before .if1 .left in
+    let p = c .before .before .found-place in
+    rw (c .letters-end2 .ensures) (
+      letters-pair (noPair (now (a .pairs))) (now (a .word)) (a .s) (a .n) (a .items .now) (a .k) (l .loop .inv) h refl o
+          (has-pair (now (a .pairs)) (l .loop .l) (getD (now (a .word)) (a .s .read + l .loop .i) 0) (p .result) (p .ensures) (c .before .if2 .taken)),
+      stop-pair (now (a .pairs)) (now (a .word)) (a .s) (a .n) (l .loop .i) h
+          (letter-next (noPair (now (a .pairs))) (now (a .word)) (a .s) (a .n) (a .items .now) (a .k) (l .loop .inv) h refl) o
+          (l .loop .l) (p .result) (l .loop .inv .left) (p .ensures),
+    )
 
 add-write-six : tie.Need-add-write-six Inv-loop μ-loop
-add-write-six c =
-    let l = c .before .before .before .before .before .before .before in
-    let a = c .before .before .before .before .before .before .before .before .before .args in
-    omega (
-      arith,
-      c .before .before .before .before .before .before .before .before .before .pre,
-      c .before .before .before .before .before .before .loop-test .taken,
-    )
+add-write-six c = omega (arith, inside (c .before .before .before .before .before .before) .2)
 
 mul-write-six : tie.Need-mul-write-six Inv-loop μ-loop
-mul-write-six c =
-    let l = c .before .before .before .before .before .before .before in
-    let a = c .before .before .before .before .before .before .before .before .before .args in
-    omega (
-      arith,
-      c .before .before .before .before .before .before .before .before .before .pre,
-      c .before .before .before .before .before .before .loop-test .taken,
-    )
+mul-write-six c = omega (arith, inside (c .before .before .before .before .before .before) .2, long (c .before .before .before .before .before .before .before))
 
 sub-write-six : tie.Need-sub-write-six Inv-loop μ-loop
-sub-write-six c =
-    let l = c .before .before .before .before .before .before .before in
-    let a = c .before .before .before .before .before .before .before .before .before .args in omega (arith, l .loop .inv .left)
+sub-write-six c = omega (arith, c .before .before .before .before .before .before .before .loop .inv .left)
 
 add-write-six-2 : tie.Need-add-write-six-2 Inv-loop μ-loop
-add-write-six-2 c =
-    let l = c .before .before .before .before .before .before .before .before in
-    let a = c .before .before .before .before .before .before .before .before .before .before .args in
-    omega (
-      arith,
-      c .before .before .before .before .before .before .before .before .before .before .pre,
-      c .before .before .before .before .before .before .before .loop-test .taken,
-    )
+add-write-six-2 c = omega (arith, inside (c .before .before .before .before .before .before .before) .1)
 
 cast-write-six : tie.Need-cast-write-six Inv-loop μ-loop
-cast-write-six c =
-    let l = c .before .before .before .before .before .before .before .before in
-    let a = c .before .before .before .before .before .before .before .before .before .before .args in
-    omega (
-      arith,
-      c .before .before .before .before .before .before .before .before .before .before .pre,
-      c .before .before .before .before .before .before .before .loop-test .taken,
-    )
+cast-write-six c = omega (arith, inside (c .before .before .before .before .before .before .before) .1)
 
 write-six-requires : tie.Need-write-six-requires Inv-loop μ-loop
-write-six-requires c κs =
-    let l = c .before .before .before .before .before .before .before .before in
-    let a = c .before .before .before .before .before .before .before .before .before .before .args in
-    omega (
-      arith,
-      c .before .before .before .before .before .before .before .before .before .before .pre,
-      c .before .before .before .before .before .before .before .loop-test .taken,
-      giving-length (now (a .pairs)) (now (a .word)) (a .s) (a .n) (a .items .now) (a .k) (l .loop .l) (l .loop .items) (l .loop .i) (l .loop .inv),
-    )
+write-six-requires c κs = omega (arith, inside (c .before .before .before .before .before .before .before) .2)
 
 add-l : tie.Need-add-l Inv-loop μ-loop
-add-l c =
-    let l = c .before .before .before .before .before .before .before .before .before .before in
-    let a = c .before .before .before .before .before .before .before .before .before .before .before .before .args in
-    omega (arith, c .before .before .before .before .before .before .if1 .left)
+add-l c = omega (arith, c .before .before .before .before .before .before .if1 .left)
 
 add-i : tie.Need-add-i Inv-loop μ-loop
-add-i c =
-    let l = c .before .before .before .before .before .before .before .before .before .before in
-    let a = c .before .before .before .before .before .before .before .before .before .before .before .before .args in
-    omega (
-      arith,
-      c .before .before .before .before .before .before .before .before .before .before .before .before .pre,
-      c .before .before .before .before .before .before .before .before .before .loop-test .taken,
-    )
+add-i c = omega (arith, inside (c .before .before .before .before .before .before .before .before .before) .0)
 
 loop-less : tie.Need-loop-less Inv-loop μ-loop
-loop-less c =
-    let l = c .before .before .before .before .before .before .before .before .before .before in
-    let a = c .before .before .before .before .before .before .before .before .before .before .before .before .args in
-    omega (arith, c .before .before .before .before .before .before .before .before .before .loop-test .taken)
+loop-less c = omega (arith, c .before .before .before .before .before .before .before .before .before .loop-test .taken)
 
 loop-again : tie.Need-loop-again Inv-loop μ-loop
 loop-again c =
-    let l = c .before .before .before .before .before .before .before .before .before .before in
-    let a = c .before .before .before .before .before .before .before .before .before .before .before .before .args in
-    giving-more (now (a .pairs)) (now (a .word)) (a .s) (a .n) (a .items .now) (a .k) (l .loop .l) (l .loop .items) (l .loop .i) (l .loop .inv)
-    (c .before .before .before .before .before .before .before .before .before .loop-test .taken) (getD (now (a .word)) (a .s .read + l .loop .i) 0) refl
-    (c .before .before .before .before .before .before .if1 .left) (c .before .before .before .before .before .found-place .result)
-    (c .before .before .before .before .before .found-place .ensures) (c .before .before .before .before .if2 .left) (c .before .write-six .last .0)
-    (c .before .write-six .ensures)
+    let t = c .before .before .before .before .before .before .before .before .before in
+    let l = t .before in
+    let a = l .before .before .args in
+    let p = c .before .before .before .before .before .found-place in
+    letters-more (noPair (now (a .pairs))) (now (a .word)) (a .s) (a .n) (a .items .now) (a .k) (l .loop .inv) (t .loop-test .taken) refl
+    (c .before .before .before .before .before .before .if1 .left)
+    (has-none (now (a .pairs)) (l .loop .l) (getD (now (a .word)) (a .s .read + l .loop .i) 0) (p .result) (p .ensures)
+    (c .before .before .before .before .if2 .left))
+    (l .loop .l - 1) (omega (arith, l .loop .inv .left)) (c .before .write-six .last .0) (c .before .write-six .ensures)
 
-stop-at-requires-3 : tie.Need-stop-at-requires-3 Inv-loop μ-loop
-stop-at-requires-3 c κs = tt
+letters-end-requires-3 : tie.Need-letters-end-requires-3 Inv-loop μ-loop
+letters-end-requires-3 c κs = tt
 
 same-length-3 : tie.Need-same-length-3 Inv-loop μ-loop
-same-length-3 c =
-    let l = c .before .before in
-    let a = c .before .before .before .before .args in
-    omega (
-      arith,
-      giving-length (now (a .pairs)) (now (a .word)) (a .s) (a .n) (a .items .now) (a .k) (l .loop .l) (l .loop .items) (l .loop .i) (l .loop .inv),
-    )
+same-length-3 c = long (c .before .before)
 
 returns-3 : tie.Need-returns-3 Inv-loop μ-loop
 returns-3 c =
     let l = c .before .before in
-    let a = c .before .before .before .before .args in
-    subst (λ (r : Stop). Gave (now (a .pairs)) (now (a .word)) (a .s) (a .n) (a .items .now) (a .k) r (l .loop .items)) (sym (c .stop-at3 .ensures))
-    (gave-all (now (a .pairs)) (now (a .word)) (a .s) (a .n) (a .items .now) (a .k) (l .loop .l) (l .loop .items) (l .loop .i) (l .loop .inv)
-    (c .before .loop-test .left))
+    let a = l .before .before .args in
+    let h = c .before .loop-test .left in
+    rw (c .letters-end3 .ensures) (
+      letters-all (noPair (now (a .pairs))) (now (a .word)) (a .s) (a .n) (a .items .now) (a .k) (l .loop .inv) h,
+      stop-all (now (a .pairs)) (now (a .word)) (a .s) (a .n) (l .loop .i) h,
+    )
 
 pub give-spec : {M : Type 1} → statement M
 give-spec =
@@ -193,11 +170,11 @@ give-spec =
     add-at
     mul-y
     shared-slice-read-y
-    stop-at-requires
+    letters-end-requires
     same-length
     returns
     found-place-requires
-    stop-at-requires-2
+    letters-end-requires-2
     same-length-2
     returns-2
     add-write-six
@@ -210,6 +187,6 @@ give-spec =
     add-i
     loop-less
     loop-again
-    stop-at-requires-3
+    letters-end-requires-3
     same-length-3
     returns-3)

@@ -10,11 +10,14 @@ use Rattle.words.specs.Words.{wordOf, numberOf}
 use Rattle.words.proofs.Bits.{number-word}
 use Rattle.words.proofs.Lists.{appending-length}
 use Rattle.captions.specs.Steps.{stepOf}
+use Rattle.word_plain_letters.specs.PlainLetters.{noPair}
+use Rattle.word_plain_letters.proofs.Theorems.{step-gives-plain}
 use Rattle.word_items.proofs.Laws.{item-there}
 use Rattle.word_set.specs.Setting.{itemsFrom}
 use Rattle.word_set.specs.Writing.{Tells}
 use Rattle.word_set.proofs.Standing.{Standing, standing-none, standing-more, standing-full, standing-stop}
-use Rattle.word_set.proofs.Laws.{item-small, setting-letters, next-pair}
+use Rattle.word_set.proofs.PlainLetters.{standing-letters}
+use Rattle.word_set.proofs.Laws.{item-small, next-pair}
 use Rattle.word_set.proofs.set_from.Statement.{statement}
 use Rattle.word_set.proofs.set_from.Tie as tie
 
@@ -31,8 +34,10 @@ letters : (g : tie.After-give-letters Inv-loop μ-loop) → let l = g .before .b
 letters g =
     let l = g .before .before in
     let a = g .before .before .before .before .args in
-    setting-letters (a .pairs .now) (a .ops .now) (numberOf (wordOf (a .boundary))) (a .word .now) (a .options) (a .state) (a .items .now) (l .loop .items)
-    (l .loop .s) (l .loop .k) (l .loop .inv) (g .give-letters .result) (g .give-letters .last .1 .1 .1 .1 .1 .1 .0) (g .give-letters .ensures)
+    standing-letters (noPair (a .pairs .now)) (a .ops .now) (numberOf (wordOf (a .boundary))) (a .word .now) (a .options)
+    (stepOf (a .pairs .now) (a .ops .now) (numberOf (wordOf (a .boundary))) (a .word .now) (a .options))
+    (step-gives-plain (a .pairs .now) (a .ops .now) (numberOf (wordOf (a .boundary))) (a .word .now) (a .options)) (a .state) (a .items .now) (l .loop .items)
+    (l .loop .s) (l .loop .k) (l .loop .inv) (g .give-letters .ensures .0)
 
 kept : (g : tie.After-give-letters Inv-loop μ-loop) →
     length (g .give-letters .last .1 .1 .1 .1 .1 .1 .0) ≡ length (g .before .before .before .before .args .items .now)
@@ -55,8 +60,8 @@ next-step-requires c κs =
     let l = c .before .before .before .before .before in
     let s = c .before .before .before .before .before .before .before in
     let a = s .args in
-    next-pair (a .pairs .now) (a .ops .now) (numberOf (wordOf (a .boundary))) (a .word .now) (a .options) (a .state) (a .items .now) (l .loop .items)
-    (l .loop .s) (l .loop .k) (l .loop .inv) (g .give-letters .result) (g .give-letters .last .1 .1 .1 .1 .1 .1 .0) (g .give-letters .ensures)
+    next-pair (a .pairs .now) (a .ops .now) (numberOf (wordOf (a .boundary))) (a .word .now) (a .options) (l .loop .s) (l .loop .items) (l .loop .k)
+    (g .give-letters .result .pair) (g .give-letters .ensures .0) (g .give-letters .ensures .1)
 
 is-item-requires : tie.Need-is-item-requires Inv-loop μ-loop
 is-item-requires c κs = tt
