@@ -1,5 +1,6 @@
-/* An example of a host that compiles a font once and sets captions one after the other, with c/ligkern.h. The font is that of examples/ordinary.txt with a house
-   ligature more: 'f' and 'i' become the ligature 200, a kern stands between 'f' and '!', and a 'b' that begins a word becomes the ligature 201 with the left boundary.
+/* An example of a host that compiles a font once and sets captions one after the other, with c/ligkern.h. The font is that of examples/ordinary.txt with a
+   house ligature more. 'f' and 'i' become the ligature 200, a kern stands between 'f' and '!', and a 'b' that begins a word becomes the ligature 201 with the
+   left boundary. Its entries are not packed, and it needs no repair.
 
    captions < LINES     each line is a word, its bytes the characters; writes its items, one a line, and an empty line after them.
                         Ends with 0, or with 2 where the font or a word is refused, a loop is found or a line is too long */
@@ -27,14 +28,14 @@ static int32_t pairs[6 * PAIRS], ops[2 * OPS], loops[2 * LOOPS];
 static uint32_t work[16 * PAIRS];
 static uint64_t counts[3];
 
-/* Room for eight items a letter; a word that gives more is refused with 15. */
+/* Room for eight items a letter, which is more than this font gives. A host with other fonts works it out, or lends more after a 15 (c/ligkern.h, LISTS). */
 static int32_t items[6 * 8 * LETTERS];
 
 /* Compiles the font. Returns 0 where it is taken and every pair of it ends. */
 static int compile(void)
 {
-    uint32_t number = ligkern_compile(instructions, LENGTH(instructions), kerns, LENGTH(kerns), entries, LENGTH(entries), boundary, left_entry, design_size, pairs,
-                                      LENGTH(pairs), ops, LENGTH(ops), loops, LENGTH(loops), work, LENGTH(work), counts, LENGTH(counts));
+    uint32_t number = ligkern_compile(instructions, LENGTH(instructions), kerns, LENGTH(kerns), entries, LENGTH(entries), boundary, left_entry, design_size,
+                                      pairs, LENGTH(pairs), ops, LENGTH(ops), loops, LENGTH(loops), work, LENGTH(work), counts, LENGTH(counts));
     if (number != 0) {
         fprintf(stderr, "the font is refused: %" PRIu32 "\n", number);
         return 2;
@@ -53,7 +54,8 @@ static void show(const int32_t *item, const char *word)
     switch (item[0]) {
     case 0: printf("character %" PRId32 "\n", item[1]); break;
     case 1:
-        printf("ligature %" PRId32 " of '%.*s'%s%s\n", item[1], (int)item[3], word + item[2], item[4] ? ", left boundary" : "", item[5] ? ", right boundary" : "");
+        printf("ligature %" PRId32 " of '%.*s'%s%s\n", item[1], (int)item[3], word + item[2], item[4] ? ", left boundary" : "",
+               item[5] ? ", right boundary" : "");
         break;
     default: printf("kern %" PRId32 "\n", item[1]); break;
     }

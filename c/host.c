@@ -11,7 +11,7 @@
 static uint8_t text[LIGCOLS_TEXT + 1];
 static uint8_t reply[LIGCOLS_REPLY];
 
-/* Why a text is refused: the numbers of docs/RULES.md, in so far as a text can give them. */
+/* Why a text is refused: the numbers of c/ligcols.h in words. */
 static const char *reason(int32_t number)
 {
     switch (number) {

@@ -1,17 +1,110 @@
-/* The letter setter for a host in C: a font compiled once, captions set one after the other, and what goes with it: repair, packing, unpacking,
-   reach, kerns and the questions about a table. `c/build` proves the calls and writes target/staticlib/libligkern.a for x86-64 Linux to link.
-   c/captions.c is an example. The column text has a header of its own, c/ligcols.h.
+/* The letter setter for a host in C: a font is compiled once, and captions are set by it one after the other. Beside that there are repair, packing,
+   unpacking, reach, kerns and questions about a table. c/build proves the calls and writes target/staticlib/libligkern.a, for x86-64 Linux to link.
+   c/captions.c is an example. The column text has a header of its own, c/ligcols.h. R29 and its like are rules of docs/RULES.md, where each is said
+   exactly.
 
-   Numbers. Every call returns 0 where it is taken, else the number of a refusal, 1 to 15: the lowest that holds (docs/RULES.md, 'Refusals', says what
-   each means). A refusal leaves zeros in every list that the call writes (but for the state of a step, which is left as it was).
+   WHAT A HOST DOES
 
-   Lists. A list is a pointer and its length, in elements and not in bytes. Pointers must be valid for their lengths and not null, also where a
-   length is 0; lists that are written overlap no other list, and nobody else writes to a list during a call. The calls allocate nothing, keep no
-   pointer, have no state of their own and use nothing but their arguments and their stack, so that any number of threads may call them at once.
+   1. Repair a font that comes from a file, with its packed entries: ligkern_validate_and_fix. Read the warnings.
+   2. Unpack each entry, in the repaired instructions: ligkern_unpack_entrypoint. Leave out an entry that a warning 2 names.
+   3. Compile the repaired instructions with the unpacked entries and the repaired left entry: ligkern_compile.
+   4. Look at the third of the counts. A FONT WITH LOOPS IS NOT TO GO ON AIR: have it put right. The setter does not hang on it, but sets a pair
+      that never ends as if it had no rule.
+   5. Set words: ligkern_set_word, or quicker by an index; or item by item, with ligkern_begin and ligkern_step.
+   A font whose entries are not packed, and which needs no repair, begins with 3.
 
-   Instructions are four numbers each: next (-1 for none, else 0 to 255), right character, kind (0 kern value, 1 kern index, 2 ligature, 3 redirect) and
-   operand. Entries are two numbers each: character, entry. A boundary character, a left entry or an override of -1 is absent.
-   A list `values` takes the numbers of an answer, as many as the call names; a shorter one is refused with 15. */
+   WHAT GOES IN
+
+   A character is 0 to 255. A boundary character, a left entry or an override of -1 is absent.
+
+   The instructions of a left character, or of the left boundary, are a chain: it starts at its entry and goes on by next. The first one on it that is for the
+   right character is the rule of the pair. An instruction is four numbers (R25 to R31):
+     next      -1 where the chain ends; else 0 to 255, how many instructions are skipped to the next one of the chain
+     right     the character to the right for which it is meant
+     kind      0 kern value, 1 kern index, 2 ligature, 3 redirect
+     operand   of a kern value: the kern, any number
+               of a kern index: a place in the kerns, 0 to 65,535; past their end it is a kern of zero
+               of a ligature: 256 * op byte + the character that is put in; the op byte is 0 to 127
+               of a redirect: the index to which it leads, 0 to 65,535, and 65,536 more if its flag is set, which is passed on and never looked at
+
+   What an op byte does with the pair A B, where X is the character that is put in between (R42 to R45):
+      0  LIG       A and B go; X is looked up with what follows
+      1  LIG/      A goes; the pair X B is looked up
+      2  /LIG      B goes; the pair A X is looked up
+      3  /LIG/     both stay; the pair A X is looked up
+      5  LIG/>     A goes, X is done; B is looked up with what follows
+      6  /LIG>     B goes, A is done; X is looked up with what follows
+      7  /LIG/>    both stay, A is done; the pair X B is looked up
+     11  /LIG/>>   both stay, A and X are done; B is looked up with what follows
+   Every other one does what 0 does.
+
+   Units. A kern is a part of the design size, times 1,048,576: 131,072 is an eighth. The design size is in points, times 1,048,576: 10,485,760 is ten
+   points. A scaled kern, as ops and items have it, is in points, times 65,536: an eighth of ten points is 81,920.
+
+   An entry is two numbers: a character, and where its chain starts. No character has two. The left entry is where the left boundary's chain starts.
+     unpacked  0 to 65,535, the first instruction of the chain. All calls but two take these, and the left entry is always such a one
+     packed    0 to 255, as a font file has it: if a redirect stands there, what it leads to is meant. Repair and unpacking take these
+   No call notices that a packed entry was lent for an unpacked one: the redirect then acts as a ligature or a kern, by the two bytes of its target (R59).
+   Take the instructions -1 0 3 65537 and -1 98 2 200 with the entry (97, 0), as a font file has it. They compile to the pair (97, 0), and the ligature 200
+   is lost. Unpacked, the entry is (97, 1).
+   TeX ends a chain at a redirect. For what TeX sets, leave out a left entry at which a redirect stands.
+
+   Passthrough is one byte an instruction. Not 0 marks a redirect that is no rule: it only holds an entry's target, the boundary character or the left entry
+   for a font file. Reach tells it from an instruction that is never used. Repair does not warn of where it leads, if no chain comes to it. Unpacking an
+   entry marks its redirect. Lend zeros, but mark the first and the last instruction of a font file, if they hold the boundary character and the left entry.
+
+   WHAT IS RETURNED
+
+   0 where the call is taken, else the number of a refusal; each call names its own. Where several hold, the lowest is returned, but by two calls, which say so.
+      1  the numbers of the instructions are not in fours, or there are more than 32,767 instructions
+      2  four of these numbers are no instruction: one is out of range
+      3  there are more than 32,767 kerns
+      4  a character or an entry is out of range, a character has two entries, entries are not in twos, or passthrough is not one byte an instruction
+      5  the design size is below zero
+      6  the word has more than 65,535 letters
+      7  the table is not as ligkern_compile wrote it, the state is none or points outside, or the index says a wrong place
+      8  an entry to be unpacked is past the instructions
+      9  an entry to be unpacked is at a redirect that leads past them
+     10  packing would take 256 redirects; 255 are possible
+     11  an entry is above 65,535 once packing has moved it
+     12  more pairs have a rule than work, or the pair table, has room for: lend more
+     13  a kern that some pair uses is below -16,777,216 or above 16,777,215
+     14  the ops have too little room: lend more. Above 2,147,483,647 ops no room is enough
+     15  another list that is written has too little room: lend more
+     16  of c/ligcols.h alone: a line of a column text can't be read, is out of place or passes a limit
+   Zeros stand after what is written, and a refusal leaves zeros in every list that the call writes. A step alone leaves the rest of its state list as it is,
+   and a refused step all of it.
+
+   LISTS
+
+   A list is a pointer and its length, in elements and not in bytes. A pointer must be valid for its length and not null, also where that is 0. A list that
+   is written overlaps no other list, and nobody else writes to a list during a call. A list `values` takes the numbers of an answer: one, where no more are
+   named. The calls allocate nothing and keep no pointer. They use nothing but their arguments and their stack, so that any number of threads may call them
+   at once.
+
+   How many numbers are always enough:
+     pairs     6 * LIGKERN_MOST_PAIRS, or 6 for each pair that has a rule, whether it ends or not
+     work      16 * LIGKERN_MOST_PAIRS, or 16 for each such pair
+     loops     2 * LIGKERN_MOST_PAIRS, or 2 for each loop
+     ops       2 for each op. A kern makes at most two ops of a pair, LIG none, another ligature any number: after 14 lend twice as many
+     items     6 * ((n + 1) * m + 1) for a word of n letters, where m is the greatest count of ops of a pair, its sixth number, and at least 1.
+               Each letter, and the word's end, brings the ops of one pair, or one item; one ligature may follow at the end.
+               Or lend fewer, and after 15 twice as many
+     warnings  4 * (1 + e + 4 * i + LIGKERN_MOST_PAIRS) for e entries and i instructions
+
+   STACK
+
+   How many bytes a call takes below its caller's frame, measured by tools/stack/run. No proof speaks of this.
+     ligkern_compile                          3,304     ligkern_program_is_seven_bit_safe      328
+     ligkern_set_word                         1,161     ligkern_instructions_for_entrypoint     88
+     ligkern_fill_index                          56     ligkern_unpack_entrypoint               72
+     ligkern_set_word_indexed                 1,241     ligkern_reachable_iter              32,872
+     ligkern_begin                              304     ligkern_pack_entrypoints             1,144
+     ligkern_step                               761     ligkern_pack_kerns                      88
+     ligkern_has_replacement                     40     ligkern_unpack_kerns               131,176
+     ligkern_all_pairs_with_replacements         72     ligkern_validate_and_fix           595,280
+     ligkern_table_is_seven_bit_safe            104
+   Give a thread 16 KiB more, and what the host itself takes. Repair crashes in a thread of 512 KiB; 640 KiB are enough. */
 #ifndef LIGKERN_H
 #define LIGKERN_H
 
@@ -19,101 +112,144 @@
 #include <stddef.h>
 #include <stdint.h>
 
+/* How many pairs a font has at most: 257 lefts, the left boundary among them, with 256 rights. */
+#define LIGKERN_MOST_PAIRS 65792
+
+/* How many numbers an index has. */
+#define LIGKERN_INDEX 1285
+
 #ifdef __cplusplus
 extern "C" {
 #endif
 
 /* ---- a font compiled, captions set */
 
-/* Compiles a font. Writes the pair table (six numbers a pair: left or -1, right, last code, last flag, first op, op count), the ops (two numbers each: 0 character,
-   1 ligature, 2 scaled kern; value) and the loop list (two numbers a pair), with zeros after them; counts: pairs, ops, loops. Work is sixteen numbers for each
-   pair that has a rule, and is left all zeros. 1 to 5, 12, 13, 14, 15. */
-uint32_t ligkern_compile(const int32_t *instructions, size_t instructions_length, const int32_t *kerns, size_t kerns_length, const int32_t *entries, size_t entries_length,
-                         int32_t boundary, int32_t left_entry, int32_t design_size, int32_t *pairs, size_t pairs_length, int32_t *ops, size_t ops_length, int32_t *loops,
-                         size_t loops_length, uint32_t *work, size_t work_length, uint64_t *counts, size_t counts_length);
+/* Compiles a font. Takes unpacked entries. Writes
+     pairs    six numbers for each pair that ends: left (-1 the left boundary), right, code of its last item, 1 if that is a ligature,
+              first op, count of ops
+     ops      two numbers each: 0 character, 1 ligature, 2 scaled kern; then the code, or the kern
+     loops    left and right of one pair of each cycle that never ends
+     counts   three numbers: pairs, ops, loops
+   and leaves work all zeros. Without loops every word is proved to be set as the font's instructions read one by one. 1 to 5, 12, 13, 14, 15. */
+uint32_t ligkern_compile(const int32_t *instructions, size_t instructions_length, const int32_t *kerns, size_t kerns_length, const int32_t *entries,
+                         size_t entries_length, int32_t boundary, int32_t left_entry, int32_t design_size, int32_t *pairs, size_t pairs_length, int32_t *ops,
+                         size_t ops_length, int32_t *loops, size_t loops_length, uint32_t *work, size_t work_length, uint64_t *counts, size_t counts_length);
 
-/* Sets a word whole. Lend the pairs and the ops that were written, six numbers for each pair and two for each op, without the zeros after them. Writes six numbers an
-   item (kind: 0 character, 1 ligature, 2 kern; value; the original's start and length in the word; left flag, right flag) and zeros after them; count: how many items.
-   4, 6, 7, 15. */
-uint32_t ligkern_set_word(const int32_t *pairs, size_t pairs_length, const int32_t *ops, size_t ops_length, int32_t boundary, const uint32_t *word, size_t word_length,
-                          bool disable_left_boundary, int32_t right_boundary_override, int32_t *items, size_t items_length, uint64_t *count, size_t count_length);
+/* Sets a word whole. Lend the pairs and the ops that were written, without the zeros after them: 6 * counts[0] and 2 * counts[1] numbers. Lend the boundary
+   character of the font; the override, at the word's end, takes its place. Writes six numbers an item; count: how many items. 4, 6, 7, 15.
+   An item is kind (0 character, 1 ligature, 2 kern), value, start and length of its original in the word, left flag, right flag. A flag is 1 if the item
+   took in that boundary. */
+uint32_t ligkern_set_word(const int32_t *pairs, size_t pairs_length, const int32_t *ops, size_t ops_length, int32_t boundary, const uint32_t *word,
+                          size_t word_length, bool disable_left_boundary, int32_t right_boundary_override, int32_t *items, size_t items_length,
+                          uint64_t *count, size_t count_length);
 
-/* How many numbers an index has. */
-#define LIGKERN_INDEX 1285
-
-/* The index of a table, by which a pair is found with a bit test and a count of ones: LIGKERN_INDEX numbers, with zeros after them. Fill it once for a table that was
-   compiled, and again when the table changes. 7, 15. */
+/* The index of a table, LIGKERN_INDEX numbers, by which a pair is found with a bit test and a count of ones. Fill it once for a table, and again when the
+   table changes. It looks at the lefts and the rights of the pairs alone. 7, 15. */
 uint32_t ligkern_fill_index(const int32_t *pairs, size_t pairs_length, uint64_t *index, size_t index_length);
 
-/* Sets a word whole as ligkern_set_word does, and finds pairs by an index. On the index that ligkern_fill_index wrote for these pairs it answers and writes what
-   ligkern_set_word does; any other index is taken too: a pair that it does not name is set as if it were none, and a wrong place is 7. 4, 6, 7, 15. */
-uint32_t ligkern_set_word_indexed(const uint64_t *index, size_t index_length, const int32_t *pairs, size_t pairs_length, const int32_t *ops, size_t ops_length, int32_t boundary,
-                                  const uint32_t *word, size_t word_length, bool disable_left_boundary, int32_t right_boundary_override, int32_t *items, size_t items_length,
-                                  uint64_t *count, size_t count_length);
+/* Sets a word whole, and finds pairs by an index. By the one that ligkern_fill_index wrote for these pairs it answers and writes what ligkern_set_word
+   does. 4, 6, 7, 15.
+   Any other index is taken too (R139, R140). It is asked only where a step begins with a character left of a letter, and nothing is pending. There a pair
+   that it does not name is set as if it had no rule, and a pair for which it says a wrong place is 7. Elsewhere pairs are found as ligkern_set_word finds
+   them: in the first step of a word with its left boundary, with a ligature on the left, and at the word's end. Take the pairs 102 105 200 1 0 0 and an
+   index of zeros. The word 102 105 is then the ligature 200 with the left boundary, and two characters without.
+   By such an index, after what ligkern_begin refuses, the first number that is met is returned, not the lowest. A wrong place later in the word is 7 with
+   room for ten items, and 15 with room for one. */
+uint32_t ligkern_set_word_indexed(const uint64_t *index, size_t index_length, const int32_t *pairs, size_t pairs_length, const int32_t *ops, size_t ops_length,
+                                  int32_t boundary, const uint32_t *word, size_t word_length, bool disable_left_boundary, int32_t right_boundary_override,
+                                  int32_t *items, size_t items_length, uint64_t *count, size_t count_length);
 
-/* A fresh run over a word: nine numbers of state, with zeros after them. The table is checked whole. 4, 6, 7, 15. */
-uint32_t ligkern_begin(const int32_t *pairs, size_t pairs_length, const int32_t *ops, size_t ops_length, int32_t boundary, const uint32_t *word, size_t word_length,
-                       bool disable_left_boundary, int32_t right_boundary_override, uint64_t *state, size_t state_length);
+/* A fresh run over a word: nine numbers of state. The table is checked whole. A list shorter than nine is 15. 4, 6, 7, 15. */
+uint32_t ligkern_begin(const int32_t *pairs, size_t pairs_length, const int32_t *ops, size_t ops_length, int32_t boundary, const uint32_t *word,
+                       size_t word_length, bool disable_left_boundary, int32_t right_boundary_override, uint64_t *state, size_t state_length);
 
-/* One step of a run, on the state that the last call left there. Writes 1 and the six numbers of an item, or seven zeros at the end, with zeros after them; the next
-   state stands in place of the last, and a refused step leaves it as it was. 4, 6, 7, 15. The word may be parted before the next item where state[3], the count of ops
-   still to be given, is 0 and state[0], the kind of the next left (0 boundary, 1 character, 2 ligature, 3 last ligature, 4 none), is neither 2 nor 3. A list of
-   exactly seven numbers for the item is the quickest. */
-uint32_t ligkern_step(const int32_t *pairs, size_t pairs_length, const int32_t *ops, size_t ops_length, int32_t boundary, const uint32_t *word, size_t word_length,
-                      bool disable_left_boundary, int32_t right_boundary_override, uint64_t *state, size_t state_length, int32_t *item, size_t item_length);
+/* One step of a run, with all that begin was lent and the state that the last call left. Writes 1 and the six numbers of an item, or seven zeros at the
+   end. The next state stands in place of the last. A list of exactly seven numbers for the item is the quickest. 4, 6, 7, 15.
+   A step looks only at what it reads, and returns the first number that it meets, not the lowest. First come 4 and 6 of its arguments, and 7 of the state.
+   Then come 4 of a letter and 7 of a pair or an op, as they are read, and last 15 of the item. A state list shorter than nine is 7 here, not 15.
+   The word may be parted before the next item if state[3], the count of ops still to be given, is 0, and state[0] is neither 2 nor 3. This is the kind of
+   the next left: 0 boundary, 1 character, 2 ligature, 3 last ligature, 4 none. */
+uint32_t ligkern_step(const int32_t *pairs, size_t pairs_length, const int32_t *ops, size_t ops_length, int32_t boundary, const uint32_t *word,
+                      size_t word_length, bool disable_left_boundary, int32_t right_boundary_override, uint64_t *state, size_t state_length, int32_t *item,
+                      size_t item_length);
 
 /* ---- questions about a table */
 
-/* values: 1 where a left (-1 the left boundary) and a right (-1 the boundary character) have an entry, else 0. 4, 7, 15. */
-uint32_t ligkern_has_replacement(const int32_t *pairs, size_t pairs_length, int32_t boundary, int32_t left, int32_t right, uint64_t *values, size_t values_length);
+/* values: 1 where a left (-1 the left boundary) and a right (-1 the boundary character) have a pair, else 0. 4, 7, 15.
+   The form of the table is not checked, but for pairs in sixes: on other pairs than ligkern_compile wrote, the answer means nothing. */
+uint32_t ligkern_has_replacement(const int32_t *pairs, size_t pairs_length, int32_t boundary, int32_t left, int32_t right, uint64_t *values,
+                                 size_t values_length);
 
-/* Writes the left and the right of every pair in order, with zeros after them; values: how many pairs. 7, 15. */
-uint32_t ligkern_all_pairs_with_replacements(const int32_t *pairs, size_t pairs_length, int32_t *out, size_t out_length, uint64_t *values, size_t values_length);
+/* Writes two numbers a pair, its left and its right, in order; values: how many pairs. 7, 15. */
+uint32_t ligkern_all_pairs_with_replacements(const int32_t *pairs, size_t pairs_length, int32_t *out, size_t out_length, uint64_t *values,
+                                             size_t values_length);
 
-/* values: 1 where every pair of seven-bit characters, the left boundary among them, becomes seven-bit characters, else 0. 7, 15. */
-uint32_t ligkern_table_is_seven_bit_safe(const int32_t *pairs, size_t pairs_length, const int32_t *ops, size_t ops_length, uint64_t *values, size_t values_length);
+/* values: 1 where every pair of characters below 128, the left boundary among them, becomes characters below 128, else 0. 7, 15. */
+uint32_t ligkern_table_is_seven_bit_safe(const int32_t *pairs, size_t pairs_length, const int32_t *ops, size_t ops_length, uint64_t *values,
+                                         size_t values_length);
 
 /* ---- programs */
 
-/* values: 1 where no instruction for two characters below 128 inserts one above 127, else 0. 1, 2, 4, 15. */
-uint32_t ligkern_program_is_seven_bit_safe(const int32_t *instructions, size_t instructions_length, const int32_t *entries, size_t entries_length, uint64_t *values, size_t values_length);
+/* values: 1 where no ligature for two characters below 128 puts in one above 127, else 0. Takes unpacked entries. The left boundary's chain and redirects
+   do not count (R128, R129). 1, 2, 4, 15. */
+uint32_t ligkern_program_is_seven_bit_safe(const int32_t *instructions, size_t instructions_length, const int32_t *entries, size_t entries_length,
+                                           uint64_t *values, size_t values_length);
 
-/* Writes the indices of the chain from an entry, with zeros after them; values: how many. 1, 2, 4, 15. */
-uint32_t ligkern_instructions_for_entrypoint(const int32_t *instructions, size_t instructions_length, int32_t entry, uint32_t *out, size_t out_length, uint64_t *values, size_t values_length);
+/* Writes the indices of the chain from an unpacked entry, at most one an instruction; values: how many. 1, 2, 4, 15. */
+uint32_t ligkern_instructions_for_entrypoint(const int32_t *instructions, size_t instructions_length, int32_t entry, uint32_t *out, size_t out_length,
+                                             uint64_t *values, size_t values_length);
 
-/* Unpacks an entry, 0 to 255. Writes the passthrough after it, one byte an instruction, 0 or 1; values: the entry that the packed one stands for. 1, 2, 4, 8, 9, 15. */
-uint32_t ligkern_unpack_entrypoint(const int32_t *instructions, size_t instructions_length, int32_t entry, const uint8_t *passthrough, size_t passthrough_length, uint8_t *out,
-                                   size_t out_length, uint64_t *values, size_t values_length);
+/* Unpacks a packed entry, 0 to 255; values: the unpacked one. Writes the passthrough after it, one byte an instruction, 0 or 1. 1, 2, 4, 8, 9, 15. */
+uint32_t ligkern_unpack_entrypoint(const int32_t *instructions, size_t instructions_length, int32_t entry, const uint8_t *passthrough,
+                                   size_t passthrough_length, uint8_t *out, size_t out_length, uint64_t *values, size_t values_length);
 
-/* Writes two numbers an instruction: its state (0 unreachable, 1 reachable, 2 passthrough) and its adjusted skip or -1; values: how many instructions. 1, 2, 4, 15. */
+/* Says which instructions are on a chain. Takes unpacked entries. Writes two numbers an instruction: its state (0 unreachable, 1 reachable, 2 passthrough),
+   and how many reachable ones it skips, or -1 (R151 to R153); values: how many instructions. A left entry that is the last index makes nothing reachable.
+   1, 2, 4, 15. */
 uint32_t ligkern_reachable_iter(const int32_t *instructions, size_t instructions_length, const int32_t *entries, size_t entries_length, int32_t left_entry,
-                                const uint8_t *passthrough, size_t passthrough_length, int32_t *out, size_t out_length, uint64_t *values, size_t values_length);
+                                const uint8_t *passthrough, size_t passthrough_length, int32_t *out, size_t out_length, uint64_t *values,
+                                size_t values_length);
 
 /* ---- programs written anew */
 
-/* Packs the entries. Writes the instructions, with redirects in front and the left boundary's entry at the end, and the entries packed, in the lent order; values: the
-   count of instructions, the offset of the old ones, the count of redirects. 1, 2, 4, 10, 11, 15. */
-uint32_t ligkern_pack_entrypoints(const int32_t *instructions, size_t instructions_length, const int32_t *entries, size_t entries_length, int32_t boundary, int32_t left_entry,
-                                  int32_t *out, size_t out_length, int32_t *entries_out, size_t entries_out_length, uint64_t *values, size_t values_length);
+/* Packs unpacked entries, for a font file: what it writes is not to be compiled as it stands. Writes the instructions, with at most 255 redirects in front,
+   and one behind them for the left entry: room for 256 instructions more is always enough. Writes the entries, packed, in the lent order. values: three,
+   the count of instructions, how far the old ones were moved, and the count of redirects. 1, 2, 4, 10, 11, 15. */
+uint32_t ligkern_pack_entrypoints(const int32_t *instructions, size_t instructions_length, const int32_t *entries, size_t entries_length, int32_t boundary,
+                                  int32_t left_entry, int32_t *out, size_t out_length, int32_t *entries_out, size_t entries_out_length, uint64_t *values,
+                                  size_t values_length);
 
-/* Kern indices become kern values, 0 past the list; values: how many instructions. 1, 2, 3, 15. */
-uint32_t ligkern_pack_kerns(const int32_t *instructions, size_t instructions_length, const int32_t *kerns, size_t kerns_length, int32_t *out, size_t out_length, uint64_t *values,
-                            size_t values_length);
+/* Writes the instructions with kern values in place of kern indices, 0 past the kerns; values: how many instructions. 1, 2, 3, 15. */
+uint32_t ligkern_pack_kerns(const int32_t *instructions, size_t instructions_length, const int32_t *kerns, size_t kerns_length, int32_t *out,
+                            size_t out_length, uint64_t *values, size_t values_length);
 
-/* Kern values become indices of a list that has each value once; values: how many kerns. 1, 2, 15. */
-uint32_t ligkern_unpack_kerns(const int32_t *instructions, size_t instructions_length, int32_t *out, size_t out_length, int32_t *kerns, size_t kerns_length, uint64_t *values,
-                              size_t values_length);
+/* Writes the instructions with kern indices in place of kern values, and a list of kerns that has each value once; values: how many kerns, at most one an
+   instruction. 1, 2, 15.
+   A kern index that was there before stays, and the new list has another kern at its place: pack the kerns first. */
+uint32_t ligkern_unpack_kerns(const int32_t *instructions, size_t instructions_length, int32_t *out, size_t out_length, int32_t *kerns, size_t kerns_length,
+                              uint64_t *values, size_t values_length);
 
 /* ---- repair */
 
-/* Repairs a font. The existing characters are 256 bits: those from 0, 64, 128 and 192 on, the lowest bit first; `replacement` takes the place of a character that does
-   not exist. Writes the repaired instructions, their passthrough, the warnings (four numbers each: kind, index or character, old, new) and in `left` the repaired left
-   entry, each with zeros after it; values: how many warnings. Work as in compiling. 1 to 4, 12, 15. */
-uint32_t ligkern_validate_and_fix(const int32_t *instructions, size_t instructions_length, const int32_t *kerns, size_t kerns_length, const int32_t *entries, size_t entries_length,
-                                  int32_t boundary, int32_t left_entry, int32_t replacement, uint64_t from_0, uint64_t from_64, uint64_t from_128, uint64_t from_192,
-                                  const uint8_t *passthrough, size_t passthrough_length, int32_t *fixed, size_t fixed_length, uint8_t *through, size_t through_length,
-                                  int32_t *warnings, size_t warnings_length, uint32_t *work, size_t work_length, int32_t *left, size_t left_length, uint64_t *values,
-                                  size_t values_length);
+/* Repairs a font. Takes packed entries. The existing characters are 256 bits: those from 0, 64, 128 and 192 on, the lowest bit first. `replacement` takes
+   the place of a character that does not exist, and should exist itself. Writes the repaired instructions, their passthrough, in `left` the repaired left
+   entry, and the warnings, four numbers each; values: how many warnings. Work is as in compiling. 1 to 4, 12, 15.
+   A warning is its kind, and then:
+      1  0, 0, 0           the left entry is past the instructions; it is made -1
+      2  character, 0, 0   its entry does not unpack. Repair writes no entries: leave this one out of what is compiled
+      3  index, 0, 0       the next of a reachable instruction leads to the end or past it; it is made -1
+      4  index, old, new   the right character of a ligature neither exists nor is the boundary character; it is replaced
+      5  index, old, new   the same of a kern
+      6  index, old, new   a ligature puts in a character that does not exist; it is replaced
+      7  index, 0, 0       a kern index is past the kerns; it is made a kern value of 0
+      8  index, 0, 0       the op byte of a ligature is none of the eight; it is made 0
+      9  index, 0, 0       a redirect leads past the instructions; nothing is changed
+     10  left, right, 0    a loop, left -1 the left boundary. Nothing is changed, and the font is not to go on air */
+uint32_t ligkern_validate_and_fix(const int32_t *instructions, size_t instructions_length, const int32_t *kerns, size_t kerns_length, const int32_t *entries,
+                                  size_t entries_length, int32_t boundary, int32_t left_entry, int32_t replacement, uint64_t from_0, uint64_t from_64,
+                                  uint64_t from_128, uint64_t from_192, const uint8_t *passthrough, size_t passthrough_length, int32_t *fixed,
+                                  size_t fixed_length, uint8_t *through, size_t through_length, int32_t *warnings, size_t warnings_length, uint32_t *work,
+                                  size_t work_length, int32_t *left, size_t left_length, uint64_t *values, size_t values_length);
 
 #ifdef __cplusplus
 }
