@@ -2,6 +2,7 @@
 -- Assumes nothing.
 use native.Mathlib.Omega.{arith}
 use denote.Ref.{now}
+use Rattle.words.specs.Words.{Word}
 use Rattle.words.proofs.Bits.{read-lt}
 use Rattle.lang.proofs.Records.{word-passed}
 use Rattle.captions.specs.Tables.{number}
@@ -28,12 +29,16 @@ shared-slice-copy-out-word-of c = search needs
 word-of-requires : tie.Need-word-of-requires
 word-of-requires c κs = search needs
 
+-- the pair's right, where it was read first
+right-read : (c : tie.After-word-of) → let a = c .before .before .before .args in Word (number (now (a .pairs)) (a .k) 1) (c .word-of .result)
+right-read c = word-passed (record { sfits = c .before .word-of-arg .given }) (c .word-of .ensures)
+
 returns : tie.Need-returns
 returns c =
     let w = c .before in
     let p = w .before .before .left-in in
     let a = w .before .before .before .args in
-    let q = word-passed {x = number (now (a .pairs)) (a .k) 1} (record { sfits = w .before .word-of-arg .given }) (w .word-of .ensures) in
+    let q = right-read w in
     rw (← p .ensures, ← q .is) (before-left (p .result) (w .word-of .result) (a .left) (a .right) (read-lt q) (c .if1 .taken))
 
 returns-2 : tie.Need-returns-2
@@ -41,7 +46,7 @@ returns-2 c =
     let w = c .before .before in
     let p = w .before .before .left-in in
     let a = w .before .before .before .args in
-    let q = word-passed {x = number (now (a .pairs)) (a .k) 1} (record { sfits = w .before .word-of-arg .given }) (w .word-of .ensures) in
+    let q = right-read w in
     rw (← p .ensures, ← q .is)
     (after-left (p .result) (w .word-of .result) (a .left) (a .right) (omega arith) (omega (arith, c .before .if1 .left, c .if2 .taken)))
 

@@ -4,7 +4,7 @@ use mathlib.Core.Path.{refl, sym, ap, _∙_}
 use Prim.Native.Nat.{ℕ}
 use native.Mathlib.Omega.{arith}
 use denote.Ref.{now}
-use Rattle.words.specs.Words.{wordOf}
+use Rattle.words.specs.Words.{Word, wordOf}
 use Rattle.words.proofs.Bits.{read-lt}
 use Rattle.lang.proofs.Records.{word-passed}
 use Rattle.captions.specs.Tables.{pairCount, number, keyBy}
@@ -37,12 +37,17 @@ shared-slice-copy-out-word-of c = omega arith
 word-of-requires : tie.Need-word-of-requires
 word-of-requires c κs = search needs
 
+-- the right of the pair where the search ends, where it was read
+right-read : (c : tie.After-word-of) → let p = c .before .before .before in
+    Word (number (now (p .before .args .pairs)) (p .place-for .result) 1) (c .word-of .result)
+right-read c = word-passed (record { sfits = c .before .word-of-arg .given }) (c .word-of .ensures)
+
 returns-2 : tie.Need-returns-2
 returns-2 c =
     let w = c .before in
     let p = w .before .before .before .place-for in
     let a = w .before .before .before .before .args in
-    let q = word-passed {x = number (now (a .pairs)) (p .result) 1} (record { sfits = w .before .word-of-arg .given }) (w .word-of .ensures) in
+    let q = right-read w in
     none-other (now (a .pairs)) (a .left) (a .right) (p .result) (p .ensures) (w .before .before .if1 .left) (pairCount (now (a .pairs))) refl
     (λ e. c .if2 .taken (omega (arith, e, q .is, read-lt q)))
 
@@ -56,7 +61,7 @@ returns-3 c =
     let w = t .before in
     let p = w .before .before .before .place-for in
     let a = w .before .before .before .before .args in
-    let q = word-passed {x = number (now (a .pairs)) (p .result) 1} (record { sfits = w .before .word-of-arg .given }) (w .word-of .ensures) in
+    let q = right-read w in
     none-other (now (a .pairs)) (a .left) (a .right) (p .result) (p .ensures) (w .before .before .if1 .left) (pairCount (now (a .pairs))) refl
     (λ e. c .if3 .taken (omega (arith, e, l .ensures, q .is, t .if2 .left)))
 
@@ -67,7 +72,7 @@ returns-4 c =
     let w = t .before in
     let p = w .before .before .before .place-for in
     let a = w .before .before .before .before .args in
-    let q = word-passed {x = number (now (a .pairs)) (p .result) 1} (record { sfits = w .before .word-of-arg .given }) (w .word-of .ensures) in
+    let q = right-read w in
     found-there (now (a .pairs)) (a .left) (a .right) (p .result) (p .ensures) (w .before .before .if1 .left)
     (ap (λ (i : ℕ). keyBy i (wordOf (number (now (a .pairs)) (p .result) 1))) (sym (l .ensures) ∙ c .if3 .left)
     ∙ ap (keyBy (a .left)) (sym (q .is) ∙ t .if2 .left))

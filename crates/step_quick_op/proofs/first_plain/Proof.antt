@@ -2,12 +2,21 @@
 -- Assumes nothing.
 use mathlib.Core.Path.{_∙_}
 use denote.Ref.{now}
+use Rattle.words.specs.Words.{Word}
 use Rattle.lang.proofs.Records.{word-passed}
 use Rattle.captions.specs.Tables.{opKind, opValue}
 use Rattle.step_quick_op.proofs.Laws.{first-none, first-other, first-code, first-only, first-next}
 use borrow.Author.Needs.{needs}
 use Rattle.step_quick_op.proofs.first_plain.Statement.{statement}
 use Rattle.step_quick_op.proofs.first_plain.Tie as tie
+
+-- the first op's numbers, where they were read
+kind : (c : tie.After-word-of) → let a = c .before .before .before .args in Word (opKind (now (a .ops)) (a .i)) (c .word-of .result)
+kind c = word-passed (record { sfits = c .before .word-of-arg .given }) (c .word-of .ensures)
+
+value : (c : tie.After-word-of2) → let a = c .before .before .before .before .before .before .args in
+    Word (opValue (now (a .ops)) (a .i)) (c .word-of2 .result)
+value c = word-passed (record { sfits = c .before .word-of-arg2 .given }) (c .word-of2 .ensures)
 
 returns : tie.Need-returns
 returns c = let a = c .before .args in first-none (now (a .ops)) (a .i) (a .n) (c .if1 .taken)
@@ -28,8 +37,7 @@ returns-2 : tie.Need-returns-2
 returns-2 c =
     let k = c .before in
     let a = k .before .before .before .args in
-    let kind = word-passed {x = opKind (now (a .ops)) (a .i)} (record { sfits = k .before .word-of-arg .given }) (k .word-of .ensures) in
-    first-other (now (a .ops)) (a .i) (a .n) (k .before .before .if1 .left) kind (c .if2 .taken)
+    first-other (now (a .ops)) (a .i) (a .n) (k .before .before .if1 .left) (kind k) (c .if2 .taken)
 
 mul-word-of-3 : tie.Need-mul-word-of-3
 mul-word-of-3 c = search needs
@@ -51,18 +59,14 @@ returns-3 c =
     let v = c .before in
     let k = v .before .before .before in
     let a = k .before .before .before .args in
-    let kind = word-passed {x = opKind (now (a .ops)) (a .i)} (record { sfits = k .before .word-of-arg .given }) (k .word-of .ensures) in
-    let value = word-passed {x = opValue (now (a .ops)) (a .i)} (record { sfits = v .before .word-of-arg2 .given }) (v .word-of2 .ensures) in
-    first-code (now (a .ops)) (a .i) (a .n) (k .before .before .if1 .left) kind (v .before .before .if2 .left) value (c .if3 .taken)
+    first-code (now (a .ops)) (a .i) (a .n) (k .before .before .if1 .left) (kind k) (v .before .before .if2 .left) (value v) (c .if3 .taken)
 
 returns-4 : tie.Need-returns-4
 returns-4 c =
     let v = c .before .before in
     let k = v .before .before .before in
     let a = k .before .before .before .args in
-    let kind = word-passed {x = opKind (now (a .ops)) (a .i)} (record { sfits = k .before .word-of-arg .given }) (k .word-of .ensures) in
-    let value = word-passed {x = opValue (now (a .ops)) (a .i)} (record { sfits = v .before .word-of-arg2 .given }) (v .word-of2 .ensures) in
-    first-only (now (a .ops)) (a .i) (a .n) (k .before .before .if1 .left) kind (v .before .before .if2 .left) value (c .before .if3 .left) (c .if4 .taken)
+    first-only (now (a .ops)) (a .i) (a .n) (k .before .before .if1 .left) (kind k) (v .before .before .if2 .left) (value v) (c .before .if3 .left) (c .if4 .taken)
 
 add-op-holds : tie.Need-add-op-holds
 add-op-holds c = search needs
@@ -75,10 +79,8 @@ returns-5 c =
     let v = c .before .before .before in
     let k = v .before .before .before in
     let a = k .before .before .before .args in
-    let kind = word-passed {x = opKind (now (a .ops)) (a .i)} (record { sfits = k .before .word-of-arg .given }) (k .word-of .ensures) in
-    let value = word-passed {x = opValue (now (a .ops)) (a .i)} (record { sfits = v .before .word-of-arg2 .given }) (v .word-of2 .ensures) in
     c .op-holds .ensures
-    ∙ first-next (now (a .ops)) (a .i) (a .n) (k .before .before .if1 .left) kind (v .before .before .if2 .left) value
+    ∙ first-next (now (a .ops)) (a .i) (a .n) (k .before .before .if1 .left) (kind k) (v .before .before .if2 .left) (value v)
     (c .before .before .if3 .left) (c .before .if4 .left)
 
 pub first-plain-spec : {M : Type 1} → statement M

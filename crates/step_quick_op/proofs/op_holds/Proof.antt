@@ -1,6 +1,7 @@
 -- `step_quick_op::op_holds` meets its contract: the tests of the words that were read are those of the numbers.
 -- Assumes nothing.
 use denote.Ref.{now}
+use Rattle.words.specs.Words.{Word}
 use Rattle.lang.proofs.Records.{word-passed}
 use Rattle.captions.specs.Tables.{opKind, opValue}
 use Rattle.table_numbers.proofs.Records.{op-code, op-kern}
@@ -35,22 +36,23 @@ shared-slice-copy-out-word-of-2 c = search needs
 word-of-requires-2 : tie.Need-word-of-requires-2
 word-of-requires-2 c κs = search needs
 
+-- the op's kind, where it was read
+kind : (c : tie.After-word-of) → let a = c .before .before .args in Word (opKind (now (a .ops)) (a .i)) (c .word-of .result)
+kind c = word-passed (record { sfits = c .before .word-of-arg .given }) (c .word-of .ensures)
+
 returns : tie.Need-returns
 returns c =
     let k = c .before .before .before in
     let a = k .before .before .args in
-    let x = opKind (now (a .ops)) (a .i) in
     let y = opValue (now (a .ops)) (a .i) in
-    op-code x y (k .word-of .result) (c .word-of2 .result) (word-passed {x = x} (record { sfits = k .before .word-of-arg .given }) (k .word-of .ensures))
-    (c .before .before .if1 .taken) (word-passed {x = y} (record { sfits = c .before .word-of-arg2 .given }) (c .word-of2 .ensures))
+    op-code (opKind (now (a .ops)) (a .i)) y (k .word-of .result) (c .word-of2 .result) (kind k) (c .before .before .if1 .taken)
+    (word-passed {x = y} (record { sfits = c .before .word-of-arg2 .given }) (c .word-of2 .ensures))
 
 returns-2 : tie.Need-returns-2
 returns-2 c =
     let k = c .before in
     let a = k .before .before .args in
-    let x = opKind (now (a .ops)) (a .i) in
-    op-kern x (opValue (now (a .ops)) (a .i)) (k .word-of .result) 0 (word-passed {x = x} (record { sfits = k .before .word-of-arg .given }) (k .word-of .ensures))
-    (c .if1 .left)
+    op-kern (opKind (now (a .ops)) (a .i)) (opValue (now (a .ops)) (a .i)) (k .word-of .result) 0 (kind k) (c .if1 .left)
 
 pub op-holds-spec : {M : Type 1} → statement M
 op-holds-spec =
