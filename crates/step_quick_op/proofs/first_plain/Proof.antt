@@ -66,7 +66,8 @@ returns-4 c =
     let v = c .before .before in
     let k = v .before .before .before in
     let a = k .before .before .before .args in
-    first-only (now (a .ops)) (a .i) (a .n) (k .before .before .if1 .left) (kind k) (v .before .before .if2 .left) (value v) (c .before .if3 .left) (c .if4 .taken)
+    first-only (now (a .ops)) (a .i) (a .n) (k .before .before .if1 .left) (kind k) (v .before .before .if2 .left) (value v)
+    (c .before .if3 .left) (c .if4 .taken)
 
 add-op-holds : tie.Need-add-op-holds
 add-op-holds c = search needs

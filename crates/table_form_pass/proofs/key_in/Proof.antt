@@ -3,10 +3,7 @@
 use mathlib.Core.Path.{refl}
 use Prim.Native.Nat.{_+_, _/_}
 use native.Mathlib.Omega.{arith}
-use lib.IntN.{pos}
-use lib.ListN.{getD}
 use denote.Ref.{now}
-use Rattle.lang.proofs.Records.{word-passed}
 use Rattle.table_form_pass.proofs.PairReads.{number-read, key-read}
 use borrow.Author.Needs.{needs}
 use Rattle.table_form_pass.proofs.key_in.Statement.{statement}
@@ -56,10 +53,8 @@ returns c =
     let s = now (a .args .pairs) in
     let i = a .args .p in
     key-read s (i / 6)
-    (number-read s i i 0 (a .pre .1) (omega arith)
-    (word-passed {x = getD s i (pos 0)} (record { sfits = l .before .word-of-arg .given }) (l .word-of .ensures)))
-    (number-read s i (i + 1) 1 (a .pre .1) refl
-    (word-passed {x = getD s (i + 1) (pos 0)} (record { sfits = c .before .word-of-arg2 .given }) (c .word-of2 .ensures)))
+    (number-read s i i 0 (a .pre .1) (omega arith) (record { sfits = l .before .word-of-arg .given }) (l .word-of .ensures))
+    (number-read s i (i + 1) 1 (a .pre .1) refl (record { sfits = c .before .word-of-arg2 .given }) (c .word-of2 .ensures))
     (p .left-place .ensures)
 
 pub key-in-spec : {M : Type 1} → statement M

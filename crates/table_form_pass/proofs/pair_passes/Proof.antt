@@ -4,12 +4,10 @@ use mathlib.Core.Path.{_≡_, refl, sym, _∙_}
 use mathlib.Core.List.{List}
 use Prim.Native.Nat.{ℕ, _+_, _/_, _%_}
 use native.Mathlib.Omega.{arith}
-use lib.IntN.{ℤ, pos}
-use lib.ListN.{getD}
+use lib.IntN.{ℤ}
 use denote.Ref.{now}
 use borrow.Author.Tests.{not-true, not-false}
 use Rattle.words.specs.Words.{Word}
-use Rattle.lang.proofs.Records.{word-passed}
 use Rattle.captions.specs.Tables.{number}
 use Rattle.table_form_pass.proofs.PairReads.{number-read, pair-codes, pair-gap, pair-over, pair-ops}
 use borrow.Author.Needs.{needs}
@@ -30,37 +28,31 @@ module _ (c : tie.After-word-of4) where
   left : Word (number S (P / 6) 0) (c .before .before .before .before .before .before .word-of .result)
   left =
       let w = c .before .before .before .before .before .before in
-      number-read S P P 0 whole (omega arith)
-      (word-passed {x = getD S P (pos 0)} (record { sfits = w .before .word-of-arg .given }) (w .word-of .ensures))
+      number-read S P P 0 whole (omega arith) (record { sfits = w .before .word-of-arg .given }) (w .word-of .ensures)
 
   flag : Word (number S (P / 6) 3) (c .before .before .before .before .word-of2 .result)
   flag =
       let w = c .before .before .before .before in
-      number-read S P (P + 3) 3 whole refl
-      (word-passed {x = getD S (P + 3) (pos 0)} (record { sfits = w .before .word-of-arg2 .given }) (w .word-of2 .ensures))
+      number-read S P (P + 3) 3 whole refl (record { sfits = w .before .word-of-arg2 .given }) (w .word-of2 .ensures)
 
   right : Word (number S (P / 6) 1) (c .before .before .word-of3 .result)
   right =
       let w = c .before .before in
-      number-read S P (P + 1) 1 whole refl
-      (word-passed {x = getD S (P + 1) (pos 0)} (record { sfits = w .before .word-of-arg3 .given }) (w .word-of3 .ensures))
+      number-read S P (P + 1) 1 whole refl (record { sfits = w .before .word-of-arg3 .given }) (w .word-of3 .ensures)
 
   code : Word (number S (P / 6) 2) (c .word-of4 .result)
   code =
-      number-read S P (P + 2) 2 whole refl
-      (word-passed {x = getD S (P + 2) (pos 0)} (record { sfits = c .before .word-of-arg4 .given }) (c .word-of4 .ensures))
+      number-read S P (P + 2) 2 whole refl (record { sfits = c .before .word-of-arg4 .given }) (c .word-of4 .ensures)
 
 first : (c : tie.After-word-of5) → let r = c .before .before .before .before in Word (number (S r) (P r / 6) 4) (c .word-of5 .result)
 first c =
     let r = c .before .before .before .before in
-    number-read (S r) (P r) (P r + 4) 4 (whole r) refl
-    (word-passed {x = getD (S r) (P r + 4) (pos 0)} (record { sfits = c .before .word-of-arg5 .given }) (c .word-of5 .ensures))
+    number-read (S r) (P r) (P r + 4) 4 (whole r) refl (record { sfits = c .before .word-of-arg5 .given }) (c .word-of5 .ensures)
 
 count : (c : tie.After-word-of6) → let r = c .before .before .before .before .before .before .before in Word (number (S r) (P r / 6) 5) (c .word-of6 .result)
 count c =
     let r = c .before .before .before .before .before .before .before in
-    number-read (S r) (P r) (P r + 5) 5 (whole r) refl
-    (word-passed {x = getD (S r) (P r + 5) (pos 0)} (record { sfits = c .before .word-of-arg6 .given }) (c .word-of6 .ensures))
+    number-read (S r) (P r) (P r + 5) 5 (whole r) refl (record { sfits = c .before .word-of-arg6 .given }) (c .word-of6 .ensures)
 
 mul-word-of : tie.Need-mul-word-of
 mul-word-of c = search needs

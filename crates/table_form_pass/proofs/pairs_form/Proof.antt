@@ -4,13 +4,12 @@
 use mathlib.Core.Path.{_≡_, refl, sym, _∙_}
 use Prim.Native.Nat.{_+_, _-_, _/_, _%_, _≤_}
 use native.Mathlib.Omega.{arith}
-use lib.IntN.{pos}
-use lib.ListN.{length, getD}
+use lib.ListN.{length}
 use denote.Ref.{now}
 use borrow.Author.Tests.{not-true, not-false}
 use Rattle.words.specs.Words.{Word}
 use Rattle.words.proofs.Bits.{read-lt}
-use Rattle.lang.proofs.Records.{word-passed}
+use Rattle.captions.specs.Tables.{number}
 use Rattle.table_form_pass.proofs.PairReads.{number-read}
 use Rattle.table_form_pass.proofs.PassedPairs.{Passed, passes, key-small, passed-none, passed-more, passed-key, passed-pair, passed-all}
 use borrow.Author.Needs.{needs}
@@ -25,8 +24,11 @@ abbrev μ-loop : tie.MeasureT-loop
 
 -- how many ops a pair has, where it was read
 count : (c : tie.After-word-of Inv-loop μ-loop) → let l = c .before .before .before .before .before .before .before in
-    Word (getD (now (l .before .args .pairs)) (l .loop .p + 5) (pos 0)) (c .word-of .result)
-count c = word-passed (record { sfits = c .before .word-of-arg .given }) (c .word-of .ensures)
+    Word (number (now (l .before .args .pairs)) (l .loop .p / 6) 5) (c .word-of .result)
+count c =
+    let l = c .before .before .before .before .before .before .before in
+    let p = l .loop .p in
+    number-read (now (l .before .args .pairs)) p (p + 5) 5 (l .loop .inv .1) refl (record { sfits = c .before .word-of-arg .given }) (c .word-of .ensures)
 
 loop-holds : tie.Need-loop-holds Inv-loop μ-loop
 loop-holds c = (omega arith, refl, passed-none (now (c .args .pairs)) (now (c .args .ops)))
@@ -99,7 +101,7 @@ loop-again c =
       omega arith,
       rw e
           (passed-more s (now (a .ops)) (l .loop .inv .2) (k .key-in .ensures) (d .before .before .if1 .left)
-          (sym (d .before .pair-passes .ensures) ∙ not-false _ (d .if2 .left)) (number-read s p (p + 5) 5 (l .loop .inv .1) refl (count c))),
+          (sym (d .before .pair-passes .ensures) ∙ not-false _ (d .if2 .left)) (count c)),
     )
 
 returns-3 : tie.Need-returns-3 Inv-loop μ-loop

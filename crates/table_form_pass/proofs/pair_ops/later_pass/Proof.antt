@@ -23,7 +23,8 @@ abbrev μ-loop : tie.MeasureT-loop
 μ-loop ops start end i₀ i = end - i
 
 -- the numbers of an op, where they were read
-kind : (c : tie.After-word-of Inv-loop μ-loop) → let l = c .before .before .before in Word (opKind (now (l .before .args .ops)) (l .loop .i)) (c .word-of .result)
+kind : (c : tie.After-word-of Inv-loop μ-loop) → let l = c .before .before .before in
+    Word (opKind (now (l .before .args .ops)) (l .loop .i)) (c .word-of .result)
 kind c = word-passed (record { sfits = c .before .word-of-arg .given }) (c .word-of .ensures)
 
 value : (c : tie.After-word-of2 Inv-loop μ-loop) → let l = c .before .before .before .before .before in
