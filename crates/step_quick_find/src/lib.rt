@@ -2,21 +2,18 @@
 // decides. What is read is read in bounds. `found_place` is the definition of the same name in specs/Quick.antt of
 // crate step_quick.
 ghost use mathlib.Core.Path.{_≡_};
-ghost use Prim.Native.Nat.{_+_, _*_, _<_};
+ghost use Prim.Native.Nat.{_<_};
 ghost use lib.Dec.{ltb};
-ghost use lib.ListN.{length, getD};
-ghost use lib.IntN.{pos};
-ghost use Rattle.words.specs.Words.{Word};
 ghost use Rattle.captions.specs.Tables.{pairCount, leftPlace, number, keyBy, keyAt, placeFor};
 ghost use Rattle.step_quick.specs.Quick.{foundPlace};
-use words::i32s::word_at;
+use words::word_of;
 
 // The left of pair k, which is there: -1 is 0, and c is 1 + c.
 fn left_in(pairs: &[i32], k: usize) -> u32
     requires { ⌜ k < pairCount (now pairs) ⌝ }
     ensures { λ r. ⌜ r ≡ leftPlace (number (now (pairs .entry)) k 0) ⌝ }
 {
-    std::num::wrapping_add_u32(word_at(pairs, 6 * k), 1)
+    std::num::wrapping_add_u32(word_of(pairs[6 * k]), 1)
 }
 
 // Pair k, which is there, comes before a left and a right. That its right is a word is learnt by reading it, which
@@ -26,14 +23,14 @@ fn comes_before(pairs: &[i32], k: usize, left: u32, right: u32) -> bool
     ensures { λ r. ⌜ r ≡ ltb (keyAt (now (pairs .entry)) k) (keyBy left right) ⌝ }
 {
     let place = left_in(pairs, k);
-    word_at(pairs, 6 * k + 1);
+    word_of(pairs[6 * k + 1]);
     if place < left {
         return true;
     }
     if place != left {
         return false;
     }
-    word_at(pairs, 6 * k + 1) < right
+    word_of(pairs[6 * k + 1]) < right
 }
 
 // Where bisection for a left and a right ends.
@@ -63,7 +60,7 @@ pub fn found_place(pairs: &[i32], left: u32, right: u32) -> usize
     if n <= k {
         return n;
     }
-    if word_at(pairs, 6 * k + 1) != right {
+    if word_of(pairs[6 * k + 1]) != right {
         return n;
     }
     if left_in(pairs, k) != left {

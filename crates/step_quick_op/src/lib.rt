@@ -3,9 +3,7 @@
 // in specs/Quick.antt of crate step_quick.
 ghost use mathlib.Core.Path.{_≡_};
 ghost use mathlib.Core.Bool.{true};
-ghost use Prim.Native.Nat.{_-_, _+_, _*_, _≤_, _<_};
-ghost use lib.ListN.{length, getD};
-ghost use lib.IntN.{pos};
+ghost use Prim.Native.Nat.{_+_, _≤_, _<_};
 ghost use Rattle.words.specs.Words.{Word};
 ghost use Rattle.reading.specs.Items.{item};
 ghost use Rattle.captions.specs.Tables.{pairCount, opCount, number, opHolds};
@@ -22,13 +20,14 @@ use step_quick::left::has_letter;
 use step_quick::left::plain_code;
 use words::i32s::word_at;
 use words::sizes::minus;
+use words::word_of;
 
 // Number j of pair k, which is there.
 fn number_in(pairs: &[i32], k: usize, j: usize) -> u32
     requires { ⌜ (k < pairCount (now pairs)) × (j < 6) ⌝ }
     ensures { λ r. ⌜ Word (number (now (pairs .entry)) k j) r ⌝ }
 {
-    word_at(pairs, 6 * k + j)
+    word_of(pairs[6 * k + j])
 }
 
 // Pair k's last has a code and a flag, and equals the right where it is unflagged.
@@ -55,9 +54,9 @@ fn op_holds(ops: &[i32], i: usize) -> bool
     requires { ⌜ i < opCount (now ops) ⌝ }
     ensures { λ r. ⌜ r ≡ opHolds (now (ops .entry)) i ⌝ }
 {
-    let kind = word_at(ops, 2 * i);
+    let kind = word_of(ops[2 * i]);
     if kind <= 1 {
-        return word_at(ops, 2 * i + 1) <= 255;
+        return word_of(ops[2 * i + 1]) <= 255;
     }
     kind == 2
 }
@@ -70,10 +69,10 @@ fn first_plain(ops: &[i32], i: usize, n: usize) -> bool
     if n == 0 {
         return false;
     }
-    if word_at(ops, 2 * i) != 0 {
+    if word_of(ops[2 * i]) != 0 {
         return false;
     }
-    if 255 < word_at(ops, 2 * i + 1) {
+    if 255 < word_of(ops[2 * i + 1]) {
         return false;
     }
     if n == 1 {

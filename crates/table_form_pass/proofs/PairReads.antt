@@ -8,12 +8,14 @@ use lib.IntN.{ℤ, pos}
 use lib.Dec.{leb, eqb}
 use lib.ListN.{getD}
 use borrow.Author.Tests.{le-leb, lt-leb, leb-true, leb-false, eq-eqb, ne-eqb}
-use Rattle.words.specs.Words.{Word, numberOf}
+use mir.Syntax.{w32}
+use mir.Val.{ofZ, toZ, SFits}
+use Rattle.words.specs.Words.{Word, wordOf, numberOf}
 use Rattle.words.proofs.Bits.{number-is}
 use Rattle.lang.specs.Every.{both}
 use Rattle.lang.specs.Records.{within, absentOr}
 use Rattle.lang.proofs.Every.{both-true, both-false}
-use Rattle.lang.proofs.Records.{within-read, absent-within, absent-past}
+use Rattle.lang.proofs.Records.{word-passed, within-read, absent-within, absent-past}
 use Rattle.reading.specs.Items.{item}
 use Rattle.fonts.specs.Fonts.{leftOf}
 use Rattle.captions.specs.Tables.{opCount, number, leftPlace, keyAt, firstOp, countOf, lastCode, lastFlag}
@@ -21,9 +23,10 @@ use Rattle.table_numbers.specs.Parts.{lastFits}
 use Rattle.table_numbers.proofs.Records.{both-assoc}
 use Rattle.table_form_pass.specs.Parts.{opsPass, OpsPass, leftBy, codesForm, pairPasses}
 
--- number j of the pair at number p
-pub number-read : (pairs : List ℤ) (p i j : ℕ) {w : ℕ} → p % 6 ≡ 0 → i ≡ p + j → Word (getD pairs i (pos 0)) w → Word (number pairs (p / 6) j) w
-number-read pairs p i j h e q = let d : 6 * (p / 6) + j ≡ i = omega arith in rw d q
+-- number j of the pair at number p, where it was read
+pub number-read : (pairs : List ℤ) (p i j : ℕ) {w : ℕ} → p % 6 ≡ 0 → i ≡ p + j → SFits w32 (getD pairs i (pos 0)) →
+    w ≡ wordOf (toZ w32 (ofZ w32 (getD pairs i (pos 0)))) → Word (number pairs (p / 6) j) w
+number-read pairs p i j h e f q = let d : 6 * (p / 6) + j ≡ i = omega arith in rw d (word-passed f q)
 
 pub key-read : (pairs : List ℤ) (k : ℕ) {left right place : ℕ} → Word (number pairs k 0) left → Word (number pairs k 1) right →
     place ≡ (left + 1) % 4294967296 → 4294967296 * place + right ≡ keyAt pairs k

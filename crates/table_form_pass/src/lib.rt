@@ -9,7 +9,7 @@ ghost use Rattle.captions.specs.Form.{sizesForm, tableForm};
 ghost use Rattle.table_form_pass.specs.Parts.{codesForm, pairPasses, contentForm};
 use pair_ops::ops_pass;
 use table_find::left_place;
-use words::i32s::word_at;
+use words::word_of;
 
 mod pair_ops;
 
@@ -35,8 +35,8 @@ fn key_in(pairs: &[i32], p: usize) -> u64
     requires { ⌜ (p + 5 < length (now pairs)) × (p % 6 ≡ 0) ⌝ }
     ensures { λ r. ⌜ r ≡ keyAt (now (pairs .entry)) (p / 6) ⌝ }
 {
-    let place = left_place(word_at(pairs, p)) as u64;
-    4294967296 * place + (word_at(pairs, p + 1) as u64)
+    let place = left_place(word_of(pairs[p])) as u64;
+    4294967296 * place + (word_of(pairs[p + 1]) as u64)
 }
 
 // The pair at number p is of the form but for the order, if the ops of the pair before it end at op at; and its ops
@@ -46,15 +46,15 @@ fn pair_passes(pairs: &[i32], ops: &[i32], p: usize, at: usize) -> bool
     requires { ⌜ at ≤ opCount (now ops) ⌝ }
     ensures { λ r. ⌜ r ≡ pairPasses (now (pairs .entry)) (now (ops .entry)) (p / 6) at ⌝ }
 {
-    let left = word_at(pairs, p);
-    let flag = word_at(pairs, p + 3);
-    if !codes_form(left, word_at(pairs, p + 1), word_at(pairs, p + 2), flag) {
+    let left = word_of(pairs[p]);
+    let flag = word_of(pairs[p + 3]);
+    if !codes_form(left, word_of(pairs[p + 1]), word_of(pairs[p + 2]), flag) {
         return false;
     }
-    if word_at(pairs, p + 4) as usize != at {
+    if word_of(pairs[p + 4]) as usize != at {
         return false;
     }
-    let end = at + (word_at(pairs, p + 5) as usize);
+    let end = at + (word_of(pairs[p + 5]) as usize);
     if ops.len() / 2 < end {
         return false;
     }
@@ -79,7 +79,7 @@ fn pairs_form(pairs: &[i32], ops: &[i32]) -> bool
             return false;
         }
         least = key + 1;
-        at = at + (word_at(pairs, p + 5) as usize);
+        at = at + (word_of(pairs[p + 5]) as usize);
         p += 6;
     }
     at == ops.len() / 2

@@ -1,14 +1,11 @@
 // The ops of one pair: what every op must hold, and the form that they have with the pair's left and last. Lefts, kinds
 // and values are given by their 32 bits.
 ghost use mathlib.Core.Path.{_≡_};
-ghost use Prim.Native.Nat.{_<_, _≤_};
-ghost use lib.ListN.{length, getD};
-ghost use lib.IntN.{pos};
+ghost use Prim.Native.Nat.{_≤_};
 ghost use lib.Dec.{eqb};
-ghost use Rattle.words.specs.Words.{Word};
 ghost use Rattle.captions.specs.Tables.{opCount};
 ghost use Rattle.table_form_pass.specs.Parts.{leftBy, opPasses, OpsPass, LaterPass};
-use words::i32s::word_at;
+use words::word_of;
 
 // An op is a kern, a ligature, or the left as it stands, which is a character.
 fn op_passes(left: u32, kind: u32, value: u32) -> bool
@@ -31,7 +28,7 @@ fn later_pass(ops: &[i32], start: usize, end: usize) -> bool
 {
     let mut i = start;
     while i < end {
-        if !op_passes(4294967295, word_at(ops, 2 * i), word_at(ops, 2 * i + 1)) {
+        if !op_passes(4294967295, word_of(ops[2 * i]), word_of(ops[2 * i + 1])) {
             return false;
         }
         i += 1;
@@ -47,9 +44,9 @@ fn all_pass(ops: &[i32], left: u32, flag: u32, start: usize, end: usize) -> bool
 {
     let mut i = start;
     while i < end {
-        let kind = word_at(ops, 2 * i);
+        let kind = word_of(ops[2 * i]);
         if kind != 2 {
-            if !op_passes(left, kind, word_at(ops, 2 * i + 1)) {
+            if !op_passes(left, kind, word_of(ops[2 * i + 1])) {
                 return false;
             }
             return later_pass(ops, i + 1, end);
@@ -65,9 +62,9 @@ pub(crate) fn ops_pass(ops: &[i32], left: u32, flag: u32, start: usize, end: usi
     ensures { λ r. ⌜ OpsPass (now (ops .entry)) (leftBy left) (eqb flag 1) start end r ⌝ }
 {
     if end - start == 2 {
-        if word_at(ops, 2 * start) == 0 {
-            if word_at(ops, 2 * (start + 1)) == 2 {
-                return op_passes(left, 0, word_at(ops, 2 * start + 1));
+        if word_of(ops[2 * start]) == 0 {
+            if word_of(ops[2 * (start + 1)]) == 2 {
+                return op_passes(left, 0, word_of(ops[2 * start + 1]));
             }
         }
     }

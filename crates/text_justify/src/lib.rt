@@ -1,17 +1,16 @@
 // Numbers of a list in fields of 12 columns, right-justified (R186), one after the other: blanks, and the numbers over
 // them.
 ghost use mathlib.Core.Path.{_≡_};
-ghost use Prim.Native.Nat.{_+_, _<_, _≤_};
-ghost use lib.IntN.{pos};
-ghost use lib.ListN.{length, getD};
+ghost use Prim.Native.Nat.{_+_, _≤_};
+ghost use lib.ListN.{length};
 ghost use lib.Seq.{sets};
-ghost use Rattle.words.specs.Words.{Word};
 ghost use Rattle.columns.specs.Lines.{fieldsOf};
 ghost use Rattle.text_justify.specs.InFields.{numbersFrom, fiveFrom, fieldsFit, fieldsWhere};
 use crate::number::put_blanks;
 use crate::number::put_character;
 use crate::number::put_number;
 use words::i32s::word_at;
+use words::word_of;
 
 mod number;
 
@@ -58,11 +57,11 @@ fn put_five(pairs: &[i32], first: usize, out: &mut [u8], at: usize)
         (fieldsOf (fiveFrom (now (pairs .entry)) first)) ⌝ }
 {
     put_blanks(out, at, 60);
-    put_character(out, at, word_at(pairs, first));
-    put_character(out, at + 12, word_at(pairs, first + 1));
-    put_character(out, at + 24, word_at(pairs, first + 2));
-    put_number(out, at + 36, word_at(pairs, first + 3));
-    put_number(out, at + 48, word_at(pairs, first + 5));
+    put_character(out, at, word_of(pairs[first]));
+    put_character(out, at + 12, word_of(pairs[first + 1]));
+    put_character(out, at + 24, word_of(pairs[first + 2]));
+    put_number(out, at + 36, word_of(pairs[first + 3]));
+    put_number(out, at + 48, word_of(pairs[first + 5]));
 }
 
 // The same, wherever the list ends. Fields that are not taken are not written.

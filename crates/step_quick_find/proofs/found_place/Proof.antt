@@ -4,8 +4,9 @@ use mathlib.Core.Path.{refl, sym, ap, _∙_}
 use Prim.Native.Nat.{ℕ}
 use native.Mathlib.Omega.{arith}
 use denote.Ref.{now}
-use Rattle.words.specs.Words.{wordOf}
+use Rattle.words.specs.Words.{Word, wordOf}
 use Rattle.words.proofs.Bits.{read-lt}
+use Rattle.lang.proofs.Records.{word-passed}
 use Rattle.captions.specs.Tables.{pairCount, number, keyBy}
 use Rattle.step_quick_find.proofs.Laws.{none-past, none-other, found-there}
 use borrow.Author.Needs.{needs}
@@ -21,44 +22,60 @@ returns c =
     let p = c .before .place-for in
     none-past (now (a .pairs)) (a .left) (a .right) (pairCount (now (a .pairs))) (p .result) refl (p .ensures) (c .if1 .taken)
 
-mul-word-at : tie.Need-mul-word-at
-mul-word-at c = omega arith
+mul-word-of : tie.Need-mul-word-of
+mul-word-of c = omega arith
 
-add-word-at : tie.Need-add-word-at
-add-word-at c = omega arith
+add-word-of : tie.Need-add-word-of
+add-word-of c = omega arith
 
-word-at-requires : tie.Need-word-at-requires
-word-at-requires c κs = omega arith
+mul-word-of-2 : tie.Need-mul-word-of-2
+mul-word-of-2 c = search needs
+
+shared-slice-copy-out-word-of : tie.Need-shared-slice-copy-out-word-of
+shared-slice-copy-out-word-of c = omega arith
+
+word-of-requires : tie.Need-word-of-requires
+word-of-requires c κs = search needs
+
+-- the right of the pair where the search ends, where it was read
+right-read : (c : tie.After-word-of) → let p = c .before .before .before in
+    Word (number (now (p .before .args .pairs)) (p .place-for .result) 1) (c .word-of .result)
+right-read c = word-passed (record { sfits = c .before .word-of-arg .given }) (c .word-of .ensures)
 
 returns-2 : tie.Need-returns-2
 returns-2 c =
-    let a = c .before .before .before .before .args in
-    let p = c .before .before .before .place-for in
-    let w = c .before .word-at in
-    none-other (now (a .pairs)) (a .left) (a .right) (p .result) (p .ensures) (c .before .before .if1 .left) (pairCount (now (a .pairs))) refl
-    (λ e. c .if2 .taken (omega (arith, e, w .ensures .is, read-lt (w .ensures))))
+    let w = c .before in
+    let p = w .before .before .before .place-for in
+    let a = w .before .before .before .before .args in
+    let q = right-read w in
+    none-other (now (a .pairs)) (a .left) (a .right) (p .result) (p .ensures) (w .before .before .if1 .left) (pairCount (now (a .pairs))) refl
+    (λ e. c .if2 .taken (omega (arith, e, q .is, read-lt q)))
 
 left-in-requires : tie.Need-left-in-requires
 left-in-requires c κs = omega arith
 
 returns-3 : tie.Need-returns-3
 returns-3 c =
-    let a = c .before .before .before .before .before .before .args in
-    let p = c .before .before .before .before .before .place-for in
-    let w = c .before .before .before .word-at in
     let l = c .before .left-in in
-    none-other (now (a .pairs)) (a .left) (a .right) (p .result) (p .ensures) (c .before .before .before .before .if1 .left) (pairCount (now (a .pairs))) refl
-    (λ e. c .if3 .taken (omega (arith, e, l .ensures, w .ensures .is, c .before .before .if2 .left)))
+    let t = c .before .before in
+    let w = t .before in
+    let p = w .before .before .before .place-for in
+    let a = w .before .before .before .before .args in
+    let q = right-read w in
+    none-other (now (a .pairs)) (a .left) (a .right) (p .result) (p .ensures) (w .before .before .if1 .left) (pairCount (now (a .pairs))) refl
+    (λ e. c .if3 .taken (omega (arith, e, l .ensures, q .is, t .if2 .left)))
 
 returns-4 : tie.Need-returns-4
 returns-4 c =
-    let a = c .before .before .before .before .before .before .args in
-    let p = c .before .before .before .before .before .place-for in
-    let w = c .before .before .before .word-at in
     let l = c .before .left-in in
-    found-there (now (a .pairs)) (a .left) (a .right) (p .result) (p .ensures) (c .before .before .before .before .if1 .left)
+    let t = c .before .before in
+    let w = t .before in
+    let p = w .before .before .before .place-for in
+    let a = w .before .before .before .before .args in
+    let q = right-read w in
+    found-there (now (a .pairs)) (a .left) (a .right) (p .result) (p .ensures) (w .before .before .if1 .left)
     (ap (λ (i : ℕ). keyBy i (wordOf (number (now (a .pairs)) (p .result) 1))) (sym (l .ensures) ∙ c .if3 .left)
-    ∙ ap (keyBy (a .left)) (sym (w .ensures .is) ∙ c .before .before .if2 .left))
+    ∙ ap (keyBy (a .left)) (sym (q .is) ∙ t .if2 .left))
 
 pub found-place-spec : {M : Type 1} → statement M
 found-place-spec =
@@ -66,9 +83,11 @@ found-place-spec =
     (tie.spec
     place-for-requires
     returns
-    mul-word-at
-    add-word-at
-    word-at-requires
+    mul-word-of
+    add-word-of
+    mul-word-of-2
+    shared-slice-copy-out-word-of
+    word-of-requires
     returns-2
     left-in-requires
     returns-3

@@ -9,8 +9,14 @@ use borrow.Author.Needs.{needs}
 use Rattle.table_form_pass.proofs.key_in.Statement.{statement}
 use Rattle.table_form_pass.proofs.key_in.Tie as tie
 
-word-at-requires : tie.Need-word-at-requires
-word-at-requires c κs = search needs
+mul-word-of : tie.Need-mul-word-of
+mul-word-of c = search needs
+
+shared-slice-copy-out-word-of : tie.Need-shared-slice-copy-out-word-of
+shared-slice-copy-out-word-of c = search needs
+
+word-of-requires : tie.Need-word-of-requires
+word-of-requires c κs = search needs
 
 left-place-requires : tie.Need-left-place-requires
 left-place-requires c κs = search needs
@@ -21,11 +27,17 @@ cast-place c = search needs
 mul-result : tie.Need-mul-result
 mul-result c = search needs
 
-add-word-at : tie.Need-add-word-at
-add-word-at c = search needs
+add-word-of : tie.Need-add-word-of
+add-word-of c = search needs
 
-word-at-requires-2 : tie.Need-word-at-requires-2
-word-at-requires-2 c κs = search needs
+mul-word-of-2 : tie.Need-mul-word-of-2
+mul-word-of-2 c = search needs
+
+shared-slice-copy-out-word-of-2 : tie.Need-shared-slice-copy-out-word-of-2
+shared-slice-copy-out-word-of-2 c = search needs
+
+word-of-requires-2 : tie.Need-word-of-requires-2
+word-of-requires-2 c κs = search needs
 
 cast-result : tie.Need-cast-result
 cast-result c = search needs
@@ -35,22 +47,30 @@ add-result c = search needs
 
 returns : tie.Need-returns
 returns c =
-    let l = c .before .before in
-    let a = l .before .args in
-    let s = now (a .pairs) in
-    key-read s (a .p / 6) (number-read s (a .p) (a .p) 0 (l .before .pre .1) (omega arith) (l .word-at .ensures))
-    (number-read s (a .p) (a .p + 1) 1 (l .before .pre .1) refl (c .word-at2 .ensures)) (c .before .left-place .ensures)
+    let p = c .before .before in
+    let l = p .before in
+    let a = l .before .before in
+    let s = now (a .args .pairs) in
+    let i = a .args .p in
+    key-read s (i / 6)
+    (number-read s i i 0 (a .pre .1) (omega arith) (record { sfits = l .before .word-of-arg .given }) (l .word-of .ensures))
+    (number-read s i (i + 1) 1 (a .pre .1) refl (record { sfits = c .before .word-of-arg2 .given }) (c .word-of2 .ensures))
+    (p .left-place .ensures)
 
 pub key-in-spec : {M : Type 1} → statement M
 key-in-spec =
     tie.close
     (tie.spec
-    word-at-requires
+    mul-word-of
+    shared-slice-copy-out-word-of
+    word-of-requires
     left-place-requires
     cast-place
     mul-result
-    add-word-at
-    word-at-requires-2
+    add-word-of
+    mul-word-of-2
+    shared-slice-copy-out-word-of-2
+    word-of-requires-2
     cast-result
     add-result
     returns)

@@ -1,8 +1,8 @@
 -- `table_form_pass::pair_passes` meets its contract: each return by the tests that lead to it.
 -- Assumes nothing.
-use mathlib.Core.Path.{refl, sym, _∙_}
+use mathlib.Core.Path.{_≡_, refl, sym, _∙_}
 use mathlib.Core.List.{List}
-use Prim.Native.Nat.{ℕ, _+_, _/_}
+use Prim.Native.Nat.{ℕ, _+_, _/_, _%_}
 use native.Mathlib.Omega.{arith}
 use lib.IntN.{ℤ}
 use denote.Ref.{now}
@@ -15,58 +15,89 @@ use Rattle.table_form_pass.proofs.pair_passes.Statement.{statement}
 use Rattle.table_form_pass.proofs.pair_passes.Tie as tie
 
 -- the words of left, right, last code and last flag, and those of first op and op count
-module _ (c : tie.After-word-at4) where
+module _ (c : tie.After-word-of4) where
   abbrev S : List ℤ
-  S = now (c .before .before .before .before .args .pairs)
+  S = now (c .before .before .before .before .before .before .before .before .args .pairs)
 
-  abbrev K : ℕ
-  K = c .before .before .before .before .args .p / 6
+  abbrev P : ℕ
+  P = c .before .before .before .before .before .before .before .before .args .p
 
-  left : Word (number S K 0) (c .before .before .before .word-at .result)
+  whole : P % 6 ≡ 0
+  whole = c .before .before .before .before .before .before .before .before .pre .0 .1
+
+  left : Word (number S (P / 6) 0) (c .before .before .before .before .before .before .word-of .result)
   left =
-      let a = c .before .before .before .before in
-      number-read S (a .args .p) (a .args .p) 0 (a .pre .0 .1) (omega arith) (c .before .before .before .word-at .ensures)
+      let w = c .before .before .before .before .before .before in
+      number-read S P P 0 whole (omega arith) (record { sfits = w .before .word-of-arg .given }) (w .word-of .ensures)
 
-  flag : Word (number S K 3) (c .before .before .word-at2 .result)
-  flag = let a = c .before .before .before .before in number-read S (a .args .p) (a .args .p + 3) 3 (a .pre .0 .1) refl (c .before .before .word-at2 .ensures)
+  flag : Word (number S (P / 6) 3) (c .before .before .before .before .word-of2 .result)
+  flag =
+      let w = c .before .before .before .before in
+      number-read S P (P + 3) 3 whole refl (record { sfits = w .before .word-of-arg2 .given }) (w .word-of2 .ensures)
 
-  right : Word (number S K 1) (c .before .word-at3 .result)
-  right = let a = c .before .before .before .before in number-read S (a .args .p) (a .args .p + 1) 1 (a .pre .0 .1) refl (c .before .word-at3 .ensures)
+  right : Word (number S (P / 6) 1) (c .before .before .word-of3 .result)
+  right =
+      let w = c .before .before in
+      number-read S P (P + 1) 1 whole refl (record { sfits = w .before .word-of-arg3 .given }) (w .word-of3 .ensures)
 
-  code : Word (number S K 2) (c .word-at4 .result)
-  code = let a = c .before .before .before .before in number-read S (a .args .p) (a .args .p + 2) 2 (a .pre .0 .1) refl (c .word-at4 .ensures)
+  code : Word (number S (P / 6) 2) (c .word-of4 .result)
+  code =
+      number-read S P (P + 2) 2 whole refl (record { sfits = c .before .word-of-arg4 .given }) (c .word-of4 .ensures)
 
-first : (c : tie.After-word-at5) → Word (number (S (c .before .before .before)) (K (c .before .before .before)) 4) (c .word-at5 .result)
+first : (c : tie.After-word-of5) → let r = c .before .before .before .before in Word (number (S r) (P r / 6) 4) (c .word-of5 .result)
 first c =
-    let a = c .before .before .before .before .before .before .before in
-    number-read (now (a .args .pairs)) (a .args .p) (a .args .p + 4) 4 (a .pre .0 .1) refl (c .word-at5 .ensures)
+    let r = c .before .before .before .before in
+    number-read (S r) (P r) (P r + 4) 4 (whole r) refl (record { sfits = c .before .word-of-arg5 .given }) (c .word-of5 .ensures)
 
-count : (c : tie.After-word-at6) →
-    Word (number (S (c .before .before .before .before .before)) (K (c .before .before .before .before .before)) 5) (c .word-at6 .result)
+count : (c : tie.After-word-of6) → let r = c .before .before .before .before .before .before .before in Word (number (S r) (P r / 6) 5) (c .word-of6 .result)
 count c =
-    let a = c .before .before .before .before .before .before .before .before .before in
-    number-read (now (a .args .pairs)) (a .args .p) (a .args .p + 5) 5 (a .pre .0 .1) refl (c .word-at6 .ensures)
+    let r = c .before .before .before .before .before .before .before in
+    number-read (S r) (P r) (P r + 5) 5 (whole r) refl (record { sfits = c .before .word-of-arg6 .given }) (c .word-of6 .ensures)
 
-word-at-requires : tie.Need-word-at-requires
-word-at-requires c κs = search needs
+mul-word-of : tie.Need-mul-word-of
+mul-word-of c = search needs
 
-add-word-at : tie.Need-add-word-at
-add-word-at c = search needs
+shared-slice-copy-out-word-of : tie.Need-shared-slice-copy-out-word-of
+shared-slice-copy-out-word-of c = search needs
 
-word-at-requires-2 : tie.Need-word-at-requires-2
-word-at-requires-2 c κs = search needs
+word-of-requires : tie.Need-word-of-requires
+word-of-requires c κs = search needs
 
-add-word-at-2 : tie.Need-add-word-at-2
-add-word-at-2 c = search needs
+add-word-of : tie.Need-add-word-of
+add-word-of c = search needs
 
-word-at-requires-3 : tie.Need-word-at-requires-3
-word-at-requires-3 c κs = search needs
+mul-word-of-2 : tie.Need-mul-word-of-2
+mul-word-of-2 c = search needs
 
-add-word-at-3 : tie.Need-add-word-at-3
-add-word-at-3 c = search needs
+shared-slice-copy-out-word-of-2 : tie.Need-shared-slice-copy-out-word-of-2
+shared-slice-copy-out-word-of-2 c = search needs
 
-word-at-requires-4 : tie.Need-word-at-requires-4
-word-at-requires-4 c κs = search needs
+word-of-requires-2 : tie.Need-word-of-requires-2
+word-of-requires-2 c κs = search needs
+
+add-word-of-2 : tie.Need-add-word-of-2
+add-word-of-2 c = search needs
+
+mul-word-of-3 : tie.Need-mul-word-of-3
+mul-word-of-3 c = search needs
+
+shared-slice-copy-out-word-of-3 : tie.Need-shared-slice-copy-out-word-of-3
+shared-slice-copy-out-word-of-3 c = search needs
+
+word-of-requires-3 : tie.Need-word-of-requires-3
+word-of-requires-3 c κs = search needs
+
+add-word-of-3 : tie.Need-add-word-of-3
+add-word-of-3 c = search needs
+
+mul-word-of-4 : tie.Need-mul-word-of-4
+mul-word-of-4 c = search needs
+
+shared-slice-copy-out-word-of-4 : tie.Need-shared-slice-copy-out-word-of-4
+shared-slice-copy-out-word-of-4 c = search needs
+
+word-of-requires-4 : tie.Need-word-of-requires-4
+word-of-requires-4 c κs = search needs
 
 codes-form-requires : tie.Need-codes-form-requires
 codes-form-requires c κs = search needs
@@ -74,32 +105,44 @@ codes-form-requires c κs = search needs
 returns : tie.Need-returns
 returns c =
     let r = c .before .before in
-    let a = r .before .before .before .before .args in
+    let a = r .before .before .before .before .before .before .before .before .args in
     pair-codes (now (a .pairs)) (now (a .ops)) (a .p / 6) (a .at) (left r) (right r) (code r) (flag r)
     (sym (c .before .codes-form .ensures) ∙ not-true _ (c .if1 .taken))
 
-add-word-at-4 : tie.Need-add-word-at-4
-add-word-at-4 c = search needs
+add-word-of-4 : tie.Need-add-word-of-4
+add-word-of-4 c = search needs
 
-word-at-requires-5 : tie.Need-word-at-requires-5
-word-at-requires-5 c κs = search needs
+mul-word-of-5 : tie.Need-mul-word-of-5
+mul-word-of-5 c = search needs
+
+shared-slice-copy-out-word-of-5 : tie.Need-shared-slice-copy-out-word-of-5
+shared-slice-copy-out-word-of-5 c = search needs
+
+word-of-requires-5 : tie.Need-word-of-requires-5
+word-of-requires-5 c κs = search needs
 
 cast-if2 : tie.Need-cast-if2
 cast-if2 c = search needs
 
 returns-2 : tie.Need-returns-2
 returns-2 c =
-    let d = c .before .before in
+    let d = c .before .before .before in
     let r = d .before .before in
-    let a = r .before .before .before .before .args in
+    let a = r .before .before .before .before .before .before .before .before .args in
     pair-gap (now (a .pairs)) (now (a .ops)) (a .p / 6) (a .at) (left r) (right r) (code r) (flag r)
     (sym (d .before .codes-form .ensures) ∙ not-false _ (d .if1 .left)) (first (c .before)) (c .if2 .taken)
 
-add-word-at-5 : tie.Need-add-word-at-5
-add-word-at-5 c = search needs
+add-word-of-5 : tie.Need-add-word-of-5
+add-word-of-5 c = search needs
 
-word-at-requires-6 : tie.Need-word-at-requires-6
-word-at-requires-6 c κs = search needs
+mul-word-of-6 : tie.Need-mul-word-of-6
+mul-word-of-6 c = search needs
+
+shared-slice-copy-out-word-of-6 : tie.Need-shared-slice-copy-out-word-of-6
+shared-slice-copy-out-word-of-6 c = search needs
+
+word-of-requires-6 : tie.Need-word-of-requires-6
+word-of-requires-6 c κs = search needs
 
 cast-end : tie.Need-cast-end
 cast-end c = search needs
@@ -109,10 +152,10 @@ add-end c = search needs
 
 returns-3 : tie.Need-returns-3
 returns-3 c =
-    let g = c .before .before in
-    let d = g .before .before in
+    let g = c .before .before .before in
+    let d = g .before .before .before in
     let r = d .before .before in
-    let a = r .before .before .before .before .args in
+    let a = r .before .before .before .before .before .before .before .before .args in
     pair-over (now (a .pairs)) (now (a .ops)) (a .p / 6) (a .at) (left r) (right r) (code r) (flag r)
     (sym (d .before .codes-form .ensures) ∙ not-false _ (d .if1 .left)) (first (g .before)) (g .if2 .left) (count (c .before)) (c .if3 .taken)
 
@@ -122,10 +165,10 @@ ops-pass-requires c κs = search needs
 returns-4 : tie.Need-returns-4
 returns-4 c =
     let e = c .before in
-    let g = e .before .before in
-    let d = g .before .before in
+    let g = e .before .before .before in
+    let d = g .before .before .before in
     let r = d .before .before in
-    let a = r .before .before .before .before .args in
+    let a = r .before .before .before .before .before .before .before .before .args in
     pair-ops (now (a .pairs)) (now (a .ops)) (a .p / 6) (a .at) (left r) (right r) (code r) (flag r)
     (sym (d .before .codes-form .ensures) ∙ not-false _ (d .if1 .left)) (first (g .before)) (g .if2 .left) (count (e .before)) (e .if3 .left)
     (c .ops-pass .ensures)
@@ -134,21 +177,33 @@ pub pair-passes-spec : {M : Type 1} → statement M
 pair-passes-spec =
     tie.close
     (tie.spec
-    word-at-requires
-    add-word-at
-    word-at-requires-2
-    add-word-at-2
-    word-at-requires-3
-    add-word-at-3
-    word-at-requires-4
+    mul-word-of
+    shared-slice-copy-out-word-of
+    word-of-requires
+    add-word-of
+    mul-word-of-2
+    shared-slice-copy-out-word-of-2
+    word-of-requires-2
+    add-word-of-2
+    mul-word-of-3
+    shared-slice-copy-out-word-of-3
+    word-of-requires-3
+    add-word-of-3
+    mul-word-of-4
+    shared-slice-copy-out-word-of-4
+    word-of-requires-4
     codes-form-requires
     returns
-    add-word-at-4
-    word-at-requires-5
+    add-word-of-4
+    mul-word-of-5
+    shared-slice-copy-out-word-of-5
+    word-of-requires-5
     cast-if2
     returns-2
-    add-word-at-5
-    word-at-requires-6
+    add-word-of-5
+    mul-word-of-6
+    shared-slice-copy-out-word-of-6
+    word-of-requires-6
     cast-end
     add-end
     returns-3

@@ -7,9 +7,12 @@ use native.Mathlib.Omega.{arith}
 use lib.ListN.{length}
 use denote.Ref.{now}
 use borrow.Author.Tests.{not-true, not-false}
+use Rattle.words.specs.Words.{Word}
 use Rattle.words.proofs.Bits.{read-lt}
+use Rattle.captions.specs.Tables.{number}
 use Rattle.table_form_pass.proofs.PairReads.{number-read}
 use Rattle.table_form_pass.proofs.PassedPairs.{Passed, passes, key-small, passed-none, passed-more, passed-key, passed-pair, passed-all}
+use borrow.Author.Needs.{needs}
 use Rattle.table_form_pass.proofs.pairs_form.Statement.{statement}
 use Rattle.table_form_pass.proofs.pairs_form.Tie as tie
 
@@ -18,6 +21,14 @@ Inv-loop pairs ops least₀ at₀ p₀ least at p = (p ≤ length pairs) × (p %
 
 abbrev μ-loop : tie.MeasureT-loop
 μ-loop pairs ops least₀ at₀ p₀ least at p = length pairs - p
+
+-- how many ops a pair has, where it was read
+count : (c : tie.After-word-of Inv-loop μ-loop) → let l = c .before .before .before .before .before .before .before in
+    Word (number (now (l .before .args .pairs)) (l .loop .p / 6) 5) (c .word-of .result)
+count c =
+    let l = c .before .before .before .before .before .before .before in
+    let p = l .loop .p in
+    number-read (now (l .before .args .pairs)) p (p + 5) 5 (l .loop .inv .1) refl (record { sfits = c .before .word-of-arg .given }) (c .word-of .ensures)
 
 loop-holds : tie.Need-loop-holds Inv-loop μ-loop
 loop-holds c = (omega arith, refl, passed-none (now (c .args .pairs)) (now (c .args .ops)))
@@ -53,17 +64,23 @@ add-least c =
           (passes (now (a .pairs)) (now (a .ops)) (l .loop .p / 6) (l .loop .at) (sym (c .before .pair-passes .ensures) ∙ not-false _ (c .if2 .left))),
     )
 
-add-word-at : tie.Need-add-word-at Inv-loop μ-loop
-add-word-at c = omega arith
+add-word-of : tie.Need-add-word-of Inv-loop μ-loop
+add-word-of c = omega arith
 
-word-at-requires : tie.Need-word-at-requires Inv-loop μ-loop
-word-at-requires c κs = omega arith
+mul-word-of : tie.Need-mul-word-of Inv-loop μ-loop
+mul-word-of c = search needs
+
+shared-slice-copy-out-word-of : tie.Need-shared-slice-copy-out-word-of Inv-loop μ-loop
+shared-slice-copy-out-word-of c = omega arith
+
+word-of-requires : tie.Need-word-of-requires Inv-loop μ-loop
+word-of-requires c κs = search needs
 
 cast-at : tie.Need-cast-at Inv-loop μ-loop
-cast-at c = omega (arith, read-lt (c .word-at .ensures))
+cast-at c = omega (arith, read-lt (count c))
 
 add-at : tie.Need-add-at Inv-loop μ-loop
-add-at c = omega (arith, read-lt (c .word-at .ensures))
+add-at c = omega (arith, read-lt (count c))
 
 add-p : tie.Need-add-p Inv-loop μ-loop
 add-p c = omega arith
@@ -73,7 +90,7 @@ loop-less c = omega arith
 
 loop-again : tie.Need-loop-again Inv-loop μ-loop
 loop-again c =
-    let d = c .before in
+    let d = c .before .before in
     let k = d .before .before .before in
     let l = k .before .before in
     let a = l .before .args in
@@ -84,7 +101,7 @@ loop-again c =
       omega arith,
       rw e
           (passed-more s (now (a .ops)) (l .loop .inv .2) (k .key-in .ensures) (d .before .before .if1 .left)
-          (sym (d .before .pair-passes .ensures) ∙ not-false _ (d .if2 .left)) (number-read s p (p + 5) 5 (l .loop .inv .1) refl (c .word-at .ensures))),
+          (sym (d .before .pair-passes .ensures) ∙ not-false _ (d .if2 .left)) (count c)),
     )
 
 returns-3 : tie.Need-returns-3 Inv-loop μ-loop
@@ -105,8 +122,10 @@ pairs-form-spec =
     pair-passes-requires
     returns-2
     add-least
-    add-word-at
-    word-at-requires
+    add-word-of
+    mul-word-of
+    shared-slice-copy-out-word-of
+    word-of-requires
     cast-at
     add-at
     add-p

@@ -7,7 +7,10 @@ use native.Mathlib.Omega.{arith}
 use lib.Dec.{eqb}
 use denote.Ref.{now}
 use borrow.Author.Tests.{eq-eqb, not-true, not-false}
+use Rattle.words.specs.Words.{Word}
+use Rattle.lang.proofs.Records.{word-passed}
 use Rattle.reading.specs.Items.{Item, item}
+use Rattle.captions.specs.Tables.{opKind, opValue}
 use Rattle.table_form_pass.specs.Parts.{leftBy, opsPass}
 use Rattle.table_form_pass.proofs.PairOps.{takes-none, takes-char, none-pass, pass-kern, pass-character}
 use borrow.Author.Needs.{needs}
@@ -20,23 +23,44 @@ Inv-loop ops left flag start end i₀ i = (x : Item) → opsPass ops (leftBy lef
 abbrev μ-loop : tie.MeasureT-loop
 μ-loop ops left flag start end i₀ i = end - i
 
+-- the numbers of an op, where they were read
+kind : (c : tie.After-word-of Inv-loop μ-loop) → let l = c .before .before .before in
+    Word (opKind (now (l .before .args .ops)) (l .loop .i)) (c .word-of .result)
+kind c = word-passed (record { sfits = c .before .word-of-arg .given }) (c .word-of .ensures)
+
+value : (c : tie.After-word-of2 Inv-loop μ-loop) → let l = c .before .before .before .before .before .before in
+    Word (opValue (now (l .before .args .ops)) (l .loop .i)) (c .word-of2 .result)
+value c = word-passed (record { sfits = c .before .word-of-arg2 .given }) (c .word-of2 .ensures)
+
 loop-holds : tie.Need-loop-holds Inv-loop μ-loop
 loop-holds c = λ x. refl
 
-mul-word-at : tie.Need-mul-word-at Inv-loop μ-loop
-mul-word-at c = omega arith
+mul-word-of : tie.Need-mul-word-of Inv-loop μ-loop
+mul-word-of c = omega arith
 
-word-at-requires : tie.Need-word-at-requires Inv-loop μ-loop
-word-at-requires c κs = omega arith
+mul-word-of-2 : tie.Need-mul-word-of-2 Inv-loop μ-loop
+mul-word-of-2 c = search needs
 
-mul-word-at-2 : tie.Need-mul-word-at-2 Inv-loop μ-loop
-mul-word-at-2 c = omega arith
+shared-slice-copy-out-word-of : tie.Need-shared-slice-copy-out-word-of Inv-loop μ-loop
+shared-slice-copy-out-word-of c = omega arith
 
-add-word-at : tie.Need-add-word-at Inv-loop μ-loop
-add-word-at c = omega arith
+word-of-requires : tie.Need-word-of-requires Inv-loop μ-loop
+word-of-requires c κs = search needs
 
-word-at-requires-2 : tie.Need-word-at-requires-2 Inv-loop μ-loop
-word-at-requires-2 c κs = omega arith
+mul-word-of-3 : tie.Need-mul-word-of-3 Inv-loop μ-loop
+mul-word-of-3 c = omega arith
+
+add-word-of : tie.Need-add-word-of Inv-loop μ-loop
+add-word-of c = omega arith
+
+mul-word-of-4 : tie.Need-mul-word-of-4 Inv-loop μ-loop
+mul-word-of-4 c = search needs
+
+shared-slice-copy-out-word-of-2 : tie.Need-shared-slice-copy-out-word-of-2 Inv-loop μ-loop
+shared-slice-copy-out-word-of-2 c = omega arith
+
+word-of-requires-2 : tie.Need-word-of-requires-2 Inv-loop μ-loop
+word-of-requires-2 c κs = search needs
 
 op-passes-requires : tie.Need-op-passes-requires Inv-loop μ-loop
 op-passes-requires c κs = search needs
@@ -44,14 +68,15 @@ op-passes-requires c κs = search needs
 returns : tie.Need-returns Inv-loop μ-loop
 returns c =
     let v = c .before .before in
-    let k = v .before .before in
-    let t = k .before in
+    let d = v .before .before in
+    let k = d .before in
+    let t = k .before .before in
     let a = t .before .before in
     λ code.
     let x = item (eqb (a .args .flag) 1) code in
     sym (t .before .loop .inv x
-    ∙ pass-character (now (a .args .ops)) (t .before .loop .i) (a .args .end) (t .loop-test .taken) (k .word-at .ensures) x (v .word-at2 .ensures)
-    (a .args .left) (a .fits .left .fits) (v .before .if1 .taken)
+    ∙ pass-character (now (a .args .ops)) (t .before .loop .i) (a .args .end) (t .loop-test .taken) (kind k) x (value v) (a .args .left)
+    (a .fits .left .fits) (d .if1 .taken)
     ∙ rw (sym (c .before .op-passes .ensures) ∙ not-true _ (c .if2 .taken)))
 
 add-later-pass : tie.Need-add-later-pass Inv-loop μ-loop
@@ -64,14 +89,15 @@ returns-2 : tie.Need-returns-2 Inv-loop μ-loop
 returns-2 c =
     let o = c .before in
     let v = o .before .before in
-    let k = v .before .before in
-    let t = k .before in
+    let d = v .before .before in
+    let k = d .before in
+    let t = k .before .before in
     let a = t .before .before in
     λ code.
     let x = item (eqb (a .args .flag) 1) code in
     sym (t .before .loop .inv x
-    ∙ pass-character (now (a .args .ops)) (t .before .loop .i) (a .args .end) (t .loop-test .taken) (k .word-at .ensures) x (v .word-at2 .ensures)
-    (a .args .left) (a .fits .left .fits) (v .before .if1 .taken)
+    ∙ pass-character (now (a .args .ops)) (t .before .loop .i) (a .args .end) (t .loop-test .taken) (kind k) x (value v) (a .args .left)
+    (a .fits .left .fits) (d .if1 .taken)
     ∙ rw (sym (o .before .op-passes .ensures) ∙ not-false _ (o .if2 .left)) (sym (c .later-pass .ensures x)))
 
 add-i : tie.Need-add-i Inv-loop μ-loop
@@ -83,10 +109,10 @@ loop-less c = omega arith
 loop-again : tie.Need-loop-again Inv-loop μ-loop
 loop-again c =
     let k = c .before in
-    let t = k .before in
+    let t = k .before .before in
     let a = t .before .before .args in
     λ x. t .before .loop .inv x
-    ∙ pass-kern (now (a .ops)) (t .before .loop .i) (a .end) (t .loop-test .taken) (k .word-at .ensures) x (leftBy (a .left)) (c .if1 .left)
+    ∙ pass-kern (now (a .ops)) (t .before .loop .i) (a .end) (t .loop-test .taken) (kind k) x (leftBy (a .left)) (c .if1 .left)
 
 returns-3 : tie.Need-returns-3 Inv-loop μ-loop
 returns-3 c =
@@ -115,11 +141,15 @@ all-pass-spec =
     Inv-loop
     μ-loop
     loop-holds
-    mul-word-at
-    word-at-requires
-    mul-word-at-2
-    add-word-at
-    word-at-requires-2
+    mul-word-of
+    mul-word-of-2
+    shared-slice-copy-out-word-of
+    word-of-requires
+    mul-word-of-3
+    add-word-of
+    mul-word-of-4
+    shared-slice-copy-out-word-of-2
+    word-of-requires-2
     op-passes-requires
     returns
     add-later-pass

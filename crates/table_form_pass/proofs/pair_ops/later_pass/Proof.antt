@@ -6,7 +6,10 @@ use Prim.Native.Nat.{_-_}
 use native.Mathlib.Omega.{arith}
 use denote.Ref.{now}
 use borrow.Author.Tests.{not-true, not-false}
+use Rattle.words.specs.Words.{Word}
+use Rattle.lang.proofs.Records.{word-passed}
 use Rattle.reading.specs.Items.{bnd, Item}
+use Rattle.captions.specs.Tables.{opKind, opValue}
 use Rattle.table_form_pass.specs.Parts.{opsPass}
 use Rattle.table_form_pass.proofs.PairOps.{none-pass, pass-later}
 use borrow.Author.Needs.{needs}
@@ -19,23 +22,44 @@ Inv-loop ops start end i₀ i = (x : Item) → opsPass ops bnd x start (end - st
 abbrev μ-loop : tie.MeasureT-loop
 μ-loop ops start end i₀ i = end - i
 
+-- the numbers of an op, where they were read
+kind : (c : tie.After-word-of Inv-loop μ-loop) → let l = c .before .before .before in
+    Word (opKind (now (l .before .args .ops)) (l .loop .i)) (c .word-of .result)
+kind c = word-passed (record { sfits = c .before .word-of-arg .given }) (c .word-of .ensures)
+
+value : (c : tie.After-word-of2 Inv-loop μ-loop) → let l = c .before .before .before .before .before in
+    Word (opValue (now (l .before .args .ops)) (l .loop .i)) (c .word-of2 .result)
+value c = word-passed (record { sfits = c .before .word-of-arg2 .given }) (c .word-of2 .ensures)
+
 loop-holds : tie.Need-loop-holds Inv-loop μ-loop
 loop-holds c = λ x. refl
 
-mul-word-at : tie.Need-mul-word-at Inv-loop μ-loop
-mul-word-at c = omega arith
+mul-word-of : tie.Need-mul-word-of Inv-loop μ-loop
+mul-word-of c = omega arith
 
-word-at-requires : tie.Need-word-at-requires Inv-loop μ-loop
-word-at-requires c κs = omega arith
+mul-word-of-2 : tie.Need-mul-word-of-2 Inv-loop μ-loop
+mul-word-of-2 c = search needs
 
-mul-word-at-2 : tie.Need-mul-word-at-2 Inv-loop μ-loop
-mul-word-at-2 c = omega arith
+shared-slice-copy-out-word-of : tie.Need-shared-slice-copy-out-word-of Inv-loop μ-loop
+shared-slice-copy-out-word-of c = omega arith
 
-add-word-at : tie.Need-add-word-at Inv-loop μ-loop
-add-word-at c = omega arith
+word-of-requires : tie.Need-word-of-requires Inv-loop μ-loop
+word-of-requires c κs = search needs
 
-word-at-requires-2 : tie.Need-word-at-requires-2 Inv-loop μ-loop
-word-at-requires-2 c κs = omega arith
+mul-word-of-3 : tie.Need-mul-word-of-3 Inv-loop μ-loop
+mul-word-of-3 c = omega arith
+
+add-word-of : tie.Need-add-word-of Inv-loop μ-loop
+add-word-of c = omega arith
+
+mul-word-of-4 : tie.Need-mul-word-of-4 Inv-loop μ-loop
+mul-word-of-4 c = search needs
+
+shared-slice-copy-out-word-of-2 : tie.Need-shared-slice-copy-out-word-of-2 Inv-loop μ-loop
+shared-slice-copy-out-word-of-2 c = omega arith
+
+word-of-requires-2 : tie.Need-word-of-requires-2 Inv-loop μ-loop
+word-of-requires-2 c κs = search needs
 
 op-passes-requires : tie.Need-op-passes-requires Inv-loop μ-loop
 op-passes-requires c κs = search needs
@@ -43,11 +67,12 @@ op-passes-requires c κs = search needs
 returns : tie.Need-returns Inv-loop μ-loop
 returns c =
     let v = c .before .before in
-    let t = v .before .before in
+    let k = v .before .before in
+    let t = k .before .before in
     let a = t .before .before .args in
     λ x.
     sym (t .before .loop .inv x
-    ∙ pass-later (now (a .ops)) (t .before .loop .i) (a .end) (t .loop-test .taken) (v .before .word-at .ensures) x (v .word-at2 .ensures)
+    ∙ pass-later (now (a .ops)) (t .before .loop .i) (a .end) (t .loop-test .taken) (kind k) x (value v)
     ∙ rw (sym (c .before .op-passes .ensures) ∙ not-true _ (c .if1 .taken)))
 
 add-i : tie.Need-add-i Inv-loop μ-loop
@@ -59,10 +84,11 @@ loop-less c = omega arith
 loop-again : tie.Need-loop-again Inv-loop μ-loop
 loop-again c =
     let v = c .before .before in
-    let t = v .before .before in
+    let k = v .before .before in
+    let t = k .before .before in
     let a = t .before .before .args in
     λ x. t .before .loop .inv x
-    ∙ pass-later (now (a .ops)) (t .before .loop .i) (a .end) (t .loop-test .taken) (v .before .word-at .ensures) x (v .word-at2 .ensures)
+    ∙ pass-later (now (a .ops)) (t .before .loop .i) (a .end) (t .loop-test .taken) (kind k) x (value v)
     ∙ rw (sym (c .before .op-passes .ensures) ∙ not-false _ (c .if1 .left))
 
 returns-2 : tie.Need-returns-2 Inv-loop μ-loop
@@ -78,11 +104,15 @@ later-pass-spec =
     Inv-loop
     μ-loop
     loop-holds
-    mul-word-at
-    word-at-requires
-    mul-word-at-2
-    add-word-at
-    word-at-requires-2
+    mul-word-of
+    mul-word-of-2
+    shared-slice-copy-out-word-of
+    word-of-requires
+    mul-word-of-3
+    add-word-of
+    mul-word-of-4
+    shared-slice-copy-out-word-of-2
+    word-of-requires-2
     op-passes-requires
     returns
     add-i

@@ -1,9 +1,12 @@
 -- `table_form_pass::pair_ops::ops_pass` meets its contract: the left as it stands and a kern, or all ops.
 -- Assumes nothing.
 use mathlib.Core.Path.{_∙_}
+use Prim.Native.Nat.{_+_}
 use lib.Dec.{eqb}
 use denote.Ref.{now}
+use Rattle.lang.proofs.Records.{word-passed}
 use Rattle.reading.specs.Items.{item}
+use Rattle.captions.specs.Tables.{opKind, opValue}
 use Rattle.table_form_pass.proofs.PairOps.{pass-two}
 use borrow.Author.Needs.{needs}
 use Rattle.table_form_pass.proofs.pair_ops.ops_pass.Statement.{statement}
@@ -12,29 +15,47 @@ use Rattle.table_form_pass.proofs.pair_ops.ops_pass.Tie as tie
 sub-if1 : tie.Need-sub-if1
 sub-if1 c = search needs
 
-mul-word-at : tie.Need-mul-word-at
-mul-word-at c = search needs
+mul-word-of : tie.Need-mul-word-of
+mul-word-of c = search needs
 
-word-at-requires : tie.Need-word-at-requires
-word-at-requires c κs = search needs
+mul-word-of-2 : tie.Need-mul-word-of-2
+mul-word-of-2 c = search needs
 
-add-word-at : tie.Need-add-word-at
-add-word-at c = search needs
+shared-slice-copy-out-word-of : tie.Need-shared-slice-copy-out-word-of
+shared-slice-copy-out-word-of c = search needs
 
-mul-word-at-2 : tie.Need-mul-word-at-2
-mul-word-at-2 c = search needs
+word-of-requires : tie.Need-word-of-requires
+word-of-requires c κs = search needs
 
-word-at-requires-2 : tie.Need-word-at-requires-2
-word-at-requires-2 c κs = search needs
+add-word-of : tie.Need-add-word-of
+add-word-of c = search needs
 
-mul-word-at-3 : tie.Need-mul-word-at-3
-mul-word-at-3 c = search needs
+mul-word-of-3 : tie.Need-mul-word-of-3
+mul-word-of-3 c = search needs
 
-add-word-at-2 : tie.Need-add-word-at-2
-add-word-at-2 c = search needs
+mul-word-of-4 : tie.Need-mul-word-of-4
+mul-word-of-4 c = search needs
 
-word-at-requires-3 : tie.Need-word-at-requires-3
-word-at-requires-3 c κs = search needs
+shared-slice-copy-out-word-of-2 : tie.Need-shared-slice-copy-out-word-of-2
+shared-slice-copy-out-word-of-2 c = search needs
+
+word-of-requires-2 : tie.Need-word-of-requires-2
+word-of-requires-2 c κs = search needs
+
+mul-word-of-5 : tie.Need-mul-word-of-5
+mul-word-of-5 c = search needs
+
+add-word-of-2 : tie.Need-add-word-of-2
+add-word-of-2 c = search needs
+
+mul-word-of-6 : tie.Need-mul-word-of-6
+mul-word-of-6 c = search needs
+
+shared-slice-copy-out-word-of-3 : tie.Need-shared-slice-copy-out-word-of-3
+shared-slice-copy-out-word-of-3 c = search needs
+
+word-of-requires-3 : tie.Need-word-of-requires-3
+word-of-requires-3 c κs = search needs
 
 op-passes-requires : tie.Need-op-passes-requires
 op-passes-requires c κs = search needs
@@ -42,13 +63,21 @@ op-passes-requires c κs = search needs
 returns : tie.Need-returns
 returns c =
     let v = c .before in
-    let n = v .before .before in
-    let k = n .before .before in
-    let a = k .before .before in
+    let f = v .before .before in
+    let n = f .before in
+    let e = n .before .before in
+    let k = e .before in
+    let d = k .before .before in
+    let a = d .before in
+    let s = now (a .args .ops) in
+    let i = a .args .start in
     λ code.
     c .op-passes .ensures
-    ∙ pass-two (now (a .args .ops)) (a .args .start) (a .args .end) (k .before .if1 .taken) (k .word-at .ensures) (v .word-at3 .ensures) (n .word-at2 .ensures)
-    (n .before .if2 .taken) (v .before .if3 .taken) (item (eqb (a .args .flag) 1) code) (a .args .left) (a .fits .left .fits)
+    ∙ pass-two s i (a .args .end) (d .if1 .taken)
+    (word-passed {x = opKind s i} (record { sfits = k .before .word-of-arg .given }) (k .word-of .ensures))
+    (word-passed {x = opValue s i} (record { sfits = v .before .word-of-arg3 .given }) (v .word-of3 .ensures))
+    (word-passed {x = opKind s (i + 1)} (record { sfits = n .before .word-of-arg2 .given }) (n .word-of2 .ensures))
+    (e .if2 .taken) (f .if3 .taken) (item (eqb (a .args .flag) 1) code) (a .args .left) (a .fits .left .fits)
 
 all-pass-requires : tie.Need-all-pass-requires
 all-pass-requires c κs = search needs
@@ -61,14 +90,20 @@ ops-pass-spec =
     tie.close
     (tie.spec
     sub-if1
-    mul-word-at
-    word-at-requires
-    add-word-at
-    mul-word-at-2
-    word-at-requires-2
-    mul-word-at-3
-    add-word-at-2
-    word-at-requires-3
+    mul-word-of
+    mul-word-of-2
+    shared-slice-copy-out-word-of
+    word-of-requires
+    add-word-of
+    mul-word-of-3
+    mul-word-of-4
+    shared-slice-copy-out-word-of-2
+    word-of-requires-2
+    mul-word-of-5
+    add-word-of-2
+    mul-word-of-6
+    shared-slice-copy-out-word-of-3
+    word-of-requires-3
     op-passes-requires
     returns
     all-pass-requires
