@@ -3,11 +3,10 @@ ghost use lib.ListN.{length};
 ghost use Rattle.word_set.specs.Setting.{setReply};
 ghost use Rattle.c_captions.specs.Whole.{SetsCaption};
 ghost use Rattle.c_states.specs.States.{optionsOf};
+use c_values::i32s::keep_i32;
+use c_values::tell;
 use captions::RunOptions;
-use lang::Written;
 use word_set::set_word;
-use words::i32s::zero_i32;
-use words::u64s::zero_u64;
 
 // The items of a word up to its end, six numbers each, with zeros after them, and their count. set_word's numbers, then
 // 15 where the count has no room.
@@ -27,20 +26,12 @@ pub extern "C" fn ligkern_set_word(
         (optionsOf «disable_left_boundary» «right_boundary_override») (length (now (items .entry))))
         (now (items .entry)) (now (count .entry)) r (now (items .exit)) (now (count .exit)) ⌝ }
 {
-    zero_u64(count);
     let options = RunOptions {
         disable_left_boundary: disable_left_boundary,
         right_boundary_override: right_boundary_override,
     };
-    match set_word(pairs, ops, boundary, word, options, items) {
-        Written::Refused(n) => n,
-        Written::Count(k) => {
-            if count.len() < 1 {
-                zero_i32(items);
-                return 15;
-            }
-            count[0] = k as u64;
-            0
-        }
-    }
+    let written = set_word(pairs, ops, boundary, word, options, items);
+    let number = tell(written, count);
+    keep_i32(number, items);
+    number
 }

@@ -6,12 +6,11 @@ ghost use Rattle.index.specs.Index.{FillsIndex};
 ghost use Rattle.index_set_word.specs.Whole.{indexedReply};
 ghost use Rattle.c_states.specs.States.{optionsOf};
 ghost use Rattle.c_captions.specs.Whole.{SetsCaption};
+use c_values::i32s::keep_i32;
+use c_values::tell;
 use captions::RunOptions;
 use index_fill::fill_index;
 use index_set_word::set_word_indexed;
-use lang::Written;
-use words::i32s::zero_i32;
-use words::u64s::zero_u64;
 
 // The index of a table, 1,285 numbers with zeros after them. 7, 15.
 #[no_mangle]
@@ -40,20 +39,12 @@ pub extern "C" fn ligkern_set_word_indexed(
         (optionsOf «disable_left_boundary» «right_boundary_override») (length (now (items .entry))))
         (now (items .entry)) (now (count .entry)) r (now (items .exit)) (now (count .exit)) ⌝ }
 {
-    zero_u64(count);
     let options = RunOptions {
         disable_left_boundary: disable_left_boundary,
         right_boundary_override: right_boundary_override,
     };
-    match set_word_indexed(index, pairs, ops, boundary, word, options, items) {
-        Written::Refused(n) => n,
-        Written::Count(k) => {
-            if count.len() < 1 {
-                zero_i32(items);
-                return 15;
-            }
-            count[0] = k as u64;
-            0
-        }
-    }
+    let written = set_word_indexed(index, pairs, ops, boundary, word, options, items);
+    let number = tell(written, count);
+    keep_i32(number, items);
+    number
 }

@@ -19,7 +19,7 @@ use Rattle.columns.specs.ReplyRead.{EndsInFeed, EveryAnsweredText}
 use Rattle.columns.proofs.FontBegins.{loops-long}
 use Rattle.columns.proofs.LinesBack.{text-ends}
 use Rattle.columns.proofs.TextLaws.{text-known}
-use Rattle.columns.proofs.WordRead.{accepted, meter, word-read}
+use Rattle.columns.proofs.WordRead.{accepted, meter, word-read, run-ends, run-reads}
 use Rattle.columns.proofs.Fitting.{Fits, all-fit}
 use Rattle.columns.proofs.Reported.{Worded, without, letters, reply-read}
 use Rattle.columns.proofs.FontFits.{font-table-fits, font-ops-fit, font-loops-fit, font-contiguous}
@@ -42,8 +42,8 @@ word-items f (some zs) word h l =
     let items = columnItems f (lengthOfWord (some zs)) word .values in
     letters (length zs) items (omega (arith, l)) (s .whole) (all-fit items (s .fits))
 
--- Whatever text is read and answered: nothing is lost in the format, the X lines are a true meter of loops, and where there is none the T lines are the reading
--- of the word.
+-- Whatever text is read and answered: nothing is lost in the format, the X lines are a true meter of loops, where there is none the T lines are the reading of
+-- the word, and loops or not they are what it gives once it ends.
 pub every-answered-text : EveryAnsweredText
 every-answered-text text t room e taken =
     let f = fontOfText t in
@@ -57,4 +57,6 @@ every-answered-text text t room e taken =
           (omega (arith, loops-long (loopsOfFont f))) (font-loops-fit f) (word-items f (t .word) (wordOfText t) ops (k .short));
       meter = meter f;
       word-read = word-read t k a;
+      run-ends = run-ends t k a;
+      run-reads = run-reads t k a;
     }

@@ -11,6 +11,7 @@
 --   Fitting  lists of i32
 --   Reported  a reply, read back, gives the lists that it was written from
 --   KernFits, FontFits, ItemFits  every number of a reply is an i32: kerns, tables, items
+--   RefusalNumbers  the numbers that refuse a text
 pub mod Example
 pub mod Options
 pub mod Digits
@@ -25,5 +26,6 @@ pub mod Reported
 pub mod KernFits
 pub mod FontFits
 pub mod ItemFits
+pub mod RefusalNumbers
 pub mod Answered
 pub mod Theorems

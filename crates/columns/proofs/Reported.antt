@@ -17,7 +17,7 @@ use Rattle.captions.specs.Form.{opsEnd}
 use Rattle.columns.specs.Lines.{Line, writeLine}
 use Rattle.columns.specs.Replying.{lineOf, pairLine, opLine, pairLines, tableLines, loopLine, itemLine, wordLines, bytesOf, replyBytes}
 use Rattle.columns.specs.Purpose.{isI32, allI32}
-use Rattle.columns.specs.ReplyRead.{Reported, nothingReported, report, reportTo, reportLines, reportAll, readReply}
+use Rattle.columns.specs.ReplyRead.{Reported, reportedOf, nothingReported, report, reportTo, reportLines, reportAll, readReply}
 use Rattle.columns.proofs.Fitting.{Fits}
 use Rattle.columns.proofs.LinesBack.{Writable, AllWritable, none, line, lines-back, writable-both, writable-tabulated}
 use Rattle.columns.proofs.Theorems.{line-read}
@@ -78,19 +78,19 @@ two-at xs s a b p q i = getD xs (p i) (pos 0) ∷ getD xs (q i) (pos 0) ∷ []
 -- ---- the parts of a reply
 
 abbrev pairsTo : Reported → List ℤ → Reported
-pairsTo r zs = record { pairs = zs; ops = r .ops; loops = r .loops; letters = r .letters; items = r .items }
+pairsTo r zs = reportedOf zs (r .ops) (r .loops) (r .letters) (r .items)
 
 abbrev opsTo : Reported → List ℤ → Reported
-opsTo r zs = record { pairs = r .pairs; ops = zs; loops = r .loops; letters = r .letters; items = r .items }
+opsTo r zs = reportedOf (r .pairs) zs (r .loops) (r .letters) (r .items)
 
 abbrev loopsTo : Reported → List ℤ → Reported
-loopsTo r zs = record { pairs = r .pairs; ops = r .ops; loops = zs; letters = r .letters; items = r .items }
+loopsTo r zs = reportedOf (r .pairs) (r .ops) zs (r .letters) (r .items)
 
 abbrev itemsTo : Reported → List ℤ → Reported
-itemsTo r zs = record { pairs = r .pairs; ops = r .ops; loops = r .loops; letters = r .letters; items = zs }
+itemsTo r zs = reportedOf (r .pairs) (r .ops) (r .loops) (r .letters) zs
 
 abbrev lettersTo : Reported → ℤ → Reported
-lettersTo r n = record { pairs = r .pairs; ops = r .ops; loops = r .loops; letters = n; items = r .items }
+lettersTo r n = reportedOf (r .pairs) (r .ops) (r .loops) n (r .items)
 
 -- the ops from place m on
 ops-reported : (r : Reported) (ops : List ℤ) (m c : ℕ) → 2 * m + 2 * c ≤ length ops →
@@ -133,7 +133,7 @@ items-reported r items n h =
 
 -- k pairs and m ops
 abbrev tableTo : List ℤ → List ℤ → ℕ → ℕ → Reported
-tableTo pairs ops k m = record { pairs = take (6 * k) pairs; ops = take (2 * m) ops; loops = []; letters = negsuc 0; items = [] }
+tableTo pairs ops k m = reportedOf (take (6 * k) pairs) (take (2 * m) ops) [] (negsuc 0) []
 
 -- whole pairs and ops, where each pair's ops follow those of the pair before it and none is left over
 pub record Contiguous (pairs ops : List ℤ) : Type 0 where
@@ -183,10 +183,10 @@ module _ (pairs ops : List ℤ) (c : Contiguous pairs ops) where
       ∙ ap (λ (j : ℕ). some (opsTo (tableTo pairs ops (suc k) m) (take j ops))) e
 
   whole-reported : reports (tableLines pairs ops (pairCount pairs)) (some nothingReported)
-      ≡ some (record { pairs = pairs; ops = ops; loops = []; letters = negsuc 0; items = [] })
+      ≡ some (reportedOf pairs ops [] (negsuc 0) [])
   whole-reported =
       table-reported (pairCount pairs) (omega arith)
-      ∙ (λ i. some (record { pairs = whole pairs (6 * pairCount pairs) (sym (c .sixes)) i; ops = ends i; loops = []; letters = negsuc 0; items = [] }))
+      ∙ (λ i. some (reportedOf (whole pairs (6 * pairCount pairs) (sym (c .sixes)) i) (ends i) [] (negsuc 0) []))
     where
       ends : take (2 * opsEnd pairs (pairCount pairs)) ops ≡ ops
       ends = whole ops (2 * opsEnd pairs (pairCount pairs)) (omega (arith, c .all, c .twos))
@@ -247,12 +247,12 @@ word-writable (letters n items l s f) =
 
 pub reply-read : (pairs ops loops : List ℤ) {n : ℤ} {items : List ℤ} → Contiguous pairs ops → Fits pairs → Fits ops → length loops % 2 ≡ 0 → Fits loops →
     Worded n items →
-    readReply (replyBytes pairs ops loops n items) ≡ some (record { pairs = pairs; ops = ops; loops = loops; letters = n; items = items })
+    readReply (replyBytes pairs ops loops n items) ≡ some (reportedOf pairs ops loops n items)
 reply-read pairs ops loops {n} {items} c f g s h w =
     let t = tableLines pairs ops (pairCount pairs) in
     let x = tabulate (length loops / 2) (loopLine loops) in
     let y = wordLines n items in
-    let r : Reported = record { pairs = pairs; ops = ops; loops = []; letters = negsuc 0; items = [] } in
+    let r : Reported = reportedOf pairs ops [] (negsuc 0) [] in
     bytes-reported
     (writable-both (writable-both (table-writable pairs ops f g (pairCount pairs)) (loops-writable loops h (length loops / 2))) (word-writable w))
     ∙ reports-both (t ++ x) y (some nothingReported)

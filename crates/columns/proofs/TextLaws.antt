@@ -1,4 +1,5 @@
--- What is known of a text that is read: its design size is an i32, as every number is that is read from a field, and its word has at most 64 letters.
+-- What is known of a text that is read: its design size is an i32, as every number is that is read from a field; it has at most 512 instructions, four numbers
+-- each, and 512 kerns; and its word has at most 64 letters.
 -- Assumes nothing.
 use mathlib.Core.Path.{_≡_, refl, sym, ap, _∙_, subst}
 use mathlib.Core.Bool.{Bool, true, false, cond}
@@ -8,10 +9,10 @@ use Prim.Native.Nat.{ℕ, zero, suc, _/_, _%_, _≤_}
 use native.Mathlib.Omega.{arith}
 use lib.IntN.{ℤ, pos, negsuc}
 use lib.Dec.{leb, eqb}
-use lib.ListN.{length, take, drop}
-use borrow.Author.Tests.{leb-true}
+use lib.ListN.{length, take, drop, length-append}
+use borrow.Author.Tests.{leb-true, eqb-true}
 use Rattle.lang.specs.Every.{both}
-use Rattle.lang.proofs.Every.{both-left}
+use Rattle.lang.proofs.Every.{both-left, both-right}
 use Rattle.columns.specs.Numbers.{unsigned, withoutSign, withSign, readField}
 use Rattle.columns.specs.Lines.{Line, linesOf, readFields, lettered, readLine}
 use Rattle.columns.specs.Texts.{Text, opened, withBoundary, withLeft, withInstruction, withKern, withEntry, withWord, byOne, byLetter, unlessWord, addTo}
@@ -61,20 +62,26 @@ line-fits (b ∷ bs) l e =
 
 -- ---- a text
 
-pub record Known (t : Text) : Type 0 where
-  pub design : isI32 (t .design) ≡ true
-  pub short : length (lettersOf (t .word)) ≤ 64
+pub record KnownBy (d : ℤ) (is ks : List ℤ) (w : Option (List ℤ)) : Type 0 where
+  pub design : isI32 d ≡ true
+  pub fours : length is % 4 ≡ 0
+  pub instructions : length is ≤ 2048
+  pub kerns : length ks ≤ 512
+  pub short : length (lettersOf w) ≤ 64
+
+abbrev pub Known : Text → Type 0
+Known t = KnownBy (t .design) (t .instructions) (t .kerns) (t .word)
 
 known-as : {t u : Text} → some t ≡ some u → Known t → Known u
 known-as {t} {u} e k = subst Known (Option·some-injective t u e) k
 
 module _ (t u : Text) (k : Known t) where
   boundary-known : (o : Option ℤ) (z : ℤ) → withBoundary t o z ≡ some u → Known u
-  boundary-known none z e = known-as e (record { design = k .design; short = k .short })
+  boundary-known none z e = known-as e k
   boundary-known (some y) z e = absurd (none-some e)
 
   left-known : (o : Option ℤ) (z : ℤ) → withLeft t o z ≡ some u → Known u
-  left-known none z e = known-as e (record { design = k .design; short = k .short })
+  left-known none z e = known-as e k
   left-known (some y) z e = absurd (none-some e)
 
   one-known : (f : ℤ → Option Text) (zs : List ℤ) → ((z : ℤ) → f z ≡ some u → Known u) → byOne f zs ≡ some u → Known u
@@ -84,21 +91,50 @@ module _ (t u : Text) (k : Known t) where
 
   instruction-known : (zs : List ℤ) → withInstruction t zs ≡ some u → Known u
   instruction-known zs e =
-      let c = cond-some (both (eqb (length zs) 4) (leb (suc (length (t .instructions) / 4)) 512)) (some _) u e in
-      known-as (c .1) (record { design = k .design; short = k .short })
+      let few = leb (suc (length (t .instructions) / 4)) 512 in
+      let c = cond-some (both (eqb (length zs) 4) few) (some _) u e in
+      let four = eqb-true (length zs) 4 (both-left (eqb (length zs) 4) few (c .0)) in
+      let more = leb-true (suc (length (t .instructions) / 4)) 512 (both-right (eqb (length zs) 4) few (c .0)) in
+      let sum = length-append (t .instructions) zs in
+      known-as (c .1)
+      (record {
+        design = k .design;
+        fours = omega (arith, sum, four, k .fours);
+        instructions = omega (arith, sum, four, more, k .fours);
+        kerns = k .kerns;
+        short = k .short;
+      })
 
   kern-known : (zs : List ℤ) → withKern t zs ≡ some u → Known u
   kern-known zs e =
-      let c = cond-some (both (eqb (length zs) 1) (leb (suc (length (t .kerns))) 512)) (some _) u e in
-      known-as (c .1) (record { design = k .design; short = k .short })
+      let few = leb (suc (length (t .kerns))) 512 in
+      let c = cond-some (both (eqb (length zs) 1) few) (some _) u e in
+      let one = eqb-true (length zs) 1 (both-left (eqb (length zs) 1) few (c .0)) in
+      let more = leb-true (suc (length (t .kerns))) 512 (both-right (eqb (length zs) 1) few (c .0)) in
+      let sum = length-append (t .kerns) zs in
+      known-as (c .1)
+      (record {
+        design = k .design;
+        fours = k .fours;
+        instructions = k .instructions;
+        kerns = omega (arith, sum, one, more);
+        short = k .short;
+      })
 
   entry-known : (zs : List ℤ) → withEntry t zs ≡ some u → Known u
-  entry-known zs e = known-as (cond-some (eqb (length zs) 2) (some _) u e .1) (record { design = k .design; short = k .short })
+  entry-known zs e = known-as (cond-some (eqb (length zs) 2) (some _) u e .1) k
 
   word-known : (zs : List ℤ) → withWord t zs ≡ some u → Known u
   word-known zs e =
       let c = cond-some (leb (length zs) 64) (some _) u e in
-      known-as (c .1) (record { design = k .design; short = leb-true (length zs) 64 (c .0) })
+      known-as (c .1)
+      (record {
+        design = k .design;
+        fours = k .fours;
+        instructions = k .instructions;
+        kerns = k .kerns;
+        short = leb-true (length zs) 64 (c .0);
+      })
 
   either : (b : Bool) {x y : Option Text} → (x ≡ some u → Known u) → (y ≡ some u → Known u) → cond b x y ≡ some u → Known u
   either true f g e = f e
@@ -131,7 +167,8 @@ lines-known (l ∷ ls) r u h e = lines-known ls (addTo r (readLine l)) u (λ t. 
 one-fits : (zs : List ℤ) (u : Text) → allI32 zs ≡ true → byOne (λ z. some (opened z)) zs ≡ some u → Known u
 unfolding allI32
 one-fits [] u f e = absurd (none-some e)
-one-fits (z ∷ []) u f e = known-as e (record { design = both-left (isI32 z) true f; short = omega arith })
+one-fits (z ∷ []) u f e =
+    known-as e (record { design = both-left (isI32 z) true f; fours = refl; instructions = omega arith; kerns = omega arith; short = omega arith })
 one-fits (z ∷ y ∷ zs) u f e = absurd (none-some e)
 
 opened-known : (o : Option Line) (u : Text) → ((l : Line) → o ≡ some l → allI32 (l .numbers) ≡ true) → openedBy o ≡ some u → Known u

@@ -8,11 +8,12 @@ use lib.Dec.{eqb}
 use lib.ListN.{length}
 use borrow.Author.Tests.{eqb-true}
 use Rattle.columns.specs.Lines.{readFields, lettered, fieldsOf}
-use Rattle.columns.specs.Purpose.{FieldWritten, FieldReadsBack, LineWritten, LineRead, LinesWritten}
+use Rattle.columns.specs.Purpose.{FieldWritten, FieldReadsBack, LineWritten, LineRead, LinesWritten, TextNumbers}
 use Rattle.columns.proofs.Options.{none-some, cond-some, lettered-some}
 use Rattle.columns.proofs.Fields as fields
 use Rattle.columns.proofs.ReadBack.{field-long, fields-long, fields-read}
 use Rattle.columns.proofs.ReadBack as back
+use Rattle.columns.proofs.RefusalNumbers as refusals
 
 -- A field that is read, written again, is that field byte for byte.
 pub field-written : FieldWritten
@@ -44,3 +45,7 @@ line-read l t =
 -- The lines of a text, written one after the other, are that text.
 pub lines-written : LinesWritten
 lines-written = fields.lines-written
+
+-- A text is answered, or refused by 2, 4, 5 or one of 12 to 16.
+pub text-numbers : TextNumbers
+text-numbers = refusals.text-numbers

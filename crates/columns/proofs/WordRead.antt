@@ -1,4 +1,5 @@
--- A text that is answered: no loop is written exactly when every pair ends, and where none is written the items of the word are those of its reading.
+-- A text that is answered: no loop is written exactly when every pair ends; its word's run ends, and the items are those of the reading of the word, if that
+-- ends, which it does where no loop is written.
 -- Assumes nothing.
 use mathlib.Core.Path.{_≡_, refl, sym, ap, _∙_, subst}
 use mathlib.Core.Bool.{Bool, true, false, cond}
@@ -8,12 +9,12 @@ use mathlib.Core.Option.{Option, some}
 use Prim.Native.Nat.{ℕ, zero, suc, _≤_}
 use native.Mathlib.Omega.{arith}
 use lib.IntN.{ℤ}
-use lib.Dec.{leb}
+use lib.Dec.{leb, leb·suc-suc}
 use lib.ListN.{length, length-map}
 use Rattle.words.specs.Words.{wordOf}
 use Rattle.lang.specs.Checks.{orElse}
-use Rattle.lang.specs.Answers.{Reply, replyOf}
-use Rattle.lang.proofs.Refusals.{orElse-none}
+use Rattle.lang.specs.Answers.{Reply, replyOf, roomRefusal}
+use Rattle.lang.proofs.Refusals.{orElse-none, room-fits, room-is, room-short}
 use Rattle.reading.specs.Items.{Left, Out}
 use Rattle.reading.specs.Reading.{Ends}
 use Rattle.reading.specs.Depth.{Pair}
@@ -28,7 +29,7 @@ use Rattle.captions.specs.declared.Answer.the-variants.{Char, Ligature, Kern, E
 use Rattle.captions.specs.Begin.{lettersRefusal}
 use Rattle.captions.specs.Steps.{stepOf}
 use Rattle.captions.specs.Runs.{answers, Shown, shows, ends, shown, thenEnds}
-use Rattle.captions.specs.Demand3.{Answered, Reads}
+use Rattle.captions.specs.Demand3.{Caption, Answered, Reads}
 use Rattle.word_set.specs.Setting.{andThen, itemsBy, itemsFrom, setReply}
 use Rattle.word_set.specs.Purpose.{SetAs}
 use Rattle.word_set.proofs.Laws.{set-run}
@@ -37,12 +38,13 @@ use Rattle.columns.specs.Texts.{Text, fontOfText}
 use Rattle.columns.specs.Scanned.{lettersOf, lengthOfWord}
 use Rattle.columns.specs.Replying.{replyRefusal}
 use Rattle.columns.specs.Ligcols.{columnRoom, columnOptions, itemRoom, columnItems, columnBytes, lower, wordOfText, numberOfText}
+use Rattle.columns.specs.ReplyRead.{WordReads, WordRuns, WordWritten}
 use Rattle.columns.proofs.FontBegins.{demand-of, letters-caption}
 use Rattle.columns.proofs.TextLaws.{Known}
 
 -- ---- what is not refused
 
-lower-none : (m n : ℕ) → lower m n ≡ 0 → (m ≡ 0) × (n ≡ 0)
+pub lower-none : (m n : ℕ) → lower m n ≡ 0 → (m ≡ 0) × (n ≡ 0)
 lower-none zero n e = (refl, e)
 lower-none (suc m) zero e = absurd (omega arith)
 lower-none (suc m) (suc n) e = absurd (by (leb m n) e)
@@ -81,7 +83,7 @@ none-listed ps e = ap loopNumbers e
 pub meter : (f : Font) → (fontLoops f ≡ []) ↔ ((x : Left) (y : ℕ) → Ends (rulesOf f) x y)
 meter f = (λ e. no-loops f .0 (none-numbered (loopsOfFont f) e), λ h. none-listed (loopsOfFont f) (no-loops f .1 h))
 
--- ---- no more items than there is room for
+-- ---- a run that ends: its items are set, or 15 where there are more than there is room for
 
 reply-number : (n : ℕ) (vs : List ℤ) → replyOf n vs .number ≡ n
 reply-number zero vs = refl
@@ -104,45 +106,79 @@ abbrev othersOf : List Shown → List Shown
 othersOf [] = []
 othersOf (x ∷ xs) = xs
 
+-- the end leaves 0
+end-number : (a : Answer) (r : Reply) → shown a ≡ ends → andThen a r .number ≡ 0
+end-number (Char c p) r e = absurd (let z : _≡_ {A = ℕ} 0 1 = cc in omega arith)
+end-number (Ligature c p n x y) r e = absurd (let z : _≡_ {A = ℕ} 0 1 = cc in omega arith)
+end-number (Kern k) r e = absurd (let z : _≡_ {A = ℕ} 0 1 = cc in omega arith)
+end-number End r e = refl
+end-number (Refused n) r e = absurd (let z : _≡_ {A = ℕ} 0 1 = cc in omega arith)
+
 module _ (pairs ops : List ℤ) (boundary : ℤ) (word : List ℕ) (options : RunOptions) where
-  few-items : (items : List Out) (n : ℕ) (s : State) → ((m : ℕ) → map shown (answers pairs ops boundary word options m s) ≡ thenEnds m items) →
-      itemsFrom pairs ops boundary word options n s .number ≡ 0 → length items ≤ n
+  items-number : (items : List Out) (n : ℕ) (s : State) → ((m : ℕ) → map shown (answers pairs ops boundary word options m s) ≡ thenEnds m items) →
+      itemsFrom pairs ops boundary word options n s .number ≡ roomRefusal (length items) n
   unfolding answers thenEnds itemsBy
-  few-items [] n s h e = omega arith
-  few-items (o ∷ items) zero s h e =
+  items-number [] zero s h = end-number (stepOf pairs ops boundary word options s .answer) _ (ap firstOf (h 1))
+  items-number [] (suc n) s h = end-number (stepOf pairs ops boundary word options s .answer) _ (ap firstOf (h 1)) ∙ sym (room-is 0 (suc n) (omega arith))
+  items-number (o ∷ items) zero s h =
+      item-number (stepOf pairs ops boundary word options s .answer) o (replyOf 15 []) (ap firstOf (h 1))
+      ∙ sym (room-short (suc (length items)) 0 (omega arith))
+  items-number (o ∷ items) (suc n) s h =
       let t = stepOf pairs ops boundary word options s in
-      absurd (omega (arith, item-number (t .answer) o (replyOf 15 []) (ap firstOf (h 1)), e))
-  few-items (o ∷ items) (suc n) s h e =
-      let t = stepOf pairs ops boundary word options s in
-      let r = itemsFrom pairs ops boundary word options n (t .state) in
-      let l : length items ≤ n = few-items items n (t .state) (λ m. ap othersOf (h (suc m))) (sym (item-number (t .answer) o r (ap firstOf (h 1))) ∙ e) in
-      omega (arith, l)
+      item-number (t .answer) o (itemsFrom pairs ops boundary word options n (t .state)) (ap firstOf (h 1))
+      ∙ items-number items n (t .state) (λ m. ap othersOf (h (suc m)))
+      ∙ ap (λ (b : Bool). cond b 0 15) (sym (leb·suc-suc (length items) n))
 
 -- ---- the word
 
-module _ (f : Font) (word : List ℕ) (taken : compileRefusal f columnRoom ≡ 0) (letters : lettersRefusal word ≡ 0) (short : length word ≤ 65535)
-    (set : setReply (fontTable f) (fontOps f) (f .boundary) word columnOptions itemRoom .number ≡ 0) where
-  set-as : (items : List Out) → Answered f (fontTable f) (fontOps f) word columnOptions items →
-      SetAs f (fontTable f) (fontOps f) word columnOptions itemRoom items
-  set-as items a =
-      let p = fontTable f in
-      let o = fontOps f in
-      let q = ap (λ (r : Reply). r .number) (set-run p o (f .boundary) word columnOptions (a .start) (sym (a .begins)) itemRoom) in
-      let l : length items ≤ 885 = few-items p o (f .boundary) word columnOptions items 885 (a .start) (a .answered) (sym q ∙ set) in
-      every-word f p o word columnOptions items itemRoom a (omega (arith, l))
+module _ (f : Font) (word : List ℕ) (taken : compileRefusal f columnRoom ≡ 0) (letters : lettersRefusal word ≡ 0) (short : length word ≤ 65535) where
+  font-caption : Caption word columnOptions
+  font-caption = letters-caption word letters short
 
-  font-word : fontLoops f ≡ [] → (items : List Out) × Reads f word columnOptions items × SetAs f (fontTable f) (fontOps f) word columnOptions itemRoom items
-  font-word e =
-      let d = demand-of f columnRoom taken in
-      let z : length (loopsOfFont f) ≡ 0 = ap length (none-numbered (loopsOfFont f) e) in
-      let r = d .set-as-read z word columnOptions (letters-caption word letters short) in
-      (r .0, r .1, set-as (r .0) (r .2))
+  -- setting it is refused by 15 alone
+  set-number : (items : List Out) → Answered f (fontTable f) (fontOps f) word columnOptions items →
+      setReply (fontTable f) (fontOps f) (f .boundary) word columnOptions itemRoom .number ≡ roomRefusal (length items) 885
+  set-number items a =
+      ap (λ (r : Reply). r .number) (set-run (fontTable f) (fontOps f) (f .boundary) word columnOptions (a .start) (sym (a .begins)) itemRoom)
+      ∙ items-number (fontTable f) (fontOps f) (f .boundary) word columnOptions items 885 (a .start) (a .answered)
 
-pub word-read : (t : Text) → Known t → Accepted t → fontLoops (fontOfText t) ≡ [] → (letters : List ℤ) → t .word ≡ some letters →
-    (items : List Out) × Reads (fontOfText t) (wordOfText t) columnOptions items
-    × SetAs (fontOfText t) (fontTable (fontOfText t)) (fontOps (fontOfText t)) (wordOfText t) columnOptions itemRoom items
-word-read t k a e letters w =
-    let f = fontOfText t in
-    let l : length (wordOfText t) ≤ 65535 = omega (arith, length-map (lettersOf (t .word)) wordOf, k .short) in
-    let s = subst (λ (o : Option (List ℤ)). columnItems f (lengthOfWord o) (wordOfText t) .number ≡ 0) w (a .set) in
-    font-word f (wordOfText t) (a .compiled) (a .letters) l s e
+  font-run : (items : List Out) × Answered f (fontTable f) (fontOps f) word columnOptions items
+  font-run = demand-of f columnRoom taken .run-ends word columnOptions font-caption
+
+  pub set-or-15 : (k : ℕ) × (setReply (fontTable f) (fontOps f) (f .boundary) word columnOptions itemRoom .number ≡ roomRefusal k 885)
+  set-or-15 = (length (font-run .0), set-number (font-run .0) (font-run .1))
+
+  font-reads : (items : List Out) → Reads f word columnOptions items → Answered f (fontTable f) (fontOps f) word columnOptions items
+  font-reads = demand-of f columnRoom taken .run-reads word columnOptions font-caption
+
+  font-word : fontLoops f ≡ [] → (items : List Out) × Reads f word columnOptions items × Answered f (fontTable f) (fontOps f) word columnOptions items
+  font-word e = demand-of f columnRoom taken .set-as-read (ap length (none-numbered (loopsOfFont f) e)) word columnOptions font-caption
+
+  set-as : setReply (fontTable f) (fontOps f) (f .boundary) word columnOptions itemRoom .number ≡ 0 → (items : List Out) →
+      Answered f (fontTable f) (fontOps f) word columnOptions items → SetAs f (fontTable f) (fontOps f) word columnOptions itemRoom items
+  set-as set items a =
+      let l = room-fits (length items) 885 (sym (set-number items a) ∙ set) in
+      every-word f (fontTable f) (fontOps f) word columnOptions items itemRoom a (omega (arith, l))
+
+pub word-short : (t : Text) → Known t → length (wordOfText t) ≤ 65535
+word-short t k = omega (arith, length-map (lettersOf (t .word)) wordOf, k .short)
+
+module _ (t : Text) (k : Known t) (a : Accepted t) where
+  module _ (letters : List ℤ) (w : t .word ≡ some letters) where
+    written : (items : List Out) → WordRuns t items → WordWritten t items
+    written =
+        set-as (fontOfText t) (wordOfText t) (a .compiled) (a .letters) (word-short t k)
+        (subst (λ (o : Option (List ℤ)). columnItems (fontOfText t) (lengthOfWord o) (wordOfText t) .number ≡ 0) w (a .set))
+
+    pub run-ends : (items : List Out) × WordRuns t items × WordWritten t items
+    run-ends =
+        let r = font-run (fontOfText t) (wordOfText t) (a .compiled) (a .letters) (word-short t k) in
+        (r .0, r .1, written (r .0) (r .1))
+
+    pub run-reads : (items : List Out) → WordReads t items → WordWritten t items
+    run-reads items r = written items (font-reads (fontOfText t) (wordOfText t) (a .compiled) (a .letters) (word-short t k) items r)
+
+  pub word-read : fontLoops (fontOfText t) ≡ [] → (letters : List ℤ) → t .word ≡ some letters → (items : List Out) × WordReads t items × WordWritten t items
+  word-read e letters w =
+      let r = font-word (fontOfText t) (wordOfText t) (a .compiled) (a .letters) (word-short t k) e in
+      (r .0, r .1, written letters w (r .0) (r .2))

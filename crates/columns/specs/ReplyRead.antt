@@ -1,5 +1,6 @@
 -- A reply read back, and what is proved of every text that is answered (proofs/Answered): nothing is lost in the format, the X lines are a
--- true meter of loops (R18), and where there is none the T lines are the reading of the word (R21). No contract cites this.
+-- true meter of loops (R18), where there is none the T lines are the reading of the word (R21), and loops or not they are what it gives
+-- once it ends (R23). No contract cites this.
 use mathlib.Core.Path.{_≡_}
 use mathlib.Core.Bool.{cond}
 use mathlib.Core.List.{List, [], _∷_, _++_}
@@ -13,7 +14,7 @@ use Rattle.reading.specs.Items.{Left, Out}
 use Rattle.reading.specs.Reading.{Ends}
 use Rattle.fonts.specs.Fonts.{rulesOf}
 use Rattle.fonts.specs.Compiled.{fontTable, fontOps, fontLoops}
-use Rattle.captions.specs.Demand3.{Reads}
+use Rattle.captions.specs.Demand3.{Answered, Reads}
 use Rattle.word_set.specs.Purpose.{SetAs}
 use Rattle.columns.specs.Lines.{Line, linesOf, readLine}
 use Rattle.columns.specs.Texts.{Text, readText, fontOfText}
@@ -30,66 +31,40 @@ pub record Reported : Type 0 where
   pub letters : ℤ
   pub items : List ℤ
 
+-- the same, of its parts in that order
+abbrev pub reportedOf : List ℤ → List ℤ → List ℤ → ℤ → List ℤ → Reported
+reportedOf pairs ops loops letters items =
+    record { pairs = pairs; ops = ops; loops = loops; letters = letters; items = items }
+
 -- before the first line: empty lists, and no W
 abbrev pub nothingReported : Reported
-nothingReported = record { pairs = []; ops = []; loops = []; letters = negsuc 0; items = [] }
+nothingReported = reportedOf [] [] [] (negsuc 0) []
 
 -- P, five numbers: a pair's ops are the next ones, so its first op is how many O lines came before
 abbrev pub withPair : Reported → List ℤ → Option Reported
 withPair r zs =
     cond (eqb (length zs) 5)
-    (some (record {
-      pairs = r .pairs ++ take 4 zs ++ (pos (length (r .ops) / 2) ∷ drop 4 zs);
-      ops = r .ops;
-      loops = r .loops;
-      letters = r .letters;
-      items = r .items;
-    }))
-    none
+    (some (reportedOf (r .pairs ++ take 4 zs ++ (pos (length (r .ops) / 2) ∷ drop 4 zs)) (r .ops) (r .loops) (r .letters) (r .items))) none
 
 -- O, two numbers: an op more
 abbrev pub withOp : Reported → List ℤ → Option Reported
 withOp r zs =
-    cond (eqb (length zs) 2) (some (record {
-      pairs = r .pairs;
-      ops = r .ops ++ zs;
-      loops = r .loops;
-      letters = r .letters;
-      items = r .items;
-    })) none
+    cond (eqb (length zs) 2) (some (reportedOf (r .pairs) (r .ops ++ zs) (r .loops) (r .letters) (r .items))) none
 
 -- X, two numbers: a loop more
 abbrev pub withLoop : Reported → List ℤ → Option Reported
 withLoop r zs =
-    cond (eqb (length zs) 2) (some (record {
-      pairs = r .pairs;
-      ops = r .ops;
-      loops = r .loops ++ zs;
-      letters = r .letters;
-      items = r .items;
-    })) none
+    cond (eqb (length zs) 2) (some (reportedOf (r .pairs) (r .ops) (r .loops ++ zs) (r .letters) (r .items))) none
 
 -- T, six numbers: an item more
 abbrev pub withItem : Reported → List ℤ → Option Reported
 withItem r zs =
-    cond (eqb (length zs) 6) (some (record {
-      pairs = r .pairs;
-      ops = r .ops;
-      loops = r .loops;
-      letters = r .letters;
-      items = r .items ++ zs;
-    })) none
+    cond (eqb (length zs) 6) (some (reportedOf (r .pairs) (r .ops) (r .loops) (r .letters) (r .items ++ zs))) none
 
 -- W, one number
 abbrev pub withLength : Reported → List ℤ → Option Reported
 withLength r zs =
-    cond (eqb (length zs) 1) (some (record {
-      pairs = r .pairs;
-      ops = r .ops;
-      loops = r .loops;
-      letters = getD zs 0 (pos 0);
-      items = r .items;
-    })) none
+    cond (eqb (length zs) 1) (some (reportedOf (r .pairs) (r .ops) (r .loops) (getD zs 0 (pos 0)) (r .items))) none
 
 -- one line more: P 80, O 79, X 88, W 87, T 84
 abbrev pub report : Reported → Option Line → Option Reported
@@ -126,23 +101,33 @@ readReply bytes = reportAll (linesOf bytes)
 abbrev pub EndsInFeed : Type 0
 EndsInFeed = (r : Option Text) → (bytesOfText r ≡ []) ⊎ ((bs : List ℕ) × (bytesOfText r ≡ bs ++ (10 ∷ [])))
 
+-- the reading of the word of a text ends, and gives these items
+abbrev pub WordReads : Text → List Out → Type 0
+WordReads t items = Reads (fontOfText t) (wordOfText t) columnOptions items
+
+-- the run of its word answers these items, and then the end for ever
+abbrev pub WordRuns : Text → List Out → Type 0
+WordRuns t items = Answered (fontOfText t) (fontTable (fontOfText t)) (fontOps (fontOfText t)) (wordOfText t) columnOptions items
+
+-- these items are what is set of its word, which `read-back` finds in the T lines
+abbrev pub WordWritten : Text → List Out → Type 0
+WordWritten t items = SetAs (fontOfText t) (fontTable (fontOfText t)) (fontOps (fontOfText t)) (wordOfText t) columnOptions itemRoom items
+
 -- of a text that is answered
 pub record AnsweredText (t : Text) : Type 0 where
   -- nothing is lost in the format: the reply, read back, gives the table, the ops, the loops and the items
   pub read-back : readReply (bytesOfText (some t)) ≡
-      some (record {
-        pairs = fontTable (fontOfText t);
-        ops = fontOps (fontOfText t);
-        loops = fontLoops (fontOfText t);
-        letters = lengthOfWord (t .word);
-        items = columnItems (fontOfText t) (lengthOfWord (t .word)) (wordOfText t) .values;
-      })
+      some (reportedOf (fontTable (fontOfText t)) (fontOps (fontOfText t)) (fontLoops (fontOfText t)) (lengthOfWord (t .word))
+      (columnItems (fontOfText t) (lengthOfWord (t .word)) (wordOfText t) .values))
   -- no X line is written exactly when every pair ends
   pub meter : (fontLoops (fontOfText t) ≡ []) ↔ ((x : Left) (y : ℕ) → Ends (rulesOf (fontOfText t)) x y)
   -- where none is written, the reading of the word ends, and the T lines are its items
   pub word-read : fontLoops (fontOfText t) ≡ [] → (letters : List ℤ) → t .word ≡ some letters →
-      (items : List Out) × Reads (fontOfText t) (wordOfText t) columnOptions items
-      × SetAs (fontOfText t) (fontTable (fontOfText t)) (fontOps (fontOfText t)) (wordOfText t) columnOptions itemRoom items
+      (items : List Out) × WordReads t items × WordWritten t items
+  -- loops or not: the run of the word ends, and the T lines are its items; and whatever the reading of the word gives once it ends, the T
+  -- lines give (R23)
+  pub run-ends : (letters : List ℤ) → t .word ≡ some letters → (items : List Out) × WordRuns t items × WordWritten t items
+  pub run-reads : (letters : List ℤ) → t .word ≡ some letters → (items : List Out) → WordReads t items → WordWritten t items
 
 -- Whatever text is lent, with whatever room, if it is read and none of the numbers refuses it then that holds of it.
 abbrev pub EveryAnsweredText : Type 0

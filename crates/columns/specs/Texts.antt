@@ -21,99 +21,49 @@ pub record Text : Type 0 where
   pub entries : List ℤ
   pub word : Option (List ℤ)
 
+-- the same, by the letters of its lines: D, R, L, I, K, E, W
+abbrev pub textBy : ℤ → Option ℤ → Option ℤ → List ℤ → List ℤ → List ℤ → Option (List ℤ) → Text
+textBy d r l i k e w = record { design = d; boundary = r; left = l; instructions = i; kerns = k; entries = e; word = w }
+
 -- after D: a design size, and nothing else yet
 abbrev pub opened : ℤ → Text
-opened design = record { design = design; boundary = none; left = none; instructions = []; kerns = []; entries = []; word = none }
+opened design = textBy design none none [] [] [] none
 
 -- ---- one line more
 
 -- R: the boundary character, once at most
 abbrev pub withBoundary : Text → Option ℤ → ℤ → Option Text
-withBoundary t none z =
-    some (record {
-      design = t .design;
-      boundary = some z;
-      left = t .left;
-      instructions = t .instructions;
-      kerns = t .kerns;
-      entries = t .entries;
-      word = t .word;
-    })
+withBoundary t none z = some (textBy (t .design) (some z) (t .left) (t .instructions) (t .kerns) (t .entries) (t .word))
 withBoundary t (some y) z = none
 
 -- L: the entry of the left boundary, once at most
 abbrev pub withLeft : Text → Option ℤ → ℤ → Option Text
-withLeft t none z =
-    some (record {
-      design = t .design;
-      boundary = t .boundary;
-      left = some z;
-      instructions = t .instructions;
-      kerns = t .kerns;
-      entries = t .entries;
-      word = t .word;
-    })
+withLeft t none z = some (textBy (t .design) (t .boundary) (some z) (t .instructions) (t .kerns) (t .entries) (t .word))
 withLeft t (some y) z = none
 
 -- I (R190): four numbers, 512 times at most (R198)
 abbrev pub withInstruction : Text → List ℤ → Option Text
 withInstruction t zs =
     cond (both (eqb (length zs) 4) (leb (suc (length (t .instructions) / 4)) 512))
-    (some (record {
-      design = t .design;
-      boundary = t .boundary;
-      left = t .left;
-      instructions = t .instructions ++ zs;
-      kerns = t .kerns;
-      entries = t .entries;
-      word = t .word;
-    }))
-    none
+    (some (textBy (t .design) (t .boundary) (t .left) (t .instructions ++ zs) (t .kerns) (t .entries) (t .word))) none
 
 -- K (R190): one number, 512 times at most (R198)
 abbrev pub withKern : Text → List ℤ → Option Text
 withKern t zs =
     cond (both (eqb (length zs) 1) (leb (suc (length (t .kerns))) 512))
-    (some (record {
-      design = t .design;
-      boundary = t .boundary;
-      left = t .left;
-      instructions = t .instructions;
-      kerns = t .kerns ++ zs;
-      entries = t .entries;
-      word = t .word;
-    }))
-    none
+    (some (textBy (t .design) (t .boundary) (t .left) (t .instructions) (t .kerns ++ zs) (t .entries) (t .word))) none
 
 -- E (R190): two numbers
 abbrev pub withEntry : Text → List ℤ → Option Text
 withEntry t zs =
     cond (eqb (length zs) 2)
-    (some (record {
-      design = t .design;
-      boundary = t .boundary;
-      left = t .left;
-      instructions = t .instructions;
-      kerns = t .kerns;
-      entries = t .entries ++ zs;
-      word = t .word;
-    }))
-    none
+    (some (textBy (t .design) (t .boundary) (t .left) (t .instructions) (t .kerns) (t .entries ++ zs) (t .word))) none
 
 -- W (R192): as many numbers as the word has characters, 64 at most (R199)
 abbrev pub withWord : Text → List ℤ → Option Text
 withWord t zs =
     cond (leb (length zs) 64)
-    (some (record {
-      design = t .design;
-      boundary = t .boundary;
-      left = t .left;
-      instructions = t .instructions;
-      kerns = t .kerns;
-      entries = t .entries;
-      word = some zs;
-    }))
-    none
+    (some (textBy (t .design) (t .boundary) (t .left) (t .instructions) (t .kerns) (t .entries) (some zs))) none
 
 -- R and L (R189): one number
 abbrev pub byOne : (ℤ → Option Text) → List ℤ → Option Text

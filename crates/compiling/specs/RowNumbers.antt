@@ -12,11 +12,7 @@ use Rattle.tfm.specs.declared.ToScaled.the-variants.{Scaled, NegativeDesignSize
 use Rattle.tfm.specs.Scaled.{toScaled}
 use Rattle.lang.specs.declared.operation.Operation.{Operation}
 use Rattle.lang.specs.declared.operation.Operation.the-variants.{Kern, KernAtIndex, Ligature, EntrypointRedirect}
-use Rattle.lang.specs.declared.operation.PostLigOperation.{PostLigOperation}
-use Rattle.lang.specs.declared.operation.PostLigOperation.the-variants.{RetainBothMoveNowhere, RetainBothMoveToInserted}
-use Rattle.lang.specs.declared.operation.PostLigOperation.the-variants.{RetainBothMoveToRight, RetainRightMoveToInserted}
-use Rattle.lang.specs.declared.operation.PostLigOperation.the-variants.{RetainRightMoveToRight, RetainLeftMoveNowhere}
-use Rattle.lang.specs.declared.operation.PostLigOperation.the-variants.{RetainLeftMoveToInserted, RetainNeitherMoveToInserted}
+pub use Rattle.lang.specs.Operations.{byteOfOperation}
 use Rattle.lang.specs.Records.{instructionAt}
 use Rattle.program_chain.specs.Chains.{actsAs}
 use Rattle.reading.specs.Items.{Left, bnd, chr}
@@ -27,17 +23,6 @@ use Rattle.fonts.specs.Numbers.{nth}
 use Rattle.compiling.specs.declared.Effect.{Effect}
 
 -- ---- what a rule does: numbers 3 and 4
-
--- the standard op byte of an operation
-abbrev pub byteOfOperation : PostLigOperation → ℕ
-byteOfOperation RetainNeitherMoveToInserted = 0
-byteOfOperation RetainRightMoveToInserted = 1
-byteOfOperation RetainLeftMoveNowhere = 2
-byteOfOperation RetainBothMoveNowhere = 3
-byteOfOperation RetainRightMoveToRight = 5
-byteOfOperation RetainLeftMoveToInserted = 6
-byteOfOperation RetainBothMoveToInserted = 7
-byteOfOperation RetainBothMoveToRight = 11
 
 -- numbers 3 and 4 of a row, and whether its rule's kern scales
 abbrev pub effect : ℕ → ℕ → Bool → Effect

@@ -38,6 +38,17 @@ retains (suc b) (suc c) zero = RetainBothMoveNowhere
 retains (suc b) (suc c) (suc zero) = RetainBothMoveToInserted
 retains (suc b) (suc c) (suc (suc a)) = RetainBothMoveToRight
 
+-- the other way round: 4a + 2b + c, the standard op byte of an operation (R42, R44)
+abbrev pub byteOfOperation : PostLigOperation → ℕ
+byteOfOperation RetainNeitherMoveToInserted = 0
+byteOfOperation RetainRightMoveToInserted = 1
+byteOfOperation RetainLeftMoveNowhere = 2
+byteOfOperation RetainBothMoveNowhere = 3
+byteOfOperation RetainRightMoveToRight = 5
+byteOfOperation RetainLeftMoveToInserted = 6
+byteOfOperation RetainBothMoveToInserted = 7
+byteOfOperation RetainBothMoveToRight = 11
+
 -- a ligature operation, the character that it inserts, and a mark where its op byte is invalid
 abbrev pub lig : PostLigOperation → ℕ → Bool → Operation
 lig operation inserted invalid = Ligature (record { 0 = inserted }) operation invalid

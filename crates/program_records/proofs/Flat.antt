@@ -21,13 +21,13 @@ use Rattle.lang.specs.declared.operation.Operation.the-variants.{Kern, KernAtIn
 use Rattle.lang.specs.declared.instruction.NextInstruction.{NextInstruction}
 use Rattle.lang.specs.declared.instruction.NextInstruction.the-variants.{Stop, Skip}
 use Rattle.lang.specs.declared.instruction.Instruction.{Instruction}
-use Rattle.lang.specs.Operations.{lig, ligature, fromBytes}
+use Rattle.lang.specs.Operations.{byteOfOperation, lig, ligature, fromBytes}
 use Rattle.lang.specs.Every.{every}
 use Rattle.lang.specs.Records.{count, field, nextOf, operationOf, instructionAt, absentOr, operandFits, isInstruction}
 use Rattle.lang.specs.Checks.{programRefusal, recordRefusal, sizeRefusal, orElse, unless}
 use Rattle.lang.proofs.Every.{every-all}
 use Rattle.program_records.specs.RecordChains.{zeroRecord, recordAt, recordsRefusal}
-use Rattle.program_records.specs.Agreement.{nextNumber, opByteOf, markByte, kindNumber, operandNumber, flat, skipFits, operationFits, InRange, markFits}
+use Rattle.program_records.specs.Agreement.{nextNumber, markByte, kindNumber, operandNumber, flat, skipFits, operationFits, InRange, markFits}
 use Rattle.program_records.specs.Agreement.{eachRecord, recordsOf}
 
 -- ---- the numbers are in fours
@@ -87,7 +87,7 @@ next-fits : (x : NextInstruction) → skipFits x → absentOr 255 (nextNumber x)
 next-fits Stop h = refl
 next-fits (Skip k) h = le-leb k 255 (omega arith)
 
-op-byte : (p : PostLigOperation) → opByteOf p < 12
+op-byte : (p : PostLigOperation) → byteOfOperation p < 12
 op-byte RetainNeitherMoveToInserted = omega arith
 op-byte RetainRightMoveToInserted = omega arith
 op-byte RetainLeftMoveNowhere = omega arith
@@ -101,7 +101,7 @@ operand-fits : (op : Operation) → operationFits op → operandFits (kindNumber
 operand-fits (Kern k) h = refl
 operand-fits (KernAtIndex i) h = le-leb i 65535 (omega arith)
 operand-fits (Ligature c p true) h = le-leb (256 * markByte + c .0) 32767 (omega arith)
-operand-fits (Ligature c p false) h = le-leb (256 * opByteOf p + c .0) 32767 (omega (arith, op-byte p))
+operand-fits (Ligature c p false) h = le-leb (256 * byteOfOperation p + c .0) 32767 (omega (arith, op-byte p))
 operand-fits (EntrypointRedirect t true) h = le-leb (65536 * 1 + t) 131071 (omega arith)
 operand-fits (EntrypointRedirect t false) h = le-leb (65536 * 0 + t) 131071 (omega arith)
 
@@ -113,7 +113,7 @@ bytes-read op c h l =
     rw (high, low)
 
 -- an op byte is read as what it was made of, and the mark as the mark
-standard-read : (p : PostLigOperation) (c : ℕ) → fromBytes (opByteOf p) c ≡ lig p c false
+standard-read : (p : PostLigOperation) (c : ℕ) → fromBytes (byteOfOperation p) c ≡ lig p c false
 unfolding fromBytes ligature
 standard-read RetainNeitherMoveToInserted c = refl
 standard-read RetainRightMoveToInserted c = refl
@@ -132,7 +132,7 @@ operation-reads : (op : Operation) → operationFits op → markFits op → oper
 operation-reads (Kern k) h m = refl
 operation-reads (KernAtIndex i) h m = ap KernAtIndex (let e : i % 65536 ≡ i = omega arith in e)
 operation-reads (Ligature c p true) h m = bytes-read markByte (c .0) (omega arith) h ∙ mark-read (c .0) ∙ rw (m refl)
-operation-reads (Ligature c p false) h m = bytes-read (opByteOf p) (c .0) (omega (arith, op-byte p)) h ∙ standard-read p (c .0)
+operation-reads (Ligature c p false) h m = bytes-read (byteOfOperation p) (c .0) (omega (arith, op-byte p)) h ∙ standard-read p (c .0)
 operation-reads (EntrypointRedirect t true) h m =
     let low : (65536 * 1 + t) % 65536 ≡ t = omega arith in
     let high : (65536 * 1 + t) / 65536 ≡ 1 = omega arith in

@@ -10,16 +10,13 @@ use mir.Syntax.{w32}
 use mir.Val.{SFits}
 use Rattle.words.specs.Lists.{tabulate}
 use Rattle.lang.specs.declared.Written.{Written}
-use Rattle.lang.specs.declared.operation.PostLigOperation.{PostLigOperation}
-use Rattle.lang.specs.declared.operation.PostLigOperation.the-variants.{RetainBothMoveNowhere, RetainBothMoveToInserted}
-use Rattle.lang.specs.declared.operation.PostLigOperation.the-variants.{RetainBothMoveToRight, RetainRightMoveToInserted}
-use Rattle.lang.specs.declared.operation.PostLigOperation.the-variants.{RetainRightMoveToRight, RetainLeftMoveNowhere}
-use Rattle.lang.specs.declared.operation.PostLigOperation.the-variants.{RetainLeftMoveToInserted, RetainNeitherMoveToInserted}
+use Rattle.lang.specs.declared.operation.PostLigOperation.the-variants.{RetainNeitherMoveToInserted}
 use Rattle.lang.specs.declared.operation.Operation.{Operation}
 use Rattle.lang.specs.declared.operation.Operation.the-variants.{Kern, KernAtIndex, Ligature, EntrypointRedirect}
 use Rattle.lang.specs.declared.instruction.NextInstruction.{NextInstruction}
 use Rattle.lang.specs.declared.instruction.NextInstruction.the-variants.{Stop, Skip}
 use Rattle.lang.specs.declared.instruction.Instruction.{Instruction}
+use Rattle.lang.specs.Operations.{byteOfOperation}
 use Rattle.lang.specs.Records.{count, instructionAt}
 use Rattle.lang.specs.Checks.{programRefusal}
 use Rattle.program_chain.specs.Chains.{stepAt, chain, ruleIndex, chainOf, ruleIndexOf, WalksChain}
@@ -52,17 +49,6 @@ abbrev pub nextNumber : NextInstruction → ℤ
 nextNumber Stop = negsuc 0
 nextNumber (Skip k) = pos k
 
--- R42 and R44, TeX 545: 4a + 2b + c
-abbrev pub opByteOf : PostLigOperation → ℕ
-opByteOf RetainNeitherMoveToInserted = 0
-opByteOf RetainRightMoveToInserted = 1
-opByteOf RetainLeftMoveNowhere = 2
-opByteOf RetainBothMoveNowhere = 3
-opByteOf RetainRightMoveToRight = 5
-opByteOf RetainLeftMoveToInserted = 6
-opByteOf RetainBothMoveToInserted = 7
-opByteOf RetainBothMoveToRight = 11
-
 -- number 2 of an instruction: 0 a kern, 1 a kern index, 2 a ligature, 3 a redirect
 abbrev pub kindNumber : Operation → ℕ
 kindNumber (Kern k) = 0
@@ -78,7 +64,7 @@ markByte = 4
 abbrev pub operandNumber : Operation → ℤ
 operandNumber (Kern k) = k .0
 operandNumber (KernAtIndex i) = pos i
-operandNumber (Ligature c p t) = pos (256 * cond t markByte (opByteOf p) + c .0)
+operandNumber (Ligature c p t) = pos (256 * cond t markByte (byteOfOperation p) + c .0)
 operandNumber (EntrypointRedirect t f) = pos (65536 * cond f 1 0 + t)
 
 -- the numbers of a list of records, four a record

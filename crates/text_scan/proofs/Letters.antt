@@ -15,7 +15,7 @@ use borrow.Author.Tests.{le-leb, lt-leb, le-ltb, ne-eqb, eqb-true}
 use Rattle.words.specs.Words.{wordOf}
 use Rattle.words.proofs.Bits.{number-word}
 use Rattle.lang.proofs.Every.{both-left, both-false}
-use Rattle.columns.specs.Texts.{Text, withBoundary, withLeft, withInstruction, withKern, withEntry, byLetter, unlessWord, addLine}
+use Rattle.columns.specs.Texts.{Text, textBy, withBoundary, withLeft, withInstruction, withKern, withEntry, byLetter, unlessWord, addLine}
 use Rattle.columns.proofs.Options.{cond-some}
 use Rattle.text_scan.specs.declared.progress.TextProgress.{TextProgress}
 use Rattle.text_scan.specs.declared.progress.NextLine.{NextLine}
@@ -27,27 +27,19 @@ use Rattle.text_scan.proofs.Adding.{zeros-long, once, same-by-one, goes
 -- ---- a text with a line more
 
 abbrev moreInstructions : Text → List ℤ → Text
-moreInstructions t zs =
-    record
-    { design = t .design; boundary = t .boundary; left = t .left; instructions = t .instructions ++ zs; kerns = t .kerns; entries = t .entries; word = t .word }
+moreInstructions t zs = textBy (t .design) (t .boundary) (t .left) (t .instructions ++ zs) (t .kerns) (t .entries) (t .word)
 
 abbrev moreKerns : Text → List ℤ → Text
-moreKerns t zs =
-    record
-    { design = t .design; boundary = t .boundary; left = t .left; instructions = t .instructions; kerns = t .kerns ++ zs; entries = t .entries; word = t .word }
+moreKerns t zs = textBy (t .design) (t .boundary) (t .left) (t .instructions) (t .kerns ++ zs) (t .entries) (t .word)
 
 abbrev moreEntries : Text → List ℤ → Text
-moreEntries t zs =
-    record
-    { design = t .design; boundary = t .boundary; left = t .left; instructions = t .instructions; kerns = t .kerns; entries = t .entries ++ zs; word = t .word }
+moreEntries t zs = textBy (t .design) (t .boundary) (t .left) (t .instructions) (t .kerns) (t .entries ++ zs) (t .word)
 
 abbrev bounded : Text → ℤ → Text
-bounded t z =
-    record { design = t .design; boundary = some z; left = t .left; instructions = t .instructions; kerns = t .kerns; entries = t .entries; word = t .word }
+bounded t z = textBy (t .design) (some z) (t .left) (t .instructions) (t .kerns) (t .entries) (t .word)
 
 abbrev entered : Text → ℤ → Text
-entered t z =
-    record { design = t .design; boundary = t .boundary; left = some z; instructions = t .instructions; kerns = t .kerns; entries = t .entries; word = t .word }
+entered t z = textBy (t .design) (t .boundary) (some z) (t .instructions) (t .kerns) (t .entries) (t .word)
 
 -- before W, a line is added by its letter
 pub adds : (t : Text) (b : ℕ) (zs : List ℤ) → t .word ≡ none → addLine t (some (lineOf b zs)) ≡ byLetter t b zs

@@ -19,7 +19,7 @@ use Rattle.columns.proofs.Options.{none-some}
 use Rattle.text_scan.specs.declared.progress.TextProgress.{TextProgress}
 use Rattle.text_scan.specs.declared.progress.NextLine.the-variants as next
 use Rattle.text_scan.specs.Following.{restOf, firstBy, lineOf, numbersOn, numberOn}
-use Rattle.text_scan.specs.Standing.{TellsText, Opens}
+use Rattle.text_scan.specs.Standing.{TellsText, progressOf, Opens}
 use Rattle.text_scan.proofs.Following.{numbered, first-on, first-stuck, rest-added}
 use Rattle.text_line_numbers.proofs.Storing.{number-some, number-none}
 use Rattle.text_scan.proofs.Telling.{word-read}
@@ -72,7 +72,7 @@ read-first (b ∷ bs) z h i e =
 -- ---- where reading then stands
 
 abbrev pub firstAt : ℕ → TextProgress
-firstAt w = record { at = 14; design = w; boundary = 4294967295; left = 4294967295; bounded = false; entered = false; instructions = 0; kerns = 0; entries = 0 }
+firstAt w = progressOf 14 w 4294967295 4294967295 false false 0 0 0
 
 module _ (text : List ℕ) (short : length text ≤ 65536) where
   nowhere : readText text ≡ none → Opens text next.Unreadable

@@ -76,80 +76,33 @@ pub record TakesLine (o : Option (List ℤ)) (q : TextProgress) (list : List ℤ
   pub answer : r ≡ nextBy o q
   pub stored : (zs : List ℤ) → o ≡ some zs → list′ ≡ sets list place zs
 
+-- where reading stands: the place, D, R and L as words, whether R and L were read, and how many numbers of I, K and E lines
+abbrev pub progressOf : ℕ → ℕ → ℕ → ℕ → Bool → Bool → ℕ → ℕ → ℕ → TextProgress
+progressOf at d r l bounded entered i k e =
+    record { at = at; design = d; boundary = r; left = l; bounded = bounded; entered = entered; instructions = i; kerns = k; entries = e }
+
 -- after I: 50 bytes, and four numbers more
 abbrev pub pastInstruction : TextProgress → TextProgress
 pastInstruction p =
-    record {
-      at = p .at + 50;
-      design = p .design;
-      boundary = p .boundary;
-      left = p .left;
-      bounded = p .bounded;
-      entered = p .entered;
-      instructions = p .instructions + 4;
-      kerns = p .kerns;
-      entries = p .entries;
-    }
+    progressOf (p .at + 50) (p .design) (p .boundary) (p .left) (p .bounded) (p .entered) (p .instructions + 4) (p .kerns) (p .entries)
 
 -- after K: 14 bytes, and one number more
 abbrev pub pastKern : TextProgress → TextProgress
 pastKern p =
-    record {
-      at = p .at + 14;
-      design = p .design;
-      boundary = p .boundary;
-      left = p .left;
-      bounded = p .bounded;
-      entered = p .entered;
-      instructions = p .instructions;
-      kerns = p .kerns + 1;
-      entries = p .entries;
-    }
+    progressOf (p .at + 14) (p .design) (p .boundary) (p .left) (p .bounded) (p .entered) (p .instructions) (p .kerns + 1) (p .entries)
 
 -- after E: 26 bytes, and two numbers more
 abbrev pub pastEntry : TextProgress → TextProgress
 pastEntry p =
-    record {
-      at = p .at + 26;
-      design = p .design;
-      boundary = p .boundary;
-      left = p .left;
-      bounded = p .bounded;
-      entered = p .entered;
-      instructions = p .instructions;
-      kerns = p .kerns;
-      entries = p .entries + 2;
-    }
+    progressOf (p .at + 26) (p .design) (p .boundary) (p .left) (p .bounded) (p .entered) (p .instructions) (p .kerns) (p .entries + 2)
 
 -- after R: 14 bytes, and the 32 bits of its number
 abbrev pub pastBoundary : TextProgress → ℕ → TextProgress
-pastBoundary p w =
-    record {
-      at = p .at + 14;
-      design = p .design;
-      boundary = w;
-      left = p .left;
-      bounded = true;
-      entered = p .entered;
-      instructions = p .instructions;
-      kerns = p .kerns;
-      entries = p .entries;
-    }
+pastBoundary p w = progressOf (p .at + 14) (p .design) w (p .left) true (p .entered) (p .instructions) (p .kerns) (p .entries)
 
 -- after L: 14 bytes, and the 32 bits of its number
 abbrev pub pastLeft : TextProgress → ℕ → TextProgress
-pastLeft p w =
-    record {
-      at = p .at + 14;
-      design = p .design;
-      boundary = p .boundary;
-      left = w;
-      bounded = p .bounded;
-      entered = true;
-      instructions = p .instructions;
-      kerns = p .kerns;
-      entries = p .entries;
-    }
+pastLeft p w = progressOf (p .at + 14) (p .design) (p .boundary) w (p .bounded) true (p .instructions) (p .kerns) (p .entries)
 
 -- after R or L, if its number was read
 abbrev pub headBy : (ℕ → TextProgress) → Option ℤ → NextLine
