@@ -24,14 +24,9 @@ front c =
     let x = c .before .before .before .before in
     let s = x .before .before .before in
     let a = s .args in
+    let f = parts-fit (a .pairs .now) (a .ops .now) (a .loops .now) (numberOf (a .letters)) (a .items .now) (a .out .now) (s .pre) in
     let p = x .put-table .ensures in
-    let q = loops-put (a .loops .now)
-    (omega (
-      arith,
-      parts-fit (a .pairs .now) (a .ops .now) (a .loops .now) (numberOf (a .letters)) (a .items .now) (a .out .now) (s .pre),
-      p .next,
-      puts-length p,
-    )) (c .put-lines .ensures) in
+    let q = loops-put (a .loops .now) (omega (arith, f, p .next, puts-length p)) (c .put-lines .ensures) in
     puts-both p q
 
 put-lines-requires : tie.Need-put-lines-requires
