@@ -18,7 +18,8 @@ use words::sizes::minus;
 
 // The state after an op that is there; the state itself where no list can have that op.
 pub fn after_op(s: State) -> State
-    ensures { λ r. ⌜ (s .op < 9223372036854775808 → r ≡ afterOp s) × (9223372036854775808 ≤ s .op → r ≡ s) ⌝ }
+    ensures { λ r. ⌜ (s .op < 9223372036854775808 → r ≡ afterOp s)
+        × (9223372036854775808 ≤ s .op → r ≡ s) ⌝ }
 {
     if 9223372036854775808 <= s.op {
         return s;

@@ -14,6 +14,7 @@ use Rattle.columns.specs.Texts.{Text, addLines}
 
 -- ---- the rest of a text
 
+-- the lines of the rest added to what was read, where the rest ends in a line feed
 abbrev pub addAll : Option (List (List ℕ)) → Option Text → Option Text
 addAll none r = none
 addAll (some ls) r = addLines ls r

@@ -122,5 +122,6 @@ abbrev pub stopPair : List ℤ → List ℤ → ℤ → List ℕ → RunOptions 
 stopPair pairs ops boundary word options s items k m =
     cond (isQuick ops boundary word options s) (stopPlace pairs word s (mostLetters word s items k) m) (pairCount pairs)
 
+-- where letters end: the left that is then next, how many were given, and the pair that stopped them
 abbrev pub lettersEnd : ℕ → ℕ → ℕ → LettersEnd
 lettersEnd left n pair = record { left = left; count = n; pair = pair }

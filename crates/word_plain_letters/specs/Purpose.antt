@@ -33,6 +33,7 @@ StepGivesPlain =
     (pairs ops : List ℤ) (boundary : ℤ) (word : List ℕ) (options : RunOptions) →
     GivesPlain (noPair pairs) ops boundary word options (stepOf pairs ops boundary word options)
 
+-- where letters end at a pair, the state is quick, and that is the pair which the next step looks up
 abbrev pub LettersStop : Type 0
 LettersStop =
     (pairs ops : List ℤ) (boundary : ℤ) (word : List ℕ) (options : RunOptions) (s : State) (n : ℕ) →

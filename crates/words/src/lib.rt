@@ -1,5 +1,5 @@
-// Numbers as they are lent: i32 as its 32 bits and back, and slices, a file for each type of element. Nothing here has a
-// `requires`: an index past the end reads 0, and a store there does nothing.
+// Numbers as they are lent: i32 as its 32 bits and back, and slices, a file for each type of element. Nothing here has
+// a `requires`: an index past the end reads 0, and a store there does nothing.
 //   i32s, u32s, u64s, u8s   an element read, stored, and zeroing      sizes   the smaller of two, and what is left
 ghost use mathlib.Core.Path.{_≡_};
 ghost use Rattle.words.specs.Words.{wordOf, numberOf};
