@@ -76,8 +76,8 @@ fn print(text: &[u8]) {
     io::write_all(libc::STDOUT_FILENO, front(&out, n));
 }
 
-// Writes what a text is answered with: the length of the reply, or minus the number; the reply, unless it was lent 65,536
-// bytes, since that one is printed; and what is printed.
+// Writes what a text is answered with: the length of the reply, or minus the number; the reply, unless it was lent
+// 65,536 bytes, since that one is printed; and what is printed.
 fn answer(text: &[u8], reply: &mut [u8]) {
     let w = word_of(ligcols(text, reply));
     if w < 2147483648 {

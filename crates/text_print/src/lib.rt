@@ -19,7 +19,8 @@ pub fn front(bytes: &[u8], n: usize) -> &[u8]
     &bytes[..n]
 }
 
-// What is printed for a text, the first `got` bytes that were read, with zeros after it. Answers how many bytes that is.
+// What is printed for a text, the first `got` bytes that were read, and zeros after it. Answers how many bytes are
+// printed.
 pub fn print_answer(read: &[u8; 65537], got: usize, out: &mut [u8; 65536]) -> usize
     ensures { λ r. ⌜ Prints (now (read .entry)) got r (now (out .exit)) ⌝ }
 {
