@@ -1,12 +1,16 @@
-// The program: a column text on standard input, its reply on standard output; on a refusal only a line with N and the
-// number (R213). The work is crate `text_answer`'s, which is proved; that a text of more than 65,536 bytes is 16 is
-// seen by reading one byte more.
+// The program: a column text on standard input, and on standard output what `print_answer` says of it, which is proved:
+// the reply, or on a refusal only a line with N and the number (R213). A read that fails is no end of the text: then
+// nothing is printed. What failed is told on standard error.
 ghost use mathlib.Core.Path.{_≡_};
 ghost use lib.ListN.{length};
-use text_answer::ligcols;
-use text_lines::put_lines;
-use words::number_of;
-use words::word_of;
+use text_print::front;
+use text_print::print_answer;
+
+// What was read of standard input: so many bytes; or a read failed.
+enum Input {
+    Bytes(usize),
+    Failed,
+}
 
 // Room for a text, and one byte more.
 fn text_room() -> [u8; 65537]
@@ -21,27 +25,52 @@ fn reply_room() -> [u8; 65536]
     [0; 65536]
 }
 
-// The first n bytes, or all where there are fewer.
-fn front(bytes: &[u8], n: usize) -> &[u8] {
-    if n <= bytes.len() { &bytes[..n] } else { bytes }
+// A signal interrupted the read that answered this.
+fn is_interrupted(got: isize) -> bool {
+    got < 0 && os::errno() == libc::EINTR
 }
 
-// N and the number of a refusal.
-fn write_refusal(number: i32) {
-    let numbers = [number];
-    let mut line = [0u8; 14];
-    let end = put_lines(78, &numbers, 0, 1, 1, &mut line, 0);
-    io::write_all(libc::STDOUT_FILENO, front(&line, end));
+// One read. Where a signal interrupts it, it is tried again, but not for ever.
+fn read_some(rest: &mut [u8]) -> isize {
+    let mut tries: usize = 1000;
+    let mut got = libc::read(libc::STDIN_FILENO, rest);
+    while 0 < tries && is_interrupted(got) {
+        got = libc::read(libc::STDIN_FILENO, rest);
+        tries -= 1;
+    }
+    got
+}
+
+// Reads until the input ends or the room is full.
+fn read_input(text: &mut [u8]) -> Input {
+    let mut done = 0;
+    while done < text.len() {
+        let got = read_some(&mut text[done..]);
+        if got < 0 {
+            return Input::Failed;
+        }
+        let n = io::count(got, &text[done..]);
+        if n == 0 {
+            return Input::Bytes(done);
+        }
+        done += n;
+    }
+    Input::Bytes(done)
+}
+
+// Prints what is due for the first `got` bytes.
+fn print(text: &[u8; 65537], got: usize) {
+    let mut out = reply_room();
+    let n = print_answer(text, got, &mut out);
+    if !io::write_all(libc::STDOUT_FILENO, front(&out, n)) {
+        os::fail(b"ligcols: the reply is not whole: standard output can't be written");
+    }
 }
 
 fn main() {
     let mut text = text_room();
-    let mut reply = reply_room();
-    let got = io::read_full(libc::STDIN_FILENO, &mut text);
-    let w = word_of(ligcols(front(&text, got), &mut reply));
-    if w < 2147483648 {
-        io::write_all(libc::STDOUT_FILENO, front(&reply, w as usize));
-    } else {
-        write_refusal(number_of(4294967295 - w + 1));
+    match read_input(&mut text) {
+        Input::Bytes(got) => print(&text, got),
+        Input::Failed => os::fail(b"ligcols: no reply: standard input can't be read"),
     }
 }

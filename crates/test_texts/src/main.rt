@@ -1,13 +1,15 @@
 // Answers column texts with this port. Standard input is a list of texts: a line with the letter T, a text's length in
 // bytes and, where it is not 65,536, the length of the reply that is lent for it; then its bytes. For each text a line
-// with what `ligcols` returned is written, and then the bytes of the reply. `stdout` beside this crate's source holds
-// the same, made by tools/oracle/texts from docs/RULES.md and the Rust's answers, and the gate compares the two.
+// with what `ligcols` returned is written; where the length of the reply was given, the bytes of that reply; and then
+// what the program `ligcols` prints when it reads the text (R213). `stdout` beside this crate's source holds the same,
+// made by tools/oracle/texts from docs/RULES.md and the Rust's answers, and the gate compares the two.
 ghost use mathlib.Core.Path.{_≡_};
 ghost use lib.ListN.{length};
 use test_requests::read::line_end;
 use test_requests::read::numbers_of;
 use test_requests::request::front;
 use text_answer::ligcols;
+use text_print::print_answer;
 use words::i32s::word_at;
 use words::word_of;
 
@@ -31,6 +33,20 @@ fn reply_room() -> [u8; 70000]
     [0; 70000]
 }
 
+// Room for what the program reads: a text, and one byte more.
+fn read_room() -> [u8; 65537]
+    ensures { λ r. ⌜ 65537 ≡ length r ⌝ }
+{
+    [0; 65537]
+}
+
+// .. and for what it prints.
+fn print_room() -> [u8; 65536]
+    ensures { λ r. ⌜ 65536 ≡ length r ⌝ }
+{
+    [0; 65536]
+}
+
 // The line before a text.
 fn head_of(line: &[u8]) -> Head {
     let mut numbers = [0i32, 65536];
@@ -41,18 +57,41 @@ fn head_of(line: &[u8]) -> Head {
     }
 }
 
-// Writes what a text is answered with: the length of the reply, and the reply; or minus the number.
+// What the program reads of a text: as much as there is room for. Answers how much.
+fn read_front(text: &[u8], read: &mut [u8]) -> usize {
+    let mut i = 0;
+    while i < text.len() && i < read.len() {
+        read[i] = text[i];
+        i += 1;
+    }
+    i
+}
+
+// Writes what the program prints.
+fn print(text: &[u8]) {
+    let mut read = read_room();
+    let mut out = print_room();
+    let got = read_front(text, &mut read);
+    let n = print_answer(&read, got, &mut out);
+    io::write_all(libc::STDOUT_FILENO, front(&out, n));
+}
+
+// Writes what a text is answered with: the length of the reply, or minus the number; the reply, unless it was lent
+// 65,536 bytes, since that one is printed; and what is printed.
 fn answer(text: &[u8], reply: &mut [u8]) {
     let w = word_of(ligcols(text, reply));
     if w < 2147483648 {
         io::print_decimal(libc::STDOUT_FILENO, w as u64);
         io::write_all(libc::STDOUT_FILENO, b"\n");
-        io::write_all(libc::STDOUT_FILENO, front(reply, w as usize));
+        if reply.len() != 65536 {
+            io::write_all(libc::STDOUT_FILENO, front(reply, w as usize));
+        }
     } else {
         io::write_all(libc::STDOUT_FILENO, b"-");
         io::print_decimal(libc::STDOUT_FILENO, 4294967296 - (w as u64));
         io::write_all(libc::STDOUT_FILENO, b"\n");
     }
+    print(text);
 }
 
 // Lends a reply of n bytes, or of all that there are.
