@@ -96,9 +96,9 @@
 
    How many bytes a call takes below its caller's frame, measured by tools/stack/run. No proof speaks of this.
      ligkern_compile                          3,304     ligkern_program_is_seven_bit_safe      328
-     ligkern_set_word                         1,161     ligkern_instructions_for_entrypoint     88
+     ligkern_set_word                         1,177     ligkern_instructions_for_entrypoint     88
      ligkern_fill_index                          56     ligkern_unpack_entrypoint               72
-     ligkern_set_word_indexed                 1,241     ligkern_reachable_iter              32,872
+     ligkern_set_word_indexed                 1,225     ligkern_reachable_iter              32,872
      ligkern_begin                              304     ligkern_pack_entrypoints             1,144
      ligkern_step                               761     ligkern_pack_kerns                      88
      ligkern_has_replacement                     40     ligkern_unpack_kerns               131,176
