@@ -1,90 +1,17 @@
-// Repair, after `validate_and_fix` of ligkern/lang.rs (lines 691 to 818): TFtoPL 66 to 77 and 88 to 95. The passes are
-// crate `repair_passes`'s; here are the refusals 1 to 4 before them and 15 after them. The repaired program stands in a
-// local array until it is known that the lists which were lent are long enough, since 12, which is of the repaired
-// program, comes before 15.
+// Repair, after `validate_and_fix` of ligkern/lang.rs (lines 691 to 818): TFtoPL 66 to 77 and 88 to 95. The passes and
+// the refusals before 15 are crate `repair_passes`'s; here is 15. The repaired program stands in a local array until it
+// is known that the lists which were lent are long enough, since 12, which is of the repaired program, comes before 15.
 ghost use mathlib.Core.Path.{_≡_};
-ghost use mathlib.Core.List.{List};
-ghost use Prim.Native.Nat.{ℕ, _≤_};
-ghost use lib.Dec.{leb};
+ghost use Prim.Native.Nat.{_≤_, min};
 ghost use lib.ListN.{length};
-ghost use Rattle.words.specs.Words.{wordOf};
 ghost use Rattle.words.specs.Lists.{Appending};
-ghost use Rattle.lang.specs.Checks.{programRefusal, kernsRefusal, entriesRefusal, absentRefusal, unless, orElse};
-ghost use Rattle.repairs.specs.Repairs.{damagedOf, damagedRefusal, Repairs};
-ghost use Rattle.repair.specs.Finishing.{fitsRefusal, Finishes};
-use program_checks::absent_refusal;
-use program_checks::program_refusal;
-use program_limits::entries_refusal;
-use program_limits::kerns_refusal;
-use program_limits::passthrough_refusal;
+ghost use Rattle.repairs.specs.Repairs.{damagedOf, Repairs};
+ghost use Rattle.repair.specs.Finishing.{fitsRefusal, answerRefusal, HasNumber, mendedOf, outputsOf, Finishes};
 use program_limits::room_refusal;
 use repair_passes::mend;
 use repairs::Validated;
 use words::i32s::zero_i32;
 use words::u8s::zero_u8;
-use words::u32s::zero_u32;
-
-// 4 of the boundary character, the left entry or the replacement.
-fn edge_refusal(boundary: i32, left_entry: i32, replacement: i32) -> u32
-    ensures { λ r. ⌜ r ≡ orElse (absentRefusal 255 boundary)
-        (orElse (absentRefusal 65535 «left_entry») (unless 4 (leb (wordOf replacement) 255))) ⌝ }
-{
-    let at_boundary = absent_refusal(255, boundary);
-    if at_boundary != 0 {
-        return at_boundary;
-    }
-    let at_left = absent_refusal(65535, left_entry);
-    if at_left != 0 {
-        return at_left;
-    }
-    if words::word_of(replacement) <= 255 {
-        0
-    } else {
-        4
-    }
-}
-
-// 1 to 3, and 4 of the entries.
-fn lists_refusal(instructions: &[i32], kerns: &[i32], entries: &[i32]) -> u32
-    ensures { λ r. ⌜ r ≡ orElse (programRefusal (now (instructions .entry)))
-        (orElse (kernsRefusal (now (kerns .entry))) (entriesRefusal 255 (now (entries .entry)))) ⌝ }
-{
-    let program = program_refusal(instructions);
-    if program != 0 {
-        return program;
-    }
-    let of_kerns = kerns_refusal(kerns);
-    if of_kerns != 0 {
-        return of_kerns;
-    }
-    entries_refusal(255, entries)
-}
-
-// 1 to 4, the lowest.
-fn damaged_refusal(
-    instructions: &[i32],
-    kerns: &[i32],
-    entries: &[i32],
-    boundary: i32,
-    left_entry: i32,
-    replacement: i32,
-    passthrough: &[u8],
-) -> u32
-    ensures { λ r. ⌜ ((existing : List ℕ) →
-        r ≡ damagedRefusal
-        (damagedOf (now (instructions .entry)) (now (kerns .entry)) (now (entries .entry)) boundary
-        «left_entry» replacement existing (now (passthrough .entry)))) ⌝ }
-{
-    let lists = lists_refusal(instructions, kerns, entries);
-    if lists != 0 {
-        return lists;
-    }
-    let edges = edge_refusal(boundary, left_entry, replacement);
-    if edges != 0 {
-        return edges;
-    }
-    passthrough_refusal(passthrough, instructions)
-}
 
 // 15: so many numbers, bytes and warnings do not fit.
 fn fits_refusal(
@@ -106,6 +33,23 @@ fn fits_refusal(
         return of_bytes;
     }
     if count <= warnings / 4 { 0 } else { 15 }
+}
+
+// The refusal of the passes; else 15.
+fn answer_refusal(
+    mended: Validated,
+    numbers: usize,
+    bytes: usize,
+    fixed: usize,
+    through: usize,
+    warnings: usize,
+) -> u32
+    ensures { λ r. ⌜ r ≡ answerRefusal mended numbers bytes fixed through warnings ⌝ }
+{
+    match mended {
+        Validated::Refused(number) => number,
+        Validated::Fixed(_, count) => fits_refusal(numbers, bytes, count, fixed, through, warnings),
+    }
 }
 
 // Numbers copied to the front of a list that has room for them.
@@ -145,27 +89,32 @@ fn places() -> [u8; 32767]
     [0u8; 32767]
 }
 
-// The repaired program and its passthrough are copied to lists that are zero, where these and the warnings' list are
-// long enough. 15, with the warnings zeroed.
+// As many of n instructions as there are places for.
+fn placed(n: usize) -> usize
+    ensures { λ r. ⌜ r ≡ min n 32767 ⌝ }
+{
+    if n <= 32767 { n } else { 32767 }
+}
+
+// The repaired program and its passthrough are copied, where nothing is refused and the lists are long enough. The
+// refusal of the passes, or 15, with the warnings zeroed.
 fn finish(
-    left: i32,
-    count: usize,
+    mended: Validated,
     program: &[i32],
     passed: &[u8],
     fixed: &mut [i32],
     through: &mut [u8],
     warnings: &mut [i32],
 ) -> Validated
-    ensures { λ r. ⌜ Finishes left count (now (program .entry)) (now (passed .entry)) (now (fixed .entry))
-        (now (through .entry)) (now (warnings .entry))
-        (fitsRefusal (length (now (program .entry))) (length (now (passed .entry))) count
-        (length (now (fixed .entry))) (length (now (through .entry))) (length (now (warnings .entry)))) r
-        (now (fixed .exit)) (now (through .exit)) (now (warnings .exit)) ⌝ }
+    requires { ⌜ HasNumber mended ⌝ }
+    ensures { λ r. ⌜ Finishes (mendedOf mended (now (program .entry)) (now (passed .entry)))
+        (outputsOf (now (fixed .entry)) (now (through .entry)) (now (warnings .entry))) r
+        (outputsOf (now (fixed .exit)) (now (through .exit)) (now (warnings .exit))) ⌝ }
 {
-    let number = fits_refusal(
+    let number = answer_refusal(
+        mended,
         program.len(),
         passed.len(),
-        count,
         fixed.len(),
         through.len(),
         warnings.len(),
@@ -176,7 +125,7 @@ fn finish(
     }
     copy_numbers(program, fixed);
     copy_bytes(passed, through);
-    Validated::Fixed(left, count)
+    mended
 }
 
 // Repairs a font: what is wrong is warned of and, but for entries, redirects and loops, put right. Answers the repaired
@@ -205,23 +154,10 @@ pub fn validate_and_fix(
     zero_i32(fixed);
     zero_u8(through);
     zero_i32(warnings);
-    let refusal = damaged_refusal(
-        instructions,
-        kerns,
-        entries,
-        boundary,
-        left_entry,
-        replacement,
-        passthrough,
-    );
-    if refusal != 0 {
-        zero_u32(work);
-        return Validated::Refused(refusal);
-    }
-    let n = instructions.len() / 4;
+    let n = placed(instructions.len() / 4);
     let mut program = programs();
     let mut passed = places();
-    match mend(
+    let mended = mend(
         instructions,
         kerns,
         entries,
@@ -234,19 +170,13 @@ pub fn validate_and_fix(
         &mut passed[..n],
         warnings,
         work,
-    ) {
-        Validated::Refused(number) => {
-            zero_i32(warnings);
-            Validated::Refused(number)
-        }
-        Validated::Fixed(left, count) => finish(
-            left,
-            count,
-            &program[..4 * n],
-            &passed[..n],
-            fixed,
-            through,
-            warnings,
-        ),
-    }
+    );
+    finish(
+        mended,
+        &program[..4 * n],
+        &passed[..n],
+        fixed,
+        through,
+        warnings,
+    )
 }

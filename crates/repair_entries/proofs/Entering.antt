@@ -25,7 +25,8 @@ use Rattle.repairs.specs.Damaged.{Damaged, packedEntryOf, unpacks, unpackedUpto
 use Rattle.repairs.specs.Warnings.{warning, warnIf, leftWarning, entryWarnings}
 use Rattle.repairs.specs.Pushed.{Pushed}
 use Rattle.repairs.proofs.Pushing.{sets-after, pushed-none, pushed-append, pushed-if}
-use Rattle.repair_entries.specs.Entering.{Lends, Placed, entryNumbers, passthroughBits, redirectPassed, passedUpto, passthroughUpto, Enters}
+use Rattle.repair_entries.specs.Entering.{Lends, Placed, entryNumbers, passthroughBits, redirectPassed, passedUpto, passthroughUpto, PassesFrom}
+use Rattle.repair_entries.specs.Entering.{EntersFrom, isEnterable, enterWarnings, Enters}
 use Rattle.repair_entries.proofs.Stores.{stored-none, stored-more, stored-set}
 
 -- ---- entries placed one after the other
@@ -263,34 +264,52 @@ module _ (d : Damaged) (s es : List ℤ) (l : Lends d s es) where
       t₁ ≡ sets t 0 (repairedPassthrough d)
   passed-all t k h m a = a ∙ ap (λ (j : ℕ). sets t 0 (passthroughUpto d j)) (whole k h m)
 
-  -- all passes, one after the other
-  module _ {z : ℤ} {p : List ℕ} (ls : d .left ≡ z) (ps : d .passthrough ≡ p) (few : count (d .instructions) ≤ 32767) (many : length (d .entries) / 2 ≤ 256)
-    where
-      left-pushed : {b : Bool} → b ≡ both (nonNeg z) (leb (count s) (wordOf z)) → (w w₁ : List ℤ) (i : ℕ) →
-          Pushed w 0 (warnIf (both b (ltb 0 4294967296)) (warning 1 (numberOf 0) (numberOf 0) (numberOf 0))) w₁ i → Pushed w 0 (leftWarning d) w₁ i
-      left-pushed {b} bs w w₁ i a =
-          rw (bs, ← ls, ← l .instructions) at (pushed-if w 0 b (warning 1 (numberOf 0) (numberOf 0) (numberOf 0)) w₁ i (omega arith) a)
+-- ---- all passes, one after the other
 
-      one-left : (w w₁ : List ℤ) (i : ℕ) → Pushed w 0 (leftWarning d) w₁ i → i ≤ 1
-      one-left w w₁ i a = omega (arith, a .count, four (leftGoes d))
-        where
-          four : (t : Bool) → length (warnIf t (warning 1 (pos 0) (pos 0) (pos 0))) ≤ 4
-          four true = omega arith
-          four false = omega arith
+-- the left entry has one warning at most
+pub one-left : (t : Bool) (w w₁ : List ℤ) (i : ℕ) →
+    Pushed w 0 (warnIf (both t (ltb 0 4294967296)) (warning 1 (numberOf 0) (numberOf 0) (numberOf 0))) w₁ i → i ≤ 1
+one-left t w w₁ i a = omega (arith, a .count, four (both t (ltb 0 4294967296)))
+  where
+    four : (t : Bool) → length (warnIf t (warning 1 (numberOf 0) (numberOf 0) (numberOf 0))) ≤ 4
+    four true = omega arith
+    four false = omega arith
 
-      pub enters : {u u′ : List ℤ} {n : ℕ} → (count s ≤ 32767 → Placed u 0 (unpackedEntries d) u′ n) → {t t₁ t₂ : List ℕ} →
-          t₁ ≡ sets t 0 (passthroughBits p (count s)) → ((t : List ℕ) → t₁ ≡ sets t 0 (passthroughUpto d 0) → t₂ ≡ sets t 0 (repairedPassthrough d)) →
-          {b : Bool} → b ≡ both (nonNeg z) (leb (count s) (wordOf z)) → {w w₁ w₂ : List ℤ} {i m : ℕ} →
-          Pushed w 0 (warnIf (both b (ltb 0 4294967296)) (warning 1 (numberOf 0) (numberOf 0) (numberOf 0))) w₁ i →
-          (i ≤ 1 → length es / 2 ≤ 256 → Pushed w₁ i (entryWarnings d (length es / 2)) w₂ m) → Enters d u t w (record { entries = n; warnings = m }) u′ t₂ w₂
-      enters placed {t} e passed bs {w} {w₁} {w₂} {i} {m} a warned =
-          let u = placed (rw (l .instructions) at few) in
-          let o = left-pushed bs w w₁ i a in
-          record {
-            entries = omega (arith, u .count);
-            list = u .list;
-            passthrough = passed t (passed-none p t ps e);
-            warned =
-                pushed-append w 0 (leftWarning d) w₁ i (entryWarnings d (length (d .entries) / 2)) w₂ m o
-                (rw (← l .entries) at (warned (one-left w w₁ i o) (rw (l .entries) at many)));
-          }
+module _ (d : Damaged) {s es : List ℤ} {z : ℤ} {p : List ℕ} (f : EntersFrom d s es z p) where
+  -- the test, of the lists that are lent
+  enterable-is : isEnterable d ≡ both (leb (count s) 32767) (leb (length es / 2) 256)
+  enterable-is = λ i. both (leb (count (f .lists .instructions i)) 32767) (leb (length (f .lists .entries i) / 2) 256)
+
+  -- it fails
+  pub enters-none : (u : List ℤ) (t : List ℕ) (w : List ℤ) {b : Bool} → b ≡ both (leb (count s) 32767) (leb (length es / 2) 256) → b ≡ false →
+      Enters d u t w (record { entries = 0; warnings = 0 }) u t w
+  enters-none u t w e h =
+      let fails : isEnterable d ≡ false = enterable-is ∙ sym e ∙ h in
+      record { entries = rw fails; list = rw fails; passthrough = rw fails; warned = rw fails (pushed-none w 0) }
+
+  left-pushed : {b : Bool} → b ≡ both (nonNeg z) (leb (count s) (wordOf z)) → (w w₁ : List ℤ) (i : ℕ) →
+      Pushed w 0 (warnIf (both b (ltb 0 4294967296)) (warning 1 (numberOf 0) (numberOf 0) (numberOf 0))) w₁ i → Pushed w 0 (leftWarning d) w₁ i
+  left-pushed {b} bs w w₁ i a =
+      rw (bs, ← f .left-entry, ← f .lists .instructions) at
+      (pushed-if w 0 b (warning 1 (numberOf 0) (numberOf 0) (numberOf 0)) w₁ i (omega arith) a)
+
+  -- it holds
+  module _ {t₀ : Bool} (e : t₀ ≡ both (leb (count s) 32767) (leb (length es / 2) 256)) (h : t₀ ≡ true) where
+    holds : isEnterable d ≡ true
+    holds = enterable-is ∙ sym e ∙ h
+
+    pub enters : {u u′ : List ℤ} {n : ℕ} → Placed u 0 (unpackedEntries d) u′ n → {t t₁ t₂ : List ℕ} → t₁ ≡ sets t 0 (passthroughBits p (count s)) →
+        ((t : List ℕ) → PassesFrom d t s es t₁ → t₂ ≡ sets t 0 (repairedPassthrough d)) → {b : Bool} → b ≡ both (nonNeg z) (leb (count s) (wordOf z)) →
+        {w w₁ w₂ : List ℤ} {i m : ℕ} →
+        Pushed w 0 (warnIf (both b (ltb 0 4294967296)) (warning 1 (numberOf 0) (numberOf 0) (numberOf 0))) w₁ i →
+        Pushed w₁ i (entryWarnings d (length es / 2)) w₂ m → Enters d u t w (record { entries = n; warnings = m }) u′ t₂ w₂
+    enters o {t} g passed bs {w} {w₁} {w₂} {i} {m} a warned =
+        record {
+          entries = rw holds (omega (arith, o .count));
+          list = rw holds (o .list);
+          passthrough = rw holds (passed t (record { lists = f .lists; from = passed-none d s es (f .lists) p t (f .passed) g }));
+          warned =
+              rw holds
+              (pushed-append w 0 (leftWarning d) w₁ i (entryWarnings d (length (d .entries) / 2)) w₂ m (left-pushed bs w w₁ i a)
+              (rw (← f .lists .entries) at warned));
+        }

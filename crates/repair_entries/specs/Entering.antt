@@ -5,7 +5,7 @@ use mathlib.Core.Bool.{Bool, true, cond}
 use mathlib.Core.List.{List, [], _∷_, _++_}
 use Prim.Native.Nat.{ℕ, _+_, _*_, _/_}
 use lib.IntN.{ℤ}
-use lib.Dec.{eqb}
+use lib.Dec.{leb, eqb}
 use lib.ListN.{length, getD, set}
 use lib.Seq.{sets}
 use Rattle.words.specs.Words.{numberOf}
@@ -50,12 +50,32 @@ passedUpto d k i = cond (eqb (getD (d .passthrough) i 0) 0) (redirectsAt d i k) 
 abbrev pub passthroughUpto : Damaged → ℕ → List ℕ
 passthroughUpto d k = tabulate (count (d .instructions)) (λ i. cond (passedUpto d k i) 1 0)
 
+-- the font d has these instructions and entries, and `through` is t with the passthrough before the first entry at its front
+pub record PassesFrom (d : Damaged) (t : List ℕ) (s es : List ℤ) (through : List ℕ) : Type 0 where
+  pub lists : Lends d s es
+  pub from : through ≡ sets t 0 (passthroughUpto d 0)
+
 -- ---- the contract of unpack_entries
 
--- the unpacked entries, the passthrough and the warnings 1 and 2, each at the front of its list, with the counts of entries and warnings
+-- the font d has these instructions and entries, this left entry and this passthrough
+pub record EntersFrom (d : Damaged) (s es : List ℤ) (left : ℤ) (passthrough : List ℕ) : Type 0 where
+  pub lists : Lends d s es
+  pub left-entry : d .left ≡ left
+  pub passed : d .passthrough ≡ passthrough
+
+-- at most 32,767 instructions (R230) and 256 entries
+abbrev pub isEnterable : Damaged → Bool
+isEnterable d = both (leb (count (d .instructions)) 32767) (leb (length (d .entries) / 2) 256)
+
+-- the warnings 1 and 2
+abbrev pub enterWarnings : Damaged → List ℤ
+enterWarnings d = leftWarning d ++ entryWarnings d (length (d .entries) / 2)
+
+-- The unpacked entries, the passthrough and the warnings 1 and 2, each at the front of its list, with the counts of entries and warnings.
+-- Of a font that has more nothing is written, and both counts are 0.
 pub record Enters (d : Damaged) (unpacked : List ℤ) (through : List ℕ) (warnings : List ℤ) (r : Entered) (unpacked′ : List ℤ)
     (through′ : List ℕ) (warnings′ : List ℤ) : Type 0 where
-  pub entries : 2 * r .entries ≡ length (unpackedEntries d)
-  pub list : unpacked′ ≡ sets unpacked 0 (unpackedEntries d)
-  pub passthrough : through′ ≡ sets through 0 (repairedPassthrough d)
-  pub warned : Pushed warnings 0 (leftWarning d ++ entryWarnings d (length (d .entries) / 2)) warnings′ (r .warnings)
+  pub entries : 2 * r .entries ≡ length (cond (isEnterable d) (unpackedEntries d) [])
+  pub list : unpacked′ ≡ sets unpacked 0 (cond (isEnterable d) (unpackedEntries d) [])
+  pub passthrough : through′ ≡ sets through 0 (cond (isEnterable d) (repairedPassthrough d) [])
+  pub warned : Pushed warnings 0 (cond (isEnterable d) (enterWarnings d) []) warnings′ (r .warnings)

@@ -15,7 +15,7 @@ ghost use Rattle.repairs.specs.Damaged.{Damaged, unpackedEntries, repairedPasst
 ghost use Rattle.repairs.specs.Warnings.{entryWarnings};
 ghost use Rattle.repairs.specs.Pushed.{Pushed};
 ghost use Rattle.repair_entries.specs.Entering.{Lends, Placed, entryNumbers, passthroughBits, redirectPassed};
-ghost use Rattle.repair_entries.specs.Entering.{passthroughUpto, Enters};
+ghost use Rattle.repair_entries.specs.Entering.{PassesFrom, EntersFrom, Enters};
 use entry_targets::entry_refusal;
 use entry_targets::is_redirect;
 use entry_targets::stands_for;
@@ -43,8 +43,8 @@ fn put_entry(instructions: &[i32], c: u32, entry: u32, unpacked: &mut [i32], n: 
 
 // The entries that unpack, unpacked. Answers how many they are.
 fn put_entries(instructions: &[i32], entries: &[i32], unpacked: &mut [i32]) -> usize
+    requires { ⌜ count (now instructions) ≤ 32767 ⌝ }
     ensures { λ r. ⌜ ((d : Damaged) → Lends d (now (instructions .entry)) (now (entries .entry)) →
-        count (now (instructions .entry)) ≤ 32767 →
         Placed (now (unpacked .entry)) 0 (unpackedEntries d) (now (unpacked .exit)) r) ⌝ }
 {
     let mut n = 0;
@@ -89,8 +89,8 @@ fn pass_redirect(instructions: &[i32], entry: usize, through: &mut [u8])
 
 // The same of every entry.
 fn pass_redirects(instructions: &[i32], entries: &[i32], through: &mut [u8])
-    ensures { λ _. ⌜ ((d : Damaged) → Lends d (now (instructions .entry)) (now (entries .entry)) →
-        (t : List ℕ) → now (through .entry) ≡ sets t 0 (passthroughUpto d 0) →
+    ensures { λ _. ⌜ ((d : Damaged) (t : List ℕ) →
+        PassesFrom d t (now (instructions .entry)) (now (entries .entry)) (now (through .entry)) →
         now (through .exit) ≡ sets t 0 (repairedPassthrough d)) ⌝ }
 {
     let mut k = 0;
@@ -115,8 +115,8 @@ fn left_goes(instructions: &[i32], left_entry: i32) -> bool
 
 // After n warnings, one for each entry that does not unpack. Answers how many there are then.
 fn warn_entries(instructions: &[i32], entries: &[i32], warnings: &mut [i32], n: usize) -> usize
+    requires { ⌜ (n ≤ 1) × (length (now entries) / 2 ≤ 256) ⌝ }
     ensures { λ r. ⌜ ((d : Damaged) → Lends d (now (instructions .entry)) (now (entries .entry)) →
-        n ≤ 1 → length (now (entries .entry)) / 2 ≤ 256 →
         Pushed (now (warnings .entry)) n (entryWarnings d (length (now (entries .entry)) / 2))
         (now (warnings .exit)) r) ⌝ }
 {
@@ -132,8 +132,16 @@ fn warn_entries(instructions: &[i32], entries: &[i32], warnings: &mut [i32], n: 
     count
 }
 
+// At most 32,767 instructions and 256 entries.
+fn is_enterable(instructions: usize, entries: usize) -> bool
+    ensures { λ r. ⌜ r ≡ both (leb instructions 32767) (leb entries 256) ⌝ }
+{
+    instructions <= 32767 && entries <= 256
+}
+
 // The entries that unpack, unpacked; passthrough, as 0 and 1, set at the redirects by which one does; and the warnings
-// of the left entry (1) and of the entries that do not (2).
+// of the left entry (1) and of the entries that do not (2). Nothing is done to a font of more than 32,767 instructions
+// or 256 entries, and both counts are 0.
 pub fn unpack_entries(
     instructions: &[i32],
     entries: &[i32],
@@ -143,13 +151,18 @@ pub fn unpack_entries(
     through: &mut [u8],
     warnings: &mut [i32],
 ) -> Entered
-    ensures { λ r. ⌜ ((d : Damaged) → d .instructions ≡ now (instructions .entry) →
-        d .entries ≡ now (entries .entry) → d .left ≡ «left_entry» →
-        d .passthrough ≡ now (passthrough .entry) → count (d .instructions) ≤ 32767 →
-        length (d .entries) / 2 ≤ 256 →
+    ensures { λ r. ⌜ ((d : Damaged) →
+        EntersFrom d (now (instructions .entry)) (now (entries .entry)) «left_entry» (now (passthrough .entry))
+        →
         Enters d (now (unpacked .entry)) (now (through .entry)) (now (warnings .entry)) r (now (unpacked .exit))
         (now (through .exit)) (now (warnings .exit))) ⌝ }
 {
+    if !is_enterable(instructions.len() / 4, entries.len() / 2) {
+        return Entered {
+            entries: 0,
+            warnings: 0,
+        };
+    }
     let n = put_entries(instructions, entries, unpacked);
     put_passthrough(passthrough, instructions.len() / 4, through);
     pass_redirects(instructions, entries, through);

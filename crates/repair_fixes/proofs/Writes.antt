@@ -1,26 +1,28 @@
 -- Laws of a step's numbers, by their 32 bits: one that is picked, a ligature's operand, four stores in a row, and those of the steps so far.
 -- Assumes nothing.
 use mathlib.Core.Path.{_≡_, refl, sym, ap, _∙_}
-use mathlib.Core.Bool.{Bool, true, false, cond}
+use mathlib.Core.Bool.{Bool, true, false, cond, not}
 use mathlib.Core.List.{List}
 use Prim.Native.Nat.{ℕ, _+_, _*_, _/_, _%_, _<_, _≤_}
 use native.Mathlib.Numerals.{add-one}
 use native.Mathlib.Omega.{arith}
-use lib.IntN.{ℤ}
+use lib.IntN.{ℤ, pos}
+use lib.Dec.{eqb}
 use lib.ListN.{length}
 use lib.Seq.{sets}
-use borrow.Author.Tests.{eq-eqb, ne-eqb}
+use borrow.Author.Tests.{leb-true, eq-eqb, ne-eqb}
 use Rattle.words.specs.Words.{Word, wordOf, numberOf}
 use Rattle.words.proofs.Bits.{number-pos, number-is}
 use Rattle.words.proofs.Lists.{sets-append}
-use Rattle.lang.specs.Records.{field, isInstruction}
-use Rattle.lang.proofs.Records.{within-bound}
+use Rattle.lang.specs.Every.{both}
+use Rattle.lang.specs.Operations.{advance, keepsLeft, keepsRight, isStandard}
+use Rattle.lang.specs.Records.{field, isKind}
 use Rattle.repairs.specs.declared.Faults.{Faults}
 use Rattle.repairs.specs.Damaged.{DamagedProgram}
-use Rattle.repairs.specs.Repaired.{repairedStep, repairedUpto}
-use Rattle.repairs.proofs.Kept.{operand-fits, ligature-fits}
+use Rattle.repairs.specs.Repaired.{isLigature, kernGoes, opByteAt, insertedBy, productGoes, tagGoes}
+use Rattle.repairs.specs.Repaired.{repairedOperand, repairedStep, repairedUpto}
 use Rattle.repairs.proofs.Steps.{length-upto}
-use Rattle.repair_fixes.specs.StepFixes.{operandBy}
+use Rattle.repair_fixes.specs.StepFixes.{FaultsAt}
 
 -- ---- one number
 
@@ -34,23 +36,60 @@ picked-most false a b m e h l = rw e l
 
 -- ---- the operand
 
--- a ligature's operand has an op byte below 128
-operand-small : (s : List ℤ) (i : ℕ) {kind : ℕ} → kind ≡ wordOf (field s i 2) → kind ≡ 2 → isInstruction s i ≡ true → wordOf (field s i 3) ≤ 32767
-operand-small s i {kind} ks h t =
-    within-bound 32767 (field s i 3)
-    (ligature-fits (wordOf (field s i 2)) (field s i 3) (operand-fits s i t) (eq-eqb (wordOf (field s i 2)) 2 (sym ks ∙ h)))
+-- a standard op byte is 11 at most
+standard-small : (o : ℕ) → isStandard o ≡ true → o ≤ 11
+standard-small o t = let h = leb-true (advance o) (keepsLeft o + keepsRight o) t in omega arith
 
-module _ (s : List ℤ) (replacement : ℕ) (f : Faults) (i : ℕ) {kind operand : ℕ} (ks : kind ≡ wordOf (field s i 2)) (os : Word (field s i 3) operand) where
-  pub operand-other : (kind ≡ 2 → ⊥) → {r : ℕ} → r ≡ cond (f .kern) 0 operand → numberOf r ≡ operandBy s replacement f i
-  operand-other h e = rw (← ks, ne-eqb kind 2 h) (picked (f .kern) 0 operand refl (number-is os) e)
+-- an op byte that is not standard goes
+tag-small : (t : Bool) (o : ℕ) {a : ℕ} → t ≡ not (isStandard o) → a ≡ cond t 0 o → a ≤ 11
+tag-small true o e f = omega (arith, f)
+tag-small false o {a} e f = let h = standard-small o (stays (isStandard o) e) in omega (arith, f)
+  where
+    stays : (b : Bool) → false ≡ not b → b ≡ true
+    stays true e = refl
+    stays false e = absurd (let z : _≡_ {A = ℕ} 0 1 = cc in omega arith)
 
-  pub operand-ligature : kind ≡ 2 → replacement < 256 → {a b : ℕ} → a ≡ cond (f .tag) 0 (operand / 256) → b ≡ cond (f .product) replacement (operand % 256) →
-      isInstruction s i ≡ true → numberOf (256 * a + b) ≡ operandBy s replacement f i
-  operand-ligature h l {a} {b} es fs t =
-      let o : operand ≤ 32767 = rw (os .is) (operand-small s i ks h t) in
-      let p : a ≤ 127 = picked-most (f .tag) 0 (operand / 256) 127 es (omega arith) (omega arith) in
-      let q : b ≤ 255 = picked-most (f .product) replacement (operand % 256) 255 fs (omega arith) (omega arith) in
-      number-pos (256 * a + b) (omega arith) ∙ rw (← ks, eq-eqb kind 2 h, ← os .is, ← es, ← fs)
+module _ {p : DamagedProgram} {s : List ℤ} {replacement : ℕ} {f : Faults} {i : ℕ} (g : FaultsAt p s replacement f i) where
+  -- a number of the step, as it is read
+  pub field-is : (k : ℕ) {w : ℕ} → Word (field s i k) w → numberOf w ≡ field (p .instructions) i k
+  field-is k ws = number-is ws ∙ ap (λ (l : List ℤ). field l i k) (sym (g .instructions))
+
+  -- the replacement
+  pub new-is : replacement < 256 → numberOf replacement ≡ pos (p .replacement)
+  new-is h = number-pos replacement (omega arith) ∙ ap pos (sym (g .replaced))
+
+  module _ {kind operand : ℕ} (ks : kind ≡ wordOf (field s i 2)) (os : Word (field s i 3) operand) where
+    kind-is : (k : ℕ) → isKind k (p .instructions) i ≡ eqb kind k
+    kind-is k = ap (λ (l : List ℤ). isKind k l i) (g .instructions) ∙ ap (λ (w : ℕ). eqb w k) (sym ks)
+
+    operand-is : operand ≡ wordOf (field (p .instructions) i 3)
+    operand-is = os .is ∙ ap (λ (l : List ℤ). wordOf (field l i 3)) (sym (g .instructions))
+
+    -- a ligature's two bytes
+    abbrev two-bytes : ℤ
+    two-bytes = pos (256 * cond (tagGoes p i) 0 (opByteAt p i) + cond (productGoes p i) (p .replacement) (insertedBy p i))
+
+    -- the number of any other step
+    abbrev one-number : ℤ
+    one-number = cond (kernGoes p i) (pos 0) (field (p .instructions) i 3)
+
+    pub operand-other : (kind ≡ 2 → ⊥) → {r : ℕ} → r ≡ cond (f .kern) 0 operand → numberOf r ≡ repairedOperand p i
+    operand-other h e =
+        picked (f .kern) 0 operand refl (field-is 3 os) e
+        ∙ ap (λ (x : Faults). cond (x .kern) (pos 0) (field (p .instructions) i 3)) (g .are)
+        ∙ ap (λ (t : Bool). cond t two-bytes one-number) (sym (kind-is 2 ∙ ne-eqb kind 2 h))
+
+    pub operand-ligature : kind ≡ 2 → replacement < 256 → {a b : ℕ} → a ≡ cond (f .tag) 0 (operand / 256) →
+        b ≡ cond (f .product) replacement (operand % 256) → numberOf (256 * a + b) ≡ repairedOperand p i
+    operand-ligature h l {a} {b} es bs =
+        let is-so : isLigature p i ≡ true = kind-is 2 ∙ eq-eqb kind 2 h in
+        let a-is : a ≡ cond (tagGoes p i) 0 (opByteAt p i) = es ∙ (λ j. cond (g .are j .tag) 0 (operand-is j / 256)) in
+        let b-is : b ≡ cond (productGoes p i) (p .replacement) (insertedBy p i) =
+        bs ∙ (λ j. cond (g .are j .product) (sym (g .replaced) j) (operand-is j % 256)) in
+        let tag : tagGoes p i ≡ not (isStandard (opByteAt p i)) = ap (λ (t : Bool). both t (not (isStandard (opByteAt p i)))) is-so in
+        let small-a = tag-small (tagGoes p i) (opByteAt p i) tag a-is in
+        let small-b = picked-most (f .product) replacement (operand % 256) 255 bs (omega arith) (omega arith) in
+        number-pos (256 * a + b) (omega arith) ∙ (λ j. pos (256 * a-is j + b-is j)) ∙ ap (λ (t : Bool). cond t two-bytes one-number) (sym is-so)
 
 -- ---- of the first k steps
 

@@ -1,16 +1,18 @@
 // The pass of repair over the steps of a program, after `validate_and_fix` of ligkern/lang.rs (lines 722 to 806);
 // TFtoPL 70 to 77. Crate `repair_faults` says what is wrong with a step; here it is warned of and repaired.
 ghost use mathlib.Core.Path.{_≡_};
-ghost use mathlib.Core.Bool.{true, cond};
+ghost use mathlib.Core.Bool.{cond};
 ghost use Prim.Native.Nat.{ℕ, _*_, _<_, _≤_};
+ghost use lib.Dec.{leb};
 ghost use lib.Seq.{sets};
 ghost use Rattle.words.specs.Words.{numberOf};
-ghost use Rattle.lang.specs.Records.{count, isInstruction, isKind};
-ghost use Rattle.lang.specs.Checks.{programRefusal};
-ghost use Rattle.repairs.specs.Damaged.{programBy};
-ghost use Rattle.repairs.specs.Warnings.{skipWarnings};
+ghost use Rattle.lang.specs.Every.{both};
+ghost use Rattle.lang.specs.Records.{count, isKind};
+ghost use Rattle.repairs.specs.Damaged.{DamagedProgram, programBy};
+ghost use Rattle.repairs.specs.Repaired.{repairedOperand, repairedStep};
+ghost use Rattle.repairs.specs.Warnings.{skipWarnings, stepWarnings};
 ghost use Rattle.repair_fixes.specs.Fixing.{Fixes};
-ghost use Rattle.repair_fixes.specs.StepFixes.{warningsBy, operandBy, fixedStepBy, PushedUpTo, FixesUpto};
+ghost use Rattle.repair_fixes.specs.StepFixes.{FaultsAt, PushedUpTo, FixesUpto};
 use lang::instruction::field_at;
 use repair_faults::faults;
 use repair_warnings::push_if;
@@ -44,8 +46,8 @@ fn warn_step(
     n: usize,
 ) -> usize
     requires { ⌜ (replacement < 256) × (i < 32767) × (n < 1048576) ⌝ }
-    ensures { λ r. ⌜ PushedUpTo 5 (now (warnings .entry)) n
-        (warningsBy (now (instructions .entry)) replacement f i) (now (warnings .exit)) r ⌝ }
+    ensures { λ r. ⌜ ((p : DamagedProgram) → FaultsAt p (now (instructions .entry)) replacement f i →
+        PushedUpTo 5 (now (warnings .entry)) n (stepWarnings p i) (now (warnings .exit)) r) ⌝ }
 {
     let at = i as u32;
     let right = field_at(instructions, i, 1);
@@ -61,8 +63,8 @@ fn warn_step(
 // The operand of step i repaired, as its 32 bits.
 fn repaired_operand(instructions: &[i32], replacement: u32, f: Faults, i: usize) -> u32
     requires { ⌜ replacement < 256 ⌝ }
-    ensures { λ r. ⌜ (isInstruction (now (instructions .entry)) i ≡ true →
-        numberOf r ≡ operandBy (now (instructions .entry)) replacement f i) ⌝ }
+    ensures { λ r. ⌜ ((p : DamagedProgram) → FaultsAt p (now (instructions .entry)) replacement f i →
+        numberOf r ≡ repairedOperand p i) ⌝ }
 {
     let operand = field_at(instructions, i, 3);
     if field_at(instructions, i, 2) != 2 {
@@ -74,9 +76,8 @@ fn repaired_operand(instructions: &[i32], replacement: u32, f: Faults, i: usize)
 // The four numbers of step i repaired, at its place.
 fn write_step(instructions: &[i32], replacement: u32, f: Faults, i: usize, fixed: &mut [i32])
     requires { ⌜ (replacement < 256) × (i < 32767) ⌝ }
-    ensures { λ _. ⌜ (isInstruction (now (instructions .entry)) i ≡ true →
-        now (fixed .exit) ≡ sets (now (fixed .entry)) (4 * i)
-        (fixedStepBy (now (instructions .entry)) replacement f i)) ⌝ }
+    ensures { λ _. ⌜ ((p : DamagedProgram) → FaultsAt p (now (instructions .entry)) replacement f i →
+        now (fixed .exit) ≡ sets (now (fixed .entry)) (4 * i) (repairedStep p i)) ⌝ }
 {
     let next = pick(f.skip, 4294967295, field_at(instructions, i, 0));
     let right = pick(f.right, replacement, field_at(instructions, i, 1));
@@ -163,8 +164,19 @@ fn fix_steps(
     at
 }
 
-// The repaired steps, and after n warnings those of skips (3), then those of steps (4 to 9), in order. Nothing is done
-// to a program of more than 32,767 steps, for a replacement that is no character, and after 65,536 warnings.
+// At most 32,767 steps, a replacement that is a character, and at most 65,535 warnings.
+fn is_fixable(steps: usize, replacement: u32, n: usize) -> bool
+    ensures { λ r. ⌜ r ≡ both (leb steps 32767) (both (leb replacement 255) (leb n 65535)) ⌝ }
+{
+    if 32767 < steps {
+        return false;
+    }
+    replacement <= 255 && n <= 65535
+}
+
+// The repaired steps, and after n warnings those of skips (3), then those of steps (4 to 9), in order. Answers how many
+// warnings there are then. Nothing is done to a program of more than 32,767 steps, for a replacement that is no
+// character, and after more than 65,535 warnings: then n is answered.
 pub fn fix_program(
     instructions: &[i32],
     kerns: &[i32],
@@ -177,19 +189,12 @@ pub fn fix_program(
     warnings: &mut [i32],
     n: usize,
 ) -> usize
-    ensures { λ r. ⌜ (programRefusal (now (instructions .entry)) ≡ 0 → replacement < 256 → n < 65536 →
-        Fixes
+    ensures { λ r. ⌜ Fixes
         (programBy (now (instructions .entry)) (now (kerns .entry)) boundary replacement
         (now (existing .entry)) (now (marks .entry)) (now (passthrough .entry))) n (now (fixed .entry))
-        (now (warnings .entry)) r (now (fixed .exit)) (now (warnings .exit))) ⌝ }
+        (now (warnings .entry)) r (now (fixed .exit)) (now (warnings .exit)) ⌝ }
 {
-    if 32767 < instructions.len() / 4 {
-        return n;
-    }
-    if 255 < replacement {
-        return n;
-    }
-    if 65535 < n {
+    if !is_fixable(instructions.len() / 4, replacement, n) {
         return n;
     }
     let skipped = warn_skips(

@@ -9,6 +9,7 @@ use lib.IntN.{ℤ, pos}
 use lib.Dec.{ltb}
 use lib.ListN.{length, replicate}
 use lib.Seq.{sets}
+use borrow.Author.Tests.{lt-ltb, le-ltb}
 use Rattle.words.specs.Words.{numberOf}
 use Rattle.words.specs.Lists.{tabulate}
 use Rattle.words.proofs.Bits.{number-pos, number-neg}
@@ -16,7 +17,7 @@ use Rattle.words.proofs.Lists.{length-tabulate}
 use Rattle.lang.specs.declared.Written.the-variants.{Count, Refused}
 use Rattle.lang.specs.Every.{both}
 use Rattle.lang.specs.Answers.{replyOf}
-use Rattle.lang.proofs.Refusals.{refused-reply, taken-reply}
+use Rattle.lang.proofs.Refusals.{first-refusal, refused-reply, taken-reply}
 use Rattle.reading.specs.Depth.{Pair}
 use Rattle.fonts.specs.Fonts.{Font, leftOf}
 use Rattle.fonts.specs.Numbers.{leftNumber}
@@ -30,7 +31,7 @@ use Rattle.compile_loops.specs.FindsLoops.{FindsLoopsBy}
 use Rattle.repairs.specs.Warnings.{warning, warnIf, loopWarnings}
 use Rattle.repairs.specs.Pushed.{Pushed}
 use Rattle.repairs.proofs.Pushing.{pushed-none, pushed-append, pushed-if, loop-count}
-use Rattle.repair_loops.specs.WarnsLoops.{unlessRefused, WarnsLoops}
+use Rattle.repair_loops.specs.WarnsLoops.{ifTaken, loopSearchRefusal, WarnsLoops}
 
 -- ---- of plain values
 
@@ -91,34 +92,52 @@ all-listed w r i d₀ d n count h l s =
 
 -- ---- the contract, by what the search answers
 
+pub if-refused : {A : Type 0} (k : ℕ) (x y : A) → (k ≡ 0 → ⊥) → ifTaken k x y ≡ y
+if-refused zero x y h = absurd (h refl)
+if-refused (suc k) x y h = refl
+
+-- a refusal, with the warnings as they came and the work all zeros
+refuses : (f : Font) (n : ℕ) (d : List ℤ) (w w₁ : List ℕ) (k : ℕ) → k ≡ loopSearchRefusal f n w → (k ≡ 0 → ⊥) → w₁ ≡ replicate (length w) 0 →
+    WarnsLoops f n d w (Refused k) d w₁
+refuses f n d w w₁ k e h z =
+    let none = if-refused (loopSearchRefusal f n w) (loopWarnings (loopsOfFont f)) [] (λ o. h (e ∙ o)) in
+    record { answer = refused-reply _ e h; warned = ap (λ (ws : List ℤ). sets d (4 * n) ws) (sym none); cleared = z }
+
 module _ (f : Font) (n : ℕ) (d : List ℤ) (w w₁ : List ℕ) where
+  -- 1 or 12
   pub unfit : (k : ℕ) → FindsLoopsBy f (min (length w / 16) (length w / 16)) w w₁ (walked.Refused k) → WarnsLoops f n d w (Refused k) d w₁
   unfit k p =
-      let e : prepareRefusal f (length w / 16) ≡ k = ap (prepareRefusal f) (sym (min-self (length w / 16))) ∙ p .0 in
-      record {
-        answer = refused-reply _ (sym e) (λ z. omega (arith, p .1));
-        warned = nothing k (prepareRefusal f (length w / 16)) e (p .1);
-        cleared = p .2;
-      }
-    where
-      nothing : (k r : ℕ) → r ≡ k → 0 < k → d ≡ sets d (4 * n) (unlessRefused r (loopWarnings (loopsOfFont f)))
-      nothing zero r e h = absurd (omega arith)
-      nothing (suc k) r e h = rw e
+      let e : k ≡ prepareRefusal f (length w / 16) = sym (p .0) ∙ ap (prepareRefusal f) (min-self (length w / 16)) in
+      let h : k ≡ 0 → ⊥ = λ z. omega (arith, p .1) in
+      refuses f n d w w₁ k (first-refusal _ e h) h (p .2)
 
   module _ (rows m r : ℕ) (b : Bool) (p : FindsLoopsBy f (min (length w / 16) (length w / 16)) w w₁ (walked.Rows rows m r b)) where
     pub few : r ≤ 65792
     few = omega (arith, p .4 .few, p .4 .encoded .ascending .few)
 
-    pub listed : (d₁ : List ℤ) (w₂ : List ℕ) (t : ℕ) → Pushed d n (loopWarnings (tabulate r (listedPair w₁))) d₁ t → w₂ ≡ replicate (length w₁) 0 →
-        WarnsLoops f n d w (Count t) d₁ w₂
-    listed d₁ w₂ t s z =
-        let e : prepareRefusal f (length w / 16) ≡ 0 = ap (prepareRefusal f) (sym (min-self (length w / 16))) ∙ p .0 in
+    fit : prepareRefusal f (length w / 16) ≡ 0
+    fit = ap (prepareRefusal f) (sym (min-self (length w / 16))) ∙ p .0
+
+    -- the search leaves its rows, which are zeroed
+    zeroed : {w₂ : List ℕ} → w₂ ≡ replicate (length w₁) 0 → w₂ ≡ replicate (length w) 0
+    zeroed z = z ∙ ap (λ (x : ℕ). replicate x 0) (p .1)
+
+    -- 15
+    pub too-many : (w₂ : List ℕ) → 2147483647 < n → w₂ ≡ replicate (length w₁) 0 → WarnsLoops f n d w (Refused 15) d w₂
+    too-many w₂ h z =
+        let e : loopSearchRefusal f n w ≡ 15 = rw (fit, le-ltb n 2147483648 (omega arith)) in
+        refuses f n d w w₂ 15 (sym e) (λ o. omega (arith, o)) (zeroed z)
+
+    pub listed : (d₁ : List ℤ) (w₂ : List ℕ) (t : ℕ) → n < 2147483648 → Pushed d n (loopWarnings (tabulate r (listedPair w₁))) d₁ t →
+        w₂ ≡ replicate (length w₁) 0 → WarnsLoops f n d w (Count t) d₁ w₂
+    listed d₁ w₂ t h s z =
+        let e : loopSearchRefusal f n w ≡ 0 = rw (fit, lt-ltb n 2147483648 h) in
         let c : t ≡ n + length (loopsOfFont f) = counted w₁ d d₁ n r t s
         ∙ ap (λ (x : ℕ). n + x) (sym (length-tabulate r (listedPair w₁)) ∙ ap length (p .4 .loops-are)) in
         record {
           answer = ap (λ (x : ℕ). replyOf 0 (pos x ∷ [])) c ∙ taken-reply _ e;
           warned =
               s .list ∙ ap (λ (ps : List Pair). sets d (4 * n) (loopWarnings ps)) (p .4 .loops-are)
-              ∙ ap (λ (x : ℕ). sets d (4 * n) (unlessRefused x (loopWarnings (loopsOfFont f)))) (sym e);
-          cleared = z ∙ ap (λ (x : ℕ). replicate x 0) (p .1);
+              ∙ ap (λ (x : ℕ). sets d (4 * n) (ifTaken x (loopWarnings (loopsOfFont f)) [])) (sym e);
+          cleared = zeroed z;
         }

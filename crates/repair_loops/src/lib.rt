@@ -20,11 +20,10 @@ use words::u32s::zero_u32;
 
 // One warning for each of the r rows that are listed, after n others.
 fn warn_rows(work: &[u32], r: usize, warnings: &mut [i32], n: usize) -> usize
-    requires { ⌜ (r ≤ 65792) × Listing r (now work) ⌝ }
-    ensures { λ t. ⌜ (n < 2147483648 →
-        Pushed (now (warnings .entry)) n
+    requires { ⌜ (r ≤ 65792) × (n < 2147483648) × Listing r (now work) ⌝ }
+    ensures { λ t. ⌜ Pushed (now (warnings .entry)) n
         (loopWarnings (tabulate r (λ i. pairAt (now (work .entry)) (at (now (work .entry)) i 8))))
-        (now (warnings .exit)) t) ⌝ }
+        (now (warnings .exit)) t ⌝ }
 {
     let mut count = n;
     for i in 0..r {
@@ -36,8 +35,8 @@ fn warn_rows(work: &[u32], r: usize, warnings: &mut [i32], n: usize) -> usize
     count
 }
 
-// After n warnings, one for each loop of a font. Answers how many there are then; 1 and 12 as compiling answers them.
-// Work is left zero.
+// After n warnings, one for each loop of a font. Answers how many there are then; 1 and 12 as compiling answers them,
+// and 15 after 2^31 warnings or more, which no i32 counts: then none is written. Work is left zero.
 pub fn warn_loops(
     instructions: &[i32],
     kerns: &[i32],
@@ -47,7 +46,7 @@ pub fn warn_loops(
     n: usize,
     work: &mut [u32],
 ) -> Written
-    ensures { λ r. ⌜ ((b : ℤ) → n < 2147483648 →
+    ensures { λ r. ⌜ ((b : ℤ) →
         WarnsLoops
         (fontOf (now (instructions .entry)) (now (kerns .entry)) (now (entries .entry)) b «left_entry»
         (pos 10485760)) n (now (warnings .entry)) (now (work .entry)) r (now (warnings .exit))
@@ -66,6 +65,10 @@ pub fn warn_loops(
     ) {
         WalkedFont::Refused(number) => Written::Refused(number),
         WalkedFont::Rows(_, _, r, _) => {
+            if 2147483647 < n {
+                zero_u32(work);
+                return Written::Refused(15);
+            }
             let count = warn_rows(work, r, warnings, n);
             zero_u32(work);
             Written::Count(count)

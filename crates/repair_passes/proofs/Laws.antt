@@ -6,25 +6,24 @@ use mathlib.Core.List.{List, [], _∷_, _++_, append-assoc}
 use Prim.Native.Nat.{ℕ, zero, suc, _+_, _*_, _/_, _<_, _≤_}
 use native.Mathlib.Omega.{arith}
 use lib.IntN.{ℤ, pos, negsuc}
-use lib.Dec.{leb, eqb}
-use lib.ListN.{length, length-append, take}
-use lib.Seq.{sets, length-sets}
+use lib.Dec.{leb, ltb, eqb}
+use lib.ListN.{length, length-append, take, replicate}
+use lib.Seq.{length-sets, sets}
 use lib.Signed.{nonNeg}
 use mir.Syntax.{w32}
 use mir.Val.{SFits}
-use borrow.Author.Tests.{le-leb, leb-true, eq-eqb, eqb-true}
+use borrow.Author.Tests.{le-leb, lt-ltb, eqb-true}
 use Rattle.words.specs.Words.{wordOf, numberOf}
 use Rattle.words.proofs.Bits.{number-word, number-fits}
-use Rattle.words.proofs.Lists.{sets-append}
 use Rattle.lang.specs.declared.Written.{Written}
 use Rattle.lang.specs.declared.Written.the-variants.{Count, Refused}
 use Rattle.lang.specs.Every.{both}
 use Rattle.lang.specs.Records.{count}
-use Rattle.lang.specs.Checks.{orElse}
+use Rattle.lang.specs.Checks.{orElse, unless}
 use Rattle.lang.specs.Answers.{Reply, replyOf, writtenReply}
-use Rattle.fonts.specs.Compiled.{loopsOfFont}
 use Rattle.lang.proofs.Every.{both-left, both-right}
-use Rattle.lang.proofs.Refusals.{refused-reply, taken-reply}
+use Rattle.lang.proofs.Refusals.{orElse-none, unless-none, first-refusal, refused-reply, taken-reply}
+use Rattle.fonts.specs.Compiled.{loopsOfFont}
 use Rattle.fonts.specs.Fonts.{Font, fontOf}
 use Rattle.reach_marks.specs.Marks.{reachable}
 use Rattle.repairs.specs.declared.Entered.{Entered}
@@ -32,16 +31,18 @@ use Rattle.repairs.specs.declared.Validated.{Validated}
 use Rattle.repairs.specs.declared.Validated.the-variants as validated
 use Rattle.repairs.specs.Damaged.{Damaged, DamagedProgram, programBy, programOf, unpackedEntries, leftGoes, repairedLeft, repairedPassthrough}
 use Rattle.repairs.specs.Repaired.{repairedInstructions, repairedFont}
-use Rattle.repairs.specs.Warnings.{leftWarning, entryWarnings, skipWarnings, stepsWarnings, repairWarnings, loopWarnings, warningsOf}
+use Rattle.repairs.specs.Warnings.{skipWarnings, stepsWarnings, repairWarnings, loopWarnings, warningsOf}
 use Rattle.repairs.specs.Repairs.{damagedRefusal, repairedPairsRefusal, validatedReply}
 use Rattle.repairs.specs.Pushed.{Pushed}
-use Rattle.repairs.proofs.Pushing.{pushed-append, loop-count}
+use Rattle.repairs.proofs.Pushing.{sets-after, pushed-append, loop-count}
 use Rattle.repairs.proofs.Steps.{length-upto, same-count}
-use Rattle.repair_entries.specs.Entering.{Enters}
-use Rattle.repair_fixes.specs.Fixing.{Fixes}
-use Rattle.repair_loops.specs.WarnsLoops.{unlessRefused, loopSearchRefusal, WarnsLoops}
-use Rattle.repair_passes.specs.Mending.{Mends}
-use Rattle.repair_passes.proofs.Sizes.{front-is, sets-all, size, few-entries, unpacked-fits, entered-few, stepped-few, length-passthrough}
+use Rattle.repair_entries.specs.Entering.{isEnterable, enterWarnings, Enters}
+use Rattle.repair_fixes.specs.Fixing.{isFixable, fixWarnings, Fixes}
+use Rattle.repair_loops.specs.WarnsLoops.{ifTaken, loopSearchRefusal, WarnsLoops}
+use Rattle.repair_loops.proofs.Laws.{if-refused}
+use Rattle.repair_passes.specs.Mending.{MendLists, mendLists, lentRefusal, mendRefusal, mendWarnings, handedOn, Mends}
+use Rattle.repair_passes.proofs.Sizes.{front-is, sets-all, size, few-entries, small, enterable-few, unpacked-fits, entered-few, stepped-few}
+use Rattle.repair_passes.proofs.Sizes.{length-passthrough}
 
 -- ---- of answers
 
@@ -59,40 +60,25 @@ refused-by (suc r) k v vs e =
     let l : k ≡ suc r = ap (λ (x : Reply). x .number) e in
     (l, λ z. omega arith)
 
-pub taken-by : (r n m : ℕ) → replyOf 0 (pos n ∷ []) ≡ replyOf r (pos m ∷ []) → (r ≡ 0) × (n ≡ m)
+taken-by : (r n m : ℕ) → replyOf 0 (pos n ∷ []) ≡ replyOf r (pos m ∷ []) → (r ≡ 0) × (n ≡ m)
 unfolding magnitude
 taken-by zero n m e = (refl, ap (λ (x : Reply). magnitude (x .values)) e)
 taken-by (suc r) n m e =
     let l : _≡_ {A = ℕ} 0 (suc r) = ap (λ (x : Reply). x .number) e in
     absurd (omega arith)
 
--- what the search for loops answers, and what is answered then
-pub data HandedOn (left : ℤ) (r : Written) (v : Validated) : Type 0 where
-  refuses : (k : ℕ) → r ≡ Refused k → v ≡ validated.Refused k → HandedOn left r v
-  counts : (n : ℕ) → r ≡ Count n → v ≡ validated.Fixed left n → HandedOn left r v
+-- what is answered, by what the search for loops answers
+handed-reply : (number : ℕ) (left : ℤ) (n : ℕ) (r : Written) → writtenReply r ≡ replyOf number (pos n ∷ []) →
+    validatedReply (handedOn left r) ≡ replyOf number (left ∷ pos n ∷ [])
+handed-reply number left n (Count m) e =
+    let x = taken-by number m n e in
+    ap (λ (k : ℕ). replyOf 0 (left ∷ pos k ∷ [])) (x .1) ∙ taken-reply _ (x .0)
+handed-reply number left n (Refused k) e =
+    let x = refused-by number k _ _ e in
+    refused-reply _ (x .0) (x .1)
 
--- ---- after the entries: `unpacked` has 512 places, `through` one for each instruction
+-- ---- the left entry, as it is handed on: of an i32, -1 or itself
 
-module _ (d : Damaged) (few : length (d .entries) / 2 ≤ 256) (unpacked unpacked₁ : List ℤ) (through through₁ : List ℕ) (w w₁ : List ℤ) (e : Entered)
-    (long : length unpacked ≡ 512) (g : Enters d unpacked through w e unpacked₁ through₁ w₁) where
-  pub entries-within : 2 * e .entries ≤ length unpacked₁
-  entries-within = omega (arith, g .entries, unpacked-fits d few, ap length (g .list), length-sets unpacked 0 (unpackedEntries d))
-
-  pub entries-few : 2 * e .entries ≤ 512
-  entries-few = omega (arith, g .entries, unpacked-fits d few)
-
-  pub entries-are : take (2 * e .entries) unpacked₁ ≡ unpackedEntries d
-  entries-are =
-      ap (take (2 * e .entries)) (g .list)
-      ∙ front-is (unpackedEntries d) unpacked (2 * e .entries) (sym (g .entries)) (omega (arith, g .entries, unpacked-fits d few))
-
-  pub passthrough-is : length through ≡ count (d .instructions) → through₁ ≡ repairedPassthrough d
-  passthrough-is places = g .passthrough ∙ sets-all (repairedPassthrough d) through (length-passthrough d ∙ sym places)
-
-  pub few-warned : e .warnings < 65536
-  few-warned = omega (arith, g .warned .count, entered-few d few)
-
--- the left entry, as it is handed on: of an i32, -1 or itself
 left-fits : (t : Bool) (z : ℤ) → SFits w32 z → SFits w32 (cond t (negsuc 0) z)
 left-fits true z f = number-fits 4294967295 (omega arith)
 left-fits false z f = f
@@ -100,106 +86,190 @@ left-fits false z f = f
 pub left-handed : (d : Damaged) (z : ℤ) → SFits w32 (d .left) → z ≡ repairedLeft d → numberOf (wordOf z) ≡ repairedLeft d
 left-handed d z f x = ap (λ (z : ℤ). numberOf (wordOf z)) x ∙ number-word (repairedLeft d) (left-fits (leftGoes d) (d .left) f)
 
-pub left-is : (d : Damaged) (s : List ℤ) (left left′ r : ℤ) → d .instructions ≡ s → d .left ≡ left → SFits w32 left → left′ ≡ left →
-    r ≡ cond (both (nonNeg left′) (leb (count s) (wordOf left′))) (negsuc 0) left′ → numberOf (wordOf r) ≡ repairedLeft d
-left-is d s left left′ r a b f e g =
-    left-handed d r (subst (SFits w32) (sym b) f)
-    (g ∙ (λ i. cond (both (nonNeg ((e ∙ sym b) i)) (leb (count (sym a i)) (wordOf ((e ∙ sym b) i)))) (negsuc 0) ((e ∙ sym b) i)))
+pub left-is : (d : Damaged) {n : ℕ} {z r : ℤ} → SFits w32 (d .left) → n ≡ count (d .instructions) → z ≡ d .left →
+    r ≡ cond (both (nonNeg z) (leb n (wordOf z))) (negsuc 0) z → numberOf (wordOf r) ≡ repairedLeft d
+left-is d {r = r} f a b g = left-handed d r f (g ∙ (λ i. cond (both (nonNeg (b i)) (leb (a i) (wordOf (b i)))) (negsuc 0) (b i)))
 
--- the marks, by the test of their length
-pub marked : (d : Damaged) (s es : List ℤ) (left : ℤ) (m m₁ o : List ℕ) → d .instructions ≡ s → es ≡ unpackedEntries d → left ≡ repairedLeft d →
-    length m ≡ count s → m₁ ≡ cond (eqb (length m) (count s)) (reachable s es left) o → m₁ ≡ reachable (d .instructions) (unpackedEntries d) (repairedLeft d)
-marked d s es left m m₁ o a b c l e =
-    e ∙ ap (λ (t : Bool). cond t (reachable s es left) o) (eq-eqb (length m) (count s) l) ∙ (λ i. reachable (sym a i) (b i) (c i))
+-- ---- after the entries
 
-module _ (d : Damaged) (ok : damagedRefusal d ≡ 0) where
-  -- ---- after the steps: `program` has four places for each instruction
+-- what stands then, of the font d: the entries have 512 places
+pub record AfterEntries (d : Damaged) (through : List ℕ) (warnings : List ℤ) : Type 0 where
+  pub places : List ℤ
+  pub long : length places ≡ 512
+  pub entries : List ℤ
+  pub through′ : List ℕ
+  pub warnings′ : List ℤ
+  pub entered : Entered
+  pub enters : Enters d places through warnings entered entries through′ warnings′
 
-  module _ (program program₁ : List ℤ) (w w₁ w₂ : List ℤ) (n c : ℕ) (places : length program ≡ 4 * count (d .instructions))
-      (before : Pushed w 0 (leftWarning d ++ entryWarnings d (length (d .entries) / 2)) w₁ n) (g : Fixes (programOf d) n program w₁ c program₁ w₂) where
-    pub instructions-are : program₁ ≡ repairedInstructions d
-    instructions-are = g .instructions ∙ sets-all (repairedInstructions d) program (length-upto (programOf d) (count (d .instructions)) ∙ sym places)
+module _ {d : Damaged} {through : List ℕ} {warnings : List ℤ} (few : isEnterable d ≡ true) (s : AfterEntries d through warnings) where
+  twice : 2 * s .entered .entries ≡ length (unpackedEntries d)
+  twice = rw few at (s .enters .entries)
 
-    pub few-stepped : c < 2147483648
-    few-stepped = omega (arith, g .warned .count, stepped-few d ok (programOf d), before .count, entered-few d (few-entries d ok))
+  pub entries-few : 2 * s .entered .entries ≤ 512
+  entries-few = omega (arith, twice, unpacked-fits d (enterable-few d few))
 
-    pub repair-warned : Pushed w 0 (repairWarnings d) w₂ c
+  pub entries-within : 2 * s .entered .entries ≤ length (s .entries)
+  entries-within = omega (arith, entries-few, s .long, ap length (rw few at (s .enters .list)), length-sets (s .places) 0 (unpackedEntries d))
+
+  pub entries-are : take (2 * s .entered .entries) (s .entries) ≡ unpackedEntries d
+  entries-are =
+      ap (take (2 * s .entered .entries)) (rw few at (s .enters .list))
+      ∙ front-is (unpackedEntries d) (s .places) (2 * s .entered .entries) (sym twice) (omega (arith, entries-few, s .long))
+
+  pub passthrough-is : length through ≡ count (d .instructions) → s .through′ ≡ repairedPassthrough d
+  passthrough-is h = rw few at (s .enters .passthrough) ∙ sets-all (repairedPassthrough d) through (length-passthrough d ∙ sym h)
+
+  entry-warned : Pushed warnings 0 (enterWarnings d) (s .warnings′) (s .entered .warnings)
+  entry-warned = rw few at (s .enters .warned)
+
+  few-warned : s .entered .warnings ≤ 257
+  few-warned = omega (arith, entry-warned .count, entered-few d (enterable-few d few))
+
+-- ---- refused before anything is done
+
+pub not-mended : (d : Damaged) (l : MendLists) (k : ℕ) (work : List ℕ) → k ≡ lentRefusal d l → (k ≡ 0 → ⊥) → work ≡ replicate (length (l .work)) 0 →
+    Mends d l (validated.Refused k) (mendLists (l .program) (l .through) (l .warnings) work)
+not-mended d l k work e h z =
+    record {
+      answer = refused-reply _ (first-refusal _ e h) h;
+      instructions = sym (if-refused (lentRefusal d l) _ (l .program) (λ o. h (e ∙ o)));
+      passthrough = sym (if-refused (lentRefusal d l) _ (l .through) (λ o. h (e ∙ o)));
+      warned = sym (if-refused (lentRefusal d l) _ (l .warnings) (λ o. h (e ∙ o)));
+      cleared = z;
+    }
+
+-- ---- where the loops can be looked for, all warnings are written
+
+pub all-written : (d : Damaged) (l : MendLists) → repairedPairsRefusal d (length (l .work)) ≡ 0 → mendWarnings d l ≡ warningsOf d
+all-written d l e = ap (λ (k : ℕ). repairWarnings d ++ ifTaken k (loopWarnings (loopsOfFont (repairedFont d))) []) e
+
+-- ---- after each pass
+
+-- what stands then: after the entries, the steps and the loops
+pub record Stations (d : Damaged) (l : MendLists) : Type 0 where
+  pub first : AfterEntries d (l .through) (l .warnings)
+  pub boundary : ℤ
+  pub boundary-is : boundary ≡ d .boundary
+  pub replacement : ℕ
+  pub replacement-is : replacement ≡ d .replacement
+  pub marks : List ℕ
+  pub marks-are : marks ≡ reachable (d .instructions) (unpackedEntries d) (repairedLeft d)
+  pub program : List ℤ
+  pub warnings : List ℤ
+  pub warned : ℕ
+  pub fixes : Fixes (programBy (d .instructions) (d .kerns) boundary replacement (d .existing) marks (first .through′)) (first .entered .warnings)
+      (l .program) (first .warnings′) warned program warnings
+  pub left : ℤ
+  pub left-was : left ≡ repairedLeft d
+  pub warnings′ : List ℤ
+  pub work : List ℕ
+  pub answer : Written
+  pub loops : WarnsLoops (fontOf program (d .kerns) (take (2 * first .entered .entries) (first .entries)) (d .boundary) left (pos 10485760)) warned
+      warnings (l .work) answer warnings′ work
+
+module _ (d : Damaged) (l : MendLists) (ok : lentRefusal d l ≡ 0) where
+  pub taken : damagedRefusal d ≡ 0
+  taken = orElse-none (damagedRefusal d) _ ok .0
+
+  lengths : both (eqb (length (l .program)) (4 * count (d .instructions))) (eqb (length (l .through)) (count (d .instructions))) ≡ true
+  lengths = unless-none 14 _ (orElse-none (damagedRefusal d) _ ok .1)
+
+  pub program-long : length (l .program) ≡ 4 * count (d .instructions)
+  program-long = eqb-true _ _ (both-left (eqb (length (l .program)) (4 * count (d .instructions))) _ lengths)
+
+  pub through-long : length (l .through) ≡ count (d .instructions)
+  through-long = eqb-true _ _ (both-right (eqb (length (l .program)) (4 * count (d .instructions))) _ lengths)
+
+  pub enterable : isEnterable d ≡ true
+  enterable = rw (le-leb (count (d .instructions)) 32767 (size d taken), le-leb (length (d .entries) / 2) 256 (few-entries d taken))
+
+  module _ (s : Stations d l) where
+    -- ---- the steps
+
+    program-was : programBy (d .instructions) (d .kerns) (s .boundary) (s .replacement) (d .existing) (s .marks) (s .first .through′) ≡ programOf d
+    program-was =
+        let through = passthrough-is enterable (s .first) through-long in
+        λ i. programBy (d .instructions) (d .kerns) (s .boundary-is i) (s .replacement-is i) (d .existing) (s .marks-are i) (through i)
+
+    abbrev Fixed : DamagedProgram → Type 0
+    Fixed p = Fixes p (s .first .entered .warnings) (l .program) (s .first .warnings′) (s .warned) (s .program) (s .warnings)
+
+    steps : Fixed (programOf d)
+    steps = subst Fixed program-was (s .fixes)
+
+    fixable : isFixable (programOf d) (s .first .entered .warnings) ≡ true
+    fixable =
+        let n = s .first .entered .warnings in
+        let few : n ≤ 65535 = omega (arith, few-warned enterable (s .first)) in
+        let character : d .replacement ≤ 255 = omega (arith, small d taken) in
+        rw (le-leb (count (d .instructions)) 32767 (size d taken), le-leb (d .replacement) 255 character, le-leb n 65535 few)
+
+    program-is : s .program ≡ repairedInstructions d
+    program-is =
+        rw fixable at (steps .instructions)
+        ∙ sets-all (repairedInstructions d) (l .program) (length-upto (programOf d) (count (d .instructions)) ∙ sym program-long)
+
+    step-warned : Pushed (s .first .warnings′) (s .first .entered .warnings) (fixWarnings (programOf d)) (s .warnings) (s .warned)
+    step-warned = rw fixable at (steps .warned)
+
+    few-stepped : s .warned < 2147483648
+    few-stepped = omega (arith, step-warned .count, stepped-few d taken (programOf d), few-warned enterable (s .first))
+
+    repair-warned : Pushed (l .warnings) 0 (repairWarnings d) (s .warnings) (s .warned)
     repair-warned =
-        let a = leftWarning d ++ entryWarnings d (length (d .entries) / 2) in
-        let s = skipWarnings (programOf d) (count (d .instructions)) in
-        let t = stepsWarnings (programOf d) (count (d .instructions)) in
-        subst (λ (ws : List ℤ). Pushed w 0 ws w₂ c) (sym (append-assoc a s t)) (pushed-append w 0 a w₁ n (s ++ t) w₂ c before (g .warned))
+        let skips = skipWarnings (programOf d) (count (d .instructions)) in
+        let others = stepsWarnings (programOf d) (count (d .instructions)) in
+        subst (λ (ws : List ℤ). Pushed (l .warnings) 0 ws (s .warnings) (s .warned)) (sym (append-assoc (enterWarnings d) skips others))
+        (pushed-append _ _ _ _ _ _ _ _ (entry-warned enterable (s .first)) step-warned)
 
-  -- ---- after the loops
+    -- ---- the loops
 
-  search-refusal : (work : List ℕ) → loopSearchRefusal (repairedFont d) work ≡ repairedPairsRefusal d (length work)
-  search-refusal work =
-      let h : count (repairedInstructions d) ≤ 32767 = omega (arith, same-count d, size d ok) in
-      ap (λ (t : Bool). orElse (cond t 0 1) (repairedPairsRefusal d (length work))) (le-leb (count (repairedInstructions d)) 32767 h)
+    font-was : fontOf (s .program) (d .kerns) (take (2 * s .first .entered .entries) (s .first .entries)) (d .boundary) (s .left) (pos 10485760)
+        ≡ repairedFont d
+    font-was =
+        let es = entries-are enterable (s .first) in
+        λ i. fontOf (program-is i) (d .kerns) (es i) (d .boundary) (s .left-was i) (pos 10485760)
 
-  module _ (w w₁ w₂ : List ℤ) (c : ℕ) (before : Pushed w 0 (repairWarnings d) w₁ c) (work work₁ : List ℕ) (r : Written)
-      (g : WarnsLoops (repairedFont d) c w₁ work r w₂ work₁) where
-    counted : c + length (loopsOfFont (repairedFont d)) ≡ length (warningsOf d) / 4
+    looped : WarnsLoops (repairedFont d) (s .warned) (s .warnings) (l .work) (s .answer) (s .warnings′) (s .work)
+    looped = subst (λ (f : Font). WarnsLoops f (s .warned) (s .warnings) (l .work) (s .answer) (s .warnings′) (s .work)) font-was (s .loops)
+
+    -- 12 or none
+    abbrev number : ℕ
+    number = repairedPairsRefusal d (length (l .work))
+
+    pub search-refusal : loopSearchRefusal (repairedFont d) (s .warned) (l .work) ≡ number
+    search-refusal =
+        let h : count (repairedInstructions d) ≤ 32767 = omega (arith, same-count d, size d taken) in
+        ap (λ (t : Bool). orElse (orElse (cond t 0 1) number) (unless 15 (ltb (s .warned) 2147483648))) (le-leb (count (repairedInstructions d)) 32767 h)
+        ∙ ap (λ (t : Bool). orElse number (unless 15 t)) (lt-ltb (s .warned) 2147483648 few-stepped) ∙ alone number
+      where
+        alone : (k : ℕ) → orElse k 0 ≡ k
+        alone zero = refl
+        alone (suc k) = refl
+
+    counted : s .warned + length (loopsOfFont (repairedFont d)) ≡ length (warningsOf d) / 4
     counted =
-        omega (arith, before .count, length-append (repairWarnings d) (loopWarnings (loopsOfFont (repairedFont d))), loop-count (loopsOfFont (repairedFont d)))
+        let loops = loopsOfFont (repairedFont d) in
+        omega (arith, repair-warned .count, length-append (repairWarnings d) (loopWarnings loops), loop-count loops)
 
-    -- as it is answered
-    said : writtenReply r ≡ replyOf (repairedPairsRefusal d (length work)) (pos (length (warningsOf d) / 4) ∷ [])
-    said =
-        g .answer ∙ ap (λ (k : ℕ). replyOf k (pos (c + length (loopsOfFont (repairedFont d))) ∷ [])) (search-refusal work)
-        ∙ ap (λ (m : ℕ). replyOf (repairedPairsRefusal d (length work)) (pos m ∷ [])) counted
+    said : writtenReply (s .answer) ≡ replyOf number (pos (length (warningsOf d) / 4) ∷ [])
+    said = looped .answer ∙ (λ i. replyOf (search-refusal i) (pos (counted i) ∷ []))
 
-    replied : (v : Validated) (left : ℤ) → HandedOn left r v → left ≡ repairedLeft d →
-        validatedReply v ≡ replyOf (repairedPairsRefusal d (length work)) (repairedLeft d ∷ pos (length (warningsOf d) / 4) ∷ [])
-    replied v left (refuses k a b) e =
-        let x = refused-by (repairedPairsRefusal d (length work)) k _ _ (sym (ap writtenReply a) ∙ said) in
-        ap validatedReply b ∙ refused-reply _ (x .0) (x .1)
-    replied v left (counts t a b) e =
-        let x = taken-by (repairedPairsRefusal d (length work)) t _ (sym (ap writtenReply a) ∙ said) in
-        ap validatedReply b ∙ (λ i. replyOf 0 (e i ∷ pos (x .1 i) ∷ [])) ∙ taken-reply _ (x .0)
+    all-warned : s .warnings′ ≡ sets (l .warnings) 0 (mendWarnings d l)
+    all-warned =
+        let ws = loopWarnings (loopsOfFont (repairedFont d)) in
+        sets-after (repairWarnings d) (ifTaken number ws []) (l .warnings) 0 (4 * s .warned) (repair-warned .list) (repair-warned .count)
+        (looped .warned ∙ ap (λ (k : ℕ). sets (s .warnings) (4 * s .warned) (ifTaken k ws [])) search-refusal)
 
-    pub mended : (v : Validated) (left : ℤ) (program : List ℤ) (through : List ℕ) → HandedOn left r v → left ≡ repairedLeft d →
-        program ≡ repairedInstructions d → through ≡ repairedPassthrough d → Mends d w work v program through w₂ work₁
-    mended v left program through a l p q =
+    pub mended : (v : Validated) → v ≡ handedOn (s .left) (s .answer) → Mends d l v (mendLists (s .program) (s .first .through′) (s .warnings′) (s .work))
+    mended v h =
+        let n = length (warningsOf d) / 4 in
         record {
-          answer = replied v left a l;
-          instructions = p;
-          passthrough = q;
-          warned = λ z.
-              g .warned
-              ∙ ap (λ (k : ℕ). sets w₁ (4 * c) (unlessRefused k (loopWarnings (loopsOfFont (repairedFont d))))) (search-refusal work ∙ z)
-              ∙ ap (λ (l : List ℤ). sets l (4 * c) (loopWarnings (loopsOfFont (repairedFont d)))) (before .list)
-              ∙ ap (λ (j : ℕ). sets (sets w 0 (repairWarnings d)) j (loopWarnings (loopsOfFont (repairedFont d)))) (before .count)
-              ∙ sym (sets-append (repairWarnings d) (loopWarnings (loopsOfFont (repairedFont d))) w 0);
-          cleared = g .cleared;
+          answer =
+              ap validatedReply h ∙ handed-reply number (s .left) n (s .answer) said ∙ (λ i. replyOf (orElse (sym ok i) number) (s .left-was i ∷ pos n ∷ []));
+          instructions = program-is ∙ ap (λ (k : ℕ). ifTaken k (repairedInstructions d) (l .program)) (sym ok);
+          passthrough = passthrough-is enterable (s .first) through-long ∙ ap (λ (k : ℕ). ifTaken k (repairedPassthrough d) (l .through)) (sym ok);
+          warned = all-warned ∙ ap (λ (k : ℕ). ifTaken k (sets (l .warnings) 0 (mendWarnings d l)) (l .warnings)) (sym ok);
+          cleared = looped .cleared;
         }
-
--- ---- what a pass leaves, of the font as it was lent
-
-pub steps-are : (d : Damaged) (boundary : ℤ) (replacement n c : ℕ) (marks through : List ℕ) (fixed w fixed₁ w₁ : List ℤ) → boundary ≡ d .boundary →
-    replacement ≡ d .replacement → marks ≡ reachable (d .instructions) (unpackedEntries d) (repairedLeft d) → through ≡ repairedPassthrough d →
-    Fixes (programBy (d .instructions) (d .kerns) boundary replacement (d .existing) marks through) n fixed w c fixed₁ w₁ →
-    Fixes (programOf d) n fixed w c fixed₁ w₁
-steps-are d boundary replacement n c marks through fixed w fixed₁ w₁ x y z t g =
-    let p : programBy (d .instructions) (d .kerns) boundary replacement (d .existing) marks through
-    ≡ programOf d = (λ i. programBy (d .instructions) (d .kerns) (x i) (y i) (d .existing) (z i) (t i)) in
-    subst (λ (q : DamagedProgram). Fixes q n fixed w c fixed₁ w₁) p g
-
-pub loops-are : (d : Damaged) (s es : List ℤ) (left : ℤ) (n : ℕ) (w w₁ : List ℤ) (work work₁ : List ℕ) (r : Written) → s ≡ repairedInstructions d →
-    es ≡ unpackedEntries d → left ≡ repairedLeft d → WarnsLoops (fontOf s (d .kerns) es (d .boundary) left (pos 10485760)) n w work r w₁ work₁ →
-    WarnsLoops (repairedFont d) n w work r w₁ work₁
-loops-are d s es left n w w₁ work work₁ r x y z g =
-    let p : fontOf s (d .kerns) es (d .boundary) left (pos 10485760)
-    ≡ repairedFont d = (λ i. fontOf (x i) (d .kerns) (y i) (d .boundary) (z i) (pos 10485760)) in
-    subst (λ (f : Font). WarnsLoops f n w work r w₁ work₁) p g
-
--- what `lists_fit` tells
-pub fitting : (n e p t : ℕ) → both (leb n 32767) (both (leb e 256) (both (eqb p (4 * n)) (eqb t n))) ≡ true → (n ≤ 32767) × (e ≤ 256) × (p ≡ 4 * n) × (t ≡ n)
-fitting n e p t h =
-    let a = both-right (leb n 32767) _ h in
-    let b = both-right (leb e 256) _ a in (
-      leb-true n 32767 (both-left (leb n 32767) _ h),
-      leb-true e 256 (both-left (leb e 256) _ a),
-      eqb-true p (4 * n) (both-left (eqb p (4 * n)) (eqb t n) b),
-      eqb-true t n (both-right (eqb p (4 * n)) (eqb t n) b),
-    )

@@ -13,6 +13,7 @@ use borrow.Author.Tests.{leb-true}
 use Rattle.words.proofs.Lists.{length-tabulate, sets-front}
 use Rattle.lang.specs.Records.{count, field}
 use Rattle.lang.specs.Checks.{programRefusal, kernsRefusal, entriesRefusal, absentRefusal, passthroughRefusal, orElse, unless, charAt}
+use Rattle.lang.proofs.Every.{both-right}
 use Rattle.lang.proofs.Refusals.{orElse-none, unless-none, program-size}
 use Rattle.lang.proofs.Entered.{entries-few}
 use Rattle.entry_targets.specs.Targets.{standsFor}
@@ -20,6 +21,7 @@ use Rattle.repairs.specs.Damaged.{Damaged, DamagedProgram, unpacks, packedEntry
 use Rattle.repairs.specs.Repaired.{skipGoes, redirectWarns, isLigature, rightGoes, kernGoes, productGoes, tagGoes, insertedBy}
 use Rattle.repairs.specs.Warnings.{warning, warnIf, leftWarning, entryWarnings, skipWarnings, stepWarnings, stepsWarnings}
 use Rattle.repairs.specs.Repairs.{damagedRefusal}
+use Rattle.repair_entries.specs.Entering.{isEnterable, enterWarnings}
 
 -- ---- of plain lists
 
@@ -101,11 +103,14 @@ steps-few p (suc k) = omega (arith, length-append (stepsWarnings p k) (stepWarni
 
 -- ---- of a font of at most 256 entries
 
+pub enterable-few : (d : Damaged) → isEnterable d ≡ true → length (d .entries) / 2 ≤ 256
+enterable-few d h = leb-true _ 256 (both-right (leb (count (d .instructions)) 32767) _ h)
+
 module _ (d : Damaged) (few : length (d .entries) / 2 ≤ 256) where
   pub unpacked-fits : length (unpackedEntries d) ≤ 512
   unpacked-fits = omega (arith, unpacked-few d (length (d .entries) / 2))
 
-  pub entered-few : length (leftWarning d ++ entryWarnings d (length (d .entries) / 2)) ≤ 1028
+  pub entered-few : length (enterWarnings d) ≤ 1028
   entered-few = omega (arith, length-append (leftWarning d) (entryWarnings d (length (d .entries) / 2)), left-few d, entry-few d (length (d .entries) / 2))
 
 -- ---- of a font that is not refused
@@ -117,9 +122,13 @@ module _ (d : Damaged) (ok : damagedRefusal d ≡ 0) where
   pub size : count (d .instructions) ≤ 32767
   size = program-size (d .instructions) program-taken
 
-  after-kerns : orElse (entriesRefusal 255 (d .entries))
-      (orElse (absentRefusal 255 (d .boundary))
-      (orElse (absentRefusal 65535 (d .left)) (orElse (unless 4 (leb (d .replacement) 255)) (passthroughRefusal (d .passthrough) (d .instructions))))) ≡ 0
+  -- the refusals after those of the entries
+  abbrev after-entries : ℕ
+  after-entries =
+      orElse (absentRefusal 255 (d .boundary))
+      (orElse (absentRefusal 65535 (d .left)) (orElse (unless 4 (leb (d .replacement) 255)) (passthroughRefusal (d .passthrough) (d .instructions))))
+
+  after-kerns : orElse (entriesRefusal 255 (d .entries)) after-entries ≡ 0
   after-kerns = orElse-none (kernsRefusal (d .kerns)) _ (orElse-none (programRefusal (d .instructions)) _ ok .1) .1
 
   pub few-entries : length (d .entries) / 2 ≤ 256

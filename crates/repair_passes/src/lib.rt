@@ -3,7 +3,7 @@
 // of its own.
 ghost use mathlib.Core.Path.{_≡_};
 ghost use mathlib.Core.Bool.{cond};
-ghost use Prim.Native.Nat.{_*_, _/_, _≤_};
+ghost use Prim.Native.Nat.{_*_, _/_, _<_, _≤_};
 ghost use lib.Dec.{leb, eqb};
 ghost use lib.IntN.{negsuc};
 ghost use lib.ListN.{length};
@@ -11,18 +11,21 @@ ghost use lib.Signed.{nonNeg};
 ghost use Rattle.words.specs.Words.{wordOf};
 ghost use Rattle.lang.specs.Every.{both};
 ghost use Rattle.lang.specs.Records.{count};
+ghost use Rattle.lang.specs.Checks.{unless, orElse};
 ghost use Rattle.reach_marks.specs.Marks.{reachable};
 ghost use Rattle.repairs.specs.Damaged.{Damaged, unpackedEntries, repairedLeft};
-ghost use Rattle.repairs.specs.Repairs.{damagedOf, damagedRefusal};
-ghost use Rattle.repair_entries.specs.Entering.{Enters};
-ghost use Rattle.repair_passes.specs.Mending.{EntersFrom, Mends};
+ghost use Rattle.repairs.specs.Repairs.{damagedOf};
+ghost use Rattle.repair_entries.specs.Entering.{EntersFrom, Enters};
+ghost use Rattle.repair_passes.specs.Mending.{handedOn, mendLists, Mends};
 use lang::Written;
 use reach_marks::reachable_array;
 use repair_entries::unpack_entries;
 use repair_fixes::fix_program;
 use repair_loops::warn_loops;
+use repair_refusals::damaged_refusal;
 use repairs::Entered;
 use repairs::Validated;
+use words::u32s::zero_u32;
 
 // The left entry of n instructions, or -1 where it is past the end.
 fn repaired_left(n: usize, left_entry: i32) -> i32
@@ -40,21 +43,18 @@ fn repaired_left(n: usize, left_entry: i32) -> i32
     }
 }
 
-// At most 32,767 instructions and 256 entries, and lists of four numbers and of one for each instruction.
-fn lists_fit(n: usize, entries: usize, program: usize, through: usize) -> bool
-    ensures { λ r. ⌜ r ≡ both (leb n 32767)
-        (both (leb entries 256) (both (eqb program (4 * n)) (eqb through n))) ⌝ }
+// The refusal of the font; then 15, unless the lists have four places and one for each of n instructions.
+fn lent_refusal(font: u32, n: usize, program: usize, through: usize) -> u32
+    requires { ⌜ n < 4611686018427387904 ⌝ }
+    ensures { λ r. ⌜ r ≡ orElse font (unless 15 (both (eqb program (4 * n)) (eqb through n))) ⌝ }
 {
-    if 32767 < n {
-        return false;
-    }
-    if 256 < entries {
-        return false;
+    if font != 0 {
+        return font;
     }
     if program != 4 * n {
-        return false;
+        return 15;
     }
-    through == n
+    if through == n { 0 } else { 15 }
 }
 
 // Two places for each entry that a font can have.
@@ -106,10 +106,20 @@ fn enter(
     entered
 }
 
+// The repaired left entry and how many warnings there are with those of loops, or the number of their refusal.
+fn handed_on(left: i32, written: Written) -> Validated
+    ensures { λ r. ⌜ r ≡ handedOn left written ⌝ }
+{
+    match written {
+        Written::Refused(number) => Validated::Refused(number),
+        Written::Count(total) => Validated::Fixed(left, total),
+    }
+}
+
 // The repaired program and its passthrough, in lists of just their length, and the warnings as far as their list goes.
-// Answers the repaired left entry and how many warnings there are; 12, where the loops of the repaired program can't be
-// looked for. That is of a font that is not refused; work is left zero. 15 of over 32,767 instructions or 256 entries,
-// and where the first two lists have another length; then nothing is done.
+// Answers the repaired left entry and how many warnings there are. 1 to 4 of the font, and then 15 where the first two
+// lists have another length: nothing is done then. 12, where the loops of the repaired program can't be looked for: all
+// is done but their warnings. Work is left zero.
 pub fn mend(
     instructions: &[i32],
     kerns: &[i32],
@@ -124,20 +134,26 @@ pub fn mend(
     warnings: &mut [i32],
     work: &mut [u32],
 ) -> Validated
-    ensures { λ r. ⌜ (damagedRefusal
-        (damagedOf (now (instructions .entry)) (now (kerns .entry)) (now (entries .entry)) boundary
-        «left_entry» replacement (now (existing .entry)) (now (passthrough .entry))) ≡ 0 →
-        length (now (program .entry)) ≡ 4 * count (now (instructions .entry)) →
-        length (now (through .entry)) ≡ count (now (instructions .entry)) →
-        Mends
+    ensures { λ r. ⌜ Mends
         (damagedOf (now (instructions .entry)) (now (kerns .entry)) (now (entries .entry)) boundary
         «left_entry» replacement (now (existing .entry)) (now (passthrough .entry)))
-        (now (warnings .entry)) (now (work .entry)) r (now (program .exit)) (now (through .exit))
-        (now (warnings .exit)) (now (work .exit))) ⌝ }
+        (mendLists (now (program .entry)) (now (through .entry)) (now (warnings .entry)) (now (work .entry))) r
+        (mendLists (now (program .exit)) (now (through .exit)) (now (warnings .exit)) (now (work .exit))) ⌝ }
 {
     let n = instructions.len() / 4;
-    if !lists_fit(n, entries.len() / 2, program.len(), through.len()) {
-        return Validated::Refused(15);
+    let font = damaged_refusal(
+        instructions,
+        kerns,
+        entries,
+        boundary,
+        left_entry,
+        replacement,
+        passthrough,
+    );
+    let number = lent_refusal(font, n, program.len(), through.len());
+    if number != 0 {
+        zero_u32(work);
+        return Validated::Refused(number);
     }
     let mut unpacked = entry_places();
     let mut marks = mark_places();
@@ -164,7 +180,7 @@ pub fn mend(
         entered.warnings,
     );
     let left = repaired_left(n, left_entry);
-    match warn_loops(
+    let written = warn_loops(
         program,
         kerns,
         &unpacked[..2 * entered.entries],
@@ -172,8 +188,6 @@ pub fn mend(
         warnings,
         count,
         work,
-    ) {
-        Written::Refused(number) => Validated::Refused(number),
-        Written::Count(total) => Validated::Fixed(left, total),
-    }
+    );
+    handed_on(left, written)
 }

@@ -1,31 +1,33 @@
--- `repair::finish` meets its contract: proofs/Repairing, by whether the lists are long enough.
+-- `repair::finish` meets its contract: proofs/Repairing, by whether it is refused.
 -- Assumes nothing.
 use mathlib.Core.Path.{_≡_, sym, _∙_}
-use mathlib.Core.List.{List}
-use Prim.Native.Nat.{ℕ, _≤_}
-use lib.IntN.{ℤ}
+use Prim.Native.Nat.{_≤_}
 use lib.ListN.{length}
-use Rattle.words.proofs.Bits.{number-word}
-use Rattle.lang.specs.Checks.{orElse}
-use Rattle.lang.specs.Answers.{roomRefusal}
-use Rattle.lang.proofs.Refusals.{orElse-none, room-fits}
-use Rattle.repair.proofs.Repairing.{too-short, copied}
+use Rattle.repair.specs.Finishing.{Mended, mendedOf, Outputs, outputsOf}
+use Rattle.repair.proofs.Repairing.{roomy, not-copied, copied}
 use borrow.Author.Needs.{needs}
 use Rattle.repair.proofs.finish.Statement.{statement}
 use Rattle.repair.proofs.finish.Tie as tie
 
--- where nothing is refused, there is room
-long : (p f : List ℤ) (rest r : ℕ) → r ≡ orElse (roomRefusal (length p) (length f)) rest → r ≡ 0 → length p ≤ length f
-long p f rest r e h = room-fits (length p) (length f) (orElse-none (roomRefusal (length p) (length f)) rest (sym e ∙ h) .0)
+-- ---- what was lent
 
-longer : (p f : List ℤ) (q t : List ℕ) (rest r : ℕ) → r ≡ orElse (roomRefusal (length p) (length f)) (orElse (roomRefusal (length q) (length t)) rest) → r ≡ 0 →
-    length q ≤ length t
-longer p f q t rest r e h =
-    room-fits (length q) (length t)
-    (orElse-none (roomRefusal (length q) (length t)) rest (orElse-none (roomRefusal (length p) (length f)) _ (sym e ∙ h) .1) .0)
+abbrev start : tie.After-answer-refusal → tie.Start
+start c = c .before .before .before
 
-fits-refusal-requires : tie.Need-fits-refusal-requires
-fits-refusal-requires c κs = search needs
+abbrev mended : tie.After-answer-refusal → Mended
+mended c = let a = start c .args in mendedOf (a .mended) (a .program .now) (a .passed .now)
+
+abbrev lists : tie.After-answer-refusal → Outputs
+lists c = let a = start c .args in outputsOf (a .fixed .now) (a .through .now) (a .warnings .now)
+
+room : (c : tie.Else1) → let a = start (c .before) .args in
+    (length (a .program .now) ≤ length (a .fixed .now)) × (length (a .passed .now) ≤ length (a .through .now))
+room c =
+    let s = start (c .before) in
+    roomy (s .args .mended) _ _ _ _ _ (s .pre) (sym (c .before .answer-refusal .ensures) ∙ c .if1 .left)
+
+answer-refusal-requires : tie.Need-answer-refusal-requires
+answer-refusal-requires c κs = search needs
 
 zero-i32-requires : tie.Need-zero-i32-requires
 zero-i32-requires c κs = search needs
@@ -35,21 +37,16 @@ same-length c = search needs
 
 returns : tie.Need-returns
 returns c =
-    let f = c .before .before .before .before .fits-refusal in
-    let a = c .before .before .before .before .before .before .before .args in
-    too-short (a .left) (a .count) (a .program .now) (a .passed .now) (a .fixed .now) (a .through .now) (a .warnings .now) _ (f .result) (f .ensures)
-    (c .before .zero-i32 .last .0) (c .before .before .before .if1 .taken) (c .before .zero-i32 .ensures)
+    let z = c .before .zero-i32 in
+    let i = c .before .before .before in
+    let k = i .before in
+    not-copied (mended k) (lists k) (k .answer-refusal .ensures) (z .last .0) (i .if1 .taken) (z .ensures)
 
 copy-numbers-requires : tie.Need-copy-numbers-requires
-copy-numbers-requires c κs =
-    let a = c .before .before .before .before .before .args in
-    long (a .program .now) (a .fixed .now) _ (c .before .before .fits-refusal .result) (c .before .before .fits-refusal .ensures) (c .before .if1 .left)
+copy-numbers-requires c κs = room (c .before) .0
 
 copy-bytes-requires : tie.Need-copy-bytes-requires
-copy-bytes-requires c κs =
-    let a = c .before .before .before .before .before .before .before .before .args in
-    longer (a .program .now) (a .fixed .now) (a .passed .now) (a .through .now) _ (c .before .before .before .before .before .fits-refusal .result)
-    (c .before .before .before .before .before .fits-refusal .ensures) (c .before .before .before .before .if1 .left)
+copy-bytes-requires c κs = room (c .before .before .before .before) .1
 
 same-length-2 : tie.Need-same-length-2
 same-length-2 c = search needs
@@ -59,20 +56,17 @@ same-length-3 c = search needs
 
 returns-2 : tie.Need-returns-2
 returns-2 c =
-    let f = c .before .before .before .before .before .before .before .before .fits-refusal in
-    let s = c .before .before .before .before .before .before .before .before .before .before .before in
-    let a = s .args in
-    let p = c .before .before .before .before .before .copy-numbers in
-    let q = c .before .before .copy-bytes in
-    copied (a .left) (a .count) (a .program .now) (a .passed .now) (a .fixed .now) (a .through .now) (a .warnings .now) _ (f .result) (f .ensures) _
-    (p .last .1 .0) (q .last .1 .0) (number-word (a .left) (s .fits .left)) (c .before .before .before .before .before .before .before .if1 .left)
-    (p .ensures) (q .ensures)
+    let q = c .before .before in
+    let p = q .before .before .before in
+    let i = p .before .before in
+    let k = i .before in
+    copied (mended k) (lists k) (k .answer-refusal .ensures) (i .if1 .left) (p .copy-numbers .ensures) (q .copy-bytes .ensures)
 
 pub finish-spec : {M : Type 1} → statement M
 finish-spec =
     tie.close
     (tie.spec
-    fits-refusal-requires
+    answer-refusal-requires
     zero-i32-requires
     same-length
     returns

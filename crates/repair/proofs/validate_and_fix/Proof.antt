@@ -1,23 +1,20 @@
--- `repair::validate_and_fix` meets its contract: proofs/Repairing, by what the refusals and the passes answer.
+-- `repair::validate_and_fix` meets its contract: proofs/Repairing, by what the passes and the last part leave.
 -- Assumes nothing.
-use mathlib.Core.Path.{_≡_, sym, ap, _∙_, subst}
+use mathlib.Core.Path.{_≡_, sym, ap, _∙_, subst, subst₂}
 use mathlib.Core.List.{List, _++_}
 use Prim.Native.Nat.{ℕ, _*_, _≤_}
 use native.Mathlib.Omega.{arith}
-use lib.IntN.{pos}
-use lib.ListN.{length, length-append, take, drop, replicate}
+use lib.IntN.{ℤ}
+use lib.ListN.{length, length-append, take, drop}
 use lib.Seq.{length-take-le, take-at}
 use Rattle.words.specs.Words.{wordOf, numberOf}
 use Rattle.words.proofs.Bits.{number-word}
 use Rattle.lang.specs.Records.{count}
-use Rattle.lang.proofs.Refusals.{first-refusal}
-use Rattle.repairs.specs.declared.Validated.{Validated}
 use Rattle.repairs.specs.Damaged.{Damaged}
-use Rattle.repairs.specs.Repairs.{damagedOf, damagedRefusal}
-use Rattle.repair_passes.specs.Mending.{Mends}
-use Rattle.repair_passes.proofs.Sizes.{size}
-use Rattle.repair_passes.proofs.Laws.{left-handed}
-use Rattle.repair.proofs.Repairing.{refuses, passed-by, pairs-refused, finished}
+use Rattle.repairs.specs.Repairs.{damagedOf}
+use Rattle.repair_passes.specs.Mending.{mendLists, Mends}
+use Rattle.repair.specs.Finishing.{mendedOf, outputsOf, Finishes}
+use Rattle.repair.proofs.Repairing.{Host, Course, has-number, repaired}
 use borrow.Author.Needs.{needs}
 use Rattle.repair.proofs.validate_and_fix.Statement.{statement}
 use Rattle.repair.proofs.validate_and_fix.Tie as tie
@@ -30,93 +27,149 @@ front n m q l = take-at m (drop n q) n l
 front-long : {A : Type 0} (n : ℕ) (m q : List A) → length m ≡ n → n ≤ length (m ++ drop n q)
 front-long n m q l = omega (arith, length-append m (drop n q))
 
--- ---- the font as it was lent, and whether it is refused
+-- ---- the local lists, and how much of them is lent
 
-module _ (c : tie.After-damaged-refusal) where
-  abbrev font : Damaged
-  font =
-      let c14 = c .before .before .before .before .before .before .before .before .before .before .before .before .before .before in
-      let a = c14 .args in
-      damagedOf (a .instructions .now) (a .kerns .now) (a .entries .now) (a .boundary) (a .«left-entry») (a .replacement) (a .existing .now)
-      (a .passthrough .now)
+abbrev started : tie.After-placed → tie.Start
+started c = c .before .before .before .before .before .before .before .before .before .before .before .before .before .before
 
-  refusal-is : c .damaged-refusal .result ≡ damagedRefusal font
-  refusal-is =
-      let s = c .before .before .before .before .before .before .before .before .before .before .before .before .before .before in
-      let a = s .args in
-      let x = number-word (a .boundary) (s .fits .boundary) in
-      let y = number-word (a .«left-entry») (s .fits .«left-entry») in
-      let z = number-word (a .replacement) (s .fits .replacement) in
-      c .damaged-refusal .ensures (a .existing .now)
-      ∙ (λ i. damagedRefusal
-      (damagedOf (a .instructions .now) (a .kerns .now) (a .entries .now) (x i) (y i) (z i) (a .existing .now) (a .passthrough .now)))
+-- where each list had been zeroed
+abbrev warnings-zeroed : tie.After-placed → tie.After-zero-i322
+warnings-zeroed c = c .before .before
 
-taken : (c : tie.Else1) → damagedRefusal (font (c .before)) ≡ 0
-taken c = sym (refusal-is (c .before)) ∙ c .if1 .left
+abbrev through-zeroed : tie.After-placed → tie.After-zero-u8
+through-zeroed c = warnings-zeroed c .before .before .before .before
 
-few : (c : tie.Else1) → let c15 = c .before .before .before .before .before .before .before .before .before .before .before .before .before .before .before in
-    count (c15 .args .instructions .now) ≤ 32767
-few c = size (font (c .before)) (taken c)
+abbrev fixed-zeroed : tie.After-placed → tie.After-zero-i32
+fixed-zeroed c = through-zeroed c .before .before .before
 
-programs-long : (c : tie.After-programs) →
-    let c16 = c .before .before .before .before .before .before .before .before .before .before .before .before .before .before .before .before in
-    4 * count (c16 .args .instructions .now) ≤ length (c .programs .result)
-programs-long c = omega (arith, few (c .before), c .programs .ensures)
+programs-long : (c : tie.After-programs) → 4 * c .before .placed .result ≤ length (c .programs .result)
+programs-long c = omega (arith, c .before .placed .ensures, c .programs .ensures)
 
-places-long : (c : tie.After-places) →
-    let c17 = c .before .before .before .before .before .before .before .before .before .before .before .before .before .before .before .before .before in
-    count (c17 .args .instructions .now) ≤ length (c .places .result)
-places-long c = omega (arith, few (c .before .before), c .places .ensures)
+places-long : (c : tie.After-places) → c .before .before .placed .result ≤ length (c .places .result)
+places-long c = omega (arith, c .before .before .placed .ensures, c .places .ensures)
 
--- ---- what the passes leave
+-- ---- what the passes left
 
 module _ (c : tie.After-mend) where
-  program-length : let c22 =
-      c .before .before .before .before .before .before .before .before .before .before .before .before .before .before .before .before .before .before
-      .before .before .before .before in length (c .mend .last .1 .1 .1 .1 .1 .1 .1 .1 .0) ≡ 4 * count (c22 .args .instructions .now)
-  program-length =
-      let c22 = c .before .before .before .before .before .before .before .before .before .before .before .before .before .before .before .before .before
-      .before .before .before .before .before in
-      let c6 = c .before .before .before .before .before .before in
-      c .mend .kept .1 .1 .1 .1 .1 .1 .1 .1 .0 ∙ length-take-le (4 * count (c22 .args .instructions .now)) (c6 .programs .result) (programs-long c6)
+  abbrev local : tie.After-places
+  local = c .before .before .before .before .before
 
-  through-length : let c22 =
-      c .before .before .before .before .before .before .before .before .before .before .before .before .before .before .before .before .before .before
-      .before .before .before .before in length (c .mend .last .1 .1 .1 .1 .1 .1 .1 .1 .1 .0) ≡ count (c22 .args .instructions .now)
-  through-length =
-      let c22 = c .before .before .before .before .before .before .before .before .before .before .before .before .before .before .before .before .before
-      .before .before .before .before .before in
-      let c5 = c .before .before .before .before .before in
-      c .mend .kept .1 .1 .1 .1 .1 .1 .1 .1 .1 .0 ∙ length-take-le (count (c22 .args .instructions .now)) (c5 .places .result) (places-long c5)
+  abbrev placed : tie.After-placed
+  placed = local .before .before
 
-  mended : (r : Validated) → c .mend .result ≡ r → let u = c .mend .last .1 .1 .1 .1 .1 .1 .1 .1 in
-      Mends (font (c .before .before .before .before .before .before .before .before))
-      (c .before .before .before .before .before .before .before .before .before .before .zero-i322 .last .0)
-      (c .before .before .before .before .before .before .before .before .before .before .before .before .before .before .before .before .before .before
-      .before .before .before .before .args .work .now) r (u .0) (u .1 .0) (u .1 .1 .0) (u .1 .1 .1 .0)
-  mended r e =
-      let s =
-      c .before .before .before .before .before .before .before .before .before .before .before .before .before .before .before .before .before .before
-      .before .before .before .before in
-      let a = s .args in
-      let u = c .mend .last .1 .1 .1 .1 .1 .1 .1 .1 in
-      let n = count (a .instructions .now) in
-      let x = number-word (a .boundary) (s .fits .boundary) in
-      let y = number-word (a .«left-entry») (s .fits .«left-entry») in
-      let z = number-word (a .replacement) (s .fits .replacement) in
-      let d = damagedOf (a .instructions .now) (a .kerns .now) (a .entries .now) (numberOf (wordOf (a .boundary))) (numberOf (wordOf (a .«left-entry»)))
-      (numberOf (wordOf (a .replacement))) (a .existing .now) (a .passthrough .now) in
-      let same : d ≡ font (c .before .before .before .before .before .before .before .before) =
-      (λ i. damagedOf (a .instructions .now) (a .kerns .now) (a .entries .now) (x i) (y i) (z i) (a .existing .now) (a .passthrough .now)) in
-      let m = c .mend .ensures (ap damagedRefusal same ∙ taken (c .before .before .before .before .before .before .before))
-      (length-take-le (4 * n) (c .before .before .before .before .before .before .programs .result)
-      (programs-long (c .before .before .before .before .before .before)))
-      (length-take-le n (c .before .before .before .before .before .places .result) (places-long (c .before .before .before .before .before))) in
-      subst (λ (v : Validated). Mends (font (c .before .before .before .before .before .before .before .before))
-      (c .before .before .before .before .before .before .before .before .before .before .zero-i322 .last .0) (a .work .now) v (u .0) (u .1 .0)
-      (u .1 .1 .0) (u .1 .1 .1 .0)) e
-      (subst (λ (f : Damaged). Mends f (c .before .before .before .before .before .before .before .before .before .before .zero-i322 .last .0) (a .work .now)
-      (c .mend .result) (u .0) (u .1 .0) (u .1 .1 .0) (u .1 .1 .1 .0)) same m)
+  abbrev places : ℕ
+  places = placed .placed .result
+
+  abbrev lent : tie.Start
+  lent = started placed
+
+  -- a font of what was lent, with these boundary character, left entry and replacement
+  abbrev font : ℤ → ℤ → ℤ → Damaged
+  font x y z =
+      let a = lent .args in
+      damagedOf (a .instructions .now) (a .kerns .now) (a .entries .now) x y z (a .existing .now) (a .passthrough .now)
+
+  abbrev host : Host
+  host =
+      let a = lent .args in
+      record {
+        font = font (a .boundary) (a .«left-entry») (a .replacement);
+        fixed = a .fixed .now;
+        through = a .through .now;
+        warnings = a .warnings .now;
+        work = a .work .now;
+      }
+
+  abbrev program : List ℤ
+  program = c .mend .last .1 .1 .1 .1 .1 .1 .1 .1 .0
+
+  abbrev passed : List ℕ
+  passed = c .mend .last .1 .1 .1 .1 .1 .1 .1 .1 .1 .0
+
+  abbrev warnings : List ℤ
+  warnings = c .mend .last .1 .1 .1 .1 .1 .1 .1 .1 .1 .1 .0
+
+  abbrev work : List ℕ
+  work = c .mend .last .1 .1 .1 .1 .1 .1 .1 .1 .1 .1 .1 .0
+
+  program-length : length program ≡ 4 * places
+  program-length = c .mend .kept .1 .1 .1 .1 .1 .1 .1 .1 .0 ∙ length-take-le (4 * places) (local .before .programs .result) (programs-long (local .before))
+
+  passed-length : length passed ≡ places
+  passed-length = c .mend .kept .1 .1 .1 .1 .1 .1 .1 .1 .1 .0 ∙ length-take-le places (local .places .result) (places-long local)
+
+  -- what was lent of the local lists
+  abbrev program-lent : List ℤ
+  program-lent = take (4 * places) (local .before .programs .result)
+
+  abbrev passed-lent : List ℕ
+  passed-lent = take places (local .places .result)
+
+  -- how many instructions there are
+  abbrev steps : ℕ
+  steps = count (lent .args .instructions .now)
+
+  program-places : steps ≤ 32767 → length program-lent ≡ 4 * steps
+  program-places h = omega (arith, length-take-le (4 * places) (local .before .programs .result) (programs-long (local .before)), placed .placed .ensures)
+
+  passed-places : steps ≤ 32767 → length passed-lent ≡ steps
+  passed-places h = omega (arith, length-take-le places (local .places .result) (places-long local), placed .placed .ensures)
+
+  -- of the font as it was lent
+  abbrev Left : Damaged → Type 0
+  Left d =
+      Mends d (mendLists program-lent passed-lent (warnings-zeroed placed .zero-i322 .last .0) (lent .args .work .now)) (c .mend .result)
+      (mendLists program passed warnings work)
+
+  abbrev handed : Damaged
+  handed =
+      let a = lent .args in font (numberOf (wordOf (a .boundary))) (numberOf (wordOf (a .«left-entry»))) (numberOf (wordOf (a .replacement)))
+
+  mends : Left (host .font)
+  mends =
+      let x = number-word (lent .args .boundary) (lent .fits .boundary) in
+      let y = number-word (lent .args .«left-entry») (lent .fits .«left-entry») in
+      let z = number-word (lent .args .replacement) (lent .fits .replacement) in
+      let same : handed ≡ host .font = (λ i. font (x i) (y i) (z i)) in
+      subst Left same (c .mend .ensures)
+
+-- ---- the end
+
+module _ (c : tie.After-finish) where
+  abbrev ended : tie.After-mend
+  ended = c .before .before .before .before .before .before .before .before .before .before .before
+
+  abbrev Last : List ℤ → List ℕ → Type 0
+  Last p q =
+      let o = c .finish .last .1 .1 .1 in
+      let k = placed ended in
+      let l = outputsOf (fixed-zeroed k .zero-i32 .last .0) (through-zeroed k .zero-u8 .last .0) (warnings ended) in
+      Finishes (mendedOf (ended .mend .result) p q) l (c .finish .result) (outputsOf (o .0) (o .1 .0) (o .1 .1 .0))
+
+  finishes : Last (program ended) (passed ended)
+  finishes =
+      subst₂ Last (front _ (program ended) (local ended .before .programs .result) (program-length ended))
+      (front _ (passed ended) (local ended .places .result) (passed-length ended)) (c .finish .ensures)
+
+  abbrev course : Course (host ended)
+  course =
+      let k = placed ended in
+      record {
+        zeroed = outputsOf (fixed-zeroed k .zero-i32 .last .0) (through-zeroed k .zero-u8 .last .0) (warnings-zeroed k .zero-i322 .last .0);
+        zero-fixed = fixed-zeroed k .zero-i32 .ensures;
+        zero-through = through-zeroed k .zero-u8 .ensures;
+        zero-warnings = warnings-zeroed k .zero-i322 .ensures;
+        program = program-lent ended;
+        passed = passed-lent ended;
+        program-long = program-places ended;
+        passed-long = passed-places ended;
+        mended = ended .mend .result;
+        lists = mendLists (program ended) (passed ended) (warnings ended) (work ended);
+        mends = mends ended;
+        answer = c .finish .result;
+        outputs = _;
+        finishes = finishes;
+      }
 
 zero-i32-requires : tie.Need-zero-i32-requires
 zero-i32-requires c κs = search needs
@@ -127,35 +180,8 @@ zero-u8-requires c κs = search needs
 zero-i32-requires-2 : tie.Need-zero-i32-requires-2
 zero-i32-requires-2 c κs = search needs
 
-damaged-refusal-requires : tie.Need-damaged-refusal-requires
-damaged-refusal-requires c κs = search needs
-
-zero-u32-requires : tie.Need-zero-u32-requires
-zero-u32-requires c κs = search needs
-
-same-length : tie.Need-same-length
-same-length c = search needs
-
-same-length-2 : tie.Need-same-length-2
-same-length-2 c = search needs
-
-same-length-3 : tie.Need-same-length-3
-same-length-3 c = search needs
-
-same-length-4 : tie.Need-same-length-4
-same-length-4 c = search needs
-
-returns : tie.Need-returns
-returns c =
-    let k = c .before .before .before .before .before in
-    let a = k .before .before .before .before .before .before .before .before .before .before .before .before .before .before .args in
-    let zf = k .before .before .before .before .before .before .before .before .before .zero-i32 in
-    let zt = k .before .before .before .before .before .before .zero-u8 in
-    let zw = k .before .before .zero-i322 in
-    let zu = c .before .before .zero-u32 in
-    refuses (font k) (a .fixed .now) (a .through .now) (a .warnings .now) (a .work .now) (k .damaged-refusal .result) (zf .last .0) (zt .last .0) (zw .last .0)
-    (zu .last .0) (first-refusal _ (refusal-is k) (c .before .before .before .before .if1 .taken)) (c .before .before .before .before .if1 .taken)
-    (zf .ensures) (zt .ensures) (zw .ensures) (zu .ensures)
+placed-requires : tie.Need-placed-requires
+placed-requires c κs = search needs
 
 programs-requires : tie.Need-programs-requires
 programs-requires c κs = search needs
@@ -164,7 +190,7 @@ places-requires : tie.Need-places-requires
 places-requires c κs = search needs
 
 mul-program : tie.Need-mul-program
-mul-program c = omega (arith, few (c .before .before))
+mul-program c = search needs
 
 array-borrow-prefix-program : tie.Need-array-borrow-prefix-program
 array-borrow-prefix-program c = programs-long (c .before)
@@ -181,118 +207,44 @@ slice-aggregate-mend-2 c = sym (length-take-le _ (c .before .before .places .res
 mend-requires : tie.Need-mend-requires
 mend-requires c κs = search needs
 
-enum-known-number : tie.Need-enum-known-number
-enum-known-number c = search needs
-
-zero-i32-requires-3 : tie.Need-zero-i32-requires-3
-zero-i32-requires-3 c κs = search needs
-
-enum-known-left : tie.Need-enum-known-left
-enum-known-left c = search needs
-
 mul-program-2 : tie.Need-mul-program-2
-mul-program-2 c = omega (arith, few (c .before .before .before .before .before .before .before .before .before .before .before .before .before .before .before))
+mul-program-2 c = omega (arith, placed (c .before .before .before .before .before) .placed .ensures)
 
 array-share-prefix-program : tie.Need-array-share-prefix-program
 array-share-prefix-program c =
-    let c8 = c .before .before .before .before .before .before .before .before in
-    let m = c8 in
-    front-long _ (m .mend .last .1 .1 .1 .1 .1 .1 .1 .1 .0) (m .before .before .before .before .before .before .programs .result) (program-length m)
+    let m = c .before .before .before .before .before in front-long _ (program m) (local m .before .programs .result) (program-length m)
 
 slice-aggregate-finish : tie.Need-slice-aggregate-finish
 slice-aggregate-finish c =
-    let c9 = c .before .before .before .before .before .before .before .before .before in
-    let m = c9 in
-    sym (ap length
-    (front _ (m .mend .last .1 .1 .1 .1 .1 .1 .1 .1 .0) (m .before .before .before .before .before .before .programs .result) (program-length m))
-    ∙ program-length m)
+    let m = c .before .before .before .before .before .before in
+    sym (ap length (front _ (program m) (local m .before .programs .result) (program-length m)) ∙ program-length m)
 
 array-share-prefix-passed : tie.Need-array-share-prefix-passed
 array-share-prefix-passed c =
-    let c9 = c .before .before .before .before .before .before .before .before .before in
-    let m = c9 in front-long _ (m .mend .last .1 .1 .1 .1 .1 .1 .1 .1 .1 .0) (m .before .before .before .before .before .places .result) (through-length m)
+    let m = c .before .before .before .before .before .before in front-long _ (passed m) (local m .places .result) (passed-length m)
 
 slice-aggregate-finish-2 : tie.Need-slice-aggregate-finish-2
 slice-aggregate-finish-2 c =
-    let c10 = c .before .before .before .before .before .before .before .before .before .before in
-    let m = c10 in
-    sym (ap length (front _ (m .mend .last .1 .1 .1 .1 .1 .1 .1 .1 .1 .0) (m .before .before .before .before .before .places .result) (through-length m))
-    ∙ through-length m)
+    let m = c .before .before .before .before .before .before .before in
+    sym (ap length (front _ (passed m) (local m .places .result) (passed-length m)) ∙ passed-length m)
 
 finish-requires : tie.Need-finish-requires
-finish-requires c κs = search needs
+finish-requires c κs = has-number (c .before .before .before .before .before .before .before .before .before .before .mend .ensures)
 
-same-length-5 : tie.Need-same-length-5
-same-length-5 c =
-    let c28 = c .before .before .before .before .before .before .before .before .before .before .before .before .before .before .before .before .before .before
-    .before .before .before .before .before .before .before .before .before .before in
-    c28 .zero-i32 .kept .0
+same-length : tie.Need-same-length
+same-length c = let f = c .before .before .before .before in f .finish .kept .1 .1 .1 .0 ∙ fixed-zeroed (placed (ended f)) .zero-i32 .kept .0
 
-same-length-6 : tie.Need-same-length-6
-same-length-6 c = search needs
+same-length-2 : tie.Need-same-length-2
+same-length-2 c = search needs
 
-same-length-7 : tie.Need-same-length-7
-same-length-7 c = search needs
+same-length-3 : tie.Need-same-length-3
+same-length-3 c = search needs
 
-same-length-8 : tie.Need-same-length-8
-same-length-8 c = search needs
+same-length-4 : tie.Need-same-length-4
+same-length-4 c = search needs
 
-returns-2 : tie.Need-returns-2
-returns-2 c =
-    let m = c .before .before .before .before .before .before .before .before .before .before .before in
-    let k = m .before .before .before .before .before .before .before .before in
-    let a = k .before .before .before .before .before .before .before .before .before .before .before .before .before .before .args in
-    let u = m .mend .last .1 .1 .1 .1 .1 .1 .1 .1 in
-    let zf = k .before .before .before .before .before .before .before .before .before .zero-i32 in
-    let zt = k .before .before .before .before .before .before .zero-u8 in
-    let zw = k .before .before .zero-i322 in
-    let z = c .before .zero-i323 in
-    let g = mended m _ (c .before .before .before .before .number .given .1) in
-    let e = pairs-refused (font k) (a .fixed .now) (a .through .now) (a .warnings .now) (a .work .now)
-    (taken (m .before .before .before .before .before .before .before)) _ (g .answer) in
-    let l : length (u .1 .1 .0) ≡ length (a .warnings .now) = m .mend .kept .1 .1 .1 .1 .1 .1 .1 .1 .1 .1 .0 ∙ zw .kept .0 in
-    refuses (font k) (a .fixed .now) (a .through .now) (a .warnings .now) (a .work .now) _ (zf .last .0) (zt .last .0) (z .last .0) (u .1 .1 .1 .0) (e .0)
-    (e .1) (zf .ensures) (zt .ensures) (z .ensures ∙ ap (λ (j : ℕ). replicate j (pos 0)) l) (g .cleared)
-
-same-length-9 : tie.Need-same-length-9
-same-length-9 c =
-    let c35 = c .before .before .before .before .before .before .before .before .before .before .before .before .before .before .before .before .before .before
-    .before .before .before .before .before .before .before .before .before .before .before .before .before .before .before .before .before in
-    c .before .before .before .before .finish .kept .1 .1 .1 .1 .0 ∙ c35 .zero-i32 .kept .0
-
-same-length-10 : tie.Need-same-length-10
-same-length-10 c =
-    let c32 = c .before .before .before .before .before .before .before .before .before .before .before .before .before .before .before .before .before .before
-    .before .before .before .before .before .before .before .before .before .before .before .before .before .before in
-    c .before .before .before .before .finish .kept .1 .1 .1 .1 .1 .0 ∙ c32 .zero-u8 .kept .0
-
-same-length-11 : tie.Need-same-length-11
-same-length-11 c = search needs
-
-same-length-12 : tie.Need-same-length-12
-same-length-12 c = search needs
-
-returns-3 : tie.Need-returns-3
-returns-3 c =
-    let m = c .before .before .before .before .before .before .before .before .before .before .before .before .before .before .before .before .before .before in
-    let k = m .before .before .before .before .before .before .before .before in
-    let a = k .before .before .before .before .before .before .before .before .before .before .before .before .before .before .args in
-    let u = m .mend .last .1 .1 .1 .1 .1 .1 .1 .1 in
-    let zf = k .before .before .before .before .before .before .before .before .before .zero-i32 in
-    let zt = k .before .before .before .before .before .before .zero-u8 in
-    let zw = k .before .before .zero-i322 in
-    let f = c .before .before .before .before .finish in
-    let y = f .last .1 .1 .1 .1 in
-    let g = mended m _ (c .before .before .before .before .before .before .before .before .before .before .before .left .given .1) in
-    let e = passed-by _ _ _ _ _ (g .answer) in
-    let program = front _ (u .0) (m .before .before .before .before .before .before .programs .result) (program-length m) ∙ g .instructions in
-    let passed = front _ (u .1 .0) (m .before .before .before .before .before .places .result) (through-length m) ∙ g .passthrough in
-    finished (font k) (a .fixed .now) (a .through .now) (a .warnings .now) (a .work .now) (taken (m .before .before .before .before .before .before .before))
-    (e .0) (zf .last .0) (zt .last .0) (zw .last .0) (u .1 .1 .0) (u .1 .1 .1 .0) (zf .ensures) (zt .ensures) (zw .ensures) (g .cleared) (g .warned (e .0))
-    _ _
-    (left-handed (font k) _
-    (k .before .before .before .before .before .before .before .before .before .before .before .before .before .before .fits .«left-entry») (e .1)) (e .2)
-    _ _ program passed (f .result) (y .0) (y .1 .0) (y .1 .1 .0) (f .ensures)
+returns : tie.Need-returns
+returns c = let f = c .before .before .before .before in repaired (host (ended f)) (course f)
 
 pub validate-and-fix-spec : {M : Type 1} → statement M
 validate-and-fix-spec =
@@ -301,13 +253,7 @@ validate-and-fix-spec =
     zero-i32-requires
     zero-u8-requires
     zero-i32-requires-2
-    damaged-refusal-requires
-    zero-u32-requires
-    same-length
-    same-length-2
-    same-length-3
-    same-length-4
-    returns
+    placed-requires
     programs-requires
     places-requires
     mul-program
@@ -316,22 +262,14 @@ validate-and-fix-spec =
     array-borrow-prefix-passed
     slice-aggregate-mend-2
     mend-requires
-    enum-known-number
-    zero-i32-requires-3
-    enum-known-left
     mul-program-2
     array-share-prefix-program
     slice-aggregate-finish
     array-share-prefix-passed
     slice-aggregate-finish-2
     finish-requires
-    same-length-5
-    same-length-6
-    same-length-7
-    same-length-8
-    returns-2
-    same-length-9
-    same-length-10
-    same-length-11
-    same-length-12
-    returns-3)
+    same-length
+    same-length-2
+    same-length-3
+    same-length-4
+    returns)

@@ -8,7 +8,7 @@ use lib.ListN.{length}
 use lib.Seq.{sets}
 use borrow.Author.Needs.{needs}
 use Rattle.repairs.specs.Damaged.{Damaged}
-use Rattle.repair_entries.specs.Entering.{Lends, passthroughUpto}
+use Rattle.repair_entries.specs.Entering.{PassesFrom, passthroughUpto}
 use Rattle.repair_entries.proofs.Entering.{redirect-length, passed-more, passed-all}
 use Rattle.repair_entries.proofs.pass_redirects.Statement.{statement}
 use Rattle.repair_entries.proofs.pass_redirects.Tie as tie
@@ -16,13 +16,13 @@ use Rattle.repair_entries.proofs.pass_redirects.Tie as tie
 abbrev Inv-loop : tie.InvT-loop
 Inv-loop instructions entries through₀ k₀ through k =
     (k ≤ length entries / 2) × (length through ≡ length through₀)
-    × ((d : Damaged) → Lends d instructions entries → (t : List ℕ) → through₀ ≡ sets t 0 (passthroughUpto d 0) → through ≡ sets t 0 (passthroughUpto d k))
+    × ((d : Damaged) (t : List ℕ) → PassesFrom d t instructions entries through₀ → through ≡ sets t 0 (passthroughUpto d k))
 
 abbrev μ-loop : tie.MeasureT-loop
 μ-loop instructions entries through₀ k₀ through k = length entries / 2 - k
 
 loop-holds : tie.Need-loop-holds Inv-loop μ-loop
-loop-holds c = (omega arith, refl, λ d l t e. e)
+loop-holds c = (omega arith, refl, λ d t f. f .from)
 
 mul-word-at : tie.Need-mul-word-at Inv-loop μ-loop
 mul-word-at c = omega arith
@@ -53,8 +53,8 @@ loop-again c =
     let a = h .before .before .args in (
       omega arith,
       ap length (p .pass-redirect .ensures) ∙ redirect-length (a .instructions .now) (w .word-at .result) (h .loop .through) ∙ h .loop .inv .1,
-      λ d l t e. passed-more d (a .instructions .now) (a .entries .now) l t (h .loop .k) (w .word-at .result) (w .word-at .ensures .is)
-          (h .loop .inv .2 d l t e) (p .pass-redirect .ensures),
+      λ d t f. passed-more d (a .instructions .now) (a .entries .now) (f .lists) t (h .loop .k) (w .word-at .result) (w .word-at .ensures .is)
+          (h .loop .inv .2 d t f) (p .pass-redirect .ensures),
     )
 
 same-length : tie.Need-same-length Inv-loop μ-loop
@@ -64,7 +64,7 @@ returns : tie.Need-returns Inv-loop μ-loop
 returns c =
     let h = c .before in
     let a = h .before .before .args in
-    λ d l t e. passed-all d (a .instructions .now) (a .entries .now) l t (h .loop .k) (h .loop .inv .0) (c .loop-test .left) (h .loop .inv .2 d l t e)
+    λ d t f. passed-all d (a .instructions .now) (a .entries .now) (f .lists) t (h .loop .k) (h .loop .inv .0) (c .loop-test .left) (h .loop .inv .2 d t f)
 
 pub pass-redirects-spec : {M : Type 1} → statement M
 pass-redirects-spec =

@@ -15,13 +15,13 @@ use Rattle.repair_entries.proofs.put_entries.Tie as tie
 abbrev Inv-loop : tie.InvT-loop
 Inv-loop instructions entries unpacked₀ n₀ k₀ unpacked n k =
     (k ≤ length entries / 2) × (n ≤ k) × (length unpacked ≡ length unpacked₀)
-    × ((d : Damaged) → Lends d instructions entries → count instructions ≤ 32767 → Placed unpacked₀ 0 (unpackedUpto d k) unpacked n)
+    × ((d : Damaged) → Lends d instructions entries → Placed unpacked₀ 0 (unpackedUpto d k) unpacked n)
 
 abbrev μ-loop : tie.MeasureT-loop
 μ-loop instructions entries unpacked₀ n₀ k₀ unpacked n k = length entries / 2 - k
 
 loop-holds : tie.Need-loop-holds Inv-loop μ-loop
-loop-holds c = (omega arith, omega arith, refl, λ d l h. unpacked-none d (c .args .unpacked .now))
+loop-holds c = (omega arith, omega arith, refl, λ d l. unpacked-none d (c .args .unpacked .now))
 
 mul-word-at : tie.Need-mul-word-at Inv-loop μ-loop
 mul-word-at c = omega arith
@@ -60,9 +60,9 @@ loop-again c =
         one-at-most (a .instructions .now) (g .before .word-at .result) (g .word-at2 .result) (h .loop .unpacked) (h .loop .n) _ _ (p .put-entry .ensures),
       ),
       placed-length (h .loop .unpacked) (h .loop .n) _ _ _ (p .put-entry .ensures) ∙ h .loop .inv .2,
-      λ d l f.
-          unpacked-more d (a .instructions .now) (a .entries .now) l f (h .loop .k) (g .before .word-at .result) (g .word-at2 .result)
-          (g .before .word-at .ensures) (g .word-at2 .ensures .is) (a .unpacked .now) (h .loop .unpacked) _ (h .loop .n) _ (h .loop .inv .3 d l f)
+      λ d l.
+          unpacked-more d (a .instructions .now) (a .entries .now) l (h .before .pre) (h .loop .k) (g .before .word-at .result) (g .word-at2 .result)
+          (g .before .word-at .ensures) (g .word-at2 .ensures .is) (a .unpacked .now) (h .loop .unpacked) _ (h .loop .n) _ (h .loop .inv .3 d l)
           (p .put-entry .ensures),
     )
 
@@ -73,8 +73,8 @@ returns : tie.Need-returns Inv-loop μ-loop
 returns c =
     let h = c .before in
     let a = h .before .args in
-    λ d l f. unpacked-all d (a .instructions .now) (a .entries .now) l (h .loop .k) (h .loop .inv .0) (c .loop-test .left) (a .unpacked .now)
-    (h .loop .unpacked) (h .loop .n) (h .loop .inv .3 d l f)
+    λ d l. unpacked-all d (a .instructions .now) (a .entries .now) l (h .loop .k) (h .loop .inv .0) (c .loop-test .left) (a .unpacked .now)
+    (h .loop .unpacked) (h .loop .n) (h .loop .inv .3 d l)
 
 pub put-entries-spec : {M : Type 1} → statement M
 put-entries-spec =

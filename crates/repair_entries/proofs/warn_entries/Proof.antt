@@ -17,13 +17,13 @@ use Rattle.repair_entries.proofs.warn_entries.Tie as tie
 abbrev Inv-loop : tie.InvT-loop
 Inv-loop instructions entries warnings₀ n count₀ k₀ warnings count k =
     (k ≤ length entries / 2) × (length warnings ≡ length warnings₀)
-    × ((d : Damaged) → Lends d instructions entries → n ≤ 1 → length entries / 2 ≤ 256 → Pushed warnings₀ n (entryWarnings d k) warnings count)
+    × ((d : Damaged) → Lends d instructions entries → Pushed warnings₀ n (entryWarnings d k) warnings count)
 
 abbrev μ-loop : tie.MeasureT-loop
 μ-loop instructions entries warnings₀ n count₀ k₀ warnings count k = length entries / 2 - k
 
 loop-holds : tie.Need-loop-holds Inv-loop μ-loop
-loop-holds c = (omega arith, refl, λ d l h m. warned-none d (c .args .warnings .now) (c .args .n))
+loop-holds c = (omega arith, refl, λ d l. warned-none d (c .args .warnings .now) (c .args .n))
 
 mul-word-at : tie.Need-mul-word-at Inv-loop μ-loop
 mul-word-at c = omega arith
@@ -64,10 +64,11 @@ loop-again c =
     let a = h .before .args in (
       omega arith,
       pushed-length (h .loop .warnings) (h .loop .count) _ _ _ (p .push-if .ensures) ∙ h .loop .inv .1,
-      λ d l f m.
+      λ d l.
           warned-more d (a .instructions .now) (a .entries .now) l (h .loop .k) (w .before .word-at .result) (w .word-at2 .result) (r .entry-refusal .result)
           (w .before .word-at .ensures) (w .word-at2 .ensures .is) (r .entry-refusal .ensures) (a .warnings .now) (h .loop .warnings) _ (a .n)
-          (h .loop .count) _ f (omega (arith, m, w .before .before .loop-test .taken)) (h .loop .inv .2 d l f m) (p .push-if .ensures),
+          (h .loop .count) _ (h .before .pre .0) (omega (arith, h .before .pre .1, w .before .before .loop-test .taken)) (h .loop .inv .2 d l)
+          (p .push-if .ensures),
     )
 
 same-length : tie.Need-same-length Inv-loop μ-loop
@@ -77,7 +78,7 @@ returns : tie.Need-returns Inv-loop μ-loop
 returns c =
     let h = c .before in
     let a = h .before .args in
-    λ d l f m. warned-all d (h .loop .k) (length (a .entries .now) / 2) (h .loop .inv .0) (c .loop-test .left) (h .loop .inv .2 d l f m)
+    λ d l. warned-all d (h .loop .k) (length (a .entries .now) / 2) (h .loop .inv .0) (c .loop-test .left) (h .loop .inv .2 d l)
 
 pub warn-entries-spec : {M : Type 1} → statement M
 warn-entries-spec =

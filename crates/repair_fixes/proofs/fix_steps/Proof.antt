@@ -11,7 +11,7 @@ use Rattle.words.specs.Words.{wordOf, numberOf}
 use Rattle.lang.specs.Records.{count}
 use Rattle.repairs.specs.Damaged.{programBy}
 use Rattle.repairs.proofs.Pushing.{pushed-length}
-use Rattle.repair_fixes.specs.StepFixes.{FixesUpto}
+use Rattle.repair_fixes.specs.StepFixes.{FaultsAt, FixesUpto}
 use Rattle.repair_fixes.proofs.Pushes.{at-end}
 use Rattle.repair_fixes.proofs.Whole.{fixes-none, fixes-more}
 use borrow.Author.Needs.{needs}
@@ -59,12 +59,13 @@ loop-again c =
     let f = v .before .before in
     let l = f .before .before in
     let s = l .before .before .before in
-    let a = s .args in (
+    let a = s .args in
+    let p = programBy (now (a .instructions)) (now (a .kerns)) (numberOf (wordOf (a .boundary))) (a .replacement) (now (a .existing)) (now (a .marks))
+    (now (a .passthrough)) in
+    let g : FaultsAt p (now (a .instructions)) (a .replacement) (f .faults .result) (l .loop .i) =
+    record { instructions = refl; replaced = refl; are = f .faults .ensures (a .replacement) } in (
       omega (arith, f .before .loop-test .taken),
-      fixes-more
-          (programBy (now (a .instructions)) (now (a .kerns)) (numberOf (wordOf (a .boundary))) (a .replacement) (now (a .existing)) (now (a .marks))
-          (now (a .passthrough))) (l .loop .i) (f .before .loop-test .taken) (f .faults .ensures (a .replacement))
-          (l .loop .inv .1) (v .warn-step .ensures) (w .write-step .ensures),
+      fixes-more p (l .loop .i) (l .loop .inv .1) (v .warn-step .ensures p g) (w .write-step .ensures p g),
       w .write-step .kept .1 .1 .1 .1 .0 ∙ l .loop .inv .2,
     )
 

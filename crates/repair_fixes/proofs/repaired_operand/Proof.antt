@@ -1,7 +1,6 @@
 -- `repair_fixes::repaired_operand` meets its contract: a kern's or a redirect's operand as it is, or zero; a ligature's two bytes.
 -- Assumes nothing.
 use native.Mathlib.Omega.{arith}
-use denote.Ref.{now}
 use Prim.Native.Nat.{_/_, _%_}
 use Rattle.words.proofs.Bits.{read-lt}
 use Rattle.repair_fixes.proofs.Writes.{picked-most, operand-other, operand-ligature}
@@ -19,11 +18,9 @@ pick-requires : tie.Need-pick-requires
 pick-requires c κs = search needs
 
 returns : tie.Need-returns
-returns c = λ t.
+returns c = λ p g.
     let b = c .before .before in
-    let a = b .before .before .args in
-    operand-other (now (a .instructions)) (a .replacement) (a .f) (a .i) (b .field-at2 .ensures .is) (b .before .field-at .ensures) (c .before .if1 .taken)
-    (c .pick .ensures)
+    operand-other g (b .field-at2 .ensures .is) (b .before .field-at .ensures) (c .before .if1 .taken) (c .pick .ensures)
 
 pick-requires-2 : tie.Need-pick-requires-2
 pick-requires-2 c κs = search needs
@@ -60,13 +57,11 @@ add-result c =
     }
 
 returns-2 : tie.Need-returns-2
-returns-2 c =
+returns-2 c = λ p g.
     let e = c .before .before in
     let b = e .before in
-    let s = b .before .before in
-    let a = s .args in
-    operand-ligature (now (a .instructions)) (a .replacement) (a .f) (a .i) (b .field-at2 .ensures .is) (b .before .field-at .ensures) (e .if1 .left) (s .pre)
-    (c .before .pick2 .ensures) (c .pick3 .ensures)
+    operand-ligature g (b .field-at2 .ensures .is) (b .before .field-at .ensures) (e .if1 .left) (b .before .before .pre) (c .before .pick2 .ensures)
+    (c .pick3 .ensures)
 
 pub repaired-operand-spec : {M : Type 1} → statement M
 repaired-operand-spec =

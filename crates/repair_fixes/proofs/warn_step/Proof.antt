@@ -1,6 +1,5 @@
 -- `repair_fixes::warn_step` meets its contract: five warnings, each by its test, one after the other.
 -- Assumes nothing.
-use denote.Ref.{now}
 use Rattle.repair_fixes.proofs.Pushes.{step-pushed}
 use borrow.Author.Needs.{needs}
 use Rattle.repair_fixes.proofs.warn_step.Statement.{statement}
@@ -37,7 +36,7 @@ same-length : tie.Need-same-length
 same-length c = search needs
 
 returns : tie.Need-returns
-returns c =
+returns c = λ p g.
     let e = c .before in
     let d = e .before .before .before in
     let o = d .before .before .before in
@@ -45,10 +44,8 @@ returns c =
     let a = b .before .before .before in
     let k = a .before .before in
     let s = k .before .before .before in
-    step-pushed (now (s .args .instructions)) (s .args .replacement) (s .args .f) (s .args .i) (s .pre .0) (s .pre .1) (k .right-warning .ensures)
-    (k .before .before .field-at .ensures)
-    (k .before .field-at2 .ensures .is) (s .pre .2) (a .push-if .ensures) (b .push-if2 .ensures) (o .push-if3 .ensures) (d .push-if4 .ensures)
-    (e .push-if5 .ensures)
+    step-pushed g (s .pre .0) (s .pre .1) (k .right-warning .ensures) (k .before .before .field-at .ensures) (k .before .field-at2 .ensures .is)
+    (s .pre .2) (a .push-if .ensures) (b .push-if2 .ensures) (o .push-if3 .ensures) (d .push-if4 .ensures) (e .push-if5 .ensures)
 
 pub warn-step-spec : {M : Type 1} → statement M
 warn-step-spec =

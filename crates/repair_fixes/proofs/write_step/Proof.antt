@@ -1,12 +1,14 @@
 -- `repair_fixes::write_step` meets its contract: four stores, one after the other.
 -- Assumes nothing.
-use mathlib.Core.Path.{refl}
+use mathlib.Core.Path.{refl, ap, _∙_}
+use mathlib.Core.Bool.{cond}
+use lib.IntN.{pos, negsuc}
 use denote.Ref.{now}
-use Rattle.words.proofs.Bits.{number-pos, number-is}
-use native.Mathlib.Omega.{arith}
-use Rattle.repair_fixes.specs.StepFixes.{operandBy}
+use Rattle.lang.specs.Records.{field}
+use Rattle.repairs.specs.declared.Faults.{Faults}
+use Rattle.repairs.specs.Repaired.{repairedOperand}
 use Rattle.repairs.proofs.Pushing.{four-written}
-use Rattle.repair_fixes.proofs.Writes.{picked}
+use Rattle.repair_fixes.proofs.Writes.{picked, field-is, new-is}
 use borrow.Author.Needs.{needs}
 use Rattle.repair_fixes.proofs.write_step.Statement.{statement}
 use Rattle.repair_fixes.proofs.write_step.Tie as tie
@@ -69,7 +71,7 @@ same-length : tie.Need-same-length
 same-length c = search needs
 
 returns : tie.Need-returns
-returns c = λ t.
+returns c = λ p g.
     let z = c .before in
     let y = z .before .before .before in
     let x = y .before .before .before in
@@ -80,11 +82,13 @@ returns c = λ t.
     let n = r .before .before in
     let s = n .before .before in
     let a = s .args in
-    four-written (a .i) (now (a .fixed)) {v = operandBy (now (a .instructions)) (a .replacement) (a .f) (a .i)}
-    (picked (a .f .skip) 4294967295 (n .before .field-at .result) refl (number-is (n .before .field-at .ensures)) (n .pick .ensures))
-    (picked (a .f .right) (a .replacement) (r .before .field-at2 .result) (number-pos (a .replacement) (omega (arith, s .pre .0)))
-    (number-is (r .before .field-at2 .ensures)) (r .pick2 .ensures))
-    (picked (a .f .kern) 0 (k .before .field-at3 .result) refl (number-is (k .before .field-at3 .ensures)) (k .pick3 .ensures)) (o .repaired-operand .ensures t)
+    four-written (a .i) (now (a .fixed)) {v = repairedOperand p (a .i)}
+    (picked (a .f .skip) 4294967295 (n .before .field-at .result) refl (field-is g 0 (n .before .field-at .ensures)) (n .pick .ensures)
+    ∙ ap (λ (x : Faults). cond (x .skip) (negsuc 0) (field (p .instructions) (a .i) 0)) (g .are))
+    (picked (a .f .right) (a .replacement) (r .before .field-at2 .result) (new-is g (s .pre .0)) (field-is g 1 (r .before .field-at2 .ensures))
+    (r .pick2 .ensures) ∙ ap (λ (x : Faults). cond (x .right) (pos (p .replacement)) (field (p .instructions) (a .i) 1)) (g .are))
+    (picked (a .f .kern) 0 (k .before .field-at3 .result) refl (field-is g 2 (k .before .field-at3 .ensures)) (k .pick3 .ensures)
+    ∙ ap (λ (x : Faults). cond (x .kern) (pos 0) (field (p .instructions) (a .i) 2)) (g .are)) (o .repaired-operand .ensures p g)
     (w .put-word .ensures) (x .put-word2 .ensures) (y .put-word3 .ensures) (z .put-word4 .ensures)
 
 pub write-step-spec : {M : Type 1} → statement M

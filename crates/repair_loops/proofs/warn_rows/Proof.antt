@@ -16,13 +16,13 @@ use Rattle.repair_loops.proofs.warn_rows.Tie as tie
 
 abbrev Inv-loop : tie.InvT-loop
 Inv-loop work r warnings₀ n count₀ i₀ warnings count i =
-    (i ≤ r) × (n < 2147483648 → Pushed warnings₀ n (loopWarnings (tabulate i (listedPair work))) warnings count) × (length warnings ≡ length warnings₀)
+    (i ≤ r) × Pushed warnings₀ n (loopWarnings (tabulate i (listedPair work))) warnings count × (length warnings ≡ length warnings₀)
 
 abbrev μ-loop : tie.MeasureT-loop
 μ-loop work r warnings₀ n count₀ i₀ warnings count i = r - i
 
 loop-holds : tie.Need-loop-holds Inv-loop μ-loop
-loop-holds c = (omega arith, λ h. none-listed (c .before .args .work .now) (c .before .args .warnings .now) (c .before .args .n), refl)
+loop-holds c = (omega arith, none-listed (c .before .args .work .now) (c .before .args .warnings .now) (c .before .args .n), refl)
 
 get-requires : tie.Need-get-requires Inv-loop μ-loop
 get-requires c κs = search needs
@@ -62,10 +62,9 @@ loop-again c =
     let l = g .before .before in
     let s = l .before .before in (
       omega (arith, g .before .loop-test .taken),
-      λ h.
-          one-more (s .args .work .now) (s .args .r) (s .args .warnings .now) (l .loop .warnings) (p .push-if .last .1 .0) (s .args .n) (l .loop .i)
-          (g .get .result) (v .before .get2 .result) (v .get3 .result) (l .loop .count) (p .push-if .result) (s .pre .1) (g .before .loop-test .taken)
-          (s .pre .0) h (g .get .ensures) (v .before .get2 .ensures) (v .get3 .ensures) (l .loop .inv .1 h) (p .push-if .ensures),
+      one-more (s .args .work .now) (s .args .r) (s .args .warnings .now) (l .loop .warnings) (p .push-if .last .1 .0) (s .args .n) (l .loop .i)
+          (g .get .result) (v .before .get2 .result) (v .get3 .result) (l .loop .count) (p .push-if .result) (s .pre .2) (g .before .loop-test .taken)
+          (s .pre .0) (s .pre .1) (g .get .ensures) (v .before .get2 .ensures) (v .get3 .ensures) (l .loop .inv .1) (p .push-if .ensures),
       pushed-length (l .loop .warnings) (l .loop .count) _ (p .push-if .last .1 .0) (p .push-if .result) (p .push-if .ensures) ∙ l .loop .inv .2,
     )
 
@@ -73,11 +72,11 @@ same-length : tie.Need-same-length Inv-loop μ-loop
 same-length c = c .before .loop .inv .2
 
 returns : tie.Need-returns Inv-loop μ-loop
-returns c = λ h.
+returns c =
     let l = c .before in
     let s = l .before .before in
     all-listed (s .args .work .now) (s .args .r) (l .loop .i) (s .args .warnings .now) (l .loop .warnings) (s .args .n) (l .loop .count) (l .loop .inv .0)
-    (c .loop-test .left) (l .loop .inv .1 h)
+    (c .loop-test .left) (l .loop .inv .1)
 
 pub warn-rows-spec : {M : Type 1} → statement M
 warn-rows-spec =

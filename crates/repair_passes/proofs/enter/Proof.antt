@@ -1,48 +1,69 @@
 -- `repair_passes::enter` meets its contract: proofs/Laws, of the entries that were unpacked.
 -- Assumes nothing.
-use mathlib.Core.Path.{refl, sym, _∙_, subst}
+use mathlib.Core.Path.{_≡_, refl, sym, ap, _∙_, subst}
+use mathlib.Core.Bool.{Bool, true, cond}
 use mathlib.Core.List.{List, []}
 use Prim.Native.Nat.{_*_, _/_, _≤_}
 use native.Mathlib.Omega.{arith}
 use lib.IntN.{ℤ, pos}
+use lib.Dec.{leb}
 use lib.ListN.{length}
 use lib.Seq.{length-take-le}
+use mir.Syntax.{w32}
+use mir.Val.{SFits}
+use borrow.Author.Tests.{le-leb, eq-eqb}
 use Rattle.words.proofs.Bits.{number-word}
+use Rattle.lang.specs.Every.{both}
 use Rattle.lang.specs.Records.{count}
-use Rattle.repairs.specs.Damaged.{Damaged}
+use Rattle.reach_marks.specs.Marks.{reachable}
+use Rattle.repairs.specs.Damaged.{Damaged, repairedLeft}
 use Rattle.repairs.specs.Repairs.{damagedOf}
-use Rattle.repair_entries.specs.Entering.{Enters}
-use Rattle.repair_passes.specs.Mending.{EntersFrom}
-use Rattle.repair_passes.proofs.Laws.{entries-within, entries-few, entries-are, left-is, marked}
+use Rattle.repair_entries.specs.Entering.{EntersFrom, isEnterable}
+use Rattle.repair_passes.proofs.Laws.{AfterEntries, entries-within, entries-few, entries-are, left-is}
 use borrow.Author.Needs.{needs}
 use Rattle.repair_passes.proofs.enter.Statement.{statement}
 use Rattle.repair_passes.proofs.enter.Tie as tie
 
--- what unpacking left, of any font that has what was lent
-entered : (c : tie.After-unpack-entries) (d : Damaged) → let s = c .before .before .before .before .before .before .before in
-    EntersFrom d (s .args .instructions .now) (s .args .entries .now) (s .args .«left-entry») (s .args .passthrough .now) →
-    Enters d (s .args .unpacked .now) (s .args .through .now) (s .args .warnings .now) (c .unpack-entries .result) (c .unpack-entries .last .1 .1 .1 .1 .0)
-    (c .unpack-entries .last .1 .1 .1 .1 .1 .0) (c .unpack-entries .last .1 .1 .1 .1 .1 .1 .0)
-entered c d f =
-    let s = c .before .before .before .before .before .before .before in
-    c .unpack-entries .ensures d (f .instructions) (f .entries) (f .left-entry ∙ sym (number-word (s .args .«left-entry») (s .fits .«left-entry»))) (f .passed)
-    (subst (λ (x : List ℤ). count x ≤ 32767) (sym (f .instructions)) (s .pre .0))
-    (subst (λ (x : List ℤ). length x / 2 ≤ 256) (sym (f .entries)) (s .pre .1))
+-- ---- what unpacking left, of any font that has what was lent
 
--- the entries that unpack are within the list
 module _ (c : tie.After-unpack-entries) where
-  within : (2 * c .unpack-entries .result .entries ≤ 512) × (2 * c .unpack-entries .result .entries ≤ length (c .unpack-entries .last .1 .1 .1 .1 .0))
-  within =
-      let s = c .before .before .before .before .before .before .before in
-      let a = s .args in
-      let d = damagedOf (a .instructions .now) [] (a .entries .now) (pos 0) (a .«left-entry») (pos 0) [] (a .passthrough .now) in
-      let g = entered c d (record { instructions = refl; entries = refl; left-entry = refl; passed = refl }) in
-      let u = c .unpack-entries .last .1 .1 .1 .1 in (
-        entries-few d (s .pre .1) (a .unpacked .now) (u .0) (a .through .now) (u .1 .0) (a .warnings .now) (u .1 .1 .0) (c .unpack-entries .result) (s .pre .2)
-            g,
-        entries-within d (s .pre .1) (a .unpacked .now) (u .0) (a .through .now) (u .1 .0) (a .warnings .now) (u .1 .1 .0) (c .unpack-entries .result)
-            (s .pre .2) g,
-      )
+  abbrev start : tie.Start
+  start = c .before .before .before .before .before .before .before
+
+  abbrev Lent : Damaged → Type 0
+  Lent d = let a = start .args in EntersFrom d (a .instructions .now) (a .entries .now) (a .«left-entry») (a .passthrough .now)
+
+  -- the font of what was lent, and nothing else
+  abbrev bare : Damaged
+  bare = let a = start .args in damagedOf (a .instructions .now) [] (a .entries .now) (pos 0) (a .«left-entry») (pos 0) [] (a .passthrough .now)
+
+  bare-lent : Lent bare
+  bare-lent = record { lists = record { instructions = refl; entries = refl }; left-entry = refl; passed = refl }
+
+  few : (d : Damaged) → Lent d → isEnterable d ≡ true
+  few d f =
+      (λ i. both (leb (count (f .lists .instructions i)) 32767) (leb (length (f .lists .entries i) / 2) 256))
+      ∙ (λ i. both (le-leb _ 32767 (start .pre .0) i) (le-leb _ 256 (start .pre .1) i))
+
+  abbrev after : (d : Damaged) → Lent d → AfterEntries d (start .args .through .now) (start .args .warnings .now)
+  after d f =
+      let left = sym (number-word (start .args .«left-entry») (start .fits .«left-entry»)) in
+      record {
+        places = start .args .unpacked .now;
+        long = start .pre .2;
+        entries = c .unpack-entries .last .1 .1 .1 .1 .0;
+        through′ = c .unpack-entries .last .1 .1 .1 .1 .1 .0;
+        warnings′ = c .unpack-entries .last .1 .1 .1 .1 .1 .1 .0;
+        entered = c .unpack-entries .result;
+        enters = c .unpack-entries .ensures d (record { lists = f .lists; left-entry = f .left-entry ∙ left; passed = f .passed });
+      }
+
+  within : 2 * c .unpack-entries .result .entries ≤ length (c .unpack-entries .last .1 .1 .1 .1 .0)
+  within = entries-within (few bare bare-lent) (after bare bare-lent)
+
+-- a test that holds
+chosen : {A : Type 0} {t : Bool} {x z : A} (y : A) → t ≡ true → z ≡ cond t x y → z ≡ x
+chosen {x = x} y e f = f ∙ ap (λ (t : Bool). cond t x y) e
 
 unpack-entries-requires : tie.Need-unpack-entries-requires
 unpack-entries-requires c κs = search needs
@@ -51,15 +72,16 @@ repaired-left-requires : tie.Need-repaired-left-requires
 repaired-left-requires c κs = search needs
 
 mul-reachable-array : tie.Need-mul-reachable-array
-mul-reachable-array c = let h = within (c .before .before .before .before .before .before) in omega (arith, h .0)
+mul-reachable-array c =
+    let k = c .before .before .before .before .before .before in omega (arith, entries-few (few k (bare k) (bare-lent k)) (after k (bare k) (bare-lent k)))
 
 slice-reshare-prefix-reachable-array : tie.Need-slice-reshare-prefix-reachable-array
-slice-reshare-prefix-reachable-array c = within (c .before .before .before .before .before .before) .1
+slice-reshare-prefix-reachable-array c = within (c .before .before .before .before .before .before)
 
 slice-aggregate-reachable-array : tie.Need-slice-aggregate-reachable-array
 slice-aggregate-reachable-array c =
     let k = c .before .before .before .before .before .before .before in
-    sym (length-take-le (2 * k .unpack-entries .result .entries) (k .unpack-entries .last .1 .1 .1 .1 .0) (within k .1))
+    sym (length-take-le (2 * k .unpack-entries .result .entries) (k .unpack-entries .last .1 .1 .1 .1 .0) (within k))
 
 reachable-array-requires : tie.Need-reachable-array-requires
 reachable-array-requires c κs = search needs
@@ -79,19 +101,15 @@ same-length-4 c = search needs
 returns : tie.Need-returns
 returns c = λ d f.
     let m = c .before .before .reachable-array in
-    let l = c .before .before .before .before .before .before .repaired-left in
-    let k = c .before .before .before .before .before .before .before .before .before .before .before in
-    let s = k .before .before .before .before .before .before .before in
-    let a = s .args in
-    let u = k .unpack-entries .last .1 .1 .1 .1 in
-    let g = entered k d f in
-    let few = subst (λ (x : List ℤ). length x / 2 ≤ 256) (sym (f .entries)) (s .pre .1) in
-    let es = entries-are d few (a .unpacked .now) (u .0) (a .through .now) (u .1 .0) (a .warnings .now) (u .1 .1 .0) (k .unpack-entries .result) (s .pre .2) g
-    in (
-      g,
-      marked d (a .instructions .now) _ _ (a .marks .now) (m .last .1 .1 .1 .0) _ (f .instructions) es
-          (left-is d (a .instructions .now) (a .«left-entry») _ (l .result) (f .instructions) (f .left-entry) (s .fits .«left-entry»)
-          (number-word (a .«left-entry») (s .fits .«left-entry»)) (l .ensures)) (s .pre .3) (m .ensures),
+    let r = c .before .before .before .before .before .before in
+    let k = r .before .before .before .before .before in
+    let s = start k in
+    let es = entries-are (few k d f) (after k d f) in
+    let fits : SFits w32 (d .left) = subst (SFits w32) (sym (f .left-entry)) (s .fits .«left-entry») in
+    let lent = number-word (s .args .«left-entry») (s .fits .«left-entry») ∙ sym (f .left-entry) in
+    let left = left-is d fits (ap count (sym (f .lists .instructions))) lent (r .repaired-left .ensures) in (
+      after k d f .enters,
+      chosen _ (eq-eqb _ _ (s .pre .3)) (m .ensures) ∙ (λ i. reachable (sym (f .lists .instructions) i) (es i) (left i)),
     )
 
 pub enter-spec : {M : Type 1} → statement M

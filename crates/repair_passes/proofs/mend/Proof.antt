@@ -1,161 +1,188 @@
 -- `repair_passes::mend` meets its contract: proofs/Laws, of what each pass left.
 -- Assumes nothing.
 use mathlib.Core.Path.{_≡_, refl, sym, ap, _∙_}
-use mathlib.Core.Bool.{Bool, true, false, cond}
-use mathlib.Core.List.{_++_}
+use mathlib.Core.Bool.{true}
+use mathlib.Core.List.{List, _++_}
 use Prim.Native.Nat.{ℕ, _*_, _/_, _<_, _≤_}
 use native.Mathlib.Omega.{arith}
-use lib.Dec.{leb, eqb}
+use lib.IntN.{ℤ}
+use lib.Dec.{eqb}
 use lib.ListN.{length, length-append, take, drop}
 use lib.Seq.{length-take-le, take-at}
-use borrow.Author.Tests.{le-leb, eq-eqb, not-true, not-false}
 use Rattle.words.specs.Words.{wordOf, numberOf}
 use Rattle.words.proofs.Bits.{number-word}
 use Rattle.lang.specs.Every.{both}
 use Rattle.lang.specs.Records.{count}
-use Rattle.reach_marks.specs.Marks.{reachable}
-use Rattle.repairs.specs.declared.Validated.{Validated}
-use Rattle.repairs.specs.Damaged.{Damaged, unpackedEntries, repairedLeft}
+use Rattle.lang.specs.Checks.{orElse, unless}
+use Rattle.repairs.specs.Damaged.{Damaged}
 use Rattle.repairs.specs.Repairs.{damagedOf, damagedRefusal}
-use Rattle.repair_entries.specs.Entering.{Enters}
-use Rattle.repair_passes.specs.Mending.{Mends}
-use Rattle.repair_passes.proofs.Sizes.{size, few-entries, small, program-taken}
-use Rattle.repair_passes.proofs.Laws.{HandedOn, refuses, counts, fitting, entries-within, entries-few, entries-are, passthrough-is, few-warned, left-is}
-use Rattle.repair_passes.proofs.Laws.{steps-are, instructions-are, few-stepped, repair-warned, loops-are, mended}
+use Rattle.repair_entries.specs.Entering.{EntersFrom, isEnterable}
+use Rattle.repair_passes.specs.Mending.{MendLists, mendLists, lentRefusal}
+use Rattle.repair_passes.proofs.Sizes.{size, few-entries}
+use Rattle.repair_passes.proofs.Laws.{AfterEntries, Stations, taken, enterable, through-long, entries-within, entries-few, left-is, not-mended, mended}
 use borrow.Author.Needs.{needs}
 use Rattle.repair_passes.proofs.mend.Statement.{statement}
 use Rattle.repair_passes.proofs.mend.Tie as tie
 
--- lists that fit are said to
-unfitting : (n e p t : ℕ) → n ≤ 32767 → e ≤ 256 → p ≡ 4 * n → t ≡ n → both (leb n 32767) (both (leb e 256) (both (eqb p (4 * n)) (eqb t n))) ≡ true
-unfitting n e p t a b c d = rw (le-leb n 32767 a, le-leb e 256 b, eq-eqb p (4 * n) c, eq-eqb t n d)
+-- ---- what was lent, and whether it is refused
 
-contrary : _≡_ {A = Bool} true false → ⊥
-contrary e = omega (arith, let z : _≡_ {A = ℕ} 1 0 = ap (λ (b : Bool). cond b 1 0) e in z)
-
--- the lists fit
-sure : (c : tie.Else1) → let a = c .before .before .before .before .before .args in
-    (count (a .instructions .now) ≤ 32767) × (length (a .entries .now) / 2 ≤ 256) × (length (a .program .now) ≡ 4 * count (a .instructions .now))
-    × (length (a .through .now) ≡ count (a .instructions .now))
-sure c =
-    let a = c .before .before .before .before .before .args in
-    fitting (count (a .instructions .now)) (length (a .entries .now) / 2) (length (a .program .now)) (length (a .through .now))
-    (sym (c .before .lists-fit .ensures) ∙ not-false _ (c .if1 .left))
-
-places-long : (c : tie.After-mark-places) →
-    count (c .before .before .before .before .before .before .before .args .instructions .now) ≤ length (c .mark-places .result)
-places-long c = omega (arith, c .mark-places .ensures, sure (c .before .before) .0)
-
--- the font as it was lent, and what the first pass left of it
-module _ (c : tie.After-enter) where
-  abbrev font : Damaged
-  font =
-      let c12 = c .before .before .before .before .before .before .before .before .before .before .before .before in
-      let a = c12 .args in
-      damagedOf (a .instructions .now) (a .kerns .now) (a .entries .now) (a .boundary) (a .«left-entry») (a .replacement) (a .existing .now)
-      (a .passthrough .now)
-
-  handed : let a = c .before .before .before .before .before .before .before .before .before .before .before .before .args in
-      let u = c .enter .last .1 .1 .1 .1 in
-      Enters font (c .before .before .before .before .before .before .entry-places .result) (a .through .now) (a .warnings .now) (c .enter .result) (u .0)
-      (u .1 .1 .0) (u .1 .1 .1 .0) × (u .1 .0 ≡ reachable (a .instructions .now) (unpackedEntries font) (repairedLeft font))
-  handed =
-      let s = c .before .before .before .before .before .before .before .before .before .before .before .before in
-      c .enter .ensures font
-      (record { instructions = refl; entries = refl; left-entry = sym (number-word (s .args .«left-entry») (s .fits .«left-entry»)); passed = refl })
-
-  few : length (c .before .before .before .before .before .before .before .before .before .before .before .before .args .entries .now) / 2 ≤ 256
-  few = sure (c .before .before .before .before .before .before .before) .1
-
-  within : (2 * c .enter .result .entries ≤ 512) × (2 * c .enter .result .entries ≤ length (c .enter .last .1 .1 .1 .1 .0))
-  within =
-      let a = c .before .before .before .before .before .before .before .before .before .before .before .before .args in
-      let u = c .enter .last .1 .1 .1 .1 in
-      let p = c .before .before .before .before .before .before .entry-places in (
-        entries-few font few (p .result) (u .0) (a .through .now) (u .1 .1 .0) (a .warnings .now) (u .1 .1 .1 .0) (c .enter .result) (p .ensures) (handed .0),
-        entries-within font few (p .result) (u .0) (a .through .now) (u .1 .1 .0) (a .warnings .now) (u .1 .1 .1 .0) (c .enter .result) (p .ensures)
-            (handed .0),
-      )
-
-  -- the marks: as many as there are instructions
-  marks-length : let c12 = c .before .before .before .before .before .before .before .before .before .before .before .before in
-      length (c .enter .last .1 .1 .1 .1 .1 .0) ≡ count (c12 .args .instructions .now)
-  marks-length =
-      let c12 = c .before .before .before .before .before .before .before .before .before .before .before .before in
-      let c5 = c .before .before .before .before .before in
-      c .enter .kept .1 .1 .1 .1 .1 .0 ∙ length-take-le (count (c12 .args .instructions .now)) (c5 .mark-places .result) (places-long c5)
-
-  marks-front : let n = count (c .before .before .before .before .before .before .before .before .before .before .before .before .args .instructions .now) in
-      take n (c .enter .last .1 .1 .1 .1 .1 .0 ++ drop n (c .before .before .before .before .before .mark-places .result)) ≡ c .enter .last .1 .1 .1 .1 .1 .0
-  marks-front =
-      let c12 = c .before .before .before .before .before .before .before .before .before .before .before .before in
-      let c5 = c .before .before .before .before .before in
-      let n = count (c12 .args .instructions .now) in take-at (c .enter .last .1 .1 .1 .1 .1 .0) (drop n (c5 .mark-places .result)) n marks-length
-
-  front-long : let n = count (c .before .before .before .before .before .before .before .before .before .before .before .before .args .instructions .now) in
-      n ≤ length (c .enter .last .1 .1 .1 .1 .1 .0 ++ drop n (c .before .before .before .before .before .mark-places .result))
-  front-long =
-      let c12 = c .before .before .before .before .before .before .before .before .before .before .before .before in
-      let c5 = c .before .before .before .before .before in
-      let n = count (c12 .args .instructions .now) in
-      omega (arith, length-append (c .enter .last .1 .1 .1 .1 .1 .0) (drop n (c5 .mark-places .result)), marks-length)
-
--- all passes are done
-whole : (c : tie.After-warn-loops) →
-    let k =
-    c .before .before .before .before .before .before .before .before .before .before .before .before .before .before .before .before .before .before
-    .before .before in let a = k .before .before .before .before .before .before .before .before .before .before .before .before .args in
-    let x = c .warn-loops .last .1 .1 .1 .1 in
-    damagedRefusal (font k) ≡ 0 → length (a .program .now) ≡ 4 * count (a .instructions .now) → length (a .through .now) ≡ count (a .instructions .now) →
-    (v : Validated) → HandedOn (numberOf (wordOf (c .before .before .before .before .before .before .repaired-left .result))) (c .warn-loops .result) v →
-    Mends (font k) (a .warnings .now) (a .work .now) v
-    (c .before .before .before .before .before .before .before .before .before .fix-program .last .1 .1 .1 .1 .1 .1 .1 .0)
-    (k .enter .last .1 .1 .1 .1 .1 .1 .0) (x .0) (x .1 .1 .0)
-whole c ok p t v told =
-    let k =
-    c .before .before .before .before .before .before .before .before .before .before .before .before .before .before .before .before .before .before
-    .before .before in
-    let s = k .before .before .before .before .before .before .before .before .before .before .before .before in
+abbrev font : tie.Start → Damaged
+font s =
     let a = s .args in
-    let d = font k in
-    let u = k .enter .last .1 .1 .1 .1 in
-    let e = k .enter .result in
-    let places = k .before .before .before .before .before .before .entry-places in
-    let g = handed k .0 in
-    let through = passthrough-is d (few k) (places .result) (u .0) (a .through .now) (u .1 .1 .0) (a .warnings .now) (u .1 .1 .1 .0) e (places .ensures) g t in
-    let es = entries-are d (few k) (places .result) (u .0) (a .through .now) (u .1 .1 .0) (a .warnings .now) (u .1 .1 .1 .0) e (places .ensures) g in
-    let warned = few-warned d (few k) (places .result) (u .0) (a .through .now) (u .1 .1 .0) (a .warnings .now) (u .1 .1 .1 .0) e (places .ensures) g in
-    let f = c .before .before .before .before .before .before .before .before .before .fix-program in
-    let y = f .last .1 .1 .1 .1 .1 .1 .1 in
-    let o = c .before .before .before .before .before .before .before .before .before .before .before .before .before .before .word-of in
-    let replacement : o .result ≡ wordOf (a .replacement) = o .ensures ∙ ap wordOf (number-word (a .replacement) (s .fits .replacement)) in
-    let in-range : o .result < 256 = omega (arith, replacement, small d ok) in
-    let h = steps-are d _ _ (e .warnings) (f .result) _ (u .1 .1 .0) (a .program .now) (u .1 .1 .1 .0) (y .0) (y .1 .0)
-    (number-word (a .boundary) (s .fits .boundary)) replacement (marks-front k ∙ handed k .1) through (f .ensures (program-taken d ok) in-range warned) in
-    let program = instructions-are d ok (a .program .now) (y .0) (a .warnings .now) (u .1 .1 .1 .0) (y .1 .0) (e .warnings) (f .result) p (g .warned) h in
-    let few-steps = few-stepped d ok (a .program .now) (y .0) (a .warnings .now) (u .1 .1 .1 .0) (y .1 .0) (e .warnings) (f .result) p (g .warned) h in
-    let steps = repair-warned d ok (a .program .now) (y .0) (a .warnings .now) (u .1 .1 .1 .0) (y .1 .0) (e .warnings) (f .result) p (g .warned) h in
-    let l = c .before .before .before .before .before .before .repaired-left in
-    let left = left-is d (a .instructions .now) (a .«left-entry») _ (l .result) refl refl (s .fits .«left-entry»)
-    (number-word (a .«left-entry») (s .fits .«left-entry»)) (l .ensures) in
-    let w = c .warn-loops in
-    let x = w .last .1 .1 .1 .1 in
-    let loops = loops-are d _ _ _ (f .result) (y .1 .0) (x .0) (a .work .now) (x .1 .1 .0) (w .result) program es left (w .ensures (a .boundary) few-steps) in
-    mended d ok (a .warnings .now) (y .1 .0) (x .0) (f .result) steps (a .work .now) (x .1 .1 .0) (w .result) loops v _ (y .0) (u .1 .1 .0) told left program
-    through
+    damagedOf (a .instructions .now) (a .kerns .now) (a .entries .now) (a .boundary) (a .«left-entry») (a .replacement) (a .existing .now) (a .passthrough .now)
 
-lists-fit-requires : tie.Need-lists-fit-requires
-lists-fit-requires c κs = search needs
+abbrev lists : tie.Start → MendLists
+lists s = let a = s .args in mendLists (a .program .now) (a .through .now) (a .warnings .now) (a .work .now)
+
+-- how many instructions there are
+abbrev steps : tie.Start → ℕ
+steps s = count (s .args .instructions .now)
+
+abbrev asked : tie.After-damaged-refusal → tie.Start
+asked c = c .before .before .before .before
+
+font-refusal : (c : tie.After-damaged-refusal) → c .damaged-refusal .result ≡ damagedRefusal (font (asked c))
+font-refusal c =
+    let s = asked c in
+    let a = s .args in
+    let x = number-word (a .boundary) (s .fits .boundary) in
+    let y = number-word (a .«left-entry») (s .fits .«left-entry») in
+    let z = number-word (a .replacement) (s .fits .replacement) in
+    c .damaged-refusal .ensures (a .existing .now)
+    ∙ (λ i. damagedRefusal
+    (damagedOf (a .instructions .now) (a .kerns .now) (a .entries .now) (x i) (y i) (z i) (a .existing .now) (a .passthrough .now)))
+
+refusal-is : (c : tie.After-lent-refusal) → c .lent-refusal .result ≡ lentRefusal (font (asked (c .before))) (lists (asked (c .before)))
+refusal-is c =
+    let s = asked (c .before) in
+    let a = s .args in
+    c .lent-refusal .ensures
+    ∙ ap (λ (k : ℕ). orElse k (unless 15 (both (eqb (length (a .program .now)) (4 * steps s)) (eqb (length (a .through .now)) (steps s)))))
+    (font-refusal (c .before))
+
+-- ---- it is not
+
+abbrev start : tie.Else1 → tie.Start
+start c = asked (c .before .before)
+
+ok : (c : tie.Else1) → lentRefusal (font (start c)) (lists (start c)) ≡ 0
+ok c = sym (refusal-is (c .before)) ∙ c .if1 .left
+
+fine : (c : tie.Else1) → damagedRefusal (font (start c)) ≡ 0
+fine c = taken (font (start c)) (lists (start c)) (ok c)
+
+places-long : (c : tie.After-mark-places) → steps (start (c .before .before)) ≤ length (c .mark-places .result)
+places-long c = omega (arith, c .mark-places .ensures, size (font (start (c .before .before))) (fine (c .before .before)))
+
+-- ---- what the first pass left
+
+module _ (c : tie.After-enter) where
+  abbrev tested : tie.Else1
+  tested = c .before .before .before .before .before .before .before
+
+  abbrev lent : tie.Start
+  lent = start tested
+
+  -- the places for marks
+  abbrev places : List ℕ
+  places = c .before .before .before .before .before .mark-places .result
+
+  -- the marks
+  abbrev marked : List ℕ
+  marked = c .enter .last .1 .1 .1 .1 .1 .0
+
+  abbrev handed : ℤ
+  handed = numberOf (wordOf (lent .args .«left-entry»))
+
+  from-lent : EntersFrom (font lent) (lent .args .instructions .now) (lent .args .entries .now) handed (lent .args .passthrough .now)
+  from-lent =
+      record {
+        lists = record { instructions = refl; entries = refl };
+        left-entry = sym (number-word (lent .args .«left-entry») (lent .fits .«left-entry»));
+        passed = refl;
+      }
+
+  abbrev after : AfterEntries (font lent) (lists lent .through) (lists lent .warnings)
+  after =
+      record {
+        places = c .before .before .before .before .before .before .entry-places .result;
+        long = c .before .before .before .before .before .before .entry-places .ensures;
+        entries = c .enter .last .1 .1 .1 .1 .0;
+        through′ = c .enter .last .1 .1 .1 .1 .1 .1 .0;
+        warnings′ = c .enter .last .1 .1 .1 .1 .1 .1 .1 .0;
+        entered = c .enter .result;
+        enters = c .enter .ensures (font lent) from-lent .0;
+      }
+
+  few : isEnterable (font lent) ≡ true
+  few = enterable (font lent) (lists lent) (ok tested)
+
+  within : 2 * c .enter .result .entries ≤ length (c .enter .last .1 .1 .1 .1 .0)
+  within = entries-within few after
+
+  -- as many marks as there are instructions
+  marks-length : length marked ≡ steps lent
+  marks-length =
+      let m = c .before .before .before .before .before in c .enter .kept .1 .1 .1 .1 .1 .0 ∙ length-take-le (steps lent) places (places-long m)
+
+  marks-front : take (steps lent) (marked ++ drop (steps lent) places) ≡ marked
+  marks-front = take-at marked (drop (steps lent) places) (steps lent) marks-length
+
+  front-long : steps lent ≤ length (marked ++ drop (steps lent) places)
+  front-long = omega (arith, length-append marked (drop (steps lent) places), marks-length)
+
+-- ---- all passes are done
+
+module _ (c : tie.After-warn-loops) where
+  abbrev fixed : tie.After-fix-program
+  fixed = c .before .before .before .before .before .before .before .before .before
+
+  abbrev entered : tie.After-enter
+  entered = fixed .before .before .before .before .before .before .before .before .before .before .before
+
+  abbrev stations : Stations (font (lent entered)) (lists (lent entered))
+  stations =
+      let s = lent entered in
+      let o = fixed .before .before .before .before .before .word-of in
+      let l = c .before .before .before .before .before .before .repaired-left in
+      record {
+        first = after entered;
+        boundary = _;
+        boundary-is = number-word (s .args .boundary) (s .fits .boundary);
+        replacement = o .result;
+        replacement-is = o .ensures ∙ ap wordOf (number-word (s .args .replacement) (s .fits .replacement));
+        marks = _;
+        marks-are = marks-front entered ∙ entered .enter .ensures (font s) (from-lent entered) .1;
+        program = fixed .fix-program .last .1 .1 .1 .1 .1 .1 .1 .0;
+        warnings = fixed .fix-program .last .1 .1 .1 .1 .1 .1 .1 .1 .0;
+        warned = fixed .fix-program .result;
+        fixes = fixed .fix-program .ensures;
+        left = _;
+        left-was = left-is (font s) (s .fits .«left-entry») refl (number-word (s .args .«left-entry») (s .fits .«left-entry»)) (l .ensures);
+        warnings′ = c .warn-loops .last .1 .1 .1 .1 .0;
+        work = c .warn-loops .last .1 .1 .1 .1 .1 .1 .0;
+        answer = c .warn-loops .result;
+        loops = c .warn-loops .ensures (s .args .boundary);
+      }
+
+damaged-refusal-requires : tie.Need-damaged-refusal-requires
+damaged-refusal-requires c κs = search needs
+
+lent-refusal-requires : tie.Need-lent-refusal-requires
+lent-refusal-requires c κs = search needs
+
+zero-u32-requires : tie.Need-zero-u32-requires
+zero-u32-requires c κs = search needs
+
+same-length : tie.Need-same-length
+same-length c = search needs
 
 returns : tie.Need-returns
-returns c = λ ok p t.
-    let a = c .before .before .before .before .before .args in
-    let d = damagedOf (a .instructions .now) (a .kerns .now) (a .entries .now) (a .boundary) (a .«left-entry») (a .replacement) (a .existing .now)
-    (a .passthrough .now) in
-    absurd
-    (contrary
-    (sym (unfitting (count (a .instructions .now)) (length (a .entries .now) / 2) (length (a .program .now)) (length (a .through .now)) (size d ok)
-    (few-entries d ok) p t) ∙ sym (c .before .lists-fit .ensures) ∙ not-true _ (c .if1 .taken)))
+returns c =
+    let z = c .before .before .zero-u32 in
+    let i = c .before .before .before .before in
+    let s = asked (i .before .before) in
+    not-mended (font s) (lists s) (i .before .lent-refusal .result) (z .last .0) (refusal-is (i .before)) (i .if1 .taken) (z .ensures)
 
 entry-places-requires : tie.Need-entry-places-requires
 entry-places-requires c κs = search needs
@@ -174,19 +201,21 @@ slice-aggregate-enter-2 c = sym (length-take-le _ (c .before .before .mark-place
 
 enter-requires : tie.Need-enter-requires
 enter-requires c κs =
-    let h = sure (c .before .before .before .before .before .before) in (
-      h .0,
-      h .1,
-      c .before .before .before .before .before .entry-places .ensures,
-      length-take-le _ (c .before .before .before .before .mark-places .result) (places-long (c .before .before .before .before)),
-      h .3,
+    let m = c .before .before .before .before in
+    let i = m .before .before in
+    let s = start i in (
+      size (font s) (fine i),
+      few-entries (font s) (fine i),
+      m .before .entry-places .ensures,
+      length-take-le _ (m .mark-places .result) (places-long m),
+      through-long (font s) (lists s) (ok i),
     )
 
 word-of-requires : tie.Need-word-of-requires
 word-of-requires c κs = search needs
 
 array-share-prefix-marks : tie.Need-array-share-prefix-marks
-array-share-prefix-marks c = omega (arith, front-long (c .before .before .before .before .before .before))
+array-share-prefix-marks c = front-long (c .before .before .before .before .before .before)
 
 slice-aggregate-fix-program : tie.Need-slice-aggregate-fix-program
 slice-aggregate-fix-program c = let k = c .before .before .before .before .before .before .before in sym (ap length (marks-front k) ∙ marks-length k)
@@ -197,26 +226,24 @@ fix-program-requires c κs = search needs
 repaired-left-requires : tie.Need-repaired-left-requires
 repaired-left-requires c κs = search needs
 
+-- the entries that are lent on, after what was repaired
+abbrev unpacked : tie.After-struct-known → tie.After-enter
+unpacked c = c .before .before .before .before .before .before .before .before .before .before .before .before .before .before .before .before
+
 mul-unpacked : tie.Need-mul-unpacked
-mul-unpacked c =
-    let c16 = c .before .before .before .before .before .before .before .before .before .before .before .before .before .before .before .before in
-    let h = within c16 in omega (arith, h .0)
+mul-unpacked c = omega (arith, entries-few (few (unpacked c)) (after (unpacked c)))
 
 array-share-prefix-unpacked : tie.Need-array-share-prefix-unpacked
-array-share-prefix-unpacked c =
-    let c16 = c .before .before .before .before .before .before .before .before .before .before .before .before .before .before .before .before in
-    within c16 .1
+array-share-prefix-unpacked c = within (unpacked c)
 
 slice-aggregate-warn-loops : tie.Need-slice-aggregate-warn-loops
-slice-aggregate-warn-loops c =
-    let c17 = c .before .before .before .before .before .before .before .before .before .before .before .before .before .before .before .before .before in
-    let k = c17 in sym (length-take-le (2 * k .enter .result .entries) (k .enter .last .1 .1 .1 .1 .0) (within k .1))
+slice-aggregate-warn-loops c = let k = unpacked (c .before) in sym (length-take-le _ (k .enter .last .1 .1 .1 .1 .0) (within k))
 
 warn-loops-requires : tie.Need-warn-loops-requires
 warn-loops-requires c κs = search needs
 
-same-length : tie.Need-same-length
-same-length c = search needs
+handed-on-requires : tie.Need-handed-on-requires
+handed-on-requires c κs = search needs
 
 same-length-2 : tie.Need-same-length-2
 same-length-2 c = search needs
@@ -227,35 +254,23 @@ same-length-3 c = search needs
 same-length-4 : tie.Need-same-length-4
 same-length-4 c = search needs
 
-enum-known-number : tie.Need-enum-known-number
-enum-known-number c = search needs
-
-enum-known-total : tie.Need-enum-known-total
-enum-known-total c = search needs
-
-returns-2 : tie.Need-returns-2
-returns-2 c = λ ok p t. whole (c .before .before .before .before .before .before) ok p t _ (refuses _ (c .before .number .given .1) refl)
-
 same-length-5 : tie.Need-same-length-5
 same-length-5 c = search needs
 
-same-length-6 : tie.Need-same-length-6
-same-length-6 c = search needs
-
-same-length-7 : tie.Need-same-length-7
-same-length-7 c = search needs
-
-same-length-8 : tie.Need-same-length-8
-same-length-8 c = search needs
-
-returns-3 : tie.Need-returns-3
-returns-3 c = λ ok p t. whole (c .before .before .before .before .before .before) ok p t _ (counts _ (c .before .total .given .1) refl)
+returns-2 : tie.Need-returns-2
+returns-2 c =
+    let w = c .before .before .before .before in
+    let s = lent (entered w) in
+    mended (font s) (lists s) (ok (tested (entered w))) (stations w) (c .handed-on .result) (c .handed-on .ensures)
 
 pub mend-spec : {M : Type 1} → statement M
 mend-spec =
     tie.close
     (tie.spec
-    lists-fit-requires
+    damaged-refusal-requires
+    lent-refusal-requires
+    zero-u32-requires
+    same-length
     returns
     entry-places-requires
     mark-places-requires
@@ -272,15 +287,9 @@ mend-spec =
     array-share-prefix-unpacked
     slice-aggregate-warn-loops
     warn-loops-requires
-    enum-known-number
-    enum-known-total
-    same-length
+    handed-on-requires
     same-length-2
     same-length-3
     same-length-4
-    returns-2
     same-length-5
-    same-length-6
-    same-length-7
-    same-length-8
-    returns-3)
+    returns-2)

@@ -1,4 +1,4 @@
--- `repair::damaged_refusal` meets its contract: the first refusal that is not 0.
+-- `repair_refusals::damaged_refusal` meets its contract: the first refusal that is not 0.
 -- Assumes nothing.
 use mathlib.Core.Path.{_≡_, sym, ap, _∙_}
 use mathlib.Core.List.{List}
@@ -11,8 +11,8 @@ use Rattle.lang.specs.Checks.{programRefusal, kernsRefusal, entriesRefusal, abs
 use Rattle.lang.proofs.Refusals.{first-refusal, later-refusal, orElse-assoc}
 use Rattle.repairs.specs.Repairs.{damagedOf, damagedRefusal}
 use borrow.Author.Needs.{needs}
-use Rattle.repair.proofs.damaged_refusal.Statement.{statement}
-use Rattle.repair.proofs.damaged_refusal.Tie as tie
+use Rattle.repair_refusals.proofs.damaged_refusal.Statement.{statement}
+use Rattle.repair_refusals.proofs.damaged_refusal.Tie as tie
 
 -- three refusals in a row, and then others
 grouped : (a b c x : ℕ) → orElse (orElse a (orElse b c)) x ≡ orElse a (orElse b (orElse c x))

@@ -1,4 +1,4 @@
--- `repair::edge_refusal` meets its contract: the first refusal that is not 0.
+-- `repair_refusals::edge_refusal` meets its contract: the first refusal that is not 0.
 -- Assumes nothing.
 use mathlib.Core.Path.{_≡_, sym, ap, _∙_}
 use Prim.Native.Nat.{ℕ, _≤_, _<_}
@@ -9,8 +9,8 @@ use Rattle.words.proofs.Bits.{number-word}
 use Rattle.lang.specs.Checks.{absentRefusal, unless}
 use Rattle.lang.proofs.Refusals.{first-refusal, later-refusal}
 use borrow.Author.Needs.{needs}
-use Rattle.repair.proofs.edge_refusal.Statement.{statement}
-use Rattle.repair.proofs.edge_refusal.Tie as tie
+use Rattle.repair_refusals.proofs.edge_refusal.Statement.{statement}
+use Rattle.repair_refusals.proofs.edge_refusal.Tie as tie
 
 -- the boundary character and the left entry as they were lent
 at-boundary : (c : tie.After-absent-refusal) → c .absent-refusal .result ≡ absentRefusal 255 (c .before .args .boundary)

@@ -1,9 +1,9 @@
--- `repair::lists_refusal` meets its contract: the first refusal that is not 0.
+-- `repair_refusals::lists_refusal` meets its contract: the first refusal that is not 0.
 -- Assumes nothing.
 use Rattle.lang.proofs.Refusals.{first-refusal, later-refusal}
 use borrow.Author.Needs.{needs}
-use Rattle.repair.proofs.lists_refusal.Statement.{statement}
-use Rattle.repair.proofs.lists_refusal.Tie as tie
+use Rattle.repair_refusals.proofs.lists_refusal.Statement.{statement}
+use Rattle.repair_refusals.proofs.lists_refusal.Tie as tie
 
 program-refusal-requires : tie.Need-program-refusal-requires
 program-refusal-requires c κs = search needs
