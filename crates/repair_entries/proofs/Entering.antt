@@ -294,22 +294,48 @@ module _ (d : Damaged) {s es : List ℤ} {z : ℤ} {p : List ℕ} (f : EntersFro
       (pushed-if w 0 b (warning 1 (numberOf 0) (numberOf 0) (numberOf 0)) w₁ i (omega arith) a)
 
   -- it holds
-  module _ {t₀ : Bool} (e : t₀ ≡ both (leb (count s) 32767) (leb (length es / 2) 256)) (h : t₀ ≡ true) where
-    holds : isEnterable d ≡ true
-    holds = enterable-is ∙ sym e ∙ h
+  enterable-so : {b : Bool} → b ≡ both (leb (count s) 32767) (leb (length es / 2) 256) → b ≡ true → isEnterable d ≡ true
+  enterable-so e h = enterable-is ∙ sym e ∙ h
 
-    pub enters : {u u′ : List ℤ} {n : ℕ} → Placed u 0 (unpackedEntries d) u′ n → {t t₁ t₂ : List ℕ} → t₁ ≡ sets t 0 (passthroughBits p (count s)) →
-        ((t : List ℕ) → PassesFrom d t s es t₁ → t₂ ≡ sets t 0 (repairedPassthrough d)) → {b : Bool} → b ≡ both (nonNeg z) (leb (count s) (wordOf z)) →
-        {w w₁ w₂ : List ℤ} {i m : ℕ} →
-        Pushed w 0 (warnIf (both b (ltb 0 4294967296)) (warning 1 (numberOf 0) (numberOf 0) (numberOf 0))) w₁ i →
-        Pushed w₁ i (entryWarnings d (length es / 2)) w₂ m → Enters d u t w (record { entries = n; warnings = m }) u′ t₂ w₂
-    enters o {t} g passed bs {w} {w₁} {w₂} {i} {m} a warned =
-        record {
-          entries = rw holds (omega (arith, o .count));
-          list = rw holds (o .list);
-          passthrough = rw holds (passed t (record { lists = f .lists; from = passed-none d s es (f .lists) p t (f .passed) g }));
-          warned =
-              rw holds
-              (pushed-append w 0 (leftWarning d) w₁ i (entryWarnings d (length (d .entries) / 2)) w₂ m (left-pushed bs w w₁ i a)
-              (rw (← f .lists .entries) at warned));
-        }
+-- what each pass leaves of the font d, with what was lent of it
+pub record EntryPasses (d : Damaged) (s es : List ℤ) (z : ℤ) (p : List ℕ) : Type 0 where
+  pub lent : EntersFrom d s es z p
+  pub fits : Bool
+  pub fits-is : fits ≡ both (leb (count s) 32767) (leb (length es / 2) 256)
+  pub fit : fits ≡ true
+  -- the entries
+  pub unpacked : List ℤ
+  pub unpacked′ : List ℤ
+  pub entries : ℕ
+  pub placed-are : Placed unpacked 0 (unpackedEntries d) unpacked′ entries
+  -- passthrough, as 0 and 1, and with redirects
+  pub through : List ℕ
+  pub through₁ : List ℕ
+  pub through′ : List ℕ
+  pub bits : through₁ ≡ sets through 0 (passthroughBits p (count s))
+  pub passed-are : (t : List ℕ) → PassesFrom d t s es through₁ → through′ ≡ sets t 0 (repairedPassthrough d)
+  -- the warnings, of the left entry and then of the entries
+  pub goes : Bool
+  pub goes-is : goes ≡ both (nonNeg z) (leb (count s) (wordOf z))
+  pub warnings : List ℤ
+  pub warnings₁ : List ℤ
+  pub warnings′ : List ℤ
+  pub one : ℕ
+  pub all : ℕ
+  pub left-warned : Pushed warnings 0 (warnIf (both goes (ltb 0 4294967296)) (warning 1 (numberOf 0) (numberOf 0) (numberOf 0))) warnings₁ one
+  pub entries-warned : Pushed warnings₁ one (entryWarnings d (length es / 2)) warnings′ all
+
+pub enters : {d : Damaged} {s es : List ℤ} {z : ℤ} {p : List ℕ} (x : EntryPasses d s es z p) →
+    Enters d (x .unpacked) (x .through) (x .warnings) (record { entries = x .entries; warnings = x .all }) (x .unpacked′) (x .through′) (x .warnings′)
+enters {d} {s} {es} {p = p} x =
+    let f = x .lent in
+    let holds = enterable-so d f (x .fits-is) (x .fit) in
+    let from = passed-none d s es (f .lists) p (x .through) (f .passed) (x .bits) in
+    record {
+      entries = rw holds (omega (arith, x .placed-are .count));
+      list = rw holds (x .placed-are .list);
+      passthrough = rw holds (x .passed-are (x .through) (record { lists = f .lists; from = from }));
+      warned =
+          rw holds
+          (pushed-append _ _ _ _ _ _ _ _ (left-pushed d f (x .goes-is) _ _ _ (x .left-warned)) (rw (← f .lists .entries) at (x .entries-warned)));
+    }

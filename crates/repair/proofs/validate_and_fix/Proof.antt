@@ -133,11 +133,18 @@ module _ (c : tie.After-mend) where
       let same : handed ≡ host .font = (λ i. font (x i) (y i) (z i)) in
       subst Left same (c .mend .ensures)
 
+-- from the last part back to the passes
+abbrev mended-before : tie.After-slice-known4 → tie.After-mend
+mended-before c = c .before .before .before .before .before
+
+abbrev shared : tie.After-finish-arg2 → tie.After-slice-known4
+shared c = c .before .before .before .before
+
 -- ---- the end
 
 module _ (c : tie.After-finish) where
   abbrev ended : tie.After-mend
-  ended = c .before .before .before .before .before .before .before .before .before .before .before
+  ended = mended-before (shared (c .before .before))
 
   abbrev Last : List ℤ → List ℕ → Type 0
   Last p q =
@@ -208,28 +215,28 @@ mend-requires : tie.Need-mend-requires
 mend-requires c κs = search needs
 
 mul-program-2 : tie.Need-mul-program-2
-mul-program-2 c = omega (arith, placed (c .before .before .before .before .before) .placed .ensures)
+mul-program-2 c = omega (arith, placed (mended-before c) .placed .ensures)
 
 array-share-prefix-program : tie.Need-array-share-prefix-program
 array-share-prefix-program c =
-    let m = c .before .before .before .before .before in front-long _ (program m) (local m .before .programs .result) (program-length m)
+    let m = mended-before c in front-long _ (program m) (local m .before .programs .result) (program-length m)
 
 slice-aggregate-finish : tie.Need-slice-aggregate-finish
 slice-aggregate-finish c =
-    let m = c .before .before .before .before .before .before in
+    let m = mended-before (c .before) in
     sym (ap length (front _ (program m) (local m .before .programs .result) (program-length m)) ∙ program-length m)
 
 array-share-prefix-passed : tie.Need-array-share-prefix-passed
 array-share-prefix-passed c =
-    let m = c .before .before .before .before .before .before in front-long _ (passed m) (local m .places .result) (passed-length m)
+    let m = mended-before (c .before) in front-long _ (passed m) (local m .places .result) (passed-length m)
 
 slice-aggregate-finish-2 : tie.Need-slice-aggregate-finish-2
 slice-aggregate-finish-2 c =
-    let m = c .before .before .before .before .before .before .before in
+    let m = mended-before (c .before .before) in
     sym (ap length (front _ (passed m) (local m .places .result) (passed-length m)) ∙ passed-length m)
 
 finish-requires : tie.Need-finish-requires
-finish-requires c κs = has-number (c .before .before .before .before .before .before .before .before .before .before .mend .ensures)
+finish-requires c κs = has-number (mended-before (shared (c .before)) .mend .ensures)
 
 same-length : tie.Need-same-length
 same-length c = let f = c .before .before .before .before in f .finish .kept .1 .1 .1 .0 ∙ fixed-zeroed (placed (ended f)) .zero-i32 .kept .0

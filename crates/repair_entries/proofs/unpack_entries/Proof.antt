@@ -85,8 +85,31 @@ returns-2 c =
     let a = s .args in
     λ d f.
     let left = ap (λ (z : ℤ). both (nonNeg z) (leb (count (a .instructions .now)) (wordOf z))) (number-word (a .left-entry) (s .fits .left-entry)) in
-    enters d f (i .before .is-enterable .ensures) (not-false _ (i .if1 .left)) (e .put-entries .ensures d (f .lists)) (t .put-passthrough .ensures)
-    (q .pass-redirects .ensures d) (l .left-goes .ensures ∙ left) (p .push-if .ensures) (w .warn-entries .ensures d (f .lists))
+    enters
+    (record {
+      lent = f;
+      fits = _;
+      fits-is = i .before .is-enterable .ensures;
+      fit = not-false _ (i .if1 .left);
+      unpacked = _;
+      unpacked′ = _;
+      entries = _;
+      placed-are = e .put-entries .ensures d (f .lists);
+      through = _;
+      through₁ = _;
+      through′ = _;
+      bits = t .put-passthrough .ensures;
+      passed-are = q .pass-redirects .ensures d;
+      goes = _;
+      goes-is = l .left-goes .ensures ∙ left;
+      warnings = _;
+      warnings₁ = _;
+      warnings′ = _;
+      one = _;
+      all = _;
+      left-warned = p .push-if .ensures;
+      entries-warned = w .warn-entries .ensures d (f .lists);
+    })
 
 pub unpack-entries-spec : {M : Type 1} → statement M
 unpack-entries-spec =

@@ -77,15 +77,19 @@ places-long c = omega (arith, c .mark-places .ensures, size (font (start (c .bef
 -- ---- what the first pass left
 
 module _ (c : tie.After-enter) where
+  -- the local lists, made after the test
+  abbrev made : tie.After-mark-places
+  made = c .before .before .before .before .before
+
   abbrev tested : tie.Else1
-  tested = c .before .before .before .before .before .before .before
+  tested = made .before .before
 
   abbrev lent : tie.Start
   lent = start tested
 
   -- the places for marks
   abbrev places : List ℕ
-  places = c .before .before .before .before .before .mark-places .result
+  places = made .mark-places .result
 
   -- the marks
   abbrev marked : List ℕ
@@ -105,8 +109,8 @@ module _ (c : tie.After-enter) where
   abbrev after : AfterEntries (font lent) (lists lent .through) (lists lent .warnings)
   after =
       record {
-        places = c .before .before .before .before .before .before .entry-places .result;
-        long = c .before .before .before .before .before .before .entry-places .ensures;
+        places = made .before .entry-places .result;
+        long = made .before .entry-places .ensures;
         entries = c .enter .last .1 .1 .1 .1 .0;
         through′ = c .enter .last .1 .1 .1 .1 .1 .1 .0;
         warnings′ = c .enter .last .1 .1 .1 .1 .1 .1 .1 .0;
@@ -122,8 +126,7 @@ module _ (c : tie.After-enter) where
 
   -- as many marks as there are instructions
   marks-length : length marked ≡ steps lent
-  marks-length =
-      let m = c .before .before .before .before .before in c .enter .kept .1 .1 .1 .1 .1 .0 ∙ length-take-le (steps lent) places (places-long m)
+  marks-length = c .enter .kept .1 .1 .1 .1 .1 .0 ∙ length-take-le (steps lent) places (places-long made)
 
   marks-front : take (steps lent) (marked ++ drop (steps lent) places) ≡ marked
   marks-front = take-at marked (drop (steps lent) places) (steps lent) marks-length
@@ -131,20 +134,37 @@ module _ (c : tie.After-enter) where
   front-long : steps lent ≤ length (marked ++ drop (steps lent) places)
   front-long = omega (arith, length-append marked (drop (steps lent) places), marks-length)
 
+-- from the steps back to it
+abbrev entered-before : tie.After-word-of → tie.After-enter
+entered-before c = c .before .before .before .before .before .before
+
+abbrev worded : tie.After-fix-program → tie.After-word-of
+worded c = c .before .before .before .before .before
+
+-- from the loops back to the left entry and the steps
+abbrev fixed-before : tie.After-repaired-left → tie.After-fix-program
+fixed-before c = c .before .before .before
+
+abbrev left-before : tie.After-struct-known → tie.After-repaired-left
+left-before c = c .before .before
+
 -- ---- all passes are done
 
 module _ (c : tie.After-warn-loops) where
+  abbrev left-asked : tie.After-repaired-left
+  left-asked = left-before (c .before .before .before .before)
+
   abbrev fixed : tie.After-fix-program
-  fixed = c .before .before .before .before .before .before .before .before .before
+  fixed = fixed-before left-asked
 
   abbrev entered : tie.After-enter
-  entered = fixed .before .before .before .before .before .before .before .before .before .before .before
+  entered = entered-before (worded fixed)
 
   abbrev stations : Stations (font (lent entered)) (lists (lent entered))
   stations =
       let s = lent entered in
-      let o = fixed .before .before .before .before .before .word-of in
-      let l = c .before .before .before .before .before .before .repaired-left in
+      let o = worded fixed .word-of in
+      let l = left-asked .repaired-left in
       record {
         first = after entered;
         boundary = _;
@@ -215,10 +235,10 @@ word-of-requires : tie.Need-word-of-requires
 word-of-requires c κs = search needs
 
 array-share-prefix-marks : tie.Need-array-share-prefix-marks
-array-share-prefix-marks c = front-long (c .before .before .before .before .before .before)
+array-share-prefix-marks c = front-long (entered-before c)
 
 slice-aggregate-fix-program : tie.Need-slice-aggregate-fix-program
-slice-aggregate-fix-program c = let k = c .before .before .before .before .before .before .before in sym (ap length (marks-front k) ∙ marks-length k)
+slice-aggregate-fix-program c = let k = entered-before (c .before) in sym (ap length (marks-front k) ∙ marks-length k)
 
 fix-program-requires : tie.Need-fix-program-requires
 fix-program-requires c κs = search needs
@@ -228,7 +248,7 @@ repaired-left-requires c κs = search needs
 
 -- the entries that are lent on, after what was repaired
 abbrev unpacked : tie.After-struct-known → tie.After-enter
-unpacked c = c .before .before .before .before .before .before .before .before .before .before .before .before .before .before .before .before
+unpacked c = entered-before (worded (fixed-before (left-before c)))
 
 mul-unpacked : tie.Need-mul-unpacked
 mul-unpacked c = omega (arith, entries-few (few (unpacked c)) (after (unpacked c)))
