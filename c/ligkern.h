@@ -102,7 +102,7 @@
      ligkern_begin                              304     ligkern_pack_entrypoints             1,144
      ligkern_step                               761     ligkern_pack_kerns                      88
      ligkern_has_replacement                     40     ligkern_unpack_kerns               131,176
-     ligkern_all_pairs_with_replacements         72     ligkern_validate_and_fix           595,280
+     ligkern_all_pairs_with_replacements         72     ligkern_validate_and_fix           595,312
      ligkern_table_is_seven_bit_safe            104
    Give a thread 16 KiB more, and what the host itself takes. Repair crashes in a thread of 512 KiB; 640 KiB are enough. */
 #ifndef LIGKERN_H
