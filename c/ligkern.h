@@ -1,17 +1,19 @@
-/* The letter setter for a host in C: a font is compiled once, and captions are set by it one after the other. Beside that there are repair, packing,
-   unpacking, reach, kerns and questions about a table. c/build proves the calls and writes target/staticlib/libligkern.a, for x86-64 Linux to link.
-   c/captions.c is an example. The column text has a header of its own, c/ligcols.h. R29 and its like are rules of docs/RULES.md, where each is said
+/* The letter setter for a host in C: a font is compiled once, and captions are set by it one after the other. Beside that there are font files, repair,
+   packing, unpacking, reach, kerns and questions about a table. c/build proves the calls and writes target/staticlib/libligkern.a, for x86-64 Linux to
+   link. c/captions.c is an example. The column text has a header of its own, c/ligcols.h. R29 and its like are rules of docs/RULES.md, where each is said
    exactly.
 
    WHAT A HOST DOES
 
-   1. Repair a font that comes from a file, with its packed entries: ligkern_validate_and_fix. Read the warnings.
-   2. Unpack each entry, in the repaired instructions: ligkern_unpack_entrypoint. Leave out an entry that a warning 2 names.
-   3. Compile the repaired instructions with the unpacked entries and the repaired left entry: ligkern_compile.
-   4. Look at the third of the counts. A FONT WITH LOOPS IS NOT TO GO ON AIR: have it put right. The setter does not hang on it, but sets a pair
+   1. Read a font file: ligkern_deserialize. Its entries are packed.
+   2. Repair the font, with its packed entries: ligkern_validate_and_fix. Read the warnings.
+   3. Unpack each entry, in the repaired instructions: ligkern_unpack_entrypoint. Leave out an entry that a warning 2 names.
+   4. Compile the repaired instructions with the unpacked entries and the repaired left entry: ligkern_compile.
+   5. Look at the third of the counts. A FONT WITH LOOPS IS NOT TO GO ON AIR: have it put right. The setter does not hang on it, but sets a pair
       that never ends as if it had no rule.
-   5. Set words: ligkern_set_word, or quicker by an index; or item by item, with ligkern_begin and ligkern_step.
-   A font whose entries are not packed, and which needs no repair, begins with 3.
+   6. Set words: ligkern_set_word, or quicker by an index; or item by item, with ligkern_begin and ligkern_step.
+   A font whose entries are not packed, and which needs no repair, begins with 4. Another program is put into a font file, with unpacked entries, by
+   ligkern_replace_lig_kern_program.
 
    WHAT GOES IN
 
@@ -42,8 +44,10 @@
    points. A scaled kern, as ops and items have it, is in points, times 65,536: an eighth of ten points is 81,920.
 
    An entry is two numbers: a character, and where its chain starts. No character has two. The left entry is where the left boundary's chain starts.
-     unpacked  0 to 65,535, the first instruction of the chain. All calls but two take these, and the left entry is always such a one
-     packed    0 to 255, as a font file has it: if a redirect stands there, what it leads to is meant. Repair and unpacking take these
+     unpacked  0 to 65,535, the first instruction of the chain. All calls but two take these, and the left entry is always such a one.
+               Compiling and writing a font file are among them: unpack entries that were read, by ligkern_unpack_entrypoint, one by one
+     packed    0 to 255, as a font file has it: if a redirect stands there, what it leads to is meant. Repair and unpacking take these. Reading a font
+               file gives these: lend them to repair as they are
    No call notices that a packed entry was lent for an unpacked one: the redirect then acts as a ligature or a kern, by the two bytes of its target (R59).
    Take the instructions -1 0 3 65537 and -1 98 2 200 with the entry (97, 0), as a font file has it. They compile to the pair (97, 0), and the ligature 200
    is lost. Unpacked, the entry is (97, 1).
@@ -55,7 +59,8 @@
 
    WHAT IS RETURNED
 
-   0 where the call is taken, else the number of a refusal; each call names its own. Where several hold, the lowest is returned, but by two calls, which say so.
+   0 where the call is taken, else the number of a refusal; each call names its own. Where several hold, the lowest is returned, but by four calls, which say
+   so.
       1  the numbers of the instructions are not in fours, or there are more than 32,767 instructions
       2  four of these numbers are no instruction: one is out of range
       3  there are more than 32,767 kerns
@@ -72,6 +77,9 @@
      14  the ops have too little room: lend more. Above 2,147,483,647 ops no room is enough
      15  another list that is written has too little room: lend more
      16  of c/ligcols.h alone: a line of a column text can't be read, is out of place or passes a limit
+     17  a font file is none: a length is above 32,767, the lengths do not fit together, or it has not exactly 4 * lf bytes
+     18  a font can't be written into a file: it has a boundary character without an instruction, a redirect, a next above 127, or a kern index, an entry or
+         a left entry past its list; or an entry for a character that the file has not; or the file would have more than 32,767 words
    Zeros stand after what is written, and a refusal leaves zeros in every list that the call writes. A step alone leaves the rest of its state list as it is,
    and a refused step all of it.
 
@@ -91,6 +99,8 @@
                Each letter, and the word's end, brings the ops of one pair, or one item; one ligature may follow at the end.
                Or lend fewer, and after 15 twice as many
      warnings  4 * (1 + e + 4 * i + LIGKERN_MOST_PAIRS) for e entries and i instructions
+     of a font file: 4 * LIGKERN_MOST_WORDS for its instructions, LIGKERN_MOST_WORDS for its kerns, 512 for its entries, and 4 * LIGKERN_MOST_WORDS bytes
+               for a new one
 
    STACK
 
@@ -103,8 +113,10 @@
      ligkern_step                               761     ligkern_pack_kerns                      88
      ligkern_has_replacement                     40     ligkern_unpack_kerns               131,176
      ligkern_all_pairs_with_replacements         72     ligkern_validate_and_fix           595,312
-     ligkern_table_is_seven_bit_safe            104
-   Give a thread 16 KiB more, and what the host itself takes. Repair crashes in a thread of 512 KiB; 640 KiB are enough. */
+     ligkern_table_is_seven_bit_safe            104     ligkern_replace_lig_kern_program 1,318,296
+     ligkern_deserialize                        412
+   Give a thread 16 KiB more, and what the host itself takes. Repair crashes in a thread of 512 KiB; 640 KiB are enough. Writing a font file takes about
+   1.3 MB, for the packed program and the shared kerns: it crashes in a thread of 1 MiB, and 1,536 KiB are enough. */
 #ifndef LIGKERN_H
 #define LIGKERN_H
 
@@ -117,6 +129,9 @@
 
 /* How many numbers an index has. */
 #define LIGKERN_INDEX 1285
+
+/* How many words of four bytes a font file has at most. */
+#define LIGKERN_MOST_WORDS 32767
 
 #ifdef __cplusplus
 extern "C" {
@@ -250,6 +265,26 @@ uint32_t ligkern_validate_and_fix(const int32_t *instructions, size_t instructio
                                   uint64_t from_128, uint64_t from_192, const uint8_t *passthrough, size_t passthrough_length, int32_t *fixed,
                                   size_t fixed_length, uint8_t *through, size_t through_length, int32_t *warnings, size_t warnings_length, uint32_t *work,
                                   size_t work_length, int32_t *left, size_t left_length, uint64_t *values, size_t values_length);
+
+/* ---- font files (TFM) */
+
+/* Reads a font file. Writes the instructions, redirects with their flag unset, the kerns, and the entries: packed, by ascending character, none for a
+   character of width index 0. edges: two numbers, the boundary character and the left entry, -1 for none. counts: three, how many instructions, kerns and
+   entries, in records and not in numbers. Nothing but the lengths is looked at: whether an index, an entry or a target is past its list, repair says.
+   Some files have bytes after the last word, which is 17: lend the first 4 * lf bytes, where lf is 256 * file[0] + file[1].
+   15 of edges and counts comes first, then 17, then 15 of the other lists. 15, 17. */
+uint32_t ligkern_deserialize(const uint8_t *file, size_t file_length, int32_t *instructions, size_t instructions_length, int32_t *kerns, size_t kerns_length,
+                             int32_t *entries, size_t entries_length, int32_t *edges, size_t edges_length, uint64_t *counts, size_t counts_length);
+
+/* Writes a font file: the old one with another program. Takes unpacked entries, which it packs. Kern indices become values, and each value then stands once
+   in the file's kerns. The old file's lengths but lf, nl and nk, its header, dimensions, recipes and parameters stay. values: how many bytes.
+   It makes redirects of its own, and a program that has one is 18. So leave out those of a program that was read: all that stand in front, and the last
+   instruction if there is a left entry. Take the count of those in front away from each unpacked entry and from the left entry.
+   A character that has no entry in the list has none in the file either.
+   15 of values comes before 17, and 15 of out after 18. 1 to 4, 10, 11, 15, 17, 18. */
+uint32_t ligkern_replace_lig_kern_program(const uint8_t *old, size_t old_length, const int32_t *instructions, size_t instructions_length,
+                                          const int32_t *kerns, size_t kerns_length, const int32_t *entries, size_t entries_length, int32_t boundary,
+                                          int32_t left_entry, uint8_t *out, size_t out_length, uint64_t *values, size_t values_length);
 
 #ifdef __cplusplus
 }

@@ -17,14 +17,17 @@ static int32_t warnings[4 * (1 + 256 + 4 * INSTRUCTIONS + PAIRS)], entry, asked_
 static uint32_t word[LETTERS + 1], work[16 * PAIRS], chain[INSTRUCTIONS], number;
 static uint64_t counts[3], count[1], values[3], state[9], state_before[9], numbers[LIGKERN_INDEX], existing[4];
 static uint8_t passthrough[INSTRUCTIONS], through[INSTRUCTIONS], text[LIGCOLS_TEXT + 2], reply[LIGCOLS_REPLY];
+static uint8_t file[4 * LIGKERN_MOST_WORDS], new_file[4 * LIGKERN_MOST_WORDS];
+static int32_t edges[2];
 static bool without_left;
 
 /* How many elements of each are lent. */
 static struct {
-    size_t instructions, kerns, entries, passthrough, text;                /* read */
+    size_t instructions, kerns, entries, passthrough, text, file;          /* read */
     size_t pairs, ops, word, numbers;                                      /* read: a table, a word, an index */
     size_t pair_room, op_room, loops, work, counts, items, count, values;  /* written */
     size_t state, item, out, entries_out, through, chain, warnings, reply; /* written */
+    size_t edges, new_file;                                                /* written */
 } n;
 
 /* A function that calls `callee` with the arguments of a call, and puts its number into `number`. */
@@ -54,12 +57,15 @@ CALL(ligkern_pack_kerns, PROGRAM, kerns, n.kerns, out, n.out, VALUES)
 CALL(ligkern_unpack_kerns, PROGRAM, out, n.out, loops, n.loops, VALUES)
 CALL(ligkern_validate_and_fix, PROGRAM, kerns, n.kerns, entries, n.entries, boundary, left_entry, replacement, existing[0], existing[1], existing[2],
      existing[3], passthrough, n.passthrough, out, n.out, through, n.through, warnings, n.warnings, work, n.work, left, 1, VALUES)
+CALL(ligkern_deserialize, file, n.file, out, n.out, loops, n.loops, entries_out, n.entries_out, edges, n.edges, counts, n.counts)
+CALL(ligkern_replace_lig_kern_program, file, n.file, PROGRAM, kerns, n.kerns, entries, n.entries, boundary, left_entry, new_file, n.new_file, VALUES)
 CALL(ligcols, text, n.text, reply, n.reply)
 
 enum call {
     COMPILE, SET, FILL, INDEXED, BEGIN, STEP,                                        /* captions */
     HAS, LISTED, TABLE_SAFE,                                                         /* questions about a table */
-    PROGRAM_SAFE, CHAIN, UNPACK, REACH, PACK, PACK_KERNS, UNPACK_KERNS, REPAIR, TEXT /* programs; a text */
+    PROGRAM_SAFE, CHAIN, UNPACK, REACH, PACK, PACK_KERNS, UNPACK_KERNS, REPAIR,      /* programs */
+    READ_FILE, WRITE_FILE, TEXT                                                      /* font files; a text */
 };
 
 /* Each with the numbers of its refusals, which are all to be met. */
@@ -88,6 +94,8 @@ static struct {
     ROW(PACK_KERNS, ligkern_pack_kerns, 1, 2, 3, 15),
     ROW(UNPACK_KERNS, ligkern_unpack_kerns, 1, 2, 15),
     ROW(REPAIR, ligkern_validate_and_fix, 1, 2, 3, 4, 12, 15),
+    ROW(READ_FILE, ligkern_deserialize, 15, 17),
+    ROW(WRITE_FILE, ligkern_replace_lig_kern_program, 1, 2, 3, 4, 10, 11, 15, 17, 18),
     ROW(TEXT, ligcols, 2, 4, 5, 12, 13, 14, 15, 16),
 #undef ROW
 };
@@ -176,6 +184,8 @@ static void lend_all(void)
     n.warnings = sizeof warnings / sizeof *warnings;
     n.numbers = LIGKERN_INDEX;
     n.reply = sizeof reply;
+    n.edges = 2;
+    n.new_file = sizeof new_file;
     entry = 0;
     replacement = 97;
     override = -1;
@@ -235,6 +245,27 @@ static void large_font(bool loop)
     for (size_t i = 0; i < LETTERS; i++) word[i] = below(256);
 }
 
+/* As much as a font file may hold: 16,000 instructions with kerns that differ, and as many redirects as there may be. */
+static void file_font(void)
+{
+    lend_all();
+    n.instructions = 4 * 16000;
+    for (int32_t i = 0; i < 16000; i++) put_instruction((size_t)i, -1, i % 256, 0, i);
+    for (int32_t c = 0; c < 255; c++) put_entry(c, 256 + c);
+    boundary = 124;
+    left_entry = 15999;
+}
+
+/* A font file without a program: its lengths, and 256 characters that exist. */
+static void empty_file(void)
+{
+    const uint8_t lengths[] = {262 / 256, 262 % 256, 0, 0, 0, 0, 0, 255};
+    memset(file, 0, sizeof file);
+    memcpy(file, lengths, sizeof lengths);
+    for (size_t c = 0; c < 256; c++) file[24 + 4 * c] = 1;
+    n.file = 4 * 262;
+}
+
 __attribute__((format(printf, 1, 2))) static void put_text(const char *format, ...)
 {
     va_list those;
@@ -288,6 +319,17 @@ static void take_table(void)
     take(INDEXED);
 }
 
+/* The font written into a file, and read again where it was taken. */
+static void take_file(void)
+{
+    empty_file();
+    if (take(WRITE_FILE) == 0) {
+        memcpy(file, new_file, values[0]);
+        n.file = values[0];
+    }
+    take(READ_FILE);
+}
+
 static void take_font(void)
 {
     take(PROGRAM_SAFE);
@@ -301,6 +343,7 @@ static void take_font(void)
     take(PACK_KERNS);
     take(UNPACK_KERNS);
     take(REPAIR);
+    take_file();
     write_text();
     take(TEXT);
     if (take(COMPILE) == 0) take_table();
@@ -379,6 +422,30 @@ static void refuse_programs(void)
     n.entries = 0;
     for (int32_t c = 0; c < 256; c++) put_entry(c, 256 + c);
     due(PACK, 10);
+}
+
+static void refuse_files(void)
+{
+    plain_font();
+    empty_file();
+    due(WRITE_FILE, 18);
+    n.instructions = 4 * 3;
+    due(WRITE_FILE, 0);
+    refuse_program(WRITE_FILE);
+    with_length(&n.kerns, KERNS + 1, WRITE_FILE, 3);
+    with_number(entries, 256, WRITE_FILE, 4);
+    with_number(entries + 1, 65535, WRITE_FILE, 11);
+    with_length(&n.file, n.file - 1, WRITE_FILE, 17);
+    with_length(&n.new_file, 0, WRITE_FILE, 15);
+    take_file();
+    due(READ_FILE, 0);
+    with_length(&n.file, n.file - 1, READ_FILE, 17);
+    with_length(&n.out, 0, READ_FILE, 15);
+    with_length(&n.edges, 1, READ_FILE, 15);
+    with_length(&n.counts, 2, READ_FILE, 15);
+    n.entries = 0;
+    for (int32_t c = 0; c < 256; c++) put_entry(c, 256 + c);
+    due(WRITE_FILE, 10);
 }
 
 static void refuse_tables(void)
@@ -499,7 +566,11 @@ int main(void)
         large_font(i == 1);
         take_font();
     }
+    file_font();
+    take_file();
+    due(READ_FILE, 0);
     refuse_programs();
+    refuse_files();
     refuse_tables();
     refuse_texts();
     check_met();

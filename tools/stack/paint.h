@@ -12,7 +12,7 @@
 #include <ucontext.h>
 #include <unistd.h>
 
-enum { PAGE = 4096, STACK = 1 << 20 };
+enum { PAGE = 4096, STACK = 1 << 21 };
 
 static unsigned char *stack;          /* STACK bytes, and a page below them that can't be touched */
 static unsigned char *frame;          /* where the stack pointer is when the call is made: what is written below is counted */

@@ -1,4 +1,4 @@
-"""The comparison with TeX: words on random fonts, words on the machine's own fonts, loops on random fonts; counts, and the smallest difference.
+"""The comparison with TeX: words on random fonts, words on the machine's own fonts, loops on random fonts, font files; counts, and the smallest difference.
 
 Every font has a random generator of its own, made from the seed and the font's number, so that a run is the same on any number of cores."""
 import argparse
@@ -8,6 +8,7 @@ import tempfile
 from collections import Counter
 from concurrent.futures import ProcessPoolExecutor
 
+import font_files
 import loops
 import own_fonts
 import programs
@@ -23,6 +24,7 @@ def arguments():
     parser.add_argument('--seed', default='1', help='another seed makes other fonts and words (1)')
     parser.add_argument('--fonts', type=int, default=3000, help='how many random fonts for words, and how many for loops (3000)')
     parser.add_argument('--own', type=int, default=400, help="how many of the machine's own fonts at most (400)")
+    parser.add_argument('--files', type=int, default=100000, help="how many of the machine's font files at most are read and written (all)")
     parser.add_argument('--jobs', type=int, default=os.cpu_count() or 1, help='how many runs at once (the cores)')
     parser.add_argument('--driver', required=True, help=argparse.SUPPRESS)
     return parser.parse_args()
@@ -72,7 +74,9 @@ def main():
     print(f'seed {args.seed}', flush=True)
     numbers = list(range(args.fonts))
     parted = False
-    for comparison, values in ((random_fonts, numbers), (own_fonts, own_fonts.choose(args.seed, args.own)), (loops, numbers)):
+    files = own_fonts.all_files()[:args.files] + numbers[::3]
+    own = own_fonts.choose(args.seed, args.own)
+    for comparison, values in ((random_fonts, numbers), (own_fonts, own), (loops, numbers), (font_files, files)):
         counts, found = run_batches(args, folder, comparison, values)
         print_counts(comparison.TITLE, counts, found)
         if found:

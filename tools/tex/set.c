@@ -5,6 +5,11 @@
        compiles a font and keeps it. Answer: F, the number of the refusal or 0, counts of pairs, ops and loops, then the loops, two numbers each.
      W 1 or 0 for the left boundary, 1 or 0 for the right one, count of letters, then the letters
        sets a word with the font kept. Answer: W, the number of the refusal or 0, count of items, then the items, six numbers each.
+     D count of bytes, then the bytes
+       reads a font file. Answer: D, the number of the refusal or 0, boundary, left_entry, counts of instructions, kerns and entries, then their numbers,
+       and then each entry unpacked, or -1.
+     R the numbers of F, of which the design size is not looked at, then those of D
+       writes the font into the file, its entries unpacked. Answer: R, the number of the refusal or 0, count of bytes, then the bytes.
    A list that proves too short is lent again at twice its length, up to OPS_MOST ops or ITEMS_MOST items; past these the refusal stands. */
 #include <inttypes.h>
 #include <stdio.h>
@@ -45,9 +50,20 @@ static int32_t *read_numbers(size_t count) {
     return list;
 }
 
-static void write_numbers(const int32_t *list, size_t count) {
+static void put_numbers(const int32_t *list, size_t count) {
     for (size_t i = 0; i < count; i++) printf(" %" PRId32, list[i]);
+}
+
+static void write_numbers(const int32_t *list, size_t count) {
+    put_numbers(list, count);
     putchar('\n');
+}
+
+static uint8_t *read_bytes(size_t *count) {
+    *count = (size_t)read_number();
+    uint8_t *bytes = lend(*count, 1);
+    for (size_t i = 0; i < *count; i++) bytes[i] = (uint8_t)read_number();
+    return bytes;
 }
 
 static struct program read_program(void) {
@@ -145,6 +161,49 @@ static void answer_word(const struct table *t) {
     free(word);
 }
 
+/* An entry unpacked, or -1 where it is refused. */
+static int32_t unpack(const int32_t *instructions, size_t count, int32_t entry) {
+    uint8_t *passthrough = lend(count, 1), *after = lend(count, 1);
+    uint64_t value = 0;
+    uint32_t r = ligkern_unpack_entrypoint(instructions, 4 * count, entry, passthrough, count, after, count, &value, 1);
+    free(passthrough);
+    free(after);
+    return r == 0 ? (int32_t)value : -1;
+}
+
+static void answer_file(void) {
+    size_t length;
+    uint8_t *file = read_bytes(&length);
+    int32_t *instructions = lend(4 * LIGKERN_MOST_WORDS, sizeof *instructions), *kerns = lend(LIGKERN_MOST_WORDS, sizeof *kerns);
+    int32_t entries[2 * 256] = {0}, edges[2] = {0, 0};
+    uint64_t counts[3] = {0, 0, 0};
+    uint32_t r = ligkern_deserialize(file, length, instructions, 4 * LIGKERN_MOST_WORDS, kerns, LIGKERN_MOST_WORDS, entries, 2 * 256, edges, 2, counts, 3);
+    printf("D %" PRIu32 " %" PRId32 " %" PRId32 " %" PRIu64 " %" PRIu64 " %" PRIu64, r, edges[0], edges[1], counts[0], counts[1], counts[2]);
+    put_numbers(instructions, 4 * (size_t)counts[0]);
+    put_numbers(kerns, (size_t)counts[1]);
+    put_numbers(entries, 2 * (size_t)counts[2]);
+    for (size_t i = 0; i < counts[2]; i++) printf(" %" PRId32, unpack(instructions, (size_t)counts[0], entries[2 * i + 1]));
+    putchar('\n');
+    free(file);
+    free(instructions);
+    free(kerns);
+}
+
+static void answer_writing(void) {
+    struct program p = read_program();
+    size_t length;
+    uint8_t *old = read_bytes(&length), *file = lend(4 * LIGKERN_MOST_WORDS, 1);
+    uint64_t count = 0;
+    uint32_t r = ligkern_replace_lig_kern_program(old, length, p.instructions, 4 * p.instruction_count, p.kerns, p.kern_count, p.entries, 2 * p.entry_count,
+                                                  p.boundary, p.left_entry, file, 4 * LIGKERN_MOST_WORDS, &count, 1);
+    printf("R %" PRIu32 " %" PRIu64, r, count);
+    for (size_t i = 0; i < count; i++) printf(" %u", (unsigned)file[i]);
+    putchar('\n');
+    drop_program(&p);
+    free(old);
+    free(file);
+}
+
 int main(void) {
     struct table kept = {0};
     char request;
@@ -153,6 +212,10 @@ int main(void) {
             answer_font(&kept);
         } else if (request == 'W' && kept.pairs != NULL) {
             answer_word(&kept);
+        } else if (request == 'D') {
+            answer_file();
+        } else if (request == 'R') {
+            answer_writing();
         } else {
             fprintf(stderr, "set: no request: %c\n", request);
             return 2;

@@ -2,6 +2,8 @@
 import subprocess
 from dataclasses import dataclass, field
 
+import tfm
+
 CHARACTER, LIGATURE, KERN = range(3)
 TOO_MANY_OPS, TOO_SHORT = 14, 15
 
@@ -45,14 +47,45 @@ def read_answers(lines):
     return answers
 
 
+def ask_lines(driver, lines):
+    """The lines that set.c answers to these."""
+    done = subprocess.run([driver], input='\n'.join(lines) + '\n', stdout=subprocess.PIPE, check=True, text=True, timeout=600)
+    return done.stdout.splitlines()
+
+
 def ask(driver, asked):
     """The answers to a list of fonts, each with its words."""
     lines = []
     for font, words in asked:
         lines.append(font_request(font))
         lines += [word_request(word) for word in words]
-    done = subprocess.run([driver], input='\n'.join(lines) + '\n', stdout=subprocess.PIPE, check=True, text=True, timeout=600)
-    return read_answers(done.stdout.splitlines())
+    return read_answers(ask_lines(driver, lines))
+
+
+@dataclass
+class FileAnswer:
+    """A font file read: the refusal or 0, the font as it stands there, and its entries unpacked, -1 where one does not unpack."""
+    refusal: int
+    font: tfm.Stored
+    unpacked: list
+
+
+def read_file_answer(line):
+    refusal, boundary, left_entry, n, k, e, *rest = map(int, line.split()[1:])
+    a, b, c = 4 * n, 4 * n + k, 4 * n + k + 2 * e
+    return FileAnswer(refusal, tfm.Stored(by(4, rest[:a]), rest[a:b], by(2, rest[b:c]), boundary, left_entry), rest[c:])
+
+
+def ask_files(driver, files):
+    """The answers to a list of font files, each in bytes."""
+    return [read_file_answer(line) for line in ask_lines(driver, ['D ' + numbers([len(file), *file]) for file in files])]
+
+
+def ask_writing(driver, asked):
+    """Of each font and old file: the refusal or 0, and the new file in bytes."""
+    lines = ask_lines(driver, ['R ' + font_request(font)[2:] + ' ' + numbers([len(old), *old]) for font, old in asked])
+    answers = [list(map(int, line.split()[1:])) for line in lines]
+    return [(refusal, bytes(file)) for refusal, _, *file in answers]
 
 
 def shown_code(code):

@@ -1,7 +1,8 @@
 """A font's program, as TeX gets it from a TFM file (TeX 539 to 545, 565 to 576), in the numbers that the library takes.
 
 A redirect that a character's entry meets first is followed, as TeX 1039 does; the boundary character and the left entry are taken from the first and
-the last instruction, as TeX 573 does."""
+the last instruction, as TeX 573 does. `stored` has the font as it stands in the file instead, untested and with its entries packed: what
+`ligkern_deserialize` is to give."""
 import struct
 from dataclasses import dataclass, replace
 
@@ -70,6 +71,27 @@ class Font:
         return replace(self, instructions=instructions, entries=entries, left_entry=left_entry)
 
 
+@dataclass
+class Stored:
+    """A font as it stands in a file. Instructions are (next, right, kind, operand), entries (character, remainder) by ascending character."""
+    instructions: list
+    kerns: list
+    entries: list
+    boundary: int
+    left_entry: int
+
+    def without_redirects(self, unpacked):
+        """The font with the entries that `unpacked` has for its own, and without the redirects in front and the one that holds the left entry. None
+        where a redirect stays, or an entry leads to one that goes."""
+        first = next((k for k, step in enumerate(self.instructions) if step[2] != REDIRECT), len(self.instructions))
+        last = max(first, len(self.instructions) - (self.left_entry != NO_LEFT_ENTRY))
+        steps, starts = self.instructions[first:last], [at - first for at in unpacked]
+        left_entry = self.left_entry if self.left_entry == NO_LEFT_ENTRY else self.left_entry - first
+        if any(step[2] == REDIRECT for step in steps) or min(starts, default=0) < 0 or left_entry < NO_LEFT_ENTRY:
+            return None
+        return Font(steps, self.kerns, {c: at for (c, _), at in zip(self.entries, starts)}, self.boundary, left_entry, 0, [])
+
+
 def instruction(word):
     """An instruction of four bytes in the library's numbers (TeX 545)."""
     skip, right, op, rest = word
@@ -81,19 +103,54 @@ def instruction(word):
     return (following, right, LIGATURE, 256 * op + rest)
 
 
+def lengths(data):
+    """The twelve lengths, lf to np; a byte past the end is 0 (TeX 540)."""
+    return struct.unpack('>12H', data[:24].ljust(24, b'\0'))
+
+
+def sections(data):
+    """The sections of a file by their first letters, as bytes (TeX 540 and 541)."""
+    _, lh, bc, ec, *rest = lengths(data)
+    names = ['lengths', 'lh', 'characters', 'nw', 'nh', 'nd', 'ni', 'nl', 'nk', 'ne', 'np']
+    found, at = {}, 0
+    for name, count in zip(names, [6, lh, ec - bc + 1, *rest]):
+        found[name] = data[4 * at:4 * (at + count)]
+        at += count
+    return found
+
+
+def words_of(section):
+    return [tuple(section[k:k + 4]) for k in range(0, len(section), 4)]
+
+
+def kerns_of(section):
+    return list(struct.unpack(f'>{len(section) // 4}i', section))
+
+
+def refusal(data):
+    """17 where the lengths break TeX 540, or the file is not lf words long, and 0."""
+    lf, lh, bc, ec, *rest = lengths(data)
+    fits = bc <= ec + 1 and ec <= 255 and lf == 6 + lh + ec - bc + 1 + sum(rest)
+    return 0 if max(lengths(data)) <= 32767 and fits and len(data) == 4 * lf else 17
+
+
+def stored(data):
+    """The font as it stands in a file that is not refused."""
+    found = sections(data)
+    words, first = words_of(found['nl']), lengths(data)[2]
+    entries = [(first + k, word[3]) for k, word in enumerate(words_of(found['characters'])) if word[0] != 0 and word[2] % 4 == 1]
+    boundary = words[0][1] if words and words[0][0] == 255 else -1
+    left_entry = 256 * words[-1][2] + words[-1][3] if words and words[-1][0] == 255 else NO_LEFT_ENTRY
+    return Stored([instruction(word) for word in words], kerns_of(found['nk']), entries, boundary, left_entry)
+
+
 def parts(data):
     """The parts of a file: bc, the header, the character words, the lig/kern words and the kerns (TeX 540 and 565)."""
-    if len(data) < 24:
-        raise BadFile('shorter than its lengths')
-    lf, lh, bc, ec, nw, nh, nd, ni, nl, nk, ne, np = struct.unpack('>12H', data[:24])
-    count = ec - bc + 1
-    if lf != 6 + lh + count + nw + nh + nd + ni + nl + nk + ne + np or len(data) < 4 * lf or lh < 2:
+    lf, lh, bc = lengths(data)[:3]
+    if len(data) < 24 or refusal(data[:4 * lf]) != 0 or lh < 2:
         raise BadFile('its lengths do not add up')
-    info = 6 + lh
-    program = info + count + nw + nh + nd + ni
-    words = [tuple(data[4 * k:4 * k + 4]) for k in range(lf)]
-    kerns = list(struct.unpack(f'>{nk}i', data[4 * (program + nl):4 * (program + nl + nk)]))
-    return bc, words[6:info], words[info:info + count], words[program:program + nl], kerns
+    found = sections(data)
+    return bc, words_of(found['lh']), words_of(found['characters']), words_of(found['nl']), kerns_of(found['nk'])
 
 
 def boundaries(words):

@@ -13,16 +13,17 @@ use lib.Signed.{nonNeg}
 use borrow.Author.Tests.{le-leb}
 use Rattle.lang.specs.Every.{both, every}
 use Rattle.lang.specs.Records.{count, isInstruction, absentOr}
-use Rattle.lang.specs.Checks.{unless, orElse, sizeRefusal, kernsRefusal, entryFits}
+use Rattle.lang.specs.Checks.{unless, orElse, lower, sizeRefusal, kernsRefusal, entryFits}
+use Rattle.lang.proofs.Refusals.{lower-none}
 use Rattle.fonts.specs.Fonts.{Font, pairsOf}
 use Rattle.fonts.specs.Compiled.{Room, loopsOfFont, totalOps, allScale, fontRefusal, compileRefusal}
 use Rattle.captions.specs.Begin.{lettersRefusal}
 use Rattle.columns.specs.Texts.{Text, readText, fontOfText}
 use Rattle.columns.specs.Scanned.{lengthOfWord}
-use Rattle.columns.specs.Ligcols.{columnRoom, columnItems, columnBytes, lower, wordOfText, numberOfText}
+use Rattle.columns.specs.Ligcols.{columnRoom, columnItems, columnBytes, wordOfText, numberOfText}
 use Rattle.columns.specs.Purpose.{refusalsOfTexts, TextNumbers}
 use Rattle.columns.proofs.TextLaws.{Known, text-known}
-use Rattle.columns.proofs.WordRead.{lower-none, set-or-15, word-short}
+use Rattle.columns.proofs.WordRead.{set-or-15, word-short}
 
 -- ---- 0, or one of the numbers
 

@@ -12,9 +12,9 @@ use lib.IntN.{ℤ}
 use lib.Dec.{leb, leb·suc-suc}
 use lib.ListN.{length, length-map}
 use Rattle.words.specs.Words.{wordOf}
-use Rattle.lang.specs.Checks.{orElse}
+use Rattle.lang.specs.Checks.{orElse, lower}
 use Rattle.lang.specs.Answers.{Reply, replyOf, roomRefusal}
-use Rattle.lang.proofs.Refusals.{orElse-none, room-fits, room-is, room-short}
+use Rattle.lang.proofs.Refusals.{orElse-none, lower-none, room-fits, room-is, room-short}
 use Rattle.reading.specs.Items.{Left, Out}
 use Rattle.reading.specs.Reading.{Ends}
 use Rattle.reading.specs.Depth.{Pair}
@@ -37,21 +37,12 @@ use Rattle.word_set.proofs.Theorems.{every-word}
 use Rattle.columns.specs.Texts.{Text, fontOfText}
 use Rattle.columns.specs.Scanned.{lettersOf, lengthOfWord}
 use Rattle.columns.specs.Replying.{replyRefusal}
-use Rattle.columns.specs.Ligcols.{columnRoom, columnOptions, itemRoom, columnItems, columnBytes, lower, wordOfText, numberOfText}
+use Rattle.columns.specs.Ligcols.{columnRoom, columnOptions, itemRoom, columnItems, columnBytes, wordOfText, numberOfText}
 use Rattle.columns.specs.ReplyRead.{WordReads, WordRuns, WordWritten}
 use Rattle.columns.proofs.FontBegins.{demand-of, letters-caption}
 use Rattle.columns.proofs.TextLaws.{Known}
 
 -- ---- what is not refused
-
-pub lower-none : (m n : ℕ) → lower m n ≡ 0 → (m ≡ 0) × (n ≡ 0)
-lower-none zero n e = (refl, e)
-lower-none (suc m) zero e = absurd (omega arith)
-lower-none (suc m) (suc n) e = absurd (by (leb m n) e)
-  where
-    by : (b : Bool) → cond b (suc m) (suc n) ≡ 0 → ⊥
-    by true e = omega (arith, e)
-    by false e = omega (arith, e)
 
 pub record Accepted (t : Text) : Type 0 where
   pub compiled : compileRefusal (fontOfText t) columnRoom ≡ 0

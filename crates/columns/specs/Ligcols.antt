@@ -10,7 +10,7 @@ use lib.IntN.{ℤ, pos, negsuc}
 use lib.Dec.{leb}
 use lib.ListN.{length}
 use Rattle.words.specs.Words.{wordOf}
-use Rattle.lang.specs.Checks.{orElse}
+use Rattle.lang.specs.Checks.{orElse, lower}
 use Rattle.lang.specs.Answers.{Reply, replyOf, listOf}
 use Rattle.fonts.specs.Fonts.{Font}
 use Rattle.fonts.specs.Compiled.{Room, roomOf, compileRefusal, fontTable, fontOps, fontLoops}
@@ -43,12 +43,6 @@ columnItems f (negsuc n) word = replyOf 0 []
 -- the bytes of the reply, where nothing is refused
 abbrev pub columnBytes : Font → ℤ → List ℕ → List ℕ
 columnBytes f letters word = replyBytes (fontTable f) (fontOps f) (fontLoops f) letters (columnItems f letters word .values)
-
--- the lower of two numbers of which 0 is none
-abbrev pub lower : ℕ → ℕ → ℕ
-lower zero n = n
-lower (suc m) zero = suc m
-lower (suc m) (suc n) = cond (leb m n) (suc m) (suc n)
 
 -- the lowest number of compiling and of the word; else that of setting; else 15 of the reply
 abbrev pub columnNumber : Font → ℤ → List ℕ → ℕ → ℕ

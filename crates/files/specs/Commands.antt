@@ -36,8 +36,8 @@ commandNumbers file w =
     ∷ []
 
 -- the first byte of word w is 255: in the first word of the section it names the boundary character, in the last the left entry
-abbrev pub isNamed : List ℕ → ℕ → Bool
-isNamed file w = eqb (wordByte file w 0) 255
+abbrev pub isFirst255 : List ℕ → ℕ → Bool
+isFirst255 file w = eqb (wordByte file w 0) 255
 
 -- ---- TeX 541: a kern, the number of the four bytes of its word
 

@@ -14,7 +14,7 @@ use Rattle.lang.specs.Answers.{Reply, replyOf, roomRefusal, listOf}
 use Rattle.files.specs.declared.Deserialized.{Deserialized}
 use Rattle.files.specs.declared.Deserialized.the-variants.{Font, Refused}
 use Rattle.files.specs.Lengths.{lengthsOf, charCount, charStart, commandStart, kernStart, lengthsRefusal}
-use Rattle.files.specs.Commands.{wordByte, commandNumbers, isNamed, kernNumber, charEntry}
+use Rattle.files.specs.Commands.{wordByte, commandNumbers, isFirst255, kernNumber, charEntry}
 
 -- ---- the lists of the font
 
@@ -43,14 +43,14 @@ fileEntries file = entriesFrom file (lengthsOf file .bc) (charStart (lengthsOf f
 -- its boundary character: that of the first word of the lig/kern section, where this names one
 abbrev pub fileBoundary : List ℕ → ℤ
 fileBoundary file =
-    cond (both (ltb 0 (lengthsOf file .nl)) (isNamed file (commandStart (lengthsOf file))))
+    cond (both (ltb 0 (lengthsOf file .nl)) (isFirst255 file (commandStart (lengthsOf file))))
     (pos (wordByte file (commandStart (lengthsOf file)) 1))
     (negsuc 0)
 
 -- its left entry: that of the last word, where this names one. One word can be both
 abbrev pub fileLeft : List ℕ → ℤ
 fileLeft file =
-    cond (both (ltb 0 (lengthsOf file .nl)) (isNamed file (kernStart (lengthsOf file) - 1)))
+    cond (both (ltb 0 (lengthsOf file .nl)) (isFirst255 file (kernStart (lengthsOf file) - 1)))
     (pos (256 * wordByte file (kernStart (lengthsOf file) - 1) 2 + wordByte file (kernStart (lengthsOf file) - 1) 3))
     (negsuc 0)
 

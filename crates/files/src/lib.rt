@@ -23,3 +23,10 @@ pub enum Deserialized {
     Font(usize, usize, usize, i32, i32),
     Refused(u32),
 }
+
+// What sharing the kerns and packing the entries of a font answers: how many words of the lig/kern section and how many
+// kerns it has; or the number of its refusal.
+pub enum PackedFont {
+    Sizes(usize, usize),
+    Refused(u32),
+}

@@ -25,13 +25,13 @@ module _ (key : ℕ → ℕ) (w : ℕ) where
   ended (suc n) lo hi h = rw (le-ltb lo hi h)
 
   -- one halving
-  upper : (n lo hi : ℕ) → lo < hi → key (half lo hi) < w → bisect key w (suc n) lo hi ≡ bisect key w n (half lo hi + 1) hi
+  upper-half : (n lo hi : ℕ) → lo < hi → key (half lo hi) < w → bisect key w (suc n) lo hi ≡ bisect key w n (half lo hi + 1) hi
   unfolding bisect
-  upper n lo hi h k = rw (lt-ltb lo hi h, lt-ltb (key (half lo hi)) w k, add-one)
+  upper-half n lo hi h k = rw (lt-ltb lo hi h, lt-ltb (key (half lo hi)) w k, add-one)
 
-  lower : (n lo hi : ℕ) → lo < hi → w ≤ key (half lo hi) → bisect key w (suc n) lo hi ≡ bisect key w n lo (half lo hi)
+  lower-half : (n lo hi : ℕ) → lo < hi → w ≤ key (half lo hi) → bisect key w (suc n) lo hi ≡ bisect key w n lo (half lo hi)
   unfolding bisect
-  lower n lo hi h k = rw (lt-ltb lo hi h, le-ltb (key (half lo hi)) w k)
+  lower-half n lo hi h k = rw (lt-ltb lo hi h, le-ltb (key (half lo hi)) w k)
 
   -- two numbers of halvings, each enough
   enough-by : (n m lo hi : ℕ) (s t : Bool) → ltb lo hi ≡ s → ltb (key (half lo hi)) w ≡ t → hi - lo ≤ suc n → hi - lo ≤ suc m →
@@ -39,11 +39,11 @@ module _ (key : ℕ → ℕ) (w : ℕ) where
   enough-by n m lo hi true true a b h k f =
       let l = ltb-true lo hi a in
       let q = ltb-true (key (half lo hi)) w b in
-      upper n lo hi l q ∙ f (half lo hi + 1) hi (omega arith) (omega arith) ∙ sym (upper m lo hi l q)
+      upper-half n lo hi l q ∙ f (half lo hi + 1) hi (omega arith) (omega arith) ∙ sym (upper-half m lo hi l q)
   enough-by n m lo hi true false a b h k f =
       let l = ltb-true lo hi a in
       let q = ltb-false (key (half lo hi)) w b in
-      lower n lo hi l q ∙ f lo (half lo hi) (omega arith) (omega arith) ∙ sym (lower m lo hi l q)
+      lower-half n lo hi l q ∙ f lo (half lo hi) (omega arith) (omega arith) ∙ sym (lower-half m lo hi l q)
   enough-by n m lo hi false t a b h k f =
       let l = ltb-false lo hi a in
       ended (suc n) lo hi l ∙ sym (ended (suc m) lo hi l)
@@ -72,7 +72,7 @@ module _ (key : ℕ → ℕ) (c w : ℕ) where
         record {
           order = omega arith;
           within = s .within;
-          goes = λ n l. bisect-enough key w n hi (half lo hi + 1) hi l (omega arith) ∙ sym (upper key w hi lo hi h k) ∙ s .goes (suc hi) (omega arith);
+          goes = λ n l. bisect-enough key w n hi (half lo hi + 1) hi l (omega arith) ∙ sym (upper-half key w hi lo hi h k) ∙ s .goes (suc hi) (omega arith);
         }
 
     pub bisecting-down : lo < hi → w ≤ key (half lo hi) → Bisecting key c w lo (half lo hi)
@@ -80,7 +80,7 @@ module _ (key : ℕ → ℕ) (c w : ℕ) where
         record {
           order = omega arith;
           within = omega (arith, s .within);
-          goes = λ n l. bisect-enough key w n hi lo (half lo hi) l (omega arith) ∙ sym (lower key w hi lo hi h k) ∙ s .goes (suc hi) (omega arith);
+          goes = λ n l. bisect-enough key w n hi lo (half lo hi) l (omega arith) ∙ sym (lower-half key w hi lo hi h k) ∙ s .goes (suc hi) (omega arith);
         }
 
     pub bisect-ended : hi ≤ lo → bisected key c w ≡ lo

@@ -1,7 +1,7 @@
--- Laws of refusals: asked in a row, the first that is not 0 is the answer; what is known where none holds; room; and the answer by the refusal.
+-- Laws of refusals: asked in a row, the first that is not 0 is the answer; the lower of two; what is known where none holds; room; and the answer by the refusal.
 -- Assumes nothing.
 use mathlib.Core.Path.{_≡_, refl, sym, ap, _∙_}
-use mathlib.Core.Bool.{Bool, true, false}
+use mathlib.Core.Bool.{Bool, true, false, cond}
 use mathlib.Core.List.{List, [], _∷_}
 use Prim.Native.Nat.{ℕ, zero, suc, _*_, _%_, _<_, _≤_}
 use native.Mathlib.Omega.{arith}
@@ -14,7 +14,7 @@ use Rattle.lang.specs.declared.Written.{Written}
 use Rattle.lang.specs.declared.Written.the-variants.{Count, Refused}
 use Rattle.lang.specs.Every.{both, every}
 use Rattle.lang.specs.Records.{count, isInstruction}
-use Rattle.lang.specs.Checks.{unless, orElse, sizeRefusal, recordRefusal, programRefusal}
+use Rattle.lang.specs.Checks.{unless, orElse, lower, sizeRefusal, recordRefusal, programRefusal}
 use Rattle.lang.specs.Answers.{roomRefusal, writtenReply}
 use Rattle.lang.proofs.Every.{both-left, both-right, every-at}
 
@@ -37,6 +37,51 @@ later-refusal {m} {n} e z g = g ∙ sym (second-is m n (sym e ∙ z))
 pub orElse-assoc : (a b c : ℕ) → orElse a (orElse b c) ≡ orElse (orElse a b) c
 orElse-assoc zero b c = refl
 orElse-assoc (suc a) b c = refl
+
+-- ---- the lower of two numbers of which 0 is none
+
+pub lower-none : (m n : ℕ) → lower m n ≡ 0 → (m ≡ 0) × (n ≡ 0)
+lower-none zero n e = (refl, e)
+lower-none (suc m) zero e = absurd (omega arith)
+lower-none (suc m) (suc n) e = absurd (by (leb m n) e)
+  where
+    by : (b : Bool) → cond b (suc m) (suc n) ≡ 0 → ⊥
+    by true e = omega (arith, e)
+    by false e = omega (arith, e)
+
+pub lower-first : (a b : ℕ) → b ≡ 0 → a ≡ lower a b
+lower-first zero zero e = refl
+lower-first zero (suc b) e = absurd (omega (arith, e))
+lower-first (suc a) zero e = refl
+lower-first (suc a) (suc b) e = absurd (omega (arith, e))
+
+pub lower-less : (a b : ℕ) → (a ≡ 0 → ⊥) → (b ≡ 0 → ⊥) → a ≤ b → a ≡ lower a b
+lower-less zero b h k l = absurd (h refl)
+lower-less (suc a) zero h k l = absurd (k refl)
+lower-less (suc a) (suc b) h k l = rw (le-leb a b (omega (arith, l)))
+
+pub lower-more : (a b : ℕ) → (a ≡ 0 → ⊥) → (b ≡ 0 → ⊥) → b < a → b ≡ lower a b
+lower-more zero b h k l = absurd (h refl)
+lower-more (suc a) zero h k l = absurd (k refl)
+lower-more (suc a) (suc b) h k l = rw (lt-leb a b (omega (arith, l)))
+
+pub lower-some : (a b : ℕ) → (a ≡ 0 → ⊥) → 0 < lower a b
+lower-some zero b h = absurd (h refl)
+lower-some (suc a) zero h = omega arith
+lower-some (suc a) (suc b) h = by (leb a b)
+  where
+    by : (t : Bool) → 0 < cond t (suc a) (suc b)
+    by true = omega arith
+    by false = omega arith
+
+pub lower-few : (m a b : ℕ) → a ≤ m → b ≤ m → lower a b ≤ m
+lower-few m zero b h k = k
+lower-few m (suc a) zero h k = h
+lower-few m (suc a) (suc b) h k = by (leb a b)
+  where
+    by : (t : Bool) → cond t (suc a) (suc b) ≤ m
+    by true = h
+    by false = k
 
 -- ---- where none holds
 

@@ -69,6 +69,12 @@ abbrev pub orElse : ℕ → ℕ → ℕ
 orElse zero n = n
 orElse (suc m) n = suc m
 
+-- the lower of two numbers of which 0 is none: the lowest that holds, whatever the order in which they are asked
+abbrev pub lower : ℕ → ℕ → ℕ
+lower zero n = n
+lower (suc m) zero = suc m
+lower (suc m) (suc n) = cond (leb m n) (suc m) (suc n)
+
 -- the refusals of a program alone
 abbrev pub programRefusal : List ℤ → ℕ
 programRefusal s = orElse (sizeRefusal s) (recordRefusal s)

@@ -1,10 +1,10 @@
 // The refusals 1 and 2 of a program (R230, R231), and 4 of a single number (R233), each a function whose result is the
 // number where it holds and 0 where it does not. Every one is linear in what it is lent. The refusals of what is lent
-// beside the program are crate program_limits.
+// beside the program are crate program_limits. And the lower of two numbers.
 ghost use mathlib.Core.Path.{_≡_};
 ghost use Prim.Native.Nat.{_<_};
 ghost use Rattle.lang.specs.Records.{isInstruction, absentOr, within, operandFits};
-ghost use Rattle.lang.specs.Checks.{sizeRefusal, recordRefusal, absentRefusal, rangeRefusal, programRefusal};
+ghost use Rattle.lang.specs.Checks.{sizeRefusal, recordRefusal, absentRefusal, rangeRefusal, programRefusal, lower};
 ghost use Rattle.words.specs.Words.{numberOf};
 use lang::instruction::field_at;
 
@@ -111,4 +111,17 @@ pub fn range_refusal(n: u16, x: i32) -> u32
     } else {
         4
     }
+}
+
+// The lower of two numbers of which 0 is none.
+pub fn lower_of(a: u32, b: u32) -> u32
+    ensures { λ r. ⌜ r ≡ lower a b ⌝ }
+{
+    if a == 0 {
+        return b;
+    }
+    if b == 0 {
+        return a;
+    }
+    if a <= b { a } else { b }
 }

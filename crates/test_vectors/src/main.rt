@@ -1,8 +1,9 @@
 // Answers the requests of tools/oracle with this port. Standard input is a list of requests, one a line, and `stdout`
 // beside this crate's source holds the Rust's answers to the same list, with which the gate compares what is written
 // here. Where the Rust panics, and the port refuses, both write `panic` and the number of the refusal, which the oracle
-// tells from the Rust's own panic. The last line alone has no answer of the Rust's: a pair of 2^102 ops, which the Rust
-// would write out one by one and the port refuses at once with 14.
+// tells from the Rust's own panic. One line about a font has no answer of the Rust's: a pair of 2^102 ops, which the
+// Rust would write out one by one and the port refuses at once with 14. Behind it come the requests about font files,
+// F and G, whose answers are those of tools/files.
 ghost use mathlib.Core.Path.{_≡_};
 ghost use lib.ListN.{length};
 use lang::Written;
@@ -15,10 +16,10 @@ use test_requests::write::put_line;
 mod of_fonts;
 
 // Room for the requests.
-fn room() -> [u8; 786432]
-    ensures { λ r. ⌜ 786432 ≡ length r ⌝ }
+fn room() -> [u8; 1048576]
+    ensures { λ r. ⌜ 1048576 ≡ length r ⌝ }
 {
-    [0; 786432]
+    [0; 1048576]
 }
 
 // The answer to a request, by its letter.
@@ -27,6 +28,7 @@ fn answer_by(letter: u8, numbers: &[i32], out: &mut [i32]) -> Written {
         b'C' | b'W' | b'A' => of_fonts::compiled(letter, numbers, out),
         b'K' | b'J' | b'P' => test_packing_answers::answer(letter, numbers, out),
         b'X' => test_repair_answers::answer(numbers, out),
+        b'F' | b'G' => test_file_answers::answer(letter, numbers, out),
         _ => test_program_answers::answer(letter, numbers, out),
     }
 }

@@ -17,10 +17,10 @@ use Rattle.lang.specs.declared.Written.{Written}
 use Rattle.lang.specs.declared.Written.the-variants as written
 use Rattle.lang.specs.Every.{both, every}
 use Rattle.lang.specs.Records.{count, isInstruction, absentOr}
-use Rattle.lang.specs.Checks.{orElse, sizeRefusal, recordRefusal, programRefusal, kernsRefusal, entriesRefusal, absentRefusal, designRefusal, entryFits}
+use Rattle.lang.specs.Checks.{orElse, lower, sizeRefusal, recordRefusal, programRefusal, kernsRefusal, entriesRefusal, absentRefusal, designRefusal, entryFits}
 use Rattle.lang.specs.Answers.{Reply, replyOf, listOf}
 use Rattle.lang.proofs.Every.{both-left}
-use Rattle.lang.proofs.Refusals.{orElse-none, unless-none}
+use Rattle.lang.proofs.Refusals.{orElse-none, lower-few, unless-none}
 use Rattle.fonts.specs.Fonts.{Font, fontOf, pairsOf}
 use Rattle.fonts.specs.Compiled.{fontRefusal, pairsRefusal, kernRefusal, opsRefusal, loopsRefusal, tablesRefusal, compileRefusal, fontTable, fontOps, totalOps}
 use Rattle.fonts.specs.Compiled.{loopsOfFont, allScale}
@@ -34,11 +34,11 @@ use Rattle.columns.specs.declared.TextRead.the-variants as text
 use Rattle.columns.specs.Texts.{Text, readText, orAbsent, fontOfText}
 use Rattle.columns.specs.Scanned.{lettersOf, lengthOfWord, headNumbers, textRefusal, saidBy, textHeads, ReadsText}
 use Rattle.columns.specs.Replying.{replyRefusal}
-use Rattle.columns.specs.Ligcols.{columnRoom, columnOptions, columnItems, columnBytes, lower, columnNumber, wordOfText, numberOfText, bytesOfText, lengthOr}
+use Rattle.columns.specs.Ligcols.{columnRoom, columnOptions, columnItems, columnBytes, columnNumber, wordOfText, numberOfText, bytesOfText, lengthOr}
 use Rattle.columns.specs.Ligcols.{AnswersText}
 use Rattle.text_font_reply.specs.Answering.{AnswersBytes}
 use Rattle.text_answer.specs.Letters.{lettersIn}
-use Rattle.text_font_reply.proofs.Laws.{lower-few, front, room-known, count-known, refused-known}
+use Rattle.text_font_reply.proofs.Laws.{front, room-known, count-known, refused-known}
 
 pub answers-as : {m m′ : ℕ} {bytes bytes′ reply reply′ : List ℕ} {r : Written} → m ≡ m′ → bytes ≡ bytes′ → AnswersBytes m bytes reply r reply′ →
     AnswersBytes m′ bytes′ reply r reply′

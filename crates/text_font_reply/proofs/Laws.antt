@@ -17,7 +17,7 @@ use Rattle.words.proofs.Tests.{less-or-not}
 use Rattle.lang.specs.declared.Written.{Written}
 use Rattle.lang.specs.declared.Written.the-variants as written
 use Rattle.lang.specs.Every.{every}
-use Rattle.lang.specs.Checks.{orElse}
+use Rattle.lang.specs.Checks.{orElse, lower}
 use Rattle.lang.specs.Answers.{Reply, replyOf, writtenReply, listOf}
 use Rattle.lang.proofs.Refusals.{first-is, second-is, orElse-none}
 use Rattle.fonts.specs.Fonts.{Font}
@@ -35,44 +35,8 @@ use Rattle.word_set.specs.Writing.{Tells}
 use Rattle.word_set.proofs.Few.{items-sixes}
 use Rattle.columns.specs.Replying.{replyBytes, replyRefusal, WritesReply}
 use Rattle.columns.proofs.FontBegins.{font-begins}
-use Rattle.columns.specs.Ligcols.{columnRoom, columnOptions, itemRoom, columnItems, columnBytes, lower, columnNumber}
+use Rattle.columns.specs.Ligcols.{columnRoom, columnOptions, itemRoom, columnItems, columnBytes, columnNumber}
 use Rattle.text_font_reply.specs.Answering.{AnswersBytes, freshItems, freshBytes, freshNumber}
-
--- ---- numbers
-
-pub lower-first : (a b : ℕ) → b ≡ 0 → a ≡ lower a b
-lower-first zero zero e = refl
-lower-first zero (suc b) e = absurd (omega (arith, e))
-lower-first (suc a) zero e = refl
-lower-first (suc a) (suc b) e = absurd (omega (arith, e))
-
-pub lower-less : (a b : ℕ) → (a ≡ 0 → ⊥) → (b ≡ 0 → ⊥) → a ≤ b → a ≡ lower a b
-lower-less zero b h k l = absurd (h refl)
-lower-less (suc a) zero h k l = absurd (k refl)
-lower-less (suc a) (suc b) h k l = rw (le-leb a b (omega (arith, l)))
-
-pub lower-more : (a b : ℕ) → (a ≡ 0 → ⊥) → (b ≡ 0 → ⊥) → b < a → b ≡ lower a b
-lower-more zero b h k l = absurd (h refl)
-lower-more (suc a) zero h k l = absurd (k refl)
-lower-more (suc a) (suc b) h k l = rw (lt-leb a b (omega (arith, l)))
-
-pub lower-some : (a b : ℕ) → (a ≡ 0 → ⊥) → 0 < lower a b
-lower-some zero b h = absurd (h refl)
-lower-some (suc a) zero h = omega arith
-lower-some (suc a) (suc b) h = by (leb a b)
-  where
-    by : (t : Bool) → 0 < cond t (suc a) (suc b)
-    by true = omega arith
-    by false = omega arith
-
-pub lower-few : (m a b : ℕ) → a ≤ m → b ≤ m → lower a b ≤ m
-lower-few m zero b h k = k
-lower-few m (suc a) zero h k = h
-lower-few m (suc a) (suc b) h k = by (leb a b)
-  where
-    by : (t : Bool) → cond t (suc a) (suc b) ≤ m
-    by true = h
-    by false = k
 
 -- ---- a refusal
 

@@ -5,13 +5,14 @@ ghost use mathlib.Core.List.{[]};
 ghost use Prim.Native.Nat.{_<_};
 ghost use lib.ListN.{length};
 ghost use Rattle.fonts.specs.Fonts.{fontOf};
-ghost use Rattle.columns.specs.Ligcols.{lower, columnBytes, columnNumber};
+ghost use Rattle.columns.specs.Ligcols.{columnBytes, columnNumber};
 ghost use Rattle.text_font_reply.specs.Answering.{AnswersBytes, freshBytes, freshNumber};
 use caption_run::begin::letters_refusal;
 use captions::RunOptions;
 use compile::compile;
 use fonts::Compiled;
 use lang::Written;
+use program_checks::lower_of;
 use text_reply::write_reply;
 use word_set::set_fresh;
 use words::u8s::zero_u8;
@@ -56,19 +57,6 @@ fn refuse(reply: &mut [u8], number: u32) -> Written
 {
     zero_u8(reply);
     Written::Refused(number)
-}
-
-// The lower of two numbers of which 0 is none.
-fn lower_of(a: u32, b: u32) -> u32
-    ensures { λ r. ⌜ r ≡ lower a b ⌝ }
-{
-    if a == 0 {
-        return b;
-    }
-    if b == 0 {
-        return a;
-    }
-    if a <= b { a } else { b }
 }
 
 // The table, the loops and the items of a word, as a reply. A negative count of letters says that there is no word.

@@ -7,7 +7,7 @@ use Rattle.test_vectors.proofs.room.Statement.{statement}
 use Rattle.test_vectors.proofs.room.Tie as tie
 
 returns : tie.Need-returns
-returns c = sym (length-replicate {A = ℕ} 786432 0)
+returns c = sym (length-replicate {A = ℕ} 1048576 0)
 
 pub room-spec : {M : Type 1} → statement M
 room-spec = tie.close (tie.spec returns)

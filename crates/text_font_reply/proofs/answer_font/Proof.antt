@@ -9,15 +9,17 @@ use lib.Seq.{length-take-le}
 use borrow.Author.Needs.{needs}
 use Rattle.words.specs.Words.{wordOf, numberOf}
 use Rattle.words.proofs.Bits.{number-word}
+use Rattle.lang.specs.Checks.{lower}
+use Rattle.lang.proofs.Refusals.{lower-some}
 use Rattle.fonts.specs.declared.Compiled.{Compiled}
 use Rattle.fonts.specs.declared.Compiled.the-variants as compiled
 use Rattle.fonts.specs.Fonts.{Font, fontOf}
 use Rattle.fonts.specs.Compiled.{compileRefusal, Compiles}
 use Rattle.captions.specs.Begin.{lettersRefusal}
 use Rattle.columns.proofs.FontBegins.{lists-of}
-use Rattle.columns.specs.Ligcols.{columnRoom, lower}
+use Rattle.columns.specs.Ligcols.{columnRoom}
 use Rattle.text_font_reply.specs.Answering.{AnswersBytes, freshBytes, freshNumber}
-use Rattle.text_font_reply.proofs.Laws.{lower-some, not-compiled, compiled-taken, pairs-fit, ops-fit, loops-fit, number-first, font-set}
+use Rattle.text_font_reply.proofs.Laws.{not-compiled, compiled-taken, pairs-fit, ops-fit, loops-fit, number-first, font-set}
 use Rattle.text_font_reply.proofs.answer_font.Statement.{statement}
 use Rattle.text_font_reply.proofs.answer_font.Tie as tie
 

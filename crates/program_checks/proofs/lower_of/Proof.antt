@@ -1,9 +1,9 @@
--- `text_font_reply::lower_of` meets its contract.
+-- `program_checks::lower_of` meets its contract.
 -- Assumes nothing.
 use borrow.Author.Needs.{needs}
-use Rattle.text_font_reply.proofs.Laws.{lower-first, lower-less, lower-more}
-use Rattle.text_font_reply.proofs.lower_of.Statement.{statement}
-use Rattle.text_font_reply.proofs.lower_of.Tie as tie
+use Rattle.lang.proofs.Refusals.{lower-first, lower-less, lower-more}
+use Rattle.program_checks.proofs.lower_of.Statement.{statement}
+use Rattle.program_checks.proofs.lower_of.Tie as tie
 
 returns : tie.Need-returns
 returns c = search needs

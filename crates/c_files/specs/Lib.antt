@@ -1,0 +1,2 @@
+-- Crate c_files is held to one file, Files.
+pub mod Files

@@ -1,0 +1,2 @@
+-- Laws of crate file_chars.
+pub mod Laws

@@ -1,0 +1,2 @@
+-- Definitions of crate file_words.
+pub mod Fours

@@ -1,0 +1,2 @@
+-- Laws of a whole file (Whole).
+pub mod Whole

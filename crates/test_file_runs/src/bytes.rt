@@ -1,0 +1,34 @@
+// Files among the numbers of a request or an answer: each byte a number.
+use crate::rooms::number_room;
+use crate::runs::unroll;
+use test_requests::request::part;
+use words::i32s::put_word;
+use words::i32s::word_at;
+use words::u8s::put_u8;
+use words::u8s::u8_at;
+
+// Numbers as bytes.
+fn narrow(list: &[i32], bytes: &mut [u8]) {
+    let mut i = 0;
+    while i < list.len() {
+        put_u8(bytes, i, (word_at(list, i) % 256) as u8);
+        i += 1;
+    }
+}
+
+// Bytes as numbers.
+pub fn widen(bytes: &[u8], list: &mut [i32]) {
+    let mut i = 0;
+    while i < bytes.len() {
+        put_word(list, i, u8_at(bytes, i) as u32);
+        i += 1;
+    }
+}
+
+// The bytes whose runs these are. How many there are.
+pub fn unroll_bytes(runs: &[i32], bytes: &mut [u8]) -> usize {
+    let mut list = number_room();
+    let n = unroll(runs, &mut list);
+    narrow(part(&list, 0, n), bytes);
+    n
+}
