@@ -1,15 +1,13 @@
--- Which op bytes below 128 are standard, as a list, and what any other acts as: TeX 545 and TFtoPL 77 in a form to read. And the steps of the code that goes by
--- a table's place: a place stands for its op byte's operation. Assumes nothing.
-use mathlib.Core.Path.{_≡_, refl, _∙_}
-use mathlib.Core.Bool.{Bool, true, false}
+-- Which op bytes below 128 are standard, as a list, and what any other acts as: TeX 545 and TFtoPL 77 in a form to read. Assumes nothing.
+use mathlib.Core.Path.{_≡_, refl}
+use mathlib.Core.Bool.{true, false}
 use mathlib.Core.List.{List, [], _∷_}
 use Prim.Native.Nat.{ℕ, _+_, _-_, _*_, _<_, _≤_}
-use lib.Dec.{ltb}
-use borrow.Author.Tests.{lt-ltb, le-ltb, ltb-true}
+use borrow.Author.Tests.{lt-ltb, le-ltb, le-leb, lt-leb}
 use Rattle.words.specs.Lists.{tabulate}
 use Rattle.lang.specs.declared.operation.PostLigOperation.the-variants.{RetainNeitherMoveToInserted}
 use Rattle.lang.specs.declared.operation.Operation.the-variants.{KernAtIndex}
-use Rattle.lang.specs.Operations.{isStandard, lig, ligature, fromBytes, placeOf, ligatureBy}
+use Rattle.lang.specs.Operations.{advance, keepsLeft, keepsRight, isStandard, retains, lig, ligature, fromBytes}
 use Rattle.lang.proofs.Table.{agree-below}
 use Rattle.lang.proofs.Arms.{oneOf}
 
@@ -26,23 +24,21 @@ pub nonstandard-as-zero : (op c : ℕ) → op < 128 → isStandard op ≡ false 
 unfolding fromBytes ligature
 nonstandard-as-zero op c h s = rw (lt-ltb op 128 h, s)
 
--- a place that is none of the eight stands for LIG, marked
-pub other-place : (place c : ℕ) → oneOf place eight ≡ false → ligatureBy place c ≡ lig RetainNeitherMoveToInserted c true
-unfolding ligatureBy ligature
-other-place place c o = go (ltb place 128) refl
-  where
-    go : (b : Bool) → ltb place 128 ≡ b → ligatureBy place c ≡ lig RetainNeitherMoveToInserted c true
-    go true e = rw (e, standard-eight place (ltb-true place 128 e) ∙ o)
-    go false e = rw e
+-- an op byte whose advance is at most what is retained is standard
+pub within-retained : (op c : ℕ) → advance op ≤ keepsLeft op + keepsRight op →
+    ligature op c ≡ lig (retains (keepsLeft op) (keepsRight op) (advance op)) c false
+unfolding ligature
+within-retained op c h = rw (le-leb (advance op) (keepsLeft op + keepsRight op) h)
 
--- the place of an op byte stands for its operation
-pub by-place : (op c : ℕ) → op < 128 → ligatureBy (placeOf op) c ≡ fromBytes op c
-unfolding ligatureBy placeOf fromBytes ligature
-by-place op c h = go (isStandard op) refl
-  where
-    go : (b : Bool) → isStandard op ≡ b → ligatureBy (placeOf op) c ≡ fromBytes op c
-    go true s = simp (s, lt-ltb op 128 h)
-    go false s = simp (s, lt-ltb op 128 h)
+-- one whose advance is more is LIG, marked
+pub beyond-retained : (op c : ℕ) → keepsLeft op + keepsRight op < advance op → ligature op c ≡ lig RetainNeitherMoveToInserted c true
+unfolding ligature
+beyond-retained op c h = rw (lt-leb (advance op) (keepsLeft op + keepsRight op) h)
+
+-- below 128 the op byte is a ligature's
+pub below-128 : (op c : ℕ) → op < 128 → fromBytes op c ≡ ligature op c
+unfolding fromBytes
+below-128 op c h = rw (lt-ltb op 128 h)
 
 -- from 128 on the two bytes are a kern index
 pub kern-index : (op c : ℕ) → 128 ≤ op → fromBytes op c ≡ KernAtIndex (256 * (op - 128) + c)

@@ -62,11 +62,3 @@ ligature op inserted =
 -- Any op byte and its remainder. From 128 on it is a kern index (R47).
 unfoldable pub fromBytes : ℕ → ℕ → Operation
 fromBytes op remainder = cond (ltb op 128) (ligature op remainder) (KernAtIndex (256 * (op - 128) + remainder))
-
--- the table's place (R279) of an op byte below 128: itself where it is standard, else 128
-unfoldable pub placeOf : ℕ → ℕ
-placeOf op = cond (isStandard op) op 128
-
--- what a place of the table stands for: LIG with a mark (R45), unless it is a standard op byte
-unfoldable pub ligatureBy : ℕ → ℕ → Operation
-ligatureBy place inserted = cond (ltb place 128) (ligature place inserted) (lig RetainNeitherMoveToInserted inserted true)

@@ -1,28 +1,30 @@
-// Op bytes, after `Operation` and `PostLigOperation` of ligkern/lang.rs: TeX 545, TFtoPL 77.
+// Op bytes, after `Operation` and `PostLigOperation` of ligkern/lang.rs: TeX 545, TFtoPL 77. What one below 128 means is
+// worked out from its quotient by four and its two low bits; no table holds it.
 ghost use mathlib.Core.Path.{_≡_};
-ghost use Prim.Native.Nat.{_<_};
-ghost use Rattle.lang.specs.Operations.{fromBytes, placeOf, ligatureBy};
+ghost use Prim.Native.Nat.{_+_, _≤_};
+ghost use Rattle.lang.specs.Operations.{retains, ligature, fromBytes};
 use tfm::Char;
 use tfm::FixWord;
 
-// What to do after inserting a character: which of the two characters to retain, and where the cursor moves.
+// What to do after inserting a character: which of the two characters to retain, and where the cursor moves. In the
+// order of their op bytes.
 pub enum PostLigOperation {
+    // LIG
+    RetainNeitherMoveToInserted,
+    // LIG/
+    RetainRightMoveToInserted,
+    // /LIG
+    RetainLeftMoveNowhere,
     // /LIG/
     RetainBothMoveNowhere,
+    // LIG/>
+    RetainRightMoveToRight,
+    // /LIG>
+    RetainLeftMoveToInserted,
     // /LIG/>
     RetainBothMoveToInserted,
     // /LIG/>>
     RetainBothMoveToRight,
-    // LIG/
-    RetainRightMoveToInserted,
-    // LIG/>
-    RetainRightMoveToRight,
-    // /LIG
-    RetainLeftMoveNowhere,
-    // /LIG>
-    RetainLeftMoveToInserted,
-    // LIG
-    RetainNeitherMoveToInserted,
 }
 
 // A lig/kern operation.
@@ -42,169 +44,57 @@ pub enum Operation {
     EntrypointRedirect(u16, bool),
 }
 
-// For each op byte below 128: itself where it is standard, 128 where it is not.
-const STANDARD: [u8; 128] = [
-    0,
-    1,
-    2,
-    3,
-    128,
-    5,
-    6,
-    7,
-    128,
-    128,
-    128,
-    11,
-    128,
-    128,
-    128,
-    128,
-    128,
-    128,
-    128,
-    128,
-    128,
-    128,
-    128,
-    128,
-    128,
-    128,
-    128,
-    128,
-    128,
-    128,
-    128,
-    128,
-    128,
-    128,
-    128,
-    128,
-    128,
-    128,
-    128,
-    128,
-    128,
-    128,
-    128,
-    128,
-    128,
-    128,
-    128,
-    128,
-    128,
-    128,
-    128,
-    128,
-    128,
-    128,
-    128,
-    128,
-    128,
-    128,
-    128,
-    128,
-    128,
-    128,
-    128,
-    128,
-    128,
-    128,
-    128,
-    128,
-    128,
-    128,
-    128,
-    128,
-    128,
-    128,
-    128,
-    128,
-    128,
-    128,
-    128,
-    128,
-    128,
-    128,
-    128,
-    128,
-    128,
-    128,
-    128,
-    128,
-    128,
-    128,
-    128,
-    128,
-    128,
-    128,
-    128,
-    128,
-    128,
-    128,
-    128,
-    128,
-    128,
-    128,
-    128,
-    128,
-    128,
-    128,
-    128,
-    128,
-    128,
-    128,
-    128,
-    128,
-    128,
-    128,
-    128,
-    128,
-    128,
-    128,
-    128,
-    128,
-    128,
-    128,
-    128,
-    128,
-    128,
-    128,
-    128,
-    128,
-];
-
-// The table's place of an op byte below 128.
-fn standard(op_byte: u8) -> u8
-    requires { ⌜ «op_byte» < 128 ⌝ }
-    ensures { λ r. ⌜ r ≡ placeOf «op_byte» ⌝ }
+// The operation that moves nowhere, or to what is inserted in the left's place, by what is retained of the left and of
+// the right character, 0 or 1 each.
+fn retains_unmoved(left: u8, right: u8) -> PostLigOperation
+    ensures { λ r. ⌜ r ≡ retains left right 0 ⌝ }
 {
-    let i = op_byte as usize;
-    STANDARD[i]
+    if left == 0 {
+        if right == 0 {
+            PostLigOperation::RetainNeitherMoveToInserted
+        } else {
+            PostLigOperation::RetainRightMoveToInserted
+        }
+    } else if right == 0 {
+        PostLigOperation::RetainLeftMoveNowhere
+    } else {
+        PostLigOperation::RetainBothMoveNowhere
+    }
 }
 
-// The operation of a standard op byte; of another place of the table LIG, marked.
-fn ligature(place: u8, inserted: u8) -> Operation
-    ensures { λ r. ⌜ r ≡ ligatureBy place inserted ⌝ }
+// The operation by what is retained, and by the cursor's advance, which passes over no more than that.
+fn retains(left: u8, right: u8, advance: u8) -> PostLigOperation
+    requires { ⌜ advance ≤ left + right ⌝ }
+    ensures { λ r. ⌜ r ≡ retains left right advance ⌝ }
 {
-    match place {
-        0 => marked(
-            PostLigOperation::RetainNeitherMoveToInserted,
-            inserted,
-            false,
-        ),
-        1 => marked(PostLigOperation::RetainRightMoveToInserted, inserted, false),
-        2 => marked(PostLigOperation::RetainLeftMoveNowhere, inserted, false),
-        3 => marked(PostLigOperation::RetainBothMoveNowhere, inserted, false),
-        5 => marked(PostLigOperation::RetainRightMoveToRight, inserted, false),
-        6 => marked(PostLigOperation::RetainLeftMoveToInserted, inserted, false),
-        7 => marked(PostLigOperation::RetainBothMoveToInserted, inserted, false),
-        11 => marked(PostLigOperation::RetainBothMoveToRight, inserted, false),
-        _ => marked(
+    if advance == 0 {
+        retains_unmoved(left, right)
+    } else if left == 0 {
+        PostLigOperation::RetainRightMoveToRight
+    } else if right == 0 {
+        PostLigOperation::RetainLeftMoveToInserted
+    } else if advance == 1 {
+        PostLigOperation::RetainBothMoveToInserted
+    } else {
+        PostLigOperation::RetainBothMoveToRight
+    }
+}
+
+// The operation of an op byte below 128, 4a + 2b + c: it is standard where a is at most b + c. Any other is LIG, marked.
+fn ligature(op_byte: u8, inserted: u8) -> Operation
+    ensures { λ r. ⌜ r ≡ ligature «op_byte» inserted ⌝ }
+{
+    let a = op_byte / 4;
+    let b = op_byte / 2 % 2;
+    let c = op_byte % 2;
+    if a <= b + c {
+        marked(retains(b, c, a), inserted, false)
+    } else {
+        marked(
             PostLigOperation::RetainNeitherMoveToInserted,
             inserted,
             true,
-        ),
+        )
     }
 }
 
@@ -223,7 +113,7 @@ pub fn lig_kern_operation_from_bytes(op_byte: u8, remainder: u8) -> Operation
     ensures { λ r. ⌜ r ≡ fromBytes «op_byte» remainder ⌝ }
 {
     if op_byte < 128 {
-        ligature(standard(op_byte), remainder)
+        ligature(op_byte, remainder)
     } else {
         let high = (op_byte - 128) as u16;
         let low = remainder as u16;

@@ -1,14 +1,10 @@
--- `lang::operation::lig_kern_operation_from_bytes` meets its contract: below 128 the table's place stands for the op byte's operation; from there on the two
--- bytes are a kern index. Assumes nothing.
+-- `lang::operation::lig_kern_operation_from_bytes` meets its contract: below 128 the op byte is a ligature; from there on the two bytes are a kern index. Assumes nothing.
 use mathlib.Core.Path.{_∙_, sym}
 use native.Mathlib.Omega.{arith}
-use Rattle.lang.proofs.Standard.{by-place, kern-index}
+use Rattle.lang.proofs.Standard.{below-128, kern-index}
 use borrow.Author.Needs.{needs}
 use Rattle.lang.proofs.operation.lig_kern_operation_from_bytes.Statement.{statement}
 use Rattle.lang.proofs.operation.lig_kern_operation_from_bytes.Tie as tie
-
-standard-requires : tie.Need-standard-requires
-standard-requires c κs = search needs
 
 ligature-requires : tie.Need-ligature-requires
 ligature-requires c κs = search needs
@@ -23,9 +19,7 @@ add-index : tie.Need-add-index
 add-index c = search needs
 
 returns : tie.Need-returns
-returns c =
-    let a = c .before .before .before .args in
-    c .ligature .ensures ∙ rw (c .before .standard .ensures) (by-place (a .op-byte) (a .remainder) (omega arith))
+returns c = let a = c .before .before .args in c .ligature .ensures ∙ sym (below-128 (a .op-byte) (a .remainder) (omega arith))
 
 returns-2 : tie.Need-returns-2
 returns-2 c = let a = c .before .args in sym (kern-index (a .op-byte) (a .remainder) (omega arith))
@@ -33,4 +27,4 @@ returns-2 c = let a = c .before .args in sym (kern-index (a .op-byte) (a .remain
 pub lig-kern-operation-from-bytes-spec : {M : Type 1} → statement M
 lig-kern-operation-from-bytes-spec =
     tie.close
-    (tie.spec standard-requires ligature-requires cast-high mul-index add-index returns returns-2)
+    (tie.spec ligature-requires cast-high mul-index add-index returns returns-2)
