@@ -20,7 +20,7 @@
    A character is 0 to 255. A boundary character, a left entry or an override of -1 is absent.
 
    The instructions of a left character, or of the left boundary, are a chain: it starts at its entry and goes on by next. The first one on it that is for the
-   right character is the rule of the pair. An instruction is four numbers (R25 to R31):
+   right character and is no redirect is the rule of the pair. An instruction is four numbers (R25 to R31):
      next      -1 where the chain ends; else 0 to 255, how many instructions are skipped to the next one of the chain
      right     the character to the right for which it is meant
      kind      0 kern value, 1 kern index, 2 ligature, 3 redirect
@@ -48,10 +48,10 @@
                Compiling and writing a font file are among them: unpack entries that were read, by ligkern_unpack_entrypoint, one by one
      packed    0 to 255, as a font file has it: if a redirect stands there, what it leads to is meant. Repair and unpacking take these. Reading a font
                file gives these: lend them to repair as they are
-   No call notices that a packed entry was lent for an unpacked one: the redirect then acts as a ligature or a kern, by the two bytes of its target (R59).
-   Take the instructions -1 0 3 65537 and -1 98 2 200 with the entry (97, 0), as a font file has it. They compile to the pair (97, 0), and the ligature 200
-   is lost. Unpacked, the entry is (97, 1).
-   TeX ends a chain at a redirect. For what TeX sets, leave out a left entry at which a redirect stands.
+   No call notices that a packed entry was lent for an unpacked one: the redirect is then passed over, and where it leads is not looked at (R59, R60).
+   Take the instructions -1 0 3 65537 and -1 98 2 200 with the entry (97, 0), as a font file has it. They compile to no pair, and the ligature 200 is lost.
+   Unpacked, the entry is (97, 1).
+   A redirect on a chain does nothing, as in TeX; only its next is followed. So a left entry at which a redirect stands can be lent as it is.
 
    Passthrough is one byte an instruction. Not 0 marks a redirect that is no rule: it only holds an entry's target, the boundary character or the left entry
    for a font file. Reach tells it from an instruction that is never used. Repair does not warn of where it leads, if no chain comes to it. Unpacking an

@@ -1,4 +1,5 @@
-"""The comparison with TeX: words on random fonts, words on the machine's own fonts, loops on random fonts, font files; counts, and the smallest difference.
+"""The comparison with TeX: words on random fonts, also with redirects on their chains, words on the machine's own fonts, loops on random fonts, font
+files; counts, and the smallest difference.
 
 Every font has a random generator of its own, made from the seed and the font's number, so that a run is the same on any number of cores."""
 import argparse
@@ -13,7 +14,9 @@ import loops
 import own_fonts
 import programs
 import random_fonts
+import redirect_fonts
 import shrink
+import tfm
 import trial
 
 FONTS_AT_ONCE = 125
@@ -52,10 +55,16 @@ def print_counts(title, counts, found):
     print(f'{len(found):>10,}  DIFFERENCES', flush=True)
 
 
+def shown_origin(origin):
+    """A program as its property list, the bytes of a file as they are read, and a path."""
+    if isinstance(origin, programs.Program):
+        return programs.property_list(origin)
+    return f'the font {tfm.stored(origin) if isinstance(origin, bytes) else origin}'
+
+
 def print_case(difference):
     """The font, the word and both answers."""
-    origin = difference.subject.origin
-    print(programs.property_list(origin) if isinstance(origin, programs.Program) else f'the font {origin}')
+    print(shown_origin(difference.subject.origin))
     if difference.word:
         print(f'the word {difference.word.letters} {difference.word.way()}')
     print('TeX or pltotf:', *difference.tex, sep='\n    ')
@@ -76,7 +85,8 @@ def main():
     parted = False
     files = own_fonts.all_files()[:args.files] + numbers[::3]
     own = own_fonts.choose(args.seed, args.own)
-    for comparison, values in ((random_fonts, numbers), (own_fonts, own), (loops, numbers), (font_files, files)):
+    fonts = (random_fonts, numbers), (redirect_fonts, numbers[::3]), (own_fonts, own)
+    for comparison, values in (*fonts, (loops, numbers), (font_files, files)):
         counts, found = run_batches(args, folder, comparison, values)
         print_counts(comparison.TITLE, counts, found)
         if found:

@@ -21,12 +21,12 @@ class Word(NamedTuple):
 
 
 class Letters:
-    """A font's letters by the places where a rule waits for them."""
+    """A font's letters by the places where a rule, or a redirect, waits for them."""
 
     def __init__(self, font):
         self.all = [c for c in font.characters if c not in UNREADABLE]
         known = set(self.all)
-        rights = {left: set(font.rules(left)) for left in font.lefts()}
+        rights = {left: font.rights(left) for left in font.lefts()}
         self.after = {left: sorted(rights[left] & known) for left in rights}
         self.busy = sorted(known & (set(rights) | set().union(*rights.values()))) if rights else []
         self.last = sorted(c for c in known if font.boundary in rights.get(c, ()))

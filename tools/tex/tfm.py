@@ -1,10 +1,10 @@
 """A font's program, as TeX gets it from a TFM file (TeX 539 to 545, 565 to 576), in the numbers that the library takes.
 
-A redirect that a character's entry meets first is followed, as TeX 1039 does; the boundary character and the left entry are taken from the first and
-the last instruction, as TeX 573 does. `stored` has the font as it stands in the file instead, untested and with its entries packed: what
+A redirect that a character's entry meets first is followed, as TeX 1039 does; any other stays on its chain, where both pass it over. The boundary
+character and the left entry are taken from the first and the last instruction, as TeX 573 does. `stored` has the font as it stands in the file instead, untested and with its entries packed: what
 `ligkern_deserialize` is to give."""
 import struct
-from dataclasses import dataclass, replace
+from dataclasses import dataclass
 
 KERN_VALUE, KERN_INDEX, LIGATURE, REDIRECT = range(4)
 LEFT_BOUNDARY = -1
@@ -41,34 +41,35 @@ class Font:
             at = None if skip < 0 else at + 1 + skip
 
     def rules(self, left):
-        """The rule of each right: the first instruction for it on the chain of the left."""
+        """The rule of each right: the first instruction for it on the chain of the left that is no redirect."""
         found = {}
         for at in self.chain(left):
-            found.setdefault(self.instructions[at][1], self.instructions[at])
+            if not self.is_redirect(at):
+                found.setdefault(self.instructions[at][1], self.instructions[at])
         return found
+
+    def rights(self, left):
+        """The rights that the chain of the left names, those of redirects too."""
+        return {self.instructions[at][1] for at in self.chain(left)}
 
     def lefts(self):
         """The lefts that have a chain, the boundary last."""
         return sorted(self.entries) + ([LEFT_BOUNDARY] if self.left_entry != NO_LEFT_ENTRY else [])
 
     def is_redirect(self, at):
-        return 0 <= at < len(self.instructions) and self.instructions[at][2] == REDIRECT
+        return self.instructions[at][2] == REDIRECT
+
+    def redirects_on_chains(self):
+        """The redirects that chains meet, which TeX and the library pass over (TeX 1039)."""
+        return [self.instructions[at] for left in self.lefts() for at in self.chain(left) if self.is_redirect(at)]
 
     def has_redirect_on_chain(self):
-        """Does a chain meet a redirect? There TeX stops, and the library acts on it (docs/DIFFERENCES.md)."""
-        return any(self.is_redirect(at) for left in self.lefts() for at in self.chain(left))
+        return bool(self.redirects_on_chains())
 
-    def has_redirect_as_rule(self):
-        """Is a redirect the rule of a pair that a word may have?"""
+    def has_redirect_for_a_right(self):
+        """Does a chain meet a redirect for the right of a pair that a word may have?"""
         rights = set(self.characters) | {self.boundary}
-        return any(right in rights and rule[2] == REDIRECT for left in self.lefts() for right, rule in self.rules(left).items())
-
-    def as_tex_reads(self):
-        """The font with every chain ended before a redirect (TeX 545)."""
-        instructions = [(-1 if self.is_redirect(at + 1 + skip) else skip, *rest) for at, (skip, *rest) in enumerate(self.instructions)]
-        entries = {c: at for c, at in self.entries.items() if not self.is_redirect(at)}
-        left_entry = NO_LEFT_ENTRY if self.is_redirect(self.left_entry) else self.left_entry
-        return replace(self, instructions=instructions, entries=entries, left_entry=left_entry)
+        return any(right in rights for _, right, _, _ in self.redirects_on_chains())
 
 
 @dataclass
@@ -117,6 +118,12 @@ def sections(data):
         found[name] = data[4 * at:4 * (at + count)]
         at += count
     return found
+
+
+def program_place(data):
+    """Where the instructions of a file begin, in words, and how many there are."""
+    _, lh, bc, ec, nw, nh, nd, ni, nl, *_ = lengths(data)
+    return 6 + lh + ec - bc + 1 + nw + nh + nd + ni, nl
 
 
 def words_of(section):

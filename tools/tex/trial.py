@@ -31,11 +31,11 @@ class Difference:
 
 
 def read(path, counts):
-    """The font of a file. Where a chain meets a redirect, TeX and the library are known to part: the font is counted, and taken as TeX reads it."""
+    """The font of a file. Those of which a chain meets a redirect are counted."""
     font = tfm.read(path)
     counts['fonts with a redirect on a chain'] += font.has_redirect_on_chain()
-    counts['fonts with a redirect as the rule of a pair'] += font.has_redirect_as_rule()
-    return font.as_tex_reads()
+    counts['fonts with a redirect on a chain, for a right of a pair'] += font.has_redirect_for_a_right()
+    return font
 
 
 def font_difference(subject, answer, shown):

@@ -57,6 +57,13 @@ def settle(rules):
     return values
 
 
+def has_loop(font):
+    """Is there a pair without a value?"""
+    rules = classes(font)
+    values = settle(rules)
+    return any(pair not in values for pair in rules)
+
+
 def reaches(font, pair, listed):
     """Does this pair wait, by way of others or not, for a pair of the list?"""
     rules = classes(font)

@@ -8,12 +8,13 @@ use mathlib.Core.Option.{Option, none, some}
 use Prim.Native.Nat.{ℕ, zero, suc, _<_}
 use native.Mathlib.Nat.{eq-or-lt-of-le, le-of-suc-le-suc}
 use native.Mathlib.Omega.{arith}
-use lib.Dec.{ltb, eqb}
+use lib.Dec.{ltb}
 use lib.IntN.{ℤ, pos, negsuc}
-use borrow.Author.Tests.{eqb-true, le-ltb}
+use borrow.Author.Tests.{le-ltb}
 use native.Mathlib.Decide.{decLt}
 use Rattle.lang.specs.Records.{instructionAt}
-use Rattle.program_chain.specs.Chains.{Program, firstFor, chainOf}
+use Rattle.program_chain.specs.Chains.{Program, isRuleFor, firstFor, chainOf}
+use Rattle.program_chain.proofs.Rules.{taken-right}
 use Rattle.reading.specs.Items.{Left, bnd, chr, free}
 use Rattle.reading.specs.Loops.{Ruled}
 use Rattle.reading.proofs.Covers.{Covers}
@@ -21,17 +22,17 @@ use Rattle.fonts.specs.Fonts.{Font, leftOf, numberOfLeft, indexOf, leftE
 use Rattle.fonts.specs.Fonts.{ruleOfIndex}
 
 -- the first instruction for a character is one for it
-first-by : (program : Program) (r : ℕ) (j : ℕ) (is : List ℕ) (i : ℕ) (b : Bool) → eqb (program j .«right_char» .0) r ≡ b →
+first-by : (program : Program) (r : ℕ) (j : ℕ) (is : List ℕ) (i : ℕ) (b : Bool) → isRuleFor r (program j) ≡ b →
     (firstFor program r is ≡ some i → program i .«right_char» .0 ≡ r) → cond b (some j) (firstFor program r is) ≡ some i → program i .«right_char» .0 ≡ r
 first-by program r j is i true t k h =
     let m : j ≡ i = cc in
-    rw (← m) (eqb-true (program j .«right_char» .0) r t)
+    rw (← m) (taken-right r (program j) t)
 first-by program r j is i false t k h = k h
 
 first-right : (program : Program) (r : ℕ) (is : List ℕ) (i : ℕ) → firstFor program r is ≡ some i → program i .«right_char» .0 ≡ r
 unfolding firstFor
 first-right program r [] i e = absurd (let z : _≡_ {A = ℕ} 0 1 = cc in omega arith)
-first-right program r (j ∷ is) i e = first-by program r j is i (eqb (program j .«right_char» .0) r) refl (first-right program r is i) e
+first-right program r (j ∷ is) i e = first-by program r j is i (isRuleFor r (program j)) refl (first-right program r is i) e
 
 -- so a right character that has a rule is below 256
 rule-right : (s : List ℤ) (e : ℤ) (r i : ℕ) → ruleFrom s e r ≡ some i → r < 256

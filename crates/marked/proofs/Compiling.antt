@@ -81,7 +81,7 @@ unfolding every entered entriesTable
 rule-only = refl
 
 rule-pairs : pairsOf oneRule ≡ record { pair = record { left = chr 65; right = 66 }; index = 0 } ∷ []
-unfolding rowPairs entered entriesTable chainFrom firstFor
+unfolding rowPairs entered entriesTable chainFrom firstFor fromBytes ligature
 rule-pairs = pairs-own oneRule 66 rule-only (omega arith)
 
 pub one-loop : loopRow .given ≡ loopRow .said
@@ -96,7 +96,7 @@ example-only = refl
 
 example-pairs : pairsOf exampleFont
     ≡ record { pair = record { left = chr 102; right = 33 }; index = 1 } ∷ record { pair = record { left = chr 102; right = 105 }; index = 0 } ∷ []
-unfolding rowPairs entered entriesTable chainFrom firstFor
+unfolding rowPairs entered entriesTable chainFrom firstFor fromBytes ligature
 example-pairs = pairs-own exampleFont 103 example-only (omega arith)
 
 -- its kern is scaled, so that no number refuses it

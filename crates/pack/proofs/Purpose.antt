@@ -1,8 +1,10 @@
 -- What packing is for (specs/Purpose). `packed-unpacks`: the packed program is a program, each entry is one byte, and it unpacks to the old entry,
--- shifted. `packed-chains`: the old program stands whole in the packed one, and the left entry behind it. Assumes nothing.
+-- shifted. `packed-chains`: the old program stands whole in the packed one, and the left entry behind it. `packed-rules`: so its rules are the old ones.
+-- Assumes nothing.
 use mathlib.Core.Path.{_≡_, refl, sym, ap, _∙_}
 use mathlib.Core.Bool.{Bool, true, false, cond}
-use mathlib.Core.List.{List, [], _∷_, List·Memᴰ}
+use mathlib.Core.List.{List, [], _∷_, List·Memᴰ, List·Memᴰ·head, List·Memᴰ·tail}
+use mathlib.Core.Option.{none, some}
 use Prim.Native.Nat.{ℕ, _+_, _*_, _-_, _/_, _%_, _<_, _≤_}
 use native.Mathlib.Omega.{arith}
 use lib.IntN.{ℤ, pos, negsuc}
@@ -13,6 +15,7 @@ use borrow.Author.Tests.{lt-ltb, le-leb, eq-eqb, ne-eqb, ltb-true, ltb-false}
 use Rattle.words.specs.Words.{wordOf}
 use Rattle.words.proofs.Lists.{getD-tabulate}
 use Rattle.lang.specs.declared.operation.Operation.the-variants.{EntrypointRedirect}
+use Rattle.lang.specs.declared.instruction.NextInstruction.the-variants.{Stop}
 use Rattle.lang.specs.declared.instruction.Instruction.{Instruction}
 use Rattle.lang.specs.Every.{both}
 use Rattle.lang.specs.Records.{count, field, within, absentOr, operandFits, nextOf, operationOf, instructionAt, isInstruction, isKind}
@@ -20,6 +23,9 @@ use Rattle.lang.specs.Checks.{programRefusal, entriesRefusal, absentRefusal, ra
 use Rattle.lang.specs.Answers.{replyOf}
 use Rattle.lang.proofs.Every.{every-all}
 use Rattle.lang.proofs.Refusals.{orElse-none, unless-none, program-fours, program-record, room-is, taken-reply}
+use Rattle.program_chain.specs.Chains.{Program, chain, isRuleFor, firstFor, ruleIndexOf}
+use Rattle.program_chain.proofs.Walks.{chain-step, chain-end}
+use Rattle.program_chain.proofs.Rules.{redirect-passed, redirect-kind}
 use Rattle.entry_targets.specs.Targets.{targetAt, standsFor, entryRefusal}
 use Rattle.entry_targets.proofs.Targets.{stands-target, stands-itself, entry-plain, entry-followed}
 use Rattle.entry_unpack.specs.Unpacking.{unpackRefusal, unpackEntry}
@@ -27,11 +33,11 @@ use Rattle.pack_labels.specs.Labels.{labelsOf}
 use Rattle.pack_labels.proofs.Redirects.{offset-some, labels-has, unredirected}
 use Rattle.pack.specs.Packing.{Packable, redirect, presentOr, leftOr, back, fontRedirects, fontOffset, packableRefusal, packingRefusal}
 use Rattle.pack.specs.Packing.{packedInstructions, packedEntry, packedEntryNumber, packedEntries, placeAmong}
-use Rattle.pack.specs.Purpose.{oldEntry, UnpacksAt, PackedUnpacks, StaysInside, ChainShifted, PackedChains}
+use Rattle.pack.specs.Purpose.{oldEntry, UnpacksAt, PackedUnpacks, StaysInside, ChainShifted, PackedChains, SameRules, PackedRules}
 use Rattle.pack.proofs.Places.{place-is, place-lt}
 use Rattle.pack.proofs.Packing.{Plan, Taken, taken, laterRefusal, targetOf, target-le, number-front, number-old, number-back, plan-few, plan-size}
 use Rattle.pack.proofs.Packing.{plan-shifts, back-some, back-none, under, entry-char, entry-entry}
-use Rattle.pack.proofs.Shifts.{chain-below, chain-moved, rule-moved}
+use Rattle.pack.proofs.Shifts.{chain-below, chain-moved, rule-moved, rules-moved}
 
 -- ---- an instruction by its four numbers
 
@@ -328,3 +334,69 @@ module _ (f : Packable) where
 
 pub packed-chains : PackedChains
 packed-chains f room entryRoom accepted = record { chains = chain-shifted f; left = left-held f room entryRoom accepted }
+
+-- ---- rules
+
+-- the first index for a right character is one of the list
+first-in : (program : Program) (right i : ℕ) (is : List ℕ) → firstFor program right is ≡ some i → List·Memᴰ i is
+unfolding firstFor
+first-in program right i [] h = absurd (let z : _≡_ {A = ℕ} 0 1 = cc in omega arith)
+first-in program right i (j ∷ is) h = go (isRuleFor right (program j)) (first-in program right i is) h
+  where
+    go : (t : Bool) → (firstFor program right is ≡ some i → List·Memᴰ i is) → cond t (some j) (firstFor program right is) ≡ some i → List·Memᴰ i (j ∷ is)
+    go true k e = let m : i ≡ j = cc in List·Memᴰ·head m
+    go false k e = List·Memᴰ·tail (k e)
+
+module _ (f : Packable) (room entryRoom : ℕ) (accepted : packingRefusal f room entryRoom ≡ 0) where
+  abbrev packedSize : ℕ
+  packedSize = count (packedInstructions f)
+
+  -- behind the old program stands at most the instruction that holds the left entry: it is passed over, and ends the chain
+  held-by : (right : ℕ) → nonNeg (f .left) ≡ true → ruleIndexOf (packedInstructions f) (fontOffset f + count (f .instructions)) right ≡ none
+  unfolding firstFor
+  held-by right t =
+      let s = packedInstructions f in
+      let i = fontOffset f + count (f .instructions) in
+      let z = old-fours f room entryRoom accepted in
+      let stops : instructionAt s i .«next_instruction» ≡ Stop = ap nextOf (back-field f 0 z t (omega arith)) in
+      let k : isKind 3 s i ≡ true = ap (λ (n : ℤ). eqb (wordOf n) 3) (back-field f 2 z t (omega arith)) in
+      let inside : i < packedSize = omega (arith, whole-size f, z, ap length (back-some (f .left) (fontOffset f) t)) in
+      rw (
+        chain-step packedSize (instructionAt s) i inside,
+        stops,
+        redirect-passed right (instructionAt s i) (redirect-kind s i ∙ k),
+        chain-end packedSize (instructionAt s) packedSize (omega arith),
+      )
+
+  beyond-by : (i right : ℕ) → fontOffset f + count (f .instructions) ≤ i → (t u : Bool) → ltb i packedSize ≡ t → nonNeg (f .left) ≡ u →
+      ruleIndexOf (packedInstructions f) i right ≡ none
+  unfolding firstFor
+  beyond-by i right h false u e d = rw (chain-end packedSize (instructionAt (packedInstructions f)) i (ltb-false i packedSize e))
+  beyond-by i right h true true e d =
+      let z = old-fours f room entryRoom accepted in
+      let l = ltb-true i packedSize e in
+      let q : i ≡ fontOffset f + count (f .instructions) = omega (arith, whole-size f, z, ap length (back-some (f .left) (fontOffset f) d)) in
+      rw q (held-by right d)
+  beyond-by i right h true false e d =
+      let z = old-fours f room entryRoom accepted in
+      let l = ltb-true i packedSize e in
+      absurd (omega (arith, whole-size f, z, ap length (back-none (f .left) (fontOffset f) d)))
+
+  beyond : (i right : ℕ) → count (f .instructions) + fontOffset f ≤ i → ruleIndexOf (packedInstructions f) i right ≡ none
+  beyond i right h = beyond-by i right (omega arith) (ltb i packedSize) (nonNeg (f .left)) refl refl
+
+  same-rules : (e : ℕ) → SameRules f e
+  same-rules e =
+      let n = count (f .instructions) in
+      let p = instructionAt (f .instructions) in
+      record {
+        rule = λ right. rules-moved n packedSize (fontOffset f) p (instructionAt (packedInstructions f)) (fits-behind f) (packed-same f) beyond right e;
+        same = λ right i h. packed-same f i (chain-below n p n e i (first-in p right i (chain n p e) h));
+      }
+
+pub packed-rules : PackedRules
+packed-rules f room entryRoom accepted few =
+    record {
+      entries = λ i h l k. (packed-unpacks f room entryRoom accepted few i h l k .entry, same-rules f room entryRoom accepted (oldEntry f i));
+      left = λ e q. same-rules f room entryRoom accepted e;
+    }

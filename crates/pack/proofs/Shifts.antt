@@ -1,17 +1,18 @@
--- Laws of a program that stands whole in another, a number of places on: so do its chains that stay inside, and its rules.
+-- Laws of a program that stands whole in another, a number of places on: so do its chains that stay inside, and its rules. Where there is no rule behind it in
+-- the other, so do all of its rules.
 -- Assumes nothing.
 use mathlib.Core.Path.{_≡_, refl, sym, ap, _∙_}
 use mathlib.Core.Bool.{Bool, true, false, cond}
 use mathlib.Core.List.{List, [], _∷_, map, List·Memᴰ, List·Memᴰ·head, List·Memᴰ·tail, List·Memᴰ·not-nil}
-use mathlib.Core.Option.{Option, some, Option·map}
+use mathlib.Core.Option.{Option, none, some, Option·map}
 use Prim.Native.Nat.{ℕ, zero, suc, _+_, _<_, _≤_}
 use native.Mathlib.Omega.{arith}
-use lib.Dec.{ltb, eqb}
-use borrow.Author.Tests.{ltb-true}
+use lib.Dec.{ltb}
+use borrow.Author.Tests.{ltb-true, ltb-false}
 use Rattle.lang.specs.declared.instruction.NextInstruction.{NextInstruction}
 use Rattle.lang.specs.declared.instruction.NextInstruction.the-variants.{Stop, Skip}
 use Rattle.lang.specs.declared.instruction.Instruction.{Instruction}
-use Rattle.program_chain.specs.Chains.{Program, onwardFrom, chainFrom, chain, firstFor, ruleIndex}
+use Rattle.program_chain.specs.Chains.{Program, onwardFrom, chainFrom, chain, isRuleFor, firstFor, ruleIndex}
 use Rattle.program_chain.proofs.Walks.{chain-step, chain-end}
 
 -- no next on the chain from i leads past the last of n instructions
@@ -74,12 +75,48 @@ module _ (n n′ o : ℕ) (program program′ : Program) (room : n + o ≤ n′)
   unfolding firstFor
   first-moved right [] h = refl
   first-moved right (i ∷ is) h =
-      ap (λ (x : Instruction). cond (eqb (x .«right_char» .0) right) (some (i + o)) (firstFor program′ right (moved is)))
-      (same i (h i (List·Memᴰ·head refl)))
-      ∙ either (eqb (program i .«right_char» .0) right) i _ _ (first-moved right is (λ j m. h j (List·Memᴰ·tail m)))
+      ap (λ (x : Instruction). cond (isRuleFor right x) (some (i + o)) (firstFor program′ right (moved is))) (same i (h i (List·Memᴰ·head refl)))
+      ∙ either (isRuleFor right (program i)) i _ _ (first-moved right is (λ j m. h j (List·Memᴰ·tail m)))
 
   -- and so is its rule of every right character
   pub rule-moved : (right i : ℕ) → i < n → Inside n program i →
       ruleIndex n′ program′ (i + o) right ≡ Option·map (λ (j : ℕ). j + o) (ruleIndex n program i right)
   rule-moved right i h s =
       ap (firstFor program′ right) (chain-moved i h s) ∙ first-moved right (chain n program i) (chain-below n program n i)
+
+  -- from behind the n instructions on there is no rule: a chain that leads there has no more of them than one that ends
+  module _ (beyond : (i right : ℕ) → n + o ≤ i → ruleIndex n′ program′ i right ≡ none) where
+    past-moved : (right i : ℕ) → n ≤ i → ruleIndex n′ program′ (i + o) right ≡ Option·map (λ (j : ℕ). j + o) (ruleIndex n program i right)
+    unfolding firstFor
+    past-moved right i h = beyond (i + o) right (omega arith) ∙ rw (chain-end n program i h)
+
+    rest-moved : (right i : ℕ) (x : NextInstruction) → i < n →
+        ((k : ℕ) → ruleIndex n′ program′ (i + 1 + k + o) right ≡ Option·map (λ (j : ℕ). j + o) (ruleIndex n program (i + 1 + k) right)) →
+        ruleIndex n′ program′ (onwardFrom n′ x (i + o)) right ≡ Option·map (λ (j : ℕ). j + o) (ruleIndex n program (onwardFrom n x i) right)
+    unfolding firstFor
+    rest-moved right i Stop h r = rw (chain-end n′ program′ n′ (omega arith), chain-end n program n (omega arith))
+    rest-moved right i (Skip k) h r =
+        let q : i + o + 1 + k ≡ i + 1 + k + o = omega arith in
+        rw q (r k)
+
+    turn-by : (right i : ℕ) (t : Bool) → ltb i n ≡ t →
+        ((k : ℕ) → ruleIndex n′ program′ (i + 1 + k + o) right ≡ Option·map (λ (j : ℕ). j + o) (ruleIndex n program (i + 1 + k) right)) →
+        ruleIndex n′ program′ (i + o) right ≡ Option·map (λ (j : ℕ). j + o) (ruleIndex n program i right)
+    unfolding firstFor
+    turn-by right i true e r =
+        let h = ltb-true i n e in
+        ap (firstFor program′ right) (chain-step n′ program′ (i + o) (omega arith))
+        ∙ ap
+        (λ (x : Instruction). cond (isRuleFor right x) (some (i + o)) (firstFor program′ right (chain n′ program′ (onwardFrom n′ (x .«next_instruction») (i + o)))))
+        (same i h)
+        ∙ either (isRuleFor right (program i)) i _ _ (rest-moved right i (program i .«next_instruction») h r)
+        ∙ ap (λ (is : List ℕ). Option·map (λ (j : ℕ). j + o) (firstFor program right is)) (sym (chain-step n program i h))
+    turn-by right i false e r = past-moved right i (ltb-false i n e)
+
+    every-by : (most right i : ℕ) → n ≤ i + most → ruleIndex n′ program′ (i + o) right ≡ Option·map (λ (j : ℕ). j + o) (ruleIndex n program i right)
+    every-by zero right i f = past-moved right i (omega arith)
+    every-by (suc most) right i f = turn-by right i (ltb i n) refl (λ k. every-by most right (i + 1 + k) (omega arith))
+
+    -- every rule is the same, o places on
+    pub rules-moved : (right i : ℕ) → ruleIndex n′ program′ (i + o) right ≡ Option·map (λ (j : ℕ). j + o) (ruleIndex n program i right)
+    rules-moved right i = every-by n right i (omega arith)

@@ -1,8 +1,8 @@
--- What packing is for (R154): theorems `packed-unpacks` and `packed-chains` of proofs/Purpose. No contract cites this.
+-- What packing is for (R154): theorems `packed-unpacks`, `packed-chains` and `packed-rules` of proofs/Purpose. No contract cites this.
 use mathlib.Core.Path.{_≡_}
 use mathlib.Core.Bool.{true, false}
 use mathlib.Core.List.{List, [], _∷_, map, List·Memᴰ}
-use mathlib.Core.Option.{Option·map}
+use mathlib.Core.Option.{some, Option·map}
 use Prim.Native.Nat.{ℕ, _+_, _-_, _/_, _<_, _≤_}
 use lib.IntN.{ℤ, pos}
 use lib.ListN.{length}
@@ -66,7 +66,30 @@ pub record ChainsKept (f : Packable) : Type 0 where
   pub left : (e : ℕ) → f .left ≡ pos e →
       instructionAt (packedInstructions f) (count (packedInstructions f) - 1) .operation ≡ EntrypointRedirect (e + fontOffset f) false
 
--- So it is with every font that packing does not refuse. A chain that leads past the last instruction goes on into the one that holds the
--- left entry: docs/DIFFERENCES.md.
+-- So it is with every font that packing does not refuse. A chain that leads past the last instruction can go on into the one that holds the
+-- left entry, which is passed over.
 abbrev pub PackedChains : Type 0
 PackedChains = (f : Packable) (room entryRoom : ℕ) → packingRefusal f room entryRoom ≡ 0 → ChainsKept f
+
+-- ---- rules: packing changes none
+
+-- the rule of every right character on the packed chain from e, shifted, is the old one from e, shifted, or there is none in both; and
+-- where it stands, the old instruction stands
+pub record SameRules (f : Packable) (e : ℕ) : Type 0 where
+  pub rule : (right : ℕ) →
+      ruleIndexOf (packedInstructions f) (e + fontOffset f) right
+      ≡ Option·map (λ (i : ℕ). i + fontOffset f) (ruleIndexOf (f .instructions) e right)
+  pub same : (right i : ℕ) → ruleIndexOf (f .instructions) e right ≡ some i →
+      instructionAt (packedInstructions f) (i + fontOffset f) ≡ instructionAt (f .instructions) i
+
+-- so it is from each entry that leads to an instruction that is no redirect, where its packed entry unpacks to; and from the left entry
+pub record RulesKept (f : Packable) : Type 0 where
+  pub entries : (i : ℕ) → i < length (f .entries) / 2 → oldEntry f i < count (f .instructions) →
+      isKind 3 (f .instructions) (oldEntry f i) ≡ false → ((p : List ℕ) (room : ℕ) → UnpacksTo f i p room) × SameRules f (oldEntry f i)
+  pub left : (e : ℕ) → f .left ≡ pos e → SameRules f e
+
+-- So it is with every font that is packed into at most 32,767 instructions, also where a chain leads past the last one. (An entry past the
+-- end can lead to the instruction that holds the left entry: docs/DIFFERENCES.md.)
+abbrev pub PackedRules : Type 0
+PackedRules =
+    (f : Packable) (room entryRoom : ℕ) → packingRefusal f room entryRoom ≡ 0 → count (packedInstructions f) ≤ 32767 → RulesKept f

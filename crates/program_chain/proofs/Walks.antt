@@ -10,7 +10,7 @@ use native.Mathlib.Omega.{arith}
 use lib.Dec.{ltb}
 use lib.IntN.{ℤ}
 use lib.ListN.{length, set, length-append}
-use borrow.Author.Tests.{lt-ltb, le-ltb, ltb-true, ltb-false, eq-eqb, ne-eqb}
+use borrow.Author.Tests.{lt-ltb, le-ltb, ltb-true, ltb-false}
 use Rattle.lang.specs.declared.instruction.NextInstruction.{NextInstruction}
 use Rattle.lang.specs.declared.instruction.NextInstruction.the-variants.{Stop, Skip}
 use Rattle.program_chain.specs.declared.Next.the-variants.{At, End}
@@ -18,7 +18,7 @@ use Rattle.program_chain.specs.declared.FoundRule.the-variants.{Rule, No
 use Rattle.words.specs.Lists.{Appending}
 use Rattle.words.proofs.Lists.{appending-none, appending-length, appending-one}
 use Rattle.lang.specs.Records.{count, instructionAt}
-use Rattle.program_chain.specs.Chains.{Program, onwardFrom, stepAt, chainFrom, chain, firstFor, ruleIndex, found, chainOf}
+use Rattle.program_chain.specs.Chains.{Program, onwardFrom, stepAt, chainFrom, chain, isRuleFor, firstFor, ruleIndex, found, chainOf}
 
 -- a chain goes on past its index
 pub onward-ascends : (n : ℕ) (x : NextInstruction) (i : ℕ) → i < n → i < onwardFrom n x i
@@ -113,25 +113,25 @@ step-end n program at h = ended-by (ltb at n) n program at refl h
 
 -- ---- the rule of a right character
 
-pub first-here : (program : Program) (right i : ℕ) (is : List ℕ) → program i .«right_char» .0 ≡ right → firstFor program right (i ∷ is) ≡ some i
+pub first-here : (program : Program) (right i : ℕ) (is : List ℕ) → isRuleFor right (program i) ≡ true → firstFor program right (i ∷ is) ≡ some i
 unfolding firstFor
-first-here program right i is e = rw (eq-eqb (program i .«right_char» .0) right e)
+first-here program right i is e = rw e
 
-pub first-later : (program : Program) (right i : ℕ) (is : List ℕ) → (program i .«right_char» .0 ≡ right → ⊥) →
+pub first-later : (program : Program) (right i : ℕ) (is : List ℕ) → isRuleFor right (program i) ≡ false →
     firstFor program right (i ∷ is) ≡ firstFor program right is
 unfolding firstFor
-first-later program right i is e = rw (ne-eqb (program i .«right_char» .0) right e)
+first-later program right i is e = rw e
 
 -- a walk from an entry that has come to index `at`, where the rule of the chain from there is the entry's
 module _ (n : ℕ) (program : Program) (right entry at : ℕ) where
   pub rule-here : (i on : ℕ) → Stepped n program at i on → firstFor program right (chain n program at) ≡ ruleIndex n program entry right →
-      program i .«right_char» .0 ≡ right → Rule i ≡ found (ruleIndex n program entry right)
+      isRuleFor right (program i) ≡ true → Rule i ≡ found (ruleIndex n program entry right)
   rule-here i on step inv e =
       let left : firstFor program right (i ∷ chain n program on) ≡ ruleIndex n program entry right = rw (step .here, ← step .rest) inv in
       ap found (sym (first-here program right i (chain n program on) e) ∙ left)
 
   pub rule-later : (i on : ℕ) → Stepped n program at i on → firstFor program right (chain n program at) ≡ ruleIndex n program entry right →
-      (program i .«right_char» .0 ≡ right → ⊥) → firstFor program right (chain n program on) ≡ ruleIndex n program entry right
+      isRuleFor right (program i) ≡ false → firstFor program right (chain n program on) ≡ ruleIndex n program entry right
   rule-later i on step inv e =
       sym (first-later program right i (chain n program on) e) ∙ rw (step .here, ← step .rest) inv
 

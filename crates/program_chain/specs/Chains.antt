@@ -1,8 +1,8 @@
 -- Chains (R56 to R63): each next goes to index + 1 + next (R56); a chain stops at an index past the end (R57). TeX 1039 and TFtoPL 91.
--- Which instruction is the rule (`ruleIndex`, R58) and what it does (`actsAs`, R59 to R61) are two definitions. Both are said of a count
+-- Which instruction is the rule (`ruleIndex`, R58 to R60) and what it does (`actsAs`, R61) are two definitions. Both are said of a count
 -- and of a function from an index to an instruction, so that they hold of any form in which a program is lent.
 use mathlib.Core.Path.{_≡_}
-use mathlib.Core.Bool.{cond}
+use mathlib.Core.Bool.{Bool, true, false, cond, not}
 use mathlib.Core.List.{List, [], _∷_}
 use mathlib.Core.Option.{Option, none, some}
 use Prim.Native.Nat.{ℕ, zero, suc, _+_, _/_, _%_}
@@ -20,6 +20,7 @@ use Rattle.program_chain.specs.declared.Next.the-variants.{At, End}
 use Rattle.program_chain.specs.declared.FoundRule.{FoundRule}
 use Rattle.program_chain.specs.declared.FoundRule.the-variants.{Rule, Nothing}
 use Rattle.lang.specs.Operations.{fromBytes}
+use Rattle.lang.specs.Every.{both}
 use Rattle.lang.specs.Records.{count, instructionAt}
 use Rattle.lang.specs.Checks.{programRefusal, rangeRefusal, orElse}
 use Rattle.lang.specs.declared.Written.{Written}
@@ -50,12 +51,24 @@ chainFrom (suc most) n program i =
 abbrev pub chain : ℕ → Program → ℕ → List ℕ
 chain n program i = chainFrom n n program i
 
--- the first index of a list whose instruction is for a right character
+-- an operation is a redirect
+abbrev pub isRedirectOp : Operation → Bool
+isRedirectOp (Kern k) = false
+isRedirectOp (KernAtIndex i) = false
+isRedirectOp (Ligature c p t) = false
+isRedirectOp (EntrypointRedirect t f) = true
+
+-- an instruction can be the rule of a right character: it is no redirect, and has that character (TeX 1039: a step whose skip byte is
+-- above 128 does nothing, whatever its character)
+abbrev pub isRuleFor : ℕ → Instruction → Bool
+isRuleFor right x = both (not (isRedirectOp (x .operation))) (eqb (x .«right_char» .0) right)
+
+-- the first index of a list whose instruction can be the rule of a right character
 unfoldable pub firstFor : Program → ℕ → List ℕ → Option ℕ
 firstFor program right [] = none
-firstFor program right (i ∷ is) = cond (eqb (program i .«right_char» .0) right) (some i) (firstFor program right is)
+firstFor program right (i ∷ is) = cond (isRuleFor right (program i)) (some i) (firstFor program right is)
 
--- which instruction is the rule of the right character on the chain from an entry (R58)
+-- which instruction is the rule of the right character on the chain from an entry (R58). A redirect is on the chain, and passed over
 abbrev pub ruleIndex : ℕ → Program → ℕ → ℕ → Option ℕ
 ruleIndex n program entry right = firstFor program right (chain n program entry)
 
@@ -64,7 +77,8 @@ abbrev pub found : Option ℕ → FoundRule
 found none = Nothing
 found (some i) = Rule i
 
--- what a rule does: a redirect reached on a chain acts by its target's two bytes (R59; TFtoPL 91 to 93 read them so) ..
+-- what an instruction does: a redirect would act by its target's two bytes (TFtoPL 91 to 93 read them so), but no rule is one (theorem
+-- `no-redirect`) ..
 abbrev pub redirected : Operation → Operation
 redirected (Kern k) = Kern k
 redirected (KernAtIndex i) = KernAtIndex i

@@ -6,8 +6,9 @@ ghost use Rattle.lang.specs.Records.{count, instructionAt};
 ghost use Prim.Native.Nat.{_≤_};
 ghost use lib.ListN.{length};
 ghost use Rattle.words.specs.Lists.{Appending};
-ghost use Rattle.program_chain.specs.Chains.{stepAt, ruleIndexOf, found, redirected, kernOf, actsAs, chainOf};
-ghost use Rattle.program_chain.specs.Chains.{walkRefusal, WalksChain};
+ghost use Rattle.program_chain.specs.Chains.{stepAt, isRuleFor, ruleIndexOf, found, redirected, kernOf, actsAs};
+ghost use Rattle.program_chain.specs.Chains.{chainOf, walkRefusal, WalksChain};
+use entry_targets::is_redirect;
 use lang::Written;
 use lang::instruction::field_at;
 use lang::instruction::instruction_at;
@@ -46,7 +47,17 @@ pub fn next_instruction(instructions: &[i32], at: usize) -> Next
     }
 }
 
-// The first instruction for a right character on the chain from an entry.
+// The instruction at index i can be the rule of a right character: it is no redirect, and has that character.
+fn is_rule_for(instructions: &[i32], i: usize, right: u8) -> bool
+    ensures { λ r. ⌜ r ≡ isRuleFor right (instructionAt (now (instructions .entry)) i) ⌝ }
+{
+    if is_redirect(instructions, i) {
+        return false;
+    }
+    field_at(instructions, i, 1) % 256 == (right as u32)
+}
+
+// The rule of a right character on the chain from an entry: the first instruction for it that is no redirect.
 pub fn rule_index(instructions: &[i32], entry: usize, right: u8) -> FoundRule
     ensures { λ r. ⌜ r ≡ found (ruleIndexOf (now (instructions .entry)) entry right) ⌝ }
 {
@@ -55,14 +66,14 @@ pub fn rule_index(instructions: &[i32], entry: usize, right: u8) -> FoundRule
         let Next::At(i, on) = next_instruction(instructions, at) else {
             return FoundRule::Nothing;
         };
-        if field_at(instructions, i, 1) % 256 == (right as u32) {
+        if is_rule_for(instructions, i, right) {
             return FoundRule::Rule(i);
         }
         at = on;
     }
 }
 
-// A redirect reached on a chain acts by its target's two bytes.
+// A redirect would act by its target's two bytes; no rule is one.
 fn redirect(operation: Operation) -> Operation
     ensures { λ r. ⌜ r ≡ redirected operation ⌝ }
 {

@@ -5,7 +5,7 @@ use mathlib.Core.Bool.{Bool, true, false}
 use mathlib.Core.List.{List, [], _∷_}
 use Prim.Native.Nat.{ℕ, zero, suc, _+_, _*_, _/_, _%_, _<_, _≤_}
 use native.Mathlib.Omega.{arith}
-use lib.Dec.{ltb}
+use lib.Dec.{ltb, eqb}
 use lib.IntN.{ℤ, pos}
 use lib.ListN.{length, getD, List·getD-eq-default}
 use lib.Seq.{ext-getD}
@@ -26,6 +26,8 @@ use Rattle.lang.specs.Every.{every}
 use Rattle.lang.specs.Records.{count, field, nextOf, operationOf, instructionAt, absentOr, operandFits, isInstruction}
 use Rattle.lang.specs.Checks.{programRefusal, recordRefusal, sizeRefusal, orElse, unless}
 use Rattle.lang.proofs.Every.{every-all}
+use Rattle.program_chain.specs.Chains.{isRedirectOp}
+use Rattle.program_chain.proofs.Rules.{redirect-kind}
 use Rattle.program_records.specs.RecordChains.{zeroRecord, recordAt, recordsRefusal}
 use Rattle.program_records.specs.Agreement.{nextNumber, markByte, kindNumber, operandNumber, flat, skipFits, operationFits, InRange, markFits}
 use Rattle.program_records.specs.Agreement.{eachRecord, recordsOf}
@@ -142,6 +144,13 @@ operation-reads (EntrypointRedirect t false) h m =
     let high : (65536 * 0 + t) / 65536 ≡ 0 = omega arith in
     rw (low, high)
 
+-- an operation is a redirect where its kind is 3
+kind-three : (op : Operation) → isRedirectOp op ≡ eqb (wordOf (pos (kindNumber op))) 3
+kind-three (Kern k) = refl
+kind-three (KernAtIndex i) = refl
+kind-three (Ligature c p t) = refl
+kind-three (EntrypointRedirect t f) = refl
+
 -- ---- the whole list
 
 or-nothing : (n : ℕ) → orElse n 0 ≡ n
@@ -172,6 +181,16 @@ module _ (xs : List Instruction) (h : eachRecord InRange xs) where
 
   pub flat-right : (i : ℕ) → recordAt xs i .«right_char» .0 ≡ instructionAt (flat xs) i .«right_char» .0
   flat-right i = right-by i (ltb i (length xs)) refl
+
+  redirect-by : (i : ℕ) (t : Bool) → ltb i (length xs) ≡ t → isRedirectOp (recordAt xs i .operation) ≡ isRedirectOp (instructionAt (flat xs) i .operation)
+  redirect-by i true e =
+      kind-three (recordAt xs i .operation)
+      ∙ ap (λ (z : ℤ). eqb (wordOf z) 3) (sym (field-flat xs i 2 (ltb-true i (length xs) e) (omega arith)))
+      ∙ sym (redirect-kind (flat xs) i)
+  redirect-by i false e = ap (λ (x : Instruction). isRedirectOp (x .operation)) (past-flat xs i (ltb-false i (length xs) e))
+
+  pub flat-redirect : (i : ℕ) → isRedirectOp (recordAt xs i .operation) ≡ isRedirectOp (instructionAt (flat xs) i .operation)
+  flat-redirect i = redirect-by i (ltb i (length xs)) refl
 
   -- each four is an instruction
   is-instruction : (i : ℕ) → i < length xs → isInstruction (flat xs) i ≡ true

@@ -23,7 +23,7 @@ use Rattle.lang.specs.Answers.{roomRefusal, listOf}
 use Rattle.lang.proofs.Refusals.{orElse-assoc, orElse-none, unless-none, room-fits}
 use Rattle.program_chain.specs.declared.Next.{Next}
 use Rattle.program_chain.specs.declared.Next.the-variants.{At}
-use Rattle.program_chain.specs.Chains.{Program, stepAt, chain, firstFor, ruleIndex, found}
+use Rattle.program_chain.specs.Chains.{Program, stepAt, chain, isRuleFor, firstFor, ruleIndex, found}
 use Rattle.program_chain.proofs.Walks.{Stepped, step-on, chain-end, length-chain, rule-here, rule-later, rule-nowhere}
 use Rattle.program_records.specs.declared.steps.ChainWalk.{ChainWalk}
 use Rattle.program_records.specs.RecordChains.{recordAt, recordsRefusal, WalksRecords}
@@ -36,15 +36,15 @@ goes-to n program at h = step-on n program at at _ (rw (lt-ltb at n h))
 -- ---- a search for a rule
 
 module _ (n : ℕ) (program : Program) (right entry at : ℕ) where
-  -- a search that goes on is inside, at a record that is not for the right character
-  on-by : (t u : Bool) → ltb at n ≡ t → eqb (program at .«right_char» .0) right ≡ u → cond t (not u) false ≡ true →
-      (at < n) × (program at .«right_char» .0 ≡ right → ⊥)
-  on-by true false e f h = (ltb-true at n e, eqb-false (program at .«right_char» .0) right f)
+  -- a search that goes on is inside, at a record that can't be the rule
+  on-by : (t u : Bool) → ltb at n ≡ t → isRuleFor right (program at) ≡ u → cond t (not u) false ≡ true →
+      (at < n) × (isRuleFor right (program at) ≡ false)
+  on-by true false e f h = (ltb-true at n e, f)
   on-by true true e f h = absurd (let z : _≡_ {A = ℕ} 0 1 = cc in omega arith)
   on-by false u e f h = absurd (let z : _≡_ {A = ℕ} 0 1 = cc in omega arith)
 
-  pub search-on : searchesOn n (program at) at right ≡ true → (at < n) × (program at .«right_char» .0 ≡ right → ⊥)
-  search-on h = on-by (ltb at n) (eqb (program at .«right_char» .0) right) refl refl h
+  pub search-on : searchesOn n (program at) at right ≡ true → (at < n) × (isRuleFor right (program at) ≡ false)
+  search-on h = on-by (ltb at n) (isRuleFor right (program at)) refl refl h
 
   -- it goes on to where the rule is the entry's still
   pub search-later : searchesOn n (program at) at right ≡ true → firstFor program right (chain n program at) ≡ ruleIndex n program entry right →
@@ -54,17 +54,17 @@ module _ (n : ℕ) (program : Program) (right entry at : ℕ) where
       rule-later n program right entry at at _ (goes-to n program at (s .0)) inv (s .1)
 
   -- one that stops has found the rule
-  stops-by : (t u : Bool) → ltb at n ≡ t → eqb (program at .«right_char» .0) right ≡ u → cond t (not u) false ≡ false →
+  stops-by : (t u : Bool) → ltb at n ≡ t → isRuleFor right (program at) ≡ u → cond t (not u) false ≡ false →
       firstFor program right (chain n program at) ≡ ruleIndex n program entry right → ruleWhere n at ≡ found (ruleIndex n program entry right)
   stops-by true true e f h inv =
       let l = ltb-true at n e in
-      rw e (rule-here n program right entry at at _ (goes-to n program at l) inv (eqb-true (program at .«right_char» .0) right f))
+      rw e (rule-here n program right entry at at _ (goes-to n program at l) inv f)
   stops-by true false e f h inv = absurd (let z : _≡_ {A = ℕ} 0 1 = cc in omega arith)
   stops-by false u e f h inv = rw e (rule-nowhere n program right entry at (chain-end n program at (ltb-false at n e)) inv)
 
   pub search-stops : searchesOn n (program at) at right ≡ false → firstFor program right (chain n program at) ≡ ruleIndex n program entry right →
       ruleWhere n at ≡ found (ruleIndex n program entry right)
-  search-stops h inv = stops-by (ltb at n) (eqb (program at .«right_char» .0) right) refl refl h inv
+  search-stops h inv = stops-by (ltb at n) (isRuleFor right (program at)) refl refl h inv
 
 -- ---- a walk into a list
 

@@ -19,10 +19,11 @@ use Rattle.lang.specs.Operations.{advance, keepsLeft, keepsRight, isStandard, r
 use Rattle.lang.specs.Records.{count, field, instructionAt}
 use Rattle.lang.specs.Checks.{programRefusal}
 use Rattle.lang.proofs.Refusals.{program-size}
+use Rattle.program_chain.specs.Chains.{isRedirectOp}
 use Rattle.program_records.specs.RecordChains.{recordAt, zeroRecord, recordsRefusal}
 use Rattle.program_records.specs.Agreement.{recordsOf, Agrees, flat, markFits, Flattened, OnlyOnLig}
 use Rattle.program_records.proofs.Alike.{alike}
-use Rattle.program_records.proofs.Flat.{count-flat, flat-next, flat-right, flat-refusal, flat-taken, flat-reads}
+use Rattle.program_records.proofs.Flat.{count-flat, flat-next, flat-right, flat-redirect, flat-refusal, flat-taken, flat-reads}
 
 -- past the last record both walks read the same instruction
 pub zero-record : zeroRecord ≡ instructionAt [] 0
@@ -48,14 +49,14 @@ module _ (s : List ℤ) where
 pub agrees : Agrees
 agrees s e =
     alike s (recordsOf s) (length-tabulate (count s) (instructionAt s)) (λ i. ap (λ (x : Instruction). x .«next_instruction») (read s i))
-    (λ i. ap (λ (x : Instruction). x .«right_char» .0) (read s i)) (refused s e)
+    (λ i. ap (λ (x : Instruction). x .«right_char» .0) (read s i)) (λ i. ap (λ (x : Instruction). isRedirectOp (x .operation)) (read s i)) (refused s e)
 
 -- ---- from records to numbers
 
 pub flattened : Flattened
 flattened xs h =
     record {
-      same = alike (flat xs) xs (sym (count-flat xs)) (flat-next xs h) (flat-right xs h) (sym (flat-refusal xs h));
+      same = alike (flat xs) xs (sym (count-flat xs)) (flat-next xs h) (flat-right xs h) (flat-redirect xs h) (sym (flat-refusal xs h));
       refusal = flat-refusal xs h;
       taken = flat-taken xs h;
       reads = flat-reads xs h;

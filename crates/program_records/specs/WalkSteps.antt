@@ -15,14 +15,15 @@ use Rattle.program_chain.specs.declared.Next.{Next}
 use Rattle.program_chain.specs.declared.Next.the-variants.{At, End}
 use Rattle.program_chain.specs.declared.FoundRule.{FoundRule}
 use Rattle.program_chain.specs.declared.FoundRule.the-variants.{Rule, Nothing}
+use Rattle.program_chain.specs.Chains.{isRuleFor}
 use Rattle.program_records.specs.declared.steps.ChainWalk.{ChainWalk}
 use Rattle.program_records.specs.RecordChains.{recordsRefusal}
 
 -- ---- a search
 
--- a search goes on: index i is below n, and the record there is not for the right character
+-- a search goes on: index i is below n, and the record there can't be the rule of the right character
 abbrev pub searchesOn : ℕ → Instruction → ℕ → ℕ → Bool
-searchesOn n x i right = cond (ltb i n) (not (eqb (x .«right_char» .0) right)) false
+searchesOn n x i right = cond (ltb i n) (not (isRuleFor right x)) false
 
 -- where a step goes on
 abbrev pub onwardOf : Next → ℕ

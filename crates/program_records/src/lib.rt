@@ -30,7 +30,7 @@ pub fn next_instruction(instructions: &[Instruction], at: usize) -> Next
     steps::step(instructions.len(), record_at(instructions, at), at)
 }
 
-// The first instruction for a right character on the chain from an entry.
+// The rule of a right character on the chain from an entry: the first instruction for it that is no redirect.
 pub fn rule_index(instructions: &[Instruction], entry: usize, right: u8) -> FoundRule
     ensures { λ r. ⌜ r ≡ found
         (ruleIndex (length (now (instructions .entry))) (recordAt (now (instructions .entry))) entry right) ⌝ }

@@ -2,7 +2,7 @@
 // root.
 ghost use mathlib.Core.Path.{_≡_};
 ghost use Prim.Native.Nat.{_<_, _^_};
-ghost use Rattle.program_chain.specs.Chains.{stepAt};
+ghost use Rattle.program_chain.specs.Chains.{stepAt, isRuleFor};
 ghost use Rattle.program_records.specs.RecordChains.{zeroRecord};
 ghost use Rattle.program_records.specs.WalkSteps.{searchesOn, onwardOf, ruleWhere, earlyRefusal, refusalBy};
 ghost use Rattle.program_records.specs.WalkSteps.{startOf, stepIndex, movedBy, putBy, FinishesWalk};
@@ -48,15 +48,28 @@ pub(crate) fn step(n: usize, x: Instruction, at: usize) -> Next
     }
 }
 
-// A search goes on: the walk is at a record, and that is not for the right character.
+// A record can be the rule of a right character: it is no redirect, and has that character.
+fn is_rule_for(x: Instruction, right: u8) -> bool
+    ensures { λ r. ⌜ r ≡ isRuleFor right x ⌝ }
+{
+    let operation = x.operation;
+    match operation {
+        Operation::EntrypointRedirect(_, _) => false,
+        _ => {
+            let c = x.right_char;
+            c.0 == right
+        }
+    }
+}
+
+// A search goes on: the walk is at a record, and that can't be the rule of the right character.
 pub(crate) fn searches_on(n: usize, x: Instruction, at: usize, right: u8) -> bool
     ensures { λ r. ⌜ r ≡ searchesOn n x at right ⌝ }
 {
     if n <= at {
         return false;
     }
-    let c = x.right_char;
-    c.0 != right
+    !is_rule_for(x, right)
 }
 
 // Where a step goes on.

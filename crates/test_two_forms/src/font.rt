@@ -1,5 +1,5 @@
 // A font of six instructions, as records and as numbers. With f = 102, i = 105, l = 108, x = 120 and ! = 33:
-//   0  i, LIG to 200                      3  f, a redirect: reached on a chain it acts by its bytes, LIG/> to 201
+//   0  i, LIG to 200                      3  f, a redirect: it is on the chain, and passed over
 //   1  !, kern index 0; skips the next    4  l, a kern; stops
 //   2  x, a kern                          5  !, a kern, which no chain reaches
 // f enters at 0, so that its chain is 0, 1, 3, 4; 200, which f i becomes, at 2; the left boundary at 4.
@@ -67,7 +67,8 @@ fn redirect(right: u8, target: u16) -> Instruction {
     )
 }
 
-// The program as records. The redirect's target, 1,481, is 256 times op byte 5 and 201.
+// The program as records. The redirect's target, 1,481, is 256 times op byte 5 and 201: as a rule it would be LIG/> to
+// 201.
 pub(crate) fn records() -> [Instruction; 6] {
     [
         lig(105, 200),

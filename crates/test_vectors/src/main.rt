@@ -3,7 +3,8 @@
 // here. Where the Rust panics, and the port refuses, both write `panic` and the number of the refusal, which the oracle
 // tells from the Rust's own panic. One line about a font has no answer of the Rust's: a pair of 2^102 ops, which the
 // Rust would write out one by one and the port refuses at once with 14. Behind it come the requests about font files,
-// F and G, whose answers are those of tools/files.
+// F and G, whose answers are those of tools/files, and last those of which a chain reaches a redirect: there the Rust
+// was asked on the chains without their redirects.
 ghost use mathlib.Core.Path.{_≡_};
 ghost use lib.ListN.{length};
 use lang::Written;

@@ -1,11 +1,14 @@
 //! The Rust asked: the published functions, with their panics caught and told apart by what they say. Where a panic
 //! is a refusal of docs/RULES.md, its number is the answer, and it is counted. The same is found in the same way by
-//! tools/oracle (its README, 'Which refusal a panic is').
+//! tools/oracle (its README, 'Which refusal a panic is'). Where a chain reaches a redirect, which the Rust takes for a
+//! rule, it is asked on the font with its chains written out without redirects, and this is counted too.
 
 use crate::answer::Answer;
+use crate::drawn::DESIGN;
 use crate::font::{Damage, Font};
-use crate::reading::scales;
+use crate::reading::{reaches_redirect, scales};
 use crate::tally::{self, Tally};
+use crate::written_out::written_out;
 use std::cell::RefCell;
 use std::panic::{catch_unwind, AssertUnwindSafe};
 use tfm::oracle as published;
@@ -72,8 +75,18 @@ fn lend_counted(font: &Font, passthrough: &[u16], tally: &mut Tally) -> publishe
 
 // ---- a compiled font
 
+/// The font to be compiled, as it is lent to the Rust.
+fn lend_passing(font: &Font, tally: &mut Tally) -> published::Font {
+    if !reaches_redirect(font) {
+        return lend(font, &[]);
+    }
+    tally.class(tally::WRITTEN_OUT);
+    lend(&written_out(font), &[])
+}
+
 pub fn compile(font: &Font, design: i32, tally: &mut Tally) -> (Answer, Option<CompiledProgram>) {
-    match caught(|| lend(font, &[]).compile(design)) {
+    let lent = lend_passing(font, tally);
+    match caught(|| lent.compile(design)) {
         Ok((compiled, numbers)) => (Answer::Is(numbers), Some(compiled)),
         Err(said) if is_unscaled(&said) => {
             tally.class(tally::SCALED);
@@ -187,6 +200,9 @@ pub fn pack_entrypoints(font: &Font, tally: &mut Tally) -> Answer {
 
 // ---- repair
 
+/// The kind of a warning of a loop.
+const LOOP: i64 = 10;
+
 /// The font with each kern that does not scale set to 0.
 fn scaled_alone(font: &Font) -> Font {
     let mut font = font.clone();
@@ -206,9 +222,53 @@ fn put_back(numbers: &mut [i64], font: &Font) {
     }
 }
 
+/// The entries that unpack, unpacked.
+fn unpacked(font: &Font) -> Vec<[i32; 2]> {
+    let mut lent = lend(font, &[]);
+    font.entries.iter().filter_map(|e| Some([e[0], lent.unpack_entrypoint(e[1]).ok()?[0] as i32])).collect()
+}
+
+/// The repaired font of an answer of repair, with its entries unpacked.
+fn repaired(font: &Font, numbers: &[i64]) -> Font {
+    let start = 2 + 4 * numbers[0] as usize;
+    let steps = numbers[start..].chunks_exact(4).take(font.instructions.len());
+    let instructions = steps.map(|s| [s[0] as i32, s[1] as i32, s[2] as i32, s[3] as i32]).collect();
+    Font { instructions, left_entry: numbers[1] as i32, entries: unpacked(font), ..font.clone() }
+}
+
+/// The loop list of a font of which a chain reaches a redirect. No loop hangs on a kern: those that do not scale are 0.
+fn loops(font: &Font) -> Result<Vec<i64>, String> {
+    let lent = lend(&scaled_alone(&written_out(font)), &[]);
+    let (_, numbers) = caught(|| lent.compile(DESIGN))?;
+    Ok(numbers[numbers.len() - 2 * numbers[2] as usize..].to_vec())
+}
+
+/// The answer of repair with other warnings of loops, which are the last.
+fn with_loops(numbers: &[i64], loops: &[i64]) -> Vec<i64> {
+    let (warnings, rest) = numbers[2..].split_at(4 * numbers[0] as usize);
+    let kept = warnings.chunks(4).filter(|w| w[0] != LOOP).count();
+    let mut out = vec![(kept + loops.len() / 2) as i64, numbers[1]];
+    out.extend(&warnings[..4 * kept]);
+    out.extend(loops.chunks(2).flat_map(|pair| [LOOP, pair[0], pair[1], 0]));
+    out.extend(rest);
+    out
+}
+
+/// Where a chain of the repaired font reaches a redirect, the warnings of loops are those that compiling it gives.
+pub fn validate_and_fix(font: &Font, damage: &Damage, tally: &mut Tally) -> Answer {
+    let answer = validate_and_fix_as_rust(font, damage, tally);
+    let Answer::Is(numbers) = answer else { return answer };
+    let repaired = repaired(font, &numbers);
+    if !reaches_redirect(&repaired) {
+        return Answer::Is(numbers);
+    }
+    tally.class(tally::REPAIR_WRITTEN_OUT);
+    plain(loops(&repaired).map(|loops| with_loops(&numbers, &loops)))
+}
+
 /// Repair finds loops at a dummy design size, and a kern that does not scale is no matter to it: after that panic the
 /// Rust is asked once more without these kerns.
-pub fn validate_and_fix(font: &Font, damage: &Damage, tally: &mut Tally) -> Answer {
+fn validate_and_fix_as_rust(font: &Font, damage: &Damage, tally: &mut Tally) -> Answer {
     let mut lent = lend_counted(font, &damage.passthrough, tally);
     match caught(|| lent.validate_and_fix(damage.smallest, &damage.existing)) {
         Ok(numbers) => return Answer::Is(numbers),

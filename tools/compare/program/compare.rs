@@ -174,15 +174,16 @@ impl Both {
 
 // ---- programs
 
-/// Repair, unless the repaired font has too many ops for the Rust, which compiles it.
+/// Repair, unless the repaired font has too many ops for the Rust, which compiles it, redirects and all.
 fn repair(
     font: &Font,
     damage: &Damage,
     lent: &mut Lent,
     tally: &mut Tally,
 ) -> Option<(Answer, Result<Vec<i64>, Stop>)> {
-    let reading = reading::read(&mended(font, damage));
-    if reading.ops > OPS {
+    let mended = mended(font, damage);
+    let reading = reading::read(&mended);
+    if reading.ops > OPS || reading::read_as_rust(&mended).ops > OPS {
         tally.class(tally::REPAIR_VAST);
         return None;
     }

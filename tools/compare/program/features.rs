@@ -1,7 +1,7 @@
 //! What a drawn font is like, for the counts at the end: a run is worth what its fonts have.
 
 use crate::font::Font;
-use crate::reading::{chain, lefts, rule, scales, Reading, Rule};
+use crate::reading::{self, chain, lefts, rule, scales, Reading, Rule};
 use crate::tally::Tally;
 use std::collections::HashSet;
 
@@ -23,23 +23,32 @@ pub fn count(font: &Font, reading: &Reading, tally: &mut Tally) {
     tally.feature("fonts with 50 entries or more", font.entries.len() >= 50);
     tally.feature("fonts with 100 instructions or more", font.instructions.len() >= 100);
     count_rules(font, reading, tally);
+    count_redirects(font, tally);
+}
+
+/// Counts what the chains pass over.
+fn count_redirects(font: &Font, tally: &mut Tally) {
+    let taken = reading::taken_for_rules(font);
+    tally.feature("fonts with a chain that reaches a redirect", reading::reaches_redirect(font));
+    tally.feature("fonts with a redirect that the Rust takes for a pair's rule", !taken.is_empty());
+    for i in taken {
+        tally.redirect_byte(font.instructions[i][3] / 256 % 256);
+    }
 }
 
 fn count_rules(font: &Font, reading: &Reading, tally: &mut Tally) {
     let rules = || reading.rules.values().map(|i| (*i, rule(font, *i)));
     let kern = |holds: fn(i32) -> bool| rules().any(|(_, r)| matches!(r, Rule::Kern(k) if holds(k)));
-    let redirect = |i: usize| font.instructions[i][2] == 3;
     let past = |i: usize| font.instructions[i][2] == 1 && font.instructions[i][3] as usize >= font.kerns.len();
     let strange = |r: Rule| matches!(r, Rule::Ligature(byte, _) if !STANDARD.contains(&byte));
-    tally.feature("fonts with a redirect as a pair's rule", rules().any(|(i, _)| redirect(i)));
     tally.feature("fonts with a kern index past the list as a rule", rules().any(|(i, _)| past(i)));
     tally.feature("fonts with a nonstandard op byte as a rule", rules().any(|(_, r)| strange(r)));
     tally.feature("fonts with a negative kern as a rule", kern(|k| k < 0));
     tally.feature("fonts with a kern as a rule that does not scale", kern(|k| !scales(k)));
     tally.feature("fonts with more than 1,000 ops", reading.ops > 1000);
-    for (i, r) in rules() {
-        if redirect(i) || matches!(r, Rule::Ligature(..)) {
-            tally.op_byte(font.instructions[i][3] / 256 % 256, redirect(i));
+    for (_, r) in rules() {
+        if let Rule::Ligature(byte, _) = r {
+            tally.op_byte(byte);
         }
     }
 }

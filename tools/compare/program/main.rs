@@ -21,6 +21,7 @@ mod shrink;
 mod table;
 mod tally;
 mod two_letters;
+mod written_out;
 
 use compare::{Mismatch, SPOILT};
 use font::{request, CALLS};

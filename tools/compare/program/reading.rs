@@ -1,6 +1,7 @@
 //! A reading of a font that is neither the Rust's nor the library's, from docs/RULES.md, R55 to R76: which pairs
 //! have a rule, which of them finish, and how many ops they have in all. It says how much room a call is lent and
 //! whether the Rust can be asked at all (a pair can have more ops than fit in memory), and what the fonts are like.
+//! A redirect on a chain is passed over; the Rust takes it for a rule, and so does `read_as_rust`.
 
 use crate::font::Font;
 use std::collections::HashMap;
@@ -57,18 +58,32 @@ pub fn lefts(font: &Font) -> Vec<Pair> {
     lefts
 }
 
-/// The rule of each pair: the first instruction on the chain for its right.
-fn rules(font: &Font) -> HashMap<Pair, usize> {
-    let mut rules = HashMap::new();
-    for (left, entry) in lefts(font) {
-        for i in chain(font, entry) {
-            rules.entry((left, font.instructions[i][1])).or_insert(i);
-        }
-    }
-    rules
+pub fn is_redirect(font: &Font, index: usize) -> bool {
+    font.instructions[index][2] == 3
 }
 
-/// What an instruction does as the rule of a pair. A redirect acts by its target's two bytes.
+/// Whether a chain reaches a redirect.
+pub fn reaches_redirect(font: &Font) -> bool {
+    lefts(font).iter().any(|(_, entry)| chain(font, *entry).iter().any(|i| is_redirect(font, *i)))
+}
+
+/// The first instruction for each right on the chain of each left, among those that count.
+fn firsts(font: &Font, counts: impl Fn(usize) -> bool) -> HashMap<Pair, usize> {
+    let mut firsts = HashMap::new();
+    for (left, entry) in lefts(font) {
+        for i in chain(font, entry).into_iter().filter(|i| counts(*i)) {
+            firsts.entry((left, font.instructions[i][1])).or_insert(i);
+        }
+    }
+    firsts
+}
+
+/// The redirects that the Rust takes for the rule of a pair.
+pub fn taken_for_rules(font: &Font) -> Vec<usize> {
+    firsts(font, |_| true).into_values().filter(|i| is_redirect(font, *i)).collect()
+}
+
+/// What an instruction does as the rule of a pair. In the Rust a redirect acts by its target's two bytes.
 pub fn rule(font: &Font, index: usize) -> Rule {
     let [_, _, kind, operand] = font.instructions[index];
     let by_index = |k: i32| Rule::Kern(font.kerns.get(k as usize).copied().unwrap_or(0));
@@ -136,8 +151,17 @@ impl Reader<'_> {
     }
 }
 
+/// The reading by the rule of each pair, the first instruction for its right that is no redirect.
 pub fn read(font: &Font) -> Reading {
-    let rules = rules(font);
+    read_by(font, firsts(font, |i| !is_redirect(font, i)))
+}
+
+/// The reading by what the Rust takes for the rule of each pair: a redirect too.
+pub fn read_as_rust(font: &Font) -> Reading {
+    read_by(font, firsts(font, |_| true))
+}
+
+fn read_by(font: &Font, rules: HashMap<Pair, usize>) -> Reading {
     let mut reader = Reader { font, rules: &rules, read: HashMap::new() };
     let mut ops: u128 = 0;
     let mut endless = 0;

@@ -6,7 +6,7 @@ use crate::font::CALLS;
 use std::collections::BTreeMap;
 
 /// Where what is due is not simply the Rust's answer.
-pub const CLASSES: [&str; 11] = [
+pub const CLASSES: [&str; 13] = [
     "13 due: the Rust panics in to_scaled (compiling)",
     "14 due: over the op table lent, by a count of the ops of our own; the Rust is not asked",
     "10 due: the Rust panics at the 256th redirect (packing)",
@@ -18,6 +18,8 @@ pub const CLASSES: [&str; 11] = [
     "the Rust alone was lent a passthrough index past the program; its answer is compared without it (unpacking, reach, repair)",
     "1 to 6 due: a number out of range or a list past its limit; the Rust is not asked",
     "7 due: a table that is not of the form; the Rust is not asked",
+    "a chain reaches a redirect: the Rust is asked on the font with its chains written out without redirects (compiling)",
+    "a chain reaches a redirect: the warnings of loops due are those of the repaired font, compiled so (repair)",
 ];
 pub const SCALED: usize = 0;
 pub const VAST: usize = 1;
@@ -30,6 +32,8 @@ pub const REPAIR_VAST: usize = 7;
 pub const PASSED_OUTSIDE: usize = 8;
 pub const OUT_OF_RANGE: usize = 9;
 pub const BROKEN: usize = 10;
+pub const WRITTEN_OUT: usize = 11;
+pub const REPAIR_WRITTEN_OUT: usize = 12;
 
 /// What the items of the words are.
 const ITEMS: [&str; 8] = [
@@ -51,7 +55,7 @@ pub struct Tally {
     features: BTreeMap<&'static str, u64>,
     warnings: BTreeMap<i64, u64>,
     items: [u64; ITEMS.len()],
-    /// A bit for each op byte that was seen as a rule, of a ligature and of a redirect.
+    /// A bit for each op byte that was seen in a ligature that is a rule, and in a redirect that the Rust takes for one.
     lig_bytes: u128,
     redirect_bytes: [u128; 2],
 }
@@ -73,12 +77,14 @@ impl Tally {
         *self.features.entry(name).or_default() += holds as u64;
     }
 
-    /// An op byte that is the rule of a pair, of a ligature or of a redirect.
-    pub fn op_byte(&mut self, byte: i32, redirect: bool) {
-        match redirect {
-            true => self.redirect_bytes[byte as usize / 128] |= 1 << (byte % 128),
-            false => self.lig_bytes |= 1 << byte,
-        }
+    /// The op byte of a ligature that is the rule of a pair.
+    pub fn op_byte(&mut self, byte: i32) {
+        self.lig_bytes |= 1 << byte;
+    }
+
+    /// The first byte of the target of a redirect that the Rust takes for the rule of a pair.
+    pub fn redirect_byte(&mut self, byte: i32) {
+        self.redirect_bytes[byte as usize / 128] |= 1 << (byte % 128);
     }
 
     /// The kinds of the warnings of an answer of repair.
@@ -148,7 +154,7 @@ impl Tally {
         }
         let redirects: u32 = self.redirect_bytes.iter().map(|bits| bits.count_ones()).sum();
         println!("{:>14}  op bytes of 128 met as a pair's rule, in a ligature", self.lig_bytes.count_ones());
-        println!("{redirects:>14}  op bytes of 256 met as a pair's rule, in a redirect");
+        println!("{redirects:>14}  op bytes of 256 met in a redirect that the Rust takes for a pair's rule");
     }
 
     fn refusals(&self, call: usize) -> String {

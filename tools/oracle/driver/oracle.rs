@@ -12,10 +12,12 @@ use std::io::{BufRead, Write};
 use std::panic::{catch_unwind, AssertUnwindSafe};
 use std::sync::Mutex;
 
-/// The numbers of one request. Every reading fails on a number out of range.
+/// The numbers of one request. Every reading fails on a number out of range. The request is marked once a font is read
+/// of which a chain that is compiled reaches a redirect.
 struct Numbers {
     list: Vec<i64>,
     next: usize,
+    marked: bool,
 }
 
 type Read<T> = Result<T, String>;
@@ -89,6 +91,12 @@ impl Numbers {
             entries,
         })
     }
+    /// A font to be compiled: where a chain reaches a redirect, the request is marked, and the chains are written out.
+    fn compiled_font(&mut self) -> Read<Font> {
+        let font = self.font()?;
+        self.marked = font.reaches_redirect();
+        Ok(if self.marked { font.written_out() } else { font })
+    }
     fn passthrough(&mut self) -> Read<HashSet<u16>> {
         Ok(self.many(Self::half)?.into_iter().collect())
     }
@@ -107,24 +115,71 @@ impl Numbers {
             .map(|(c, e)| u8::try_from(*e).map(|e| (*c, e)))
             .collect::<Result<_, _>>()
             .map_err(|_| "an entry of a request X is over 255")?;
-        Ok(Damaged {
+        let damaged = Damaged {
             smallest,
             existing,
             entries,
             font,
-        })
+        };
+        // Repair leaves it as it is which instructions a chain has, and which of them are redirects.
+        self.marked = damaged.unpacked().reaches_redirect();
+        Ok(damaged)
     }
 }
 
+#[derive(Clone)]
 struct Font {
     program: Program,
     kerns: Vec<FixWord>,
     entries: Vec<(Char, u16)>,
 }
 
+fn is_redirect(instruction: &Instruction) -> bool {
+    matches!(instruction.operation, Operation::EntrypointRedirect(..))
+}
+
 impl Font {
     fn map(&self) -> HashMap<Char, u16> {
         self.entries.iter().copied().collect()
+    }
+    /// Whether the chain of an entry, or of the left-boundary entry, reaches a redirect. There the port passes it over,
+    /// as TeX does, and the Rust acts on it.
+    fn reaches_redirect(&self) -> bool {
+        let left = self.program.left_boundary_char_entrypoint;
+        let mut starts = self.map().into_values().chain(left);
+        starts.any(|e| self.program.instructions_for_entrypoint(e).any(|(_, i)| is_redirect(i)))
+    }
+    /// The same font with the chain of each left written out without its redirects, one after the other. A left that
+    /// has nothing else on its chain has no entry.
+    fn written_out(&self) -> Font {
+        let mut instructions = vec![];
+        let mut copied = |entry: u16| self.copy_chain(entry, &mut instructions);
+        let entries = self.entries.iter().filter_map(|(c, e)| Some((*c, copied(*e)?))).collect();
+        let left_boundary_char_entrypoint = self.program.left_boundary_char_entrypoint.and_then(copied);
+        Font {
+            program: Program {
+                instructions,
+                left_boundary_char_entrypoint,
+                ..self.program.clone()
+            },
+            kerns: self.kerns.clone(),
+            entries,
+        }
+    }
+    /// Puts the chain of an entry, without its redirects, behind the instructions, each leading to the next; its entry
+    /// there.
+    fn copy_chain(&self, entry: u16, instructions: &mut Vec<Instruction>) -> Option<u16> {
+        let start = instructions.len();
+        for (_, instruction) in self.program.instructions_for_entrypoint(entry) {
+            if !is_redirect(instruction) {
+                instructions.push(Instruction {
+                    next_instruction: Some(0),
+                    ..instruction.clone()
+                });
+            }
+        }
+        instructions[start..].last_mut()?.next_instruction = None;
+        Some(u16::try_from(start).expect("the chains written out are too long"))
     }
     /// The same font with its entries above 511 lowered to 512, 513 and so on in their order, and without
     /// the left-boundary entry: it packs with as many redirects, and no sum comes near 65536.
@@ -162,16 +217,21 @@ fn scales(kern: FixWord) -> bool {
     matches!(kern.0.to_be_bytes()[0], 0 | 255)
 }
 
-impl Damaged {
+impl Font {
+    /// The pairs of the loop list. No loop hangs on a kern, so that those that do not scale are 0 here.
+    fn loops(mut self) -> Vec<(Option<Char>, Char)> {
+        self.without_odd_kerns();
+        self.compile(FixWord::ONE * 10).1
+    }
     /// Sets each kern that does not scale to 0. Those of the program are handed back.
     fn without_odd_kerns(&mut self) -> Vec<Kept> {
-        for kern in &mut self.font.kerns {
+        for kern in &mut self.kerns {
             if !scales(*kern) {
                 *kern = FixWord::ZERO;
             }
         }
         let mut kept = vec![];
-        for (i, instruction) in self.font.program.instructions.iter_mut().enumerate() {
+        for (i, instruction) in self.program.instructions.iter_mut().enumerate() {
             if let Operation::Kern(kern) = &mut instruction.operation {
                 if !scales(*kern) {
                     kept.push((i, *kern));
@@ -181,25 +241,51 @@ impl Damaged {
         }
         kept
     }
-    /// The answer to X, with the kept kerns back where the instruction is still the same kern.
-    fn repair(mut self, kept: &[Kept]) -> Answer {
+}
+
+impl Damaged {
+    /// The font with the entries that unpack, unpacked.
+    fn unpacked(&self) -> Font {
+        let mut program = self.font.program.clone();
+        let unpacked = |(c, e): &(Char, u8)| Some((*c, program.unpack_entrypoint(*e).ok()?));
+        Font {
+            entries: self.entries.iter().filter_map(unpacked).collect(),
+            ..self.font.clone()
+        }
+    }
+    /// The warnings of the Rust, which leaves the program repaired. Where a chain of that program reaches a redirect,
+    /// the warnings of loops are those of the program with its chains written out.
+    fn warnings(&mut self) -> Vec<[i64; 4]> {
         let existing = self.existing;
-        let program = &mut self.font.program;
-        let warnings = program.validate_and_fix(
+        let unpacked = self.unpacked().entries;
+        let said = self.font.program.validate_and_fix(
             self.smallest,
-            self.entries.into_iter(),
+            self.entries.iter().copied(),
             |c: Char| existing[c.0 as usize / 32] >> (c.0 % 32) & 1 == 1,
             &self.font.kerns,
         );
+        let mut warnings: Vec<[i64; 4]> = said.iter().map(warning).collect();
+        let repaired = Font {
+            entries: unpacked,
+            ..self.font.clone()
+        };
+        if repaired.reaches_redirect() {
+            warnings.retain(|w| w[0] != LOOP);
+            warnings.extend(repaired.written_out().loops().into_iter().map(loop_warning));
+        }
+        warnings
+    }
+    /// The answer to X, with the kept kerns back where the instruction is still the same kern.
+    fn repair(mut self, kept: &[Kept]) -> Answer {
+        let warnings = self.warnings();
+        let program = &mut self.font.program;
         for (i, kern) in kept {
             if program.instructions[*i].operation == Operation::Kern(FixWord::ZERO) {
                 program.instructions[*i].operation = Operation::Kern(*kern);
             }
         }
         let mut out = vec![warnings.len() as i64];
-        for w in &warnings {
-            out.extend(warning(w));
-        }
+        out.extend(warnings.into_iter().flatten());
         put_instructions(&mut out, &program.instructions);
         out.push(program.left_boundary_char_entrypoint.map_or(-1, i64::from));
         put_set(&mut out, &program.passthrough);
@@ -269,6 +355,13 @@ fn put_pairs(out: &mut Answer, pairs: &[(Option<Char>, Char)]) {
     }
 }
 
+/// The kind of a warning of a loop.
+const LOOP: i64 = 10;
+
+fn loop_warning((left, right): (Option<Char>, Char)) -> [i64; 4] {
+    [LOOP, left.map_or(-1, |c| c.0 as i64), right.0 as i64, 0]
+}
+
 fn warning(w: &ValidationWarning) -> [i64; 4] {
     use ValidationWarning::*;
     match w {
@@ -308,10 +401,7 @@ fn warning(w: &ValidationWarning) -> [i64; 4] {
         KernIndexTooBig(i) => [7, *i as i64, 0, 0],
         InvalidLigTag(i) => [8, *i as i64, 0, 0],
         EntrypointRedirectTooBig(i) => [9, *i as i64, 0, 0],
-        InfiniteLoop(error) => {
-            let (left, right) = error.starting_pair;
-            [10, left.map_or(-1, |c| c.0 as i64), right.0 as i64, 0]
-        }
+        InfiniteLoop(error) => loop_warning(error.starting_pair),
     }
 }
 
@@ -435,7 +525,7 @@ fn read(letter: &str, n: &mut Numbers) -> Read<Call> {
         }
         "C" => {
             let design = n.word()?;
-            let font = n.font()?;
+            let font = n.compiled_font()?;
             Box::new(move || {
                 let (compiled, loops) = font.compile(design);
                 let rows = oracle_table::rows(&compiled);
@@ -459,7 +549,7 @@ fn read(letter: &str, n: &mut Numbers) -> Read<Call> {
             let right_boundary_override = n.optional_byte()?.map(char::from);
             let word = n.many(Numbers::byte)?;
             let design = n.word()?;
-            let font = n.font()?;
+            let font = n.compiled_font()?;
             Box::new(move || {
                 let (compiled, _) = font.compile(design);
                 let mut iter = compiled.run_with_options(
@@ -509,7 +599,7 @@ fn read(letter: &str, n: &mut Numbers) -> Read<Call> {
         }
         "A" => {
             let design = n.word()?;
-            let font = n.font()?;
+            let font = n.compiled_font()?;
             Box::new(move || {
                 let (compiled, _) = font.compile(design);
                 let mut out = vec![];
@@ -535,16 +625,23 @@ fn split(line: &str) -> Read<(&str, Numbers)> {
                 .map_err(|_| format!("not a number: {w}"))
         })
         .collect::<Read<Vec<i64>>>()?;
-    Ok((letter, Numbers { list, next: 0 }))
+    let numbers = Numbers {
+        list,
+        next: 0,
+        marked: false,
+    };
+    Ok((letter, numbers))
 }
 
-fn parse(line: &str) -> Read<(&str, Call)> {
+/// The letter that the answer begins with, a small one where the request is marked, and the call.
+fn parse(line: &str) -> Read<(String, Call)> {
     let (letter, mut numbers) = split(line)?;
     let call = read(letter, &mut numbers)?;
     if numbers.next != numbers.list.len() {
         return Err("the line is too long".into());
     }
-    Ok((letter, call))
+    let first = if numbers.marked { letter.to_lowercase() } else { letter.to_string() };
+    Ok((first, call))
 }
 
 /// What the last panic said.
@@ -600,7 +697,7 @@ fn repaired(line: &str) -> Option<Answer> {
         return None;
     }
     let mut damaged = numbers.damaged().ok()?;
-    let kept = damaged.without_odd_kerns();
+    let kept = damaged.font.without_odd_kerns();
     catch_unwind(AssertUnwindSafe(|| damaged.repair(&kept))).ok()
 }
 
@@ -616,7 +713,7 @@ pub fn main() -> i32 {
                 return 2;
             }
         };
-        let (letter, call) = match parse(&line) {
+        let (mut text, call) = match parse(&line) {
             Ok(request) => request,
             Err(error) => {
                 let _ = out.flush();
@@ -624,7 +721,6 @@ pub fn main() -> i32 {
                 return 2;
             }
         };
-        let mut text = letter.to_string();
         match catch_unwind(AssertUnwindSafe(call)).ok().or_else(|| repaired(&line)) {
             Some(numbers) => {
                 for number in numbers {

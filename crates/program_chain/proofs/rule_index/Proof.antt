@@ -1,12 +1,12 @@
 -- `program_chain::rule_index` meets its contract. The loop's invariant: the rule on the chain from where the walk is is the rule on the whole chain.
 -- The measure is what is left of the instructions, since a step moves ahead.
 -- Assumes nothing.
-use mathlib.Core.Path.{_≡_, refl, sym, ap, _∙_}
-use Prim.Native.Nat.{ℕ, _-_, _%_}
+use mathlib.Core.Path.{_≡_, refl, sym, _∙_}
+use Prim.Native.Nat.{_-_}
 use native.Mathlib.Omega.{arith}
 use borrow.Author.Needs.{needs}
 use denote.Ref.{now}
-use Rattle.lang.specs.Records.{count, rightOf, instructionAt}
+use Rattle.lang.specs.Records.{count, instructionAt}
 use Rattle.program_chain.specs.Chains.{firstFor, chainOf, ruleIndexOf}
 use Rattle.program_chain.proofs.Walks.{Stepped, step-on, step-end, rule-here, rule-later, rule-nowhere}
 use Rattle.program_chain.proofs.rule_index.Statement.{statement}
@@ -40,14 +40,14 @@ returns c =
     rule-nowhere _ _ (e .before .args .right) _ (e .loop .at) (step-end _ _ _ (sym (c .before .before .next-instruction .ensures) ∙ c .enum-told .given .1))
     (e .loop .inv)
 
-field-at-requires : tie.Need-field-at-requires Inv-loop μ-loop
-field-at-requires c κs = search needs
+is-rule-for-requires : tie.Need-is-rule-for-requires Inv-loop μ-loop
+is-rule-for-requires c κs = search needs
 
 returns-2 : tie.Need-returns-2 Inv-loop μ-loop
 returns-2 c =
     let e = c .before .before .before .before .before .before in
     rule-here _ _ (e .before .args .right) _ _ _ _ (step (c .before .before)) (e .loop .inv)
-    (ap (λ (w : ℕ). w % 256) (sym (c .before .field-at .ensures .is)) ∙ c .if1 .taken)
+    (sym (c .before .is-rule-for .ensures) ∙ c .if1 .taken)
 
 loop-less : tie.Need-loop-less Inv-loop μ-loop
 loop-less c = omega (arith, step (c .before .before) .inside, step (c .before .before) .ahead)
@@ -56,8 +56,7 @@ loop-again : tie.Need-loop-again Inv-loop μ-loop
 loop-again c =
     let e = c .before .before .before .before .before .before in
     rule-later _ _ (e .before .args .right) _ _ _ _ (step (c .before .before)) (e .loop .inv)
-    (λ (h : rightOf (now (e .before .args .instructions)) (c .before .before .before .i .given .0 .0) ≡ e .before .args .right). c .if1 .left
-    (ap (λ (w : ℕ). w % 256) (c .before .field-at .ensures .is) ∙ h))
+    (sym (c .before .is-rule-for .ensures) ∙ c .if1 .left)
 
 pub rule-index-spec : {M : Type 1} → statement M
 rule-index-spec =
@@ -70,7 +69,7 @@ rule-index-spec =
     enum-known-i
     enum-told
     returns
-    field-at-requires
+    is-rule-for-requires
     returns-2
     loop-less
     loop-again)
