@@ -2,7 +2,8 @@
    house ligature more. 'f' and 'i' become the ligature 200, a kern stands between 'f' and '!', and a 'b' that begins a word becomes the ligature 201 with the
    left boundary. Its entries are not packed, and it needs no repair.
 
-   captions < LINES     each line is a word, its bytes the characters; writes its items, one a line, and an empty line after them.
+   captions < LINES     each line is a word, its bytes the characters; writes its items, one a line, and an empty line after them. Last comes 'f!', in the
+                        font magnified by 1,200 thousandths.
                         Ends with 0, or with 2 where the font or a word is refused, a loop is found or a line is too long */
 #include "ligkern.h"
 
@@ -31,11 +32,12 @@ static uint64_t counts[3];
 /* Room for eight items a letter, which is more than this font gives. A host with other fonts works it out, or lends more after a 15 (c/ligkern.h, LISTS). */
 static int32_t items[6 * 8 * LETTERS];
 
-/* Compiles the font. Returns 0 where it is taken and every pair of it ends. */
-static int compile(void)
+/* Compiles the font, by a magnification in thousandths; 0 is its design size. Returns 0 where it is taken and every pair of it ends. */
+static int compile(int32_t magnification)
 {
     uint32_t number = ligkern_compile(instructions, LENGTH(instructions), kerns, LENGTH(kerns), entries, LENGTH(entries), boundary, left_entry, design_size,
-                                      pairs, LENGTH(pairs), ops, LENGTH(ops), loops, LENGTH(loops), work, LENGTH(work), counts, LENGTH(counts));
+                                      0, magnification, pairs, LENGTH(pairs), ops, LENGTH(ops), loops, LENGTH(loops), work, LENGTH(work), counts,
+                                      LENGTH(counts));
     if (number != 0) {
         fprintf(stderr, "the font is refused: %" PRIu32 "\n", number);
         return 2;
@@ -84,7 +86,7 @@ static int set(const char *word, size_t n)
 int main(void)
 {
     char line[LETTERS + 2];
-    int ended = compile();
+    int ended = compile(0);
     while (ended == 0 && fgets(line, sizeof line, stdin) != NULL) {
         size_t n = strcspn(line, "\n");
         if (n > LETTERS) {
@@ -92,6 +94,12 @@ int main(void)
             return 2;
         }
         ended = set(line, n);
+    }
+    if (ended == 0) {
+        ended = compile(1200);
+    }
+    if (ended == 0) {
+        ended = set("f!", 2);
     }
     return fflush(stdout) != 0 || ferror(stdout) ? 2 : ended;
 }

@@ -42,6 +42,8 @@
 
    Units. A kern is a part of the design size, times 1,048,576: 131,072 is an eighth. The design size is in points, times 1,048,576: 10,485,760 is ten
    points. A scaled kern, as ops and items have it, is in points, times 65,536: an eighth of ten points is 81,920.
+   A font is set at another size by a size in points, times 65,536, or by a magnification in thousandths of the design size. Lend 0 for the one that is not
+   asked for, and 0 for both at the design size. A size of 786,432 is twelve points, and so is a magnification of 1,200 of ten points.
 
    An entry is two numbers: a character, and where its chain starts. No character has two. The left entry is where the left boundary's chain starts.
      unpacked  0 to 65,535, the first instruction of the chain. All calls but two take these, and the left entry is always such a one.
@@ -80,6 +82,7 @@
      17  a font file is none: a length is above 32,767, the lengths do not fit together, or it has not exactly 4 * lf bytes
      18  a font can't be written into a file: it has a boundary character without an instruction, a redirect, a next above 127, or a kern index, an entry or
          a left entry past its list; or an entry for a character that the file has not; or the file would have more than 32,767 words
+     19  a size, asked for or made by magnifying, is not 1 to 134,217,727, a magnification is not 1 to 32,768, or both are asked for. 15 comes before it
    Zeros stand after what is written, and a refusal leaves zeros in every list that the call writes. A step alone leaves the rest of its state list as it is,
    and a refused step all of it.
 
@@ -113,8 +116,8 @@
      ligkern_step                               761     ligkern_pack_kerns                      88
      ligkern_has_replacement                     40     ligkern_unpack_kerns               131,176
      ligkern_all_pairs_with_replacements         72     ligkern_validate_and_fix           595,312
-     ligkern_table_is_seven_bit_safe            104     ligkern_replace_lig_kern_program 1,318,296
-     ligkern_deserialize                        412
+     ligkern_table_is_seven_bit_safe            104     ligkern_replace_lig_kern_program 1,318,312
+     ligkern_deserialize                        412     ligkern_to_scaled                        56
    Give a thread 16 KiB more, and what the host itself takes. Repair crashes in a thread of 512 KiB; 640 KiB are enough. Writing a font file takes about
    1.3 MB, for the packed program and the shared kerns: it crashes in a thread of 1 MiB, and 1,536 KiB are enough. */
 #ifndef LIGKERN_H
@@ -145,10 +148,15 @@ extern "C" {
      ops      two numbers each: 0 character, 1 ligature, 2 scaled kern; then the code, or the kern
      loops    left and right of one pair of each cycle that never ends
      counts   three numbers: pairs, ops, loops
-   and leaves work all zeros. Without loops every word is proved to be set as the font's instructions read one by one. 1 to 5, 12, 13, 14, 15. */
+   and leaves work all zeros. Kerns are scaled at the design size, or where one of them is not 0 at the size or by the magnification. Without loops every
+   word is proved to be set as the font's instructions read one by one. 1 to 5, 12, 13, 14, 15, 19. */
 uint32_t ligkern_compile(const int32_t *instructions, size_t instructions_length, const int32_t *kerns, size_t kerns_length, const int32_t *entries,
-                         size_t entries_length, int32_t boundary, int32_t left_entry, int32_t design_size, int32_t *pairs, size_t pairs_length, int32_t *ops,
-                         size_t ops_length, int32_t *loops, size_t loops_length, uint32_t *work, size_t work_length, uint64_t *counts, size_t counts_length);
+                         size_t entries_length, int32_t boundary, int32_t left_entry, int32_t design_size, int32_t size, int32_t magnification, int32_t *pairs,
+                         size_t pairs_length, int32_t *ops, size_t ops_length, int32_t *loops, size_t loops_length, uint32_t *work, size_t work_length,
+                         uint64_t *counts, size_t counts_length);
+
+/* One kern in scaled points, as compiling scales it. Writes one number. 5, 13, 15, 19. */
+uint32_t ligkern_to_scaled(int32_t kern, int32_t design_size, int32_t size, int32_t magnification, int32_t *scaled, size_t scaled_length);
 
 /* Sets a word whole. Lend the pairs and the ops that were written, without the zeros after them: 6 * counts[0] and 2 * counts[1] numbers. Lend the boundary
    character of the font; the override, at the word's end, takes its place. Writes six numbers an item; count: how many items. 4, 6, 7, 15.

@@ -18,7 +18,7 @@ static uint32_t word[LETTERS + 1], work[16 * PAIRS], chain[INSTRUCTIONS], number
 static uint64_t counts[3], count[1], values[3], state[9], state_before[9], numbers[LIGKERN_INDEX], existing[4];
 static uint8_t passthrough[INSTRUCTIONS], through[INSTRUCTIONS], text[LIGCOLS_TEXT + 2], reply[LIGCOLS_REPLY];
 static uint8_t file[4 * LIGKERN_MOST_WORDS], new_file[4 * LIGKERN_MOST_WORDS];
-static int32_t edges[2];
+static int32_t edges[2], size, magnification, scaled[1];
 static bool without_left;
 
 /* How many elements of each are lent. */
@@ -27,7 +27,7 @@ static struct {
     size_t pairs, ops, word, numbers;                                      /* read: a table, a word, an index */
     size_t pair_room, op_room, loops, work, counts, items, count, values;  /* written */
     size_t state, item, out, entries_out, through, chain, warnings, reply; /* written */
-    size_t edges, new_file;                                                /* written */
+    size_t edges, new_file, scaled;                                        /* written */
 } n;
 
 /* A function that calls `callee` with the arguments of a call, and puts its number into `number`. */
@@ -38,8 +38,9 @@ static struct {
 #define CAPTION TABLE, boundary, word, n.word, without_left, override
 #define VALUES values, n.values
 
-CALL(ligkern_compile, PROGRAM, kerns, n.kerns, entries, n.entries, boundary, left_entry, design_size, pairs, n.pair_room, ops, n.op_room, loops, n.loops,
-     work, n.work, counts, n.counts)
+CALL(ligkern_compile, PROGRAM, kerns, n.kerns, entries, n.entries, boundary, left_entry, design_size, size, magnification, pairs, n.pair_room, ops,
+     n.op_room, loops, n.loops, work, n.work, counts, n.counts)
+CALL(ligkern_to_scaled, kerns[0], design_size, size, magnification, scaled, n.scaled)
 CALL(ligkern_set_word, CAPTION, items, n.items, count, n.count)
 CALL(ligkern_fill_index, pairs, n.pairs, numbers, n.numbers)
 CALL(ligkern_set_word_indexed, numbers, n.numbers, CAPTION, items, n.items, count, n.count)
@@ -62,7 +63,7 @@ CALL(ligkern_replace_lig_kern_program, file, n.file, PROGRAM, kerns, n.kerns, en
 CALL(ligcols, text, n.text, reply, n.reply)
 
 enum call {
-    COMPILE, SET, FILL, INDEXED, BEGIN, STEP,                                        /* captions */
+    COMPILE, SCALE, SET, FILL, INDEXED, BEGIN, STEP,                                 /* captions */
     HAS, LISTED, TABLE_SAFE,                                                         /* questions about a table */
     PROGRAM_SAFE, CHAIN, UNPACK, REACH, PACK, PACK_KERNS, UNPACK_KERNS, REPAIR,      /* programs */
     READ_FILE, WRITE_FILE, TEXT                                                      /* font files; a text */
@@ -77,7 +78,8 @@ static struct {
     size_t most;
 } calls[] = {
 #define ROW(place, name, ...) [place] = {#name, call_##name, (void (*)(void))name, {__VA_ARGS__}, 0, 0}
-    ROW(COMPILE, ligkern_compile, 1, 2, 3, 4, 5, 12, 13, 14, 15),
+    ROW(COMPILE, ligkern_compile, 1, 2, 3, 4, 5, 12, 13, 14, 15, 19),
+    ROW(SCALE, ligkern_to_scaled, 5, 13, 15, 19),
     ROW(SET, ligkern_set_word, 4, 6, 7, 15),
     ROW(FILL, ligkern_fill_index, 7, 15),
     ROW(INDEXED, ligkern_set_word_indexed, 4, 6, 7, 15),
@@ -186,6 +188,8 @@ static void lend_all(void)
     n.reply = sizeof reply;
     n.edges = 2;
     n.new_file = sizeof new_file;
+    n.scaled = 1;
+    size = magnification = 0;
     entry = 0;
     replacement = 97;
     override = -1;
@@ -346,7 +350,11 @@ static void take_font(void)
     take_file();
     write_text();
     take(TEXT);
+    size = below(2) ? 0 : (int32_t)(1 + below(134217727));
+    magnification = size || below(2) ? 0 : (int32_t)(1 + below(32768));
+    take(SCALE);
     if (take(COMPILE) == 0) take_table();
+    size = magnification = 0;
 }
 
 /* ---- a call for each number */
@@ -414,6 +422,13 @@ static void refuse_programs(void)
     with_number(kerns, 16777216, COMPILE, 13);
     with_length(&n.op_room, 0, COMPILE, 14);
     with_length(&n.loops, 0, COMPILE, 15);
+    with_number(&size, 134217728, COMPILE, 19);
+    with_number(&magnification, 32769, COMPILE, 19);
+    with_number(&design_size, -1, SCALE, 5);
+    with_number(kerns, 16777216, SCALE, 13);
+    with_length(&n.scaled, 0, SCALE, 15);
+    with_number(&size, -1, SCALE, 19);
+    with_number(&magnification, 32769, SCALE, 19);
     with_length(&n.chain, 0, CHAIN, 15);
     with_length(&n.through, 0, UNPACK, 15);
     static const enum call written[] = {REACH, PACK, PACK_KERNS, UNPACK_KERNS, REPAIR};

@@ -1,14 +1,14 @@
 /* The library asked from outside: requests on standard input, one answer a line.
 
    A request is a letter and decimal numbers, with any white space between them.
-     F boundary left_entry design_size, counts of instructions, kerns and entries, then their numbers (four, one and two each)
+     F boundary left_entry design_size size magnification, counts of instructions, kerns and entries, then their numbers (four, one and two each)
        compiles a font and keeps it. Answer: F, the number of the refusal or 0, counts of pairs, ops and loops, then the loops, two numbers each.
      W 1 or 0 for the left boundary, 1 or 0 for the right one, count of letters, then the letters
        sets a word with the font kept. Answer: W, the number of the refusal or 0, count of items, then the items, six numbers each.
      D count of bytes, then the bytes
        reads a font file. Answer: D, the number of the refusal or 0, boundary, left_entry, counts of instructions, kerns and entries, then their numbers,
        and then each entry unpacked, or -1.
-     R the numbers of F, of which the design size is not looked at, then those of D
+     R the numbers of F, of which the three sizes are not looked at, then those of D
        writes the font into the file, its entries unpacked. Answer: R, the number of the refusal or 0, count of bytes, then the bytes.
    A list that proves too short is lent again at twice its length, up to OPS_MOST ops or ITEMS_MOST items; past these the refusal stands. */
 #include <inttypes.h>
@@ -20,7 +20,7 @@
 enum { OPS_MOST = 1 << 22, ITEMS_MOST = 1 << 12 };
 
 struct program {
-    int32_t boundary, left_entry, design_size, *instructions, *kerns, *entries;
+    int32_t boundary, left_entry, design_size, size, magnification, *instructions, *kerns, *entries;
     size_t instruction_count, kern_count, entry_count;
 };
 
@@ -71,6 +71,8 @@ static struct program read_program(void) {
     p.boundary = read_number();
     p.left_entry = read_number();
     p.design_size = read_number();
+    p.size = read_number();
+    p.magnification = read_number();
     p.instruction_count = (size_t)read_number();
     p.kern_count = (size_t)read_number();
     p.entry_count = (size_t)read_number();
@@ -109,8 +111,8 @@ static uint32_t compile_into(const struct program *p, size_t ops_most, struct ta
     t->ops = lend(2 * ops_most, sizeof *t->ops);
     t->loops = lend(2 * most, sizeof *t->loops);
     uint32_t r = ligkern_compile(p->instructions, 4 * p->instruction_count, p->kerns, p->kern_count, p->entries, 2 * p->entry_count, p->boundary,
-                                 p->left_entry, p->design_size, t->pairs, 6 * most, t->ops, 2 * ops_most, t->loops, 2 * most, work, 16 * most,
-                                 counts, 3);
+                                 p->left_entry, p->design_size, p->size, p->magnification, t->pairs, 6 * most, t->ops, 2 * ops_most, t->loops,
+                                 2 * most, work, 16 * most, counts, 3);
     free(work);
     t->pair_count = (size_t)counts[0];
     t->op_count = (size_t)counts[1];

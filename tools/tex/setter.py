@@ -21,7 +21,8 @@ def numbers(values):
 
 
 def font_request(font):
-    head = [font.boundary, font.left_entry, font.design_size, len(font.instructions), len(font.kerns), len(font.entries)]
+    head = [font.boundary, font.left_entry, font.design_size, font.size, font.magnification]
+    head += [len(font.instructions), len(font.kerns), len(font.entries)]
     body = [n for instruction in font.instructions for n in instruction] + font.kerns + [n for pair in sorted(font.entries.items()) for n in pair]
     return 'F ' + numbers(head + body)
 

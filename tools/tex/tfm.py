@@ -25,6 +25,8 @@ class Font:
     left_entry: int
     design_size: int
     characters: list
+    size: int = 0
+    magnification: int = 0
 
     def start(self, left):
         """The entry of a left, the boundary being -1, or None."""

@@ -2,7 +2,9 @@
 
 Both answers are compared as the lines in which TeX shows a box. Codes, lengths and bars can be read back from such a line, but for one case: a
 ligature made of nothing shows one bar for either boundary. It is counted; where one boundary alone is read, the bar must be that one's."""
-from dataclasses import dataclass
+import os
+import zlib
+from dataclasses import dataclass, replace
 
 import boxes
 import setter
@@ -30,12 +32,31 @@ class Difference:
         return (len(self.subject.font.instructions), len(self.word.letters) if self.word else 0)
 
 
+def at_size(font, name, counts):
+    """A fifth of the fonts is loaded at a size, and a fifth scaled, by their names; what TeX would not take is left as it is."""
+    chance, z = zlib.crc32(name.encode()), font.design_size // 16
+    size, magnification = 1 + chance // 5 % (2 * z + 1), 1 + chance // 5 % 2000
+    if chance % 5 == 0 and size < 2 ** 27:
+        counts['fonts at a size'] += 1
+        return replace(font, size=size)
+    if chance % 5 == 1 and 0 < z * magnification // 1000 < 2 ** 27:
+        counts['fonts scaled'] += 1
+        return replace(font, magnification=magnification)
+    return font
+
+
+def loaded(subject):
+    """What TeX loads: the font's name, and its size."""
+    font = subject.font
+    return subject.name + (f' at {font.size}sp' if font.size else f' scaled {font.magnification}' if font.magnification else '')
+
+
 def read(path, counts):
     """The font of a file. Those of which a chain meets a redirect are counted."""
     font = tfm.read(path)
     counts['fonts with a redirect on a chain'] += font.has_redirect_on_chain()
     counts['fonts with a redirect on a chain, for a right of a pair'] += font.has_redirect_for_a_right()
-    return font
+    return at_size(font, os.path.basename(path), counts)
 
 
 def font_difference(subject, answer, shown):
@@ -90,7 +111,7 @@ def ask_both(driver, folder, subjects, counts):
     answers = setter.ask(driver, [(subject.font, subject.words) for subject in subjects])
     pairs = [(s, a) for s, a in zip(subjects, answers) if fits(a, counts)]
     drop_long_words([s for s, _ in pairs], [a for _, a in pairs], counts)
-    asked = [(s.name, [] if a.loops else s.words) for s, a in pairs]
+    asked = [(loaded(s), [] if a.loops else s.words) for s, a in pairs]
     return [(s, a, t) for (s, a), t in zip(pairs, boxes.show(folder, asked))]
 
 

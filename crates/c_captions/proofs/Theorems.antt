@@ -10,10 +10,10 @@ use lib.IntN.{ℤ, pos}
 use lib.ListN.{length}
 use Rattle.lang.specs.Checks.{orElse}
 use Rattle.lang.specs.Answers.{roomRefusal, listOf}
-use Rattle.lang.proofs.Refusals.{room-is, orElse-none, taken-reply}
+use Rattle.lang.proofs.Refusals.{room-is, lower-none, taken-reply}
 use Rattle.fonts.specs.declared.Compiled.the-variants.{Tables}
 use Rattle.fonts.specs.Fonts.{Font}
-use Rattle.fonts.specs.Compiled.{roomIn, compileRefusal, tablePairs, totalOps, loopsOfFont, fontCounts, Compiles}
+use Rattle.fonts.specs.Compiled.{roomIn, sizedRefusal, tablePairs, totalOps, loopsOfFont, fontCounts, Compiles}
 use Rattle.captions.specs.declared.RunOptions.{RunOptions}
 use Rattle.captions.specs.declared.State.{State}
 use Rattle.captions.specs.declared.Answer.{Answer}
@@ -108,12 +108,12 @@ calls-answer pairs ops boundary word options room fits n state s calls e h = cal
 
 -- ---- demand 3
 
-module _ (f : Font) (pairs ops loops : List ℤ) (work counts : List ℕ) (pairs′ ops′ loops′ : List ℤ) (work′ counts′ : List ℕ)
-    (h : CompilesCounts f pairs ops loops work counts 0 pairs′ ops′ loops′ work′ counts′) where
-  none-refused : (compileRefusal f (roomIn pairs ops loops work) ≡ 0) × (roomRefusal 3 (length counts) ≡ 0)
-  none-refused = orElse-none (compileRefusal f (roomIn pairs ops loops work)) (roomRefusal 3 (length counts)) (sym (h .number))
+module _ (f : Font) (size : ℕ) (pairs ops loops : List ℤ) (work counts : List ℕ) (pairs′ ops′ loops′ : List ℤ) (work′ counts′ : List ℕ)
+    (h : CompilesCounts f size pairs ops loops work counts 0 pairs′ ops′ loops′ work′ counts′) where
+  none-refused : (sizedRefusal f (roomIn pairs ops loops work) size ≡ 0) × (roomRefusal 3 (length counts) ≡ 0)
+  none-refused = lower-none (sizedRefusal f (roomIn pairs ops loops work) size) (roomRefusal 3 (length counts)) (sym (h .number))
 
-  compiles : Compiles f pairs ops loops work (Tables (tablePairs f) (totalOps f) (length (loopsOfFont f))) pairs′ ops′ loops′ work′
+  compiles : Compiles f size pairs ops loops work (Tables (tablePairs f) (totalOps f) (length (loopsOfFont f))) pairs′ ops′ loops′ work′
   compiles =
       record {
         answer = taken-reply (fontCounts f) (none-refused .0);
@@ -125,10 +125,10 @@ module _ (f : Font) (pairs ops loops : List ℤ) (work counts : List ℕ) (pairs
   counted = h .counted ∙ ap (λ (n : ℕ). listOf n 0 (length counts) (countsOf f)) (sym (h .number))
 
 pub demand-3-for-a-host : EveryHostFont
-demand-3-for-a-host f pairs ops loops work counts pairs′ ops′ loops′ work′ counts′ h =
-    rw (counted f pairs ops loops work counts pairs′ ops′ loops′ work′ counts′ h)
-    (demand-3 f pairs ops loops work (tablePairs f) (totalOps f) (length (loopsOfFont f)) pairs′ ops′ loops′ work′
-    (compiles f pairs ops loops work counts pairs′ ops′ loops′ work′ counts′ h))
+demand-3-for-a-host f size pairs ops loops work counts pairs′ ops′ loops′ work′ counts′ h =
+    rw (counted f size pairs ops loops work counts pairs′ ops′ loops′ work′ counts′ h)
+    (demand-3 f size pairs ops loops work (tablePairs f) (totalOps f) (length (loopsOfFont f)) pairs′ ops′ loops′ work′
+    (compiles f size pairs ops loops work counts pairs′ ops′ loops′ work′ counts′ h))
 
 pub every-run : EveryRun
 every-run f pairs ops word options items a state r state′ l h =

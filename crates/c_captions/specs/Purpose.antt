@@ -62,11 +62,11 @@ HostCallsAnswer =
 
 -- ---- demand 3
 
--- a font that ligkern_compile accepts: demand 3 holds of what the host reads in the counts and cuts its lists to
+-- a font that ligkern_compile accepts, at whatever size: demand 3 holds of what the host reads in the counts and cuts its lists to
 abbrev pub EveryHostFont : Type 0
 EveryHostFont =
-    (f : Font) (pairs ops loops : List ℤ) (work counts : List ℕ) (pairs′ ops′ loops′ : List ℤ) (work′ counts′ : List ℕ) →
-    CompilesCounts f pairs ops loops work counts 0 pairs′ ops′ loops′ work′ counts′ →
+    (f : Font) (size : ℕ) (pairs ops loops : List ℤ) (work counts : List ℕ) (pairs′ ops′ loops′ : List ℤ) (work′ counts′ : List ℕ) →
+    CompilesCounts f size pairs ops loops work counts 0 pairs′ ops′ loops′ work′ counts′ →
     Demand3 f (getD counts′ 2 0) (take (6 * getD counts′ 0 0) pairs′) (take (2 * getD counts′ 1 0) ops′)
     (take (2 * getD counts′ 2 0) loops′)
 

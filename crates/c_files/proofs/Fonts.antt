@@ -17,7 +17,7 @@ use Rattle.files.specs.Reading.{fileInstructions, fileKerns, fileEntries, fileB
 use Rattle.files.specs.Reading.{deserializedReply, deserializeRefusal, Deserializes}
 use Rattle.c_values.specs.Telling.{kept}
 use Rattle.c_values.proofs.Telling.{none-listed, listed, reply-number, kept-list}
-use Rattle.c_files.specs.Files.{fixedRefusal, edgesOf, countsOf, TellsFont, HostDeserializes}
+use Rattle.c_files.specs.Files.{fixedRefusal, edgesOf, fileCounts, TellsFont, HostDeserializes}
 
 -- ---- the number, the edges and the counts, told
 
@@ -71,7 +71,7 @@ listed-alike o k (suc n) e = refl
 
 -- the edges and the counts of an answer that is not refused are those of its reply
 font-known : (font : Deserialized) (i k e : ℕ) (y z : ℤ) → deserializedReply font ≡ replyOf 0 (pos i ∷ pos k ∷ pos e ∷ y ∷ z ∷ []) →
-    (edgesOf font ≡ y ∷ z ∷ []) × (countsOf font ≡ i ∷ k ∷ e ∷ [])
+    (edgesOf font ≡ y ∷ z ∷ []) × (fileCounts font ≡ i ∷ k ∷ e ∷ [])
 font-known (Font i′ k′ e′ y′ z′) i k e y z h =
     let q : _≡_ {A = List ℤ} (pos i′ ∷ pos k′ ∷ pos e′ ∷ y′ ∷ z′ ∷ []) (pos i ∷ pos k ∷ pos e ∷ y ∷ z ∷ []) = ap (λ (r : Reply). r .values) h in
     (cc, cc)
@@ -93,7 +93,7 @@ module _ (file : List ℕ) (is ks es edges : List ℤ) (counts : List ℕ) where
       let own : deserializedReply font .number ≡ refusal = ap (λ (x : Reply). x .number) (d .answer) ∙ reply-number refusal (fontValues file) in
       let number : r ≡ lower fixed refusal = t .number ∙ ap (lower fixed) own in
       let none : r ≡ 0 → refusal ≡ 0 = λ z. lower-none fixed refusal (sym number ∙ z) .1 in
-      let known : r ≡ 0 → (edgesOf font ≡ fileBoundary file ∷ fileLeft file ∷ []) × (countsOf font
+      let known : r ≡ 0 → (edgesOf font ≡ fileBoundary file ∷ fileLeft file ∷ []) × (fileCounts font
       ≡ lengthsOf file .nl ∷ lengthsOf file .nk ∷ length (fileEntries file) / 2 ∷ []) = λ z.
       font-known font (lengthsOf file .nl) (lengthsOf file .nk) (length (fileEntries file) / 2) (fileBoundary file) (fileLeft file)
       (d .answer ∙ ap (λ (x : ℕ). replyOf x (fontValues file)) (none z)) in

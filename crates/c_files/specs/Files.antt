@@ -40,15 +40,15 @@ edgesOf (Font i k e boundary left) = boundary ∷ left ∷ []
 edgesOf (Refused n) = []
 
 -- its counts
-abbrev pub countsOf : Deserialized → List ℕ
-countsOf (Font i k e boundary left) = i ∷ k ∷ e ∷ []
-countsOf (Refused n) = []
+abbrev pub fileCounts : Deserialized → List ℕ
+fileCounts (Font i k e boundary left) = i ∷ k ∷ e ∷ []
+fileCounts (Refused n) = []
 
 -- what a host is told of an answer: the number, and the edges and counts with zeros after them, or zeros alone
 pub record TellsFont (font : Deserialized) (edges : List ℤ) (counts : List ℕ) (r : ℕ) (edges′ : List ℤ) (counts′ : List ℕ) : Type 0 where
   pub number : r ≡ lower (fixedRefusal (length edges) (length counts)) (deserializedReply font .number)
   pub edge-list : edges′ ≡ listOf r (pos 0) (length edges) (edgesOf font)
-  pub count-list : counts′ ≡ listOf r 0 (length counts) (countsOf font)
+  pub count-list : counts′ ≡ listOf r 0 (length counts) (fileCounts font)
 
 -- the number of writing one, with so many places for the values
 abbrev pub replaceNumber : List ℕ → Writable → ℕ → ℕ → ℕ

@@ -45,8 +45,8 @@ by-calls f pairs ops word options items d =
     }
 
 pub reader-reads : ReaderReads
-reader-reads f pairs ops loops work p o l pairs′ ops′ loops′ work′ c word options caption =
-    let d = demand-3 f pairs ops loops work p o l pairs′ ops′ loops′ work′ c in
+reader-reads f size pairs ops loops work p o l pairs′ ops′ loops′ work′ c word options caption =
+    let d = demand-3 f size pairs ops loops work p o l pairs′ ops′ loops′ work′ c in
     let give = by-calls f (take (6 * p) pairs′) (take (2 * o) ops′) word options in
     let ends = d .run-ends word options caption in
     record {

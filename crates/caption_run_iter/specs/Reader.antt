@@ -85,11 +85,11 @@ pub record ReaderDemand3 (f : Font) (l : ℕ) (pairs ops : List ℤ) (word : Lis
   pub run-ends : (items : List Out) × ReaderAnswered f pairs ops word options items
   pub run-reads : (items : List Out) → Reads f word options items → ReaderAnswered f pairs ops word options items
 
--- DEMAND 3 of the reader, whole: whatever font compile is lent, with whatever lists, if its answer is no refusal, then that holds of the
--- pairs and ops that it wrote, cut to their counts, and of every word
+-- DEMAND 3 of the reader, whole: whatever font compile is lent, with whatever lists and at whatever size, if its answer is no refusal, then
+-- that holds of the pairs and ops that it wrote, cut to their counts, and of every word
 abbrev pub ReaderReads : Type 0
 ReaderReads =
-    (f : Font) (pairs ops loops : List ℤ) (work : List ℕ) (p o l : ℕ) (pairs′ ops′ loops′ : List ℤ) (work′ : List ℕ) →
-    Compiles f pairs ops loops work (Tables p o l) pairs′ ops′ loops′ work′ →
+    (f : Font) (size : ℕ) (pairs ops loops : List ℤ) (work : List ℕ) (p o l : ℕ) (pairs′ ops′ loops′ : List ℤ) (work′ : List ℕ) →
+    Compiles f size pairs ops loops work (Tables p o l) pairs′ ops′ loops′ work′ →
     (word : List ℕ) (options : RunOptions) → Caption word options →
     ReaderDemand3 f l (take (6 * p) pairs′) (take (2 * o) ops′) word options

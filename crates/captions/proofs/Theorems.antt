@@ -26,7 +26,7 @@ use Rattle.fonts.specs.declared.Compiled.the-variants.{Tables}
 use Rattle.fonts.specs.Numbers.{opsOf, entryOf, opNumbers, opsBefore, opsTable, loopNumbers}
 use Rattle.fonts.specs.Fonts.{Font, pairsOf, rulesOf}
 use Rattle.fonts.specs.Compiled.{Room, roomIn, finishedOf, loopsOfFont, totalOps, fontTable, fontOps, fontLoops, fontRefusal, pairsRefusal, kernRefusal}
-use Rattle.fonts.specs.Compiled.{opsRefusal, loopsRefusal, tablesRefusal, compileRefusal, compiledReply, fontCounts, ListsWritten}
+use Rattle.fonts.specs.Compiled.{opsRefusal, loopsRefusal, tablesRefusal, compileRefusal, sizedRefusal, compiledReply, fontCounts, ListsWritten}
 use Rattle.fonts.proofs.Theorems as Compiling
 use Rattle.captions.specs.declared.RunOptions.{RunOptions}
 use Rattle.captions.specs.Tables.{opCount, entries}
@@ -183,9 +183,10 @@ demand-by f l few fits e =
 
 -- DEMAND 3: specs/Demand3.
 pub demand-3 : EveryAcceptedFont
-demand-3 f pairs ops loops work p o l pairs′ ops′ loops′ work′ c =
+demand-3 f size pairs ops loops work p o l pairs′ ops′ loops′ work′ c =
     let room = roomIn pairs ops loops work in
-    let a = accepted (compileRefusal f room) f p o l (c .answer) in
-    let few : opCount (fontOps f) ≤ 2147483647 = omega (arith, few-ops f room (a .0), ops-length (finishedOf f) (pairsOf f) (length (pairsOf f))) in
-    let w = lists-by f p o l (compileRefusal f room) pairs ops loops pairs′ ops′ loops′ a few (c .lists) in
-    rw (w .table, w .op-table, w .loop-table) (demand-by f l few (boundary-fits f room (a .0)) (a .3))
+    let a = accepted (sizedRefusal f room size) f p o l (c .answer) in
+    let taken : compileRefusal f room ≡ 0 = orElse-none (compileRefusal f room) size (a .0) .0 in
+    let few : opCount (fontOps f) ≤ 2147483647 = omega (arith, few-ops f room taken, ops-length (finishedOf f) (pairsOf f) (length (pairsOf f))) in
+    let w = lists-by f p o l (sizedRefusal f room size) pairs ops loops pairs′ ops′ loops′ a few (c .lists) in
+    rw (w .table, w .op-table, w .loop-table) (demand-by f l few (boundary-fits f room taken) (a .3))

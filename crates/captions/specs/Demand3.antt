@@ -71,11 +71,11 @@ pub record Demand3 (f : Font) (l : ℕ) (pairs ops loops : List ℤ) : Type 0 wh
   pub run-reads : (word : List ℕ) (options : RunOptions) → Caption word options → (items : List Out) →
       Reads f word options items → Answered f pairs ops word options items
 
--- DEMAND 3, whole (R14): whatever font compile is lent, with whatever lists, if its answer is no refusal then `Demand3` holds of what it
--- answered and wrote: of the count of its loops, and of the pairs, ops and loops cut to their counts. Proved: `demand-3` of
--- proofs/Theorems.
+-- DEMAND 3, whole (R14): whatever font compile is lent, with whatever lists and at whatever size, if its answer is no refusal then
+-- `Demand3` holds of what it answered and wrote: of the count of its loops, and of the pairs, ops and loops cut to their counts. `size` is
+-- the number of the size asked for, by which compile may refuse too. Proved: `demand-3` of proofs/Theorems.
 abbrev pub EveryAcceptedFont : Type 0
 EveryAcceptedFont =
-    (f : Font) (pairs ops loops : List ℤ) (work : List ℕ) (p o l : ℕ) (pairs′ ops′ loops′ : List ℤ) (work′ : List ℕ) →
-    Compiles f pairs ops loops work (Tables p o l) pairs′ ops′ loops′ work′ →
+    (f : Font) (size : ℕ) (pairs ops loops : List ℤ) (work : List ℕ) (p o l : ℕ) (pairs′ ops′ loops′ : List ℤ) (work′ : List ℕ) →
+    Compiles f size pairs ops loops work (Tables p o l) pairs′ ops′ loops′ work′ →
     Demand3 f l (take (6 * p) pairs′) (take (2 * o) ops′) (take (2 * l) loops′)

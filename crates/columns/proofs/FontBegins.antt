@@ -10,14 +10,14 @@ use lib.ListN.{length, getD, take, replicate, length-append, length-replicate}
 use lib.Seq.{take-at}
 use Rattle.lang.specs.Every.{every}
 use Rattle.lang.specs.Answers.{padded, listOf}
-use Rattle.lang.proofs.Refusals.{unless-none, taken-reply}
+use Rattle.lang.proofs.Refusals.{second-none, unless-none, taken-reply}
 use Rattle.reading.specs.Depth.{Finished, Pair}
 use Rattle.reading.specs.Loops.{Ruled}
 use Rattle.fonts.specs.declared.Compiled.the-variants.{Tables}
 use Rattle.fonts.specs.Fonts.{Font, pairsOf}
 use Rattle.fonts.specs.Numbers.{entryOf, opsOf, opNumbers, opsBefore, opsTable, loopNumbers}
 use Rattle.fonts.specs.Compiled.{Room, roomOf, roomIn, finishedOf, loopsOfFont, totalOps, fontTable, tablePairs, fontOps, fontLoops, compileRefusal, fontCounts}
-use Rattle.fonts.specs.Compiled.{Compiles}
+use Rattle.fonts.specs.Compiled.{sizedRefusal, Compiles}
 use Rattle.compiling.proofs.OpLaws.{length-numbers}
 use Rattle.captions.specs.declared.State.{State}
 use Rattle.captions.specs.declared.Begun.the-variants.{Run}
@@ -73,11 +73,11 @@ taken-front : (m n k : ℕ) (xs ys : List ℤ) → ys ≡ listOf m (pos 0) n xs 
 taken-front zero n k xs ys e z l = ap (take k) e ∙ written k n xs l
 taken-front (suc m) n k xs ys e z l = absurd (omega (arith, z))
 
-pub lists-of : {f : Font} {pairs ops loops pairs′ ops′ loops′ : List ℤ} {work work′ : List ℕ} {p o l : ℕ} →
-    Compiles f pairs ops loops work (Tables p o l) pairs′ ops′ loops′ work′ →
-    (compileRefusal f (roomIn pairs ops loops work) ≡ 0) × FontLists f p o l pairs′ ops′ loops′
-lists-of {f} {pairs} {ops} {loops} {pairs′} {ops′} {loops′} {work} {work′} {p} {o} {l} c =
-    let m = compileRefusal f (roomIn pairs ops loops work) in
+pub lists-of : {f : Font} {size : ℕ} {pairs ops loops pairs′ ops′ loops′ : List ℤ} {work work′ : List ℕ} {p o l : ℕ} →
+    Compiles f size pairs ops loops work (Tables p o l) pairs′ ops′ loops′ work′ →
+    (sizedRefusal f (roomIn pairs ops loops work) size ≡ 0) × FontLists f p o l pairs′ ops′ loops′
+lists-of {f} {size} {pairs} {ops} {loops} {pairs′} {ops′} {loops′} {work} {work′} {p} {o} {l} c =
+    let m = sizedRefusal f (roomIn pairs ops loops work) size in
     let a = accepted m f p o l (c .answer) in
     let six : length (fontTable f) ≡ 6 * p = omega (arith, a .1, table-long f) in
     let two : length (fontOps f) ≡ 2 * o = omega (arith, a .2, ops-long (finishedOf f) (pairsOf f) (length (pairsOf f))) in
@@ -94,23 +94,24 @@ lists-of {f} {pairs} {ops} {loops} {pairs′} {ops′} {loops′} {work} {work�
     )
 
 module _ (f : Font) (pairs ops loops : List ℤ) (work : List ℕ) (taken : compileRefusal f (roomIn pairs ops loops work) ≡ 0) where
-  -- whatever is lent, this is what compiling answers and leaves
+  -- whatever is lent, this is what compiling answers and leaves at the design size
   compiles :
-      Compiles f pairs ops loops work
+      Compiles f 0 pairs ops loops work
       (Tables (tablePairs f) (totalOps f) (length (loopsOfFont f)))
       (padded (pos 0) (length pairs) (fontTable f))
       (padded (pos 0) (length ops) (fontOps f))
       (padded (pos 0) (length loops) (fontLoops f))
       (replicate (length work) 0)
   compiles =
-      let m = compileRefusal f (roomIn pairs ops loops work) in
+      let m = sizedRefusal f (roomIn pairs ops loops work) 0 in
+      let z : m ≡ 0 = second-none (compileRefusal f (roomIn pairs ops loops work)) ∙ taken in
       record {
-        answer = taken-reply (fontCounts f) taken;
+        answer = taken-reply (fontCounts f) z;
         lists =
             record {
-              table = taken-list (length pairs) m (fontTable f) taken;
-              ops-table = taken-list (length ops) m (fontOps f) taken;
-              loop-list = taken-list (length loops) m (fontLoops f) taken;
+              table = taken-list (length pairs) m (fontTable f) z;
+              ops-table = taken-list (length ops) m (fontOps f) z;
+              loop-list = taken-list (length loops) m (fontLoops f) z;
             };
         cleared = refl;
       }
@@ -121,7 +122,7 @@ module _ (f : Font) (pairs ops loops : List ℤ) (work : List ℕ) (taken : comp
       let o = padded (pos 0) (length ops) (fontOps f) in
       let l = padded (pos 0) (length loops) (fontLoops f) in
       let n = length (loopsOfFont f) in
-      let d = demand-3 f pairs ops loops work (tablePairs f) (totalOps f) n p o l (replicate (length work) 0) compiles in
+      let d = demand-3 f 0 pairs ops loops work (tablePairs f) (totalOps f) n p o l (replicate (length work) 0) compiles in
       let a = written (6 * tablePairs f) (length pairs) (fontTable f) (table-long f) in
       let b = written (2 * totalOps f) (length ops) (fontOps f) (ops-long (finishedOf f) (pairsOf f) (length (pairsOf f))) in
       let c = written (2 * n) (length loops) (fontLoops f) (loops-long (loopsOfFont f)) in

@@ -5,10 +5,14 @@
 //   compile_loops                     the loop list
 //   compile_op_counts                 how many ops each pair has
 //   compile_ops, compile_lists        the tables
+// A size that is asked for, or a magnification, is there the design size of that size (R357); its number comes last.
 ghost use mathlib.Core.Path.{_≡_};
+ghost use Rattle.tfm.specs.Scaled.{askedRefusal, designAt};
 ghost use Rattle.lang.specs.Checks.{orElse, absentRefusal, designRefusal};
 ghost use Rattle.fonts.specs.Fonts.{fontOf};
 ghost use Rattle.fonts.specs.Compiled.{Compiles, fontRefusal};
+ghost use Rattle.compile.specs.Late.{lateAnswer};
+use c_values::i32s::keep_i32;
 use compile_lists::write_lists;
 use fonts::Compiled;
 use program_checks::absent_refusal;
@@ -16,6 +20,8 @@ use program_checks::program_refusal;
 use program_limits::design_refusal;
 use program_limits::entries_refusal;
 use program_limits::kerns_refusal;
+use tfm::asked_refusal;
+use tfm::design_at;
 use words::i32s::zero_i32;
 use words::u32s::zero_u32;
 
@@ -63,7 +69,21 @@ fn font_refusal(
     edge_refusal(boundary, left_entry, design_size)
 }
 
-// Compiles a font into the pair table, the ops and the loop list. Work is left zero, and so is every list on a refusal.
+// The number of the size where the font itself is taken; else what was answered.
+fn late_answer(number: u32, compiled: Compiled) -> Compiled
+    ensures { λ r. ⌜ r ≡ lateAnswer number compiled ⌝ }
+{
+    if number == 0 {
+        return compiled;
+    }
+    match compiled {
+        Compiled::Tables(_, _, _) => Compiled::Refused(number),
+        Compiled::Refused(n) => Compiled::Refused(n),
+    }
+}
+
+// Compiles a font into the pair table, the ops and the loop list, its kerns scaled at the design size or, where one is
+// not zero, at a size or by a magnification. Work is left zero, and so is every list on a refusal.
 pub fn compile(
     instructions: &[i32],
     kerns: &[i32],
@@ -71,6 +91,8 @@ pub fn compile(
     boundary: i32,
     left_entry: i32,
     design_size: i32,
+    size: i32,
+    magnification: i32,
     pairs: &mut [i32],
     ops: &mut [i32],
     loops: &mut [i32],
@@ -78,17 +100,12 @@ pub fn compile(
 ) -> Compiled
     ensures { λ r. ⌜ Compiles
         (fontOf (now (instructions .entry)) (now (kerns .entry)) (now (entries .entry)) boundary «left_entry»
-        «design_size») (now (pairs .entry)) (now (ops .entry)) (now (loops .entry)) (now (work .entry)) r
+        (designAt «design_size» size magnification)) (askedRefusal «design_size» size magnification)
+        (now (pairs .entry)) (now (ops .entry)) (now (loops .entry)) (now (work .entry)) r
         (now (pairs .exit)) (now (ops .exit)) (now (loops .exit)) (now (work .exit)) ⌝ }
 {
-    let number = font_refusal(
-        instructions,
-        kerns,
-        entries,
-        boundary,
-        left_entry,
-        design_size,
-    );
+    let design = design_at(design_size, size, magnification);
+    let number = font_refusal(instructions, kerns, entries, boundary, left_entry, design);
     if number != 0 {
         zero_i32(pairs);
         zero_i32(ops);
@@ -96,15 +113,20 @@ pub fn compile(
         zero_u32(work);
         return Compiled::Refused(number);
     }
-    write_lists(
+    let compiled = write_lists(
         instructions,
         kerns,
         entries,
         left_entry,
-        design_size,
+        design,
         pairs,
         ops,
         loops,
         work,
-    )
+    );
+    let late = asked_refusal(design_size, size, magnification);
+    keep_i32(late, pairs);
+    keep_i32(late, ops);
+    keep_i32(late, loops);
+    late_answer(late, compiled)
 }

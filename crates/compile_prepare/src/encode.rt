@@ -35,7 +35,7 @@ fn op_byte(operation: PostLigOperation) -> u32
 fn kern_effect(kern: FixWord, design_size: i32) -> Effect
     ensures { λ r. ⌜ r ≡ kernEffect (toScaled (kern .0) «design_size») ⌝ }
 {
-    match kern.to_scaled(FixWord(design_size)) {
+    match kern.at_design_size(FixWord(design_size)) {
         ToScaled::Scaled(v) => Effect {
             op: 128,
             value: words::word_of(v),

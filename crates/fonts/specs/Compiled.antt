@@ -127,6 +127,10 @@ buildRefusal f room = orElse (longRefusal (f .instructions)) (tablesRefusal f ro
 abbrev pub compileRefusal : Font → Room → ℕ
 compileRefusal f room = orElse (fontRefusal f) (tablesRefusal f room)
 
+-- 1 to 5, 12 to 15, then the size's number, 19 or 0 (R356): none of the others hangs on the size
+abbrev pub sizedRefusal : Font → Room → ℕ → ℕ
+sizedRefusal f room size = orElse (compileRefusal f room) size
+
 -- what compile answers, as a number and values (R285): the counts (R91), or the number
 abbrev pub compiledReply : Compiled → Reply
 compiledReply (Tables p o l) = replyOf 0 (pos p ∷ pos o ∷ pos l ∷ [])
@@ -146,9 +150,10 @@ pub record ListsWritten (f : Font) (n : ℕ) (pairs ops loops pairs′ ops′ lo
 abbrev pub roomIn : List ℤ → List ℤ → List ℤ → List ℕ → Room
 roomIn pairs ops loops work = roomOf (length pairs) (length ops) (length loops) (length work)
 
--- The contract of compile: the answer, and the final content of every lent list, taken or refused (R6).
-pub record Compiles (f : Font) (pairs ops loops : List ℤ) (work : List ℕ) (r : Compiled) (pairs′ ops′ loops′ : List ℤ)
+-- The contract of compile: the answer, and the final content of every lent list, taken or refused (R6). The font's design size is that of
+-- the size asked for (`designAt` of tfm/specs/Scaled, R357), and `size` is that size's number.
+pub record Compiles (f : Font) (size : ℕ) (pairs ops loops : List ℤ) (work : List ℕ) (r : Compiled) (pairs′ ops′ loops′ : List ℤ)
     (work′ : List ℕ) : Type 0 where
-  pub answer : compiledReply r ≡ replyOf (compileRefusal f (roomIn pairs ops loops work)) (fontCounts f)
-  pub lists : ListsWritten f (compileRefusal f (roomIn pairs ops loops work)) pairs ops loops pairs′ ops′ loops′
+  pub answer : compiledReply r ≡ replyOf (sizedRefusal f (roomIn pairs ops loops work) size) (fontCounts f)
+  pub lists : ListsWritten f (sizedRefusal f (roomIn pairs ops loops work) size) pairs ops loops pairs′ ops′ loops′
   pub cleared : work′ ≡ replicate (length work) 0

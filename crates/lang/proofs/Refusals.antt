@@ -27,6 +27,10 @@ first-is (suc m) n h = refl
 pub second-is : (m n : ℕ) → m ≡ 0 → orElse m n ≡ n
 second-is m n e = rw e
 
+pub second-none : (m : ℕ) → orElse m 0 ≡ m
+second-none zero = refl
+second-none (suc m) = refl
+
 -- the same of a function's answers: r, which was asked first, is returned where it is not 0, and x, which was asked later, where r is 0
 pub first-refusal : {m r : ℕ} (n : ℕ) → r ≡ m → (r ≡ 0 → ⊥) → r ≡ orElse m n
 first-refusal {m} n e h = e ∙ sym (first-is m n (λ z. h (e ∙ z)))

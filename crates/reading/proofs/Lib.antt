@@ -11,7 +11,7 @@
 --   Complete  a pair that has not finished at that depth never ends
 --   LoopList  the loop list is empty exactly when every pair ends
 --   Cycles    the loop list has one pair of each cycle
---   Unkerned  the loop list is that of the rules without their kerns
+--   Unkerned  the loop list, and how many ops a pair has, are those of the rules with kerns of zero
 --   Holds     what it is for a table to hold a font's finished pairs
 --   RunAll    the run as one list, and its steps
 --   RunRight  the run gives what the reading gives

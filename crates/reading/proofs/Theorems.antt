@@ -26,7 +26,7 @@ use Rattle.reading.proofs.Complete
 use Rattle.reading.proofs.LoopList
 use Rattle.reading.proofs.Cycles
 use Rattle.reading.proofs.Unkerned
-pub use Rattle.reading.proofs.Unkerned.{unkerned, unkernedRules}
+pub use Rattle.reading.proofs.Unkerned.{unkerned, unkernedRules, Seen, seenOf, seen}
 use Rattle.reading.proofs.RunAll
 use Rattle.reading.proofs.RunRight
 
@@ -109,9 +109,13 @@ loops-never rule ps c p m = LoopList.loops-never rule ps c p m
 pub one-per-cycle : OnePerCycle
 one-per-cycle = Cycles.one-per-cycle
 
--- Kerns make no loop: the loop list is that of the rules without them.
+-- The size of a kern makes no loop: the loop list is that of the rules with kerns of zero.
 pub loops-unkerned : (rule : Rules) (ps : List Ruled) → loopList rule ps ≡ loopList (unkernedRules rule) ps
 loops-unkerned rule ps = Unkerned.loops-unkerned rule ps
+
+-- Nor does it make an op: each pair has as many with kerns of zero, and a last of the same code.
+pub seen-unkerned : (rule : Rules) (ps : List Ruled) (l : Left) (r : ℕ) → seen (finished rule ps l r) ≡ seen (finished (unkernedRules rule) ps l r)
+seen-unkerned rule ps l r = Unkerned.seen-unkerned rule ps l r
 
 -- ---- runs
 

@@ -12,7 +12,7 @@ use Rattle.reading.specs.Depth.{Pair}
 use Rattle.fonts.specs.declared.Compiled.the-variants.{Tables}
 use Rattle.fonts.specs.Fonts.{Font}
 use Rattle.fonts.specs.Numbers.{leftNumber, loopNumbers}
-use Rattle.fonts.specs.Compiled.{loopsOfFont, fontLoops, fontCounts, compileRefusal, roomIn, compiledReply}
+use Rattle.fonts.specs.Compiled.{loopsOfFont, fontLoops, fontCounts, sizedRefusal, roomIn, compiledReply}
 use Rattle.fonts.proofs.Replies.{values-known, taken-unlike}
 use Rattle.fonts.proofs.Theorems.{loops-at-any-size}
 use Rattle.repairs.specs.Repaired.{repairedFont}
@@ -56,8 +56,8 @@ module _ (f : Font) (empty : loopsOfFont f ≡ []) where
       record {
         none = numbers-none;
         reported =
-            λ pairs ops loops work r pairs′ ops′ loops′ work′ c.
-            let n = compileRefusal f (roomIn pairs ops loops work) in
+            λ size pairs ops loops work r pairs′ ops′ loops′ work′ c.
+            let n = sizedRefusal f (roomIn pairs ops loops work) size in
             record {
               counted = λ p o l e. counts-none n p o l (ap compiledReply (sym e) ∙ c .answer);
               listed = c .lists .loop-list ∙ zeros n (length loops);

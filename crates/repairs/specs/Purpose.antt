@@ -104,11 +104,11 @@ pub record ReportsNoLoop (r : Compiled) (loops loops′ : List ℤ) : Type 0 whe
   pub counted : (p o l : ℕ) → r ≡ Tables p o l → l ≡ 0
   pub listed : loops′ ≡ replicate (length loops) (pos 0)
 
--- a font has no loop, and compile reports none whatever lists it is lent beside it
+-- a font has no loop, and compile reports none whatever lists it is lent beside it and whatever the number of the size is
 pub record CompilesWithoutLoop (f : Font) : Type 0 where
   pub none : fontLoops f ≡ []
-  pub reported : (pairs ops loops : List ℤ) (work : List ℕ) (r : Compiled) (pairs′ ops′ loops′ : List ℤ) (work′ : List ℕ) →
-      Compiles f pairs ops loops work r pairs′ ops′ loops′ work′ → ReportsNoLoop r loops loops′
+  pub reported : (size : ℕ) (pairs ops loops : List ℤ) (work : List ℕ) (r : Compiled) (pairs′ ops′ loops′ : List ℤ) (work′ : List ℕ) →
+      Compiles f size pairs ops loops work r pairs′ ops′ loops′ work′ → ReportsNoLoop r loops loops′
 
 -- repaired without a warning of kind 10, a font compiles without a loop at every design size
 abbrev pub NoLoopAtAnySize : Type 0

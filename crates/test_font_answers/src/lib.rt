@@ -52,9 +52,12 @@ fn put_compiled(out: &mut [i32], pairs: &[i32], ops: &[i32], loops: &[i32]) -> u
     put_list(out, c, loops)
 }
 
-// Compiles the font that follows its design size, with room for 1,024 pairs with a rule.
+// Compiles the font that follows its design size, at a size or by a magnification where one is not 0, with room for
+// 1,024 pairs with a rule.
 pub fn compile_font(
     sized: &[i32],
+    size: i32,
+    magnification: i32,
     pairs: &mut [i32],
     ops: &mut [i32],
     loops: &mut [i32],
@@ -70,6 +73,8 @@ pub fn compile_font(
         number_at(font, from_end(font, 2)),
         number_at(font, from_end(font, 1)),
         number_at(sized, 0),
+        size,
+        magnification,
         pairs,
         ops,
         loops,

@@ -1,4 +1,4 @@
-// The answers of the port to requests about numbers and programs, with the letters of tools/oracle: S, O and V in
+// The answers of the port to requests about numbers and programs, with the letters of tools/oracle: S, Z, O and V in
 // numbers, I, U, B and R in programs. A request has at most 16,384 numbers, so a program at most 4,096 instructions.
 ghost use lib.ListN.{length};
 ghost use Rattle.test_requests.specs.Answers.{CountWithin};
@@ -12,6 +12,7 @@ mod room;
 fn answer_by(letter: u8, numbers: &[i32], out: &mut [i32]) -> Written {
     match letter {
         b'S' => numbers::scaled(numbers, out),
+        b'Z' => numbers::scaled_at(numbers, out),
         b'O' => numbers::operation(numbers, out),
         b'V' => numbers::seven_bit(numbers, out),
         b'I' => programs::chain_from(numbers, out),

@@ -1,4 +1,4 @@
-// The answers about numbers and op bytes: S, O and V.
+// The answers about numbers and op bytes: S, Z, O and V.
 use lang::Written;
 use lang::operation::Operation;
 use lang::operation::PostLigOperation;
@@ -8,16 +8,31 @@ use test_requests::answer::put_one;
 use test_requests::request::number_at;
 use tfm::Char;
 use tfm::FixWord;
-use tfm::ToScaled;
+use tfm::ScaledAt;
+
+fn put_scaled(scaled: ScaledAt, out: &mut [i32]) -> Written {
+    match scaled {
+        ScaledAt::Scaled(v) => Written::Count(put_one(out, 0, words::word_of(v))),
+        ScaledAt::NegativeDesignSize => Written::Refused(5),
+        ScaledAt::TooLarge => Written::Refused(13),
+        ScaledAt::SizeOutOfRange => Written::Refused(19),
+    }
+}
 
 // S kern design
 pub(crate) fn scaled(numbers: &[i32], out: &mut [i32]) -> Written {
     let kern = FixWord(number_at(numbers, 0));
-    match kern.to_scaled(FixWord(number_at(numbers, 1))) {
-        ToScaled::Scaled(v) => Written::Count(put_one(out, 0, words::word_of(v))),
-        ToScaled::NegativeDesignSize => Written::Refused(5),
-        ToScaled::TooLarge => Written::Refused(13),
-    }
+    put_scaled(kern.to_scaled(FixWord(number_at(numbers, 1)), 0, 0), out)
+}
+
+// Z kern design size magnification
+pub(crate) fn scaled_at(numbers: &[i32], out: &mut [i32]) -> Written {
+    let kern = FixWord(number_at(numbers, 0));
+    let design = FixWord(number_at(numbers, 1));
+    put_scaled(
+        kern.to_scaled(design, number_at(numbers, 2), number_at(numbers, 3)),
+        out,
+    )
 }
 
 // The standard op byte of an operation.

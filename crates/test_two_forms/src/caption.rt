@@ -114,6 +114,8 @@ fn compiled(pairs: &mut [i32], ops: &mut [i32]) -> Compiled {
         font::BOUNDARY,
         font::LEFT_ENTRY,
         font::DESIGN_SIZE,
+        0,
+        0,
         pairs,
         ops,
         &mut loops,

@@ -26,7 +26,7 @@ fn room() -> [u8; 1048576]
 // The answer to a request, by its letter.
 fn answer_by(letter: u8, numbers: &[i32], out: &mut [i32]) -> Written {
     match letter {
-        b'C' | b'W' | b'A' => of_fonts::compiled(letter, numbers, out),
+        b'C' | b'M' | b'W' | b'A' => of_fonts::compiled(letter, numbers, out),
         b'K' | b'J' | b'P' => test_packing_answers::answer(letter, numbers, out),
         b'X' => test_repair_answers::answer(numbers, out),
         b'F' | b'G' => test_file_answers::answer(letter, numbers, out),

@@ -1,11 +1,12 @@
-// The answers about a font as a whole, which is compiled first: C, W and A. The lists have room for 1,024 pairs, 1,024
-// ops and 1,024 loops.
+// The answers about a font as a whole, which is compiled first: C, M, W and A. The lists have room for 1,024 pairs,
+// 1,024 ops and 1,024 loops.
 ghost use mathlib.Core.Path.{_≡_};
 ghost use lib.ListN.{length};
 use fonts::Compiled;
 use lang::Written;
 use test_font_answers::compile_font;
 use test_requests::request::after;
+use test_requests::request::number_at;
 use test_requests::request::part;
 use test_requests::request::rest;
 
@@ -23,15 +24,27 @@ fn list() -> [i32; 2048]
     [0; 2048]
 }
 
-// The font with its design size: after the word of W, else all.
+// The font with its design size: after the word of W, after the size and the magnification of M, else all.
 fn sized_font(letter: u8, numbers: &[i32]) -> &[i32] {
     if letter == b'W' {
         return rest(numbers, after(numbers, 2, 1));
     }
+    if letter == b'M' {
+        return rest(numbers, 2);
+    }
     numbers
 }
 
-// The answer to C, W or A, from the pairs, ops and loops of the font.
+// Number i of M, the size or the magnification; else 0.
+fn asked(letter: u8, numbers: &[i32], i: usize) -> i32 {
+    if letter == b'M' {
+        number_at(numbers, i)
+    } else {
+        0
+    }
+}
+
+// The answer to C, M, W or A, from the pairs, ops and loops of the font.
 fn answer_by(
     letter: u8,
     numbers: &[i32],
@@ -41,7 +54,7 @@ fn answer_by(
     out: &mut [i32],
 ) -> Written {
     match letter {
-        b'C' => test_font_answers::answer(pairs, ops, loops, out),
+        b'C' | b'M' => test_font_answers::answer(pairs, ops, loops, out),
         _ => test_table_answers::answer(letter, numbers, pairs, ops, out),
     }
 }
@@ -69,12 +82,14 @@ fn answer_from(
     }
 }
 
-// C design FONT, A design FONT, or W left override WORD design FONT
+// C design FONT, M size magnification design FONT, A design FONT, or W left override WORD design FONT
 pub(crate) fn compiled(letter: u8, numbers: &[i32], out: &mut [i32]) -> Written {
     let mut pairs = table();
     let mut ops = list();
     let mut loops = list();
     let sized = sized_font(letter, numbers);
-    let compiled = compile_font(sized, &mut pairs, &mut ops, &mut loops);
+    let size = asked(letter, numbers, 0);
+    let magnification = asked(letter, numbers, 1);
+    let compiled = compile_font(sized, size, magnification, &mut pairs, &mut ops, &mut loops);
     answer_from(letter, numbers, compiled, &pairs, &ops, &loops, out)
 }

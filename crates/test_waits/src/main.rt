@@ -72,6 +72,8 @@ fn report(program: &[i32], entries: &[i32], pairs: &mut [i32], work: &mut [u32])
         -1,
         -1,
         10485760,
+        0,
+        0,
         pairs,
         &mut ops,
         &mut loops,

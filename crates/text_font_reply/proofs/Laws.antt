@@ -19,10 +19,10 @@ use Rattle.lang.specs.declared.Written.the-variants as written
 use Rattle.lang.specs.Every.{every}
 use Rattle.lang.specs.Checks.{orElse, lower}
 use Rattle.lang.specs.Answers.{Reply, replyOf, writtenReply, listOf}
-use Rattle.lang.proofs.Refusals.{first-is, second-is, orElse-none}
+use Rattle.lang.proofs.Refusals.{first-is, second-is, second-none, orElse-none}
 use Rattle.fonts.specs.Fonts.{Font}
 use Rattle.fonts.specs.declared.Compiled.the-variants as compiled
-use Rattle.fonts.specs.Compiled.{roomOf, roomIn, loopsOfFont, totalOps, fontTable, tablePairs, fontOps, fontLoops, compileRefusal, Compiles}
+use Rattle.fonts.specs.Compiled.{roomOf, roomIn, loopsOfFont, totalOps, fontTable, tablePairs, fontOps, fontLoops, compileRefusal, sizedRefusal, Compiles}
 use Rattle.columns.proofs.FontBegins.{lists-of}
 use Rattle.captions.specs.declared.State.{State}
 use Rattle.captions.specs.declared.Answer.{Answer}
@@ -150,22 +150,26 @@ module _ (f : Font) (pairs ops loops : List ℤ) (work : List ℕ) (a : 3072 ≡
   room-is : roomIn pairs ops loops work ≡ columnRoom
   room-is i = roomOf (sym a i) (sym b i) (sym d i) (sym e i)
 
-  module _ {pairs′ ops′ loops′ : List ℤ} {work′ : List ℕ} where
-    pub not-compiled : (n : ℕ) → Compiles f pairs ops loops work (compiled.Refused n) pairs′ ops′ loops′ work′ → (n ≡ compileRefusal f columnRoom) × (0 < n)
-    not-compiled n c =
-        let k = number-known (compileRefusal f (roomIn pairs ops loops work)) n (pos (tablePairs f)) (pos (totalOps f) ∷ pos (length (loopsOfFont f)) ∷ [])
-        (c .answer) in
-        (k .0 ∙ ap (compileRefusal f) room-is, k .1)
+  -- at the design size no size is refused
+  at-design-size : sizedRefusal f (roomIn pairs ops loops work) 0 ≡ compileRefusal f columnRoom
+  at-design-size = second-none (compileRefusal f (roomIn pairs ops loops work)) ∙ ap (compileRefusal f) room-is
 
-    module _ {p o l : ℕ} (c : Compiles f pairs ops loops work (compiled.Tables p o l) pairs′ ops′ loops′ work′) where
+  module _ {pairs′ ops′ loops′ : List ℤ} {work′ : List ℕ} where
+    pub not-compiled : (n : ℕ) → Compiles f 0 pairs ops loops work (compiled.Refused n) pairs′ ops′ loops′ work′ → (n ≡ compileRefusal f columnRoom) × (0 < n)
+    not-compiled n c =
+        let k = number-known (sizedRefusal f (roomIn pairs ops loops work) 0) n (pos (tablePairs f)) (pos (totalOps f) ∷ pos (length (loopsOfFont f)) ∷ [])
+        (c .answer) in
+        (k .0 ∙ at-design-size, k .1)
+
+    module _ {p o l : ℕ} (c : Compiles f 0 pairs ops loops work (compiled.Tables p o l) pairs′ ops′ loops′ work′) where
       pub compiled-taken : compileRefusal f columnRoom ≡ 0
-      compiled-taken = sym (ap (compileRefusal f) room-is) ∙ lists-of c .0
+      compiled-taken = sym at-design-size ∙ lists-of c .0
 
       pub pairs-fit : length pairs′ ≡ length pairs → 6 * p ≤ 3072
       pairs-fit k =
           omega (
             arith,
-            room-known (pos 0) (compileRefusal f (roomIn pairs ops loops work)) (length pairs) (fontTable f) pairs′ (c .lists .table) (lists-of c .0) k,
+            room-known (pos 0) (sizedRefusal f (roomIn pairs ops loops work) 0) (length pairs) (fontTable f) pairs′ (c .lists .table) (lists-of c .0) k,
             lists-of c .1 .table-long,
           )
 
@@ -173,7 +177,7 @@ module _ (f : Font) (pairs ops loops : List ℤ) (work : List ℕ) (a : 3072 ≡
       ops-fit k =
           omega (
             arith,
-            room-known (pos 0) (compileRefusal f (roomIn pairs ops loops work)) (length ops) (fontOps f) ops′ (c .lists .ops-table) (lists-of c .0) k,
+            room-known (pos 0) (sizedRefusal f (roomIn pairs ops loops work) 0) (length ops) (fontOps f) ops′ (c .lists .ops-table) (lists-of c .0) k,
             lists-of c .1 .op-table-long,
           )
 
@@ -181,7 +185,7 @@ module _ (f : Font) (pairs ops loops : List ℤ) (work : List ℕ) (a : 3072 ≡
       loops-fit k =
           omega (
             arith,
-            room-known (pos 0) (compileRefusal f (roomIn pairs ops loops work)) (length loops) (fontLoops f) loops′ (c .lists .loop-list) (lists-of c .0) k,
+            room-known (pos 0) (sizedRefusal f (roomIn pairs ops loops work) 0) (length loops) (fontLoops f) loops′ (c .lists .loop-list) (lists-of c .0) k,
             lists-of c .1 .loop-table-long,
           )
 

@@ -122,6 +122,8 @@ pub fn answer_font(
         boundary,
         left_entry,
         design_size,
+        0,
+        0,
         &mut pairs,
         &mut ops,
         &mut loops,

@@ -1,12 +1,17 @@
 -- What scaling answers is known from its reply. Assumes nothing.
-use mathlib.Core.Path.{_≡_, refl, ap}
+use mathlib.Core.Path.{_≡_, refl, sym, ap, _∙_}
+use mathlib.Core.Bool.{cond}
 use mathlib.Core.List.{List, [], _∷_}
 use native.Mathlib.Omega.{arith}
-use lib.IntN.{ℤ}
+use lib.IntN.{ℤ, pos}
+use lib.Dec.{eqb}
+use lib.ListN.{getD}
 use Rattle.words.specs.Replies.{Reply}
 use Rattle.tfm.specs.declared.ToScaled.{ToScaled}
 use Rattle.tfm.specs.declared.ToScaled.the-variants.{Scaled, NegativeDesignSize, TooLarge}
-use Rattle.tfm.specs.Scaled.{scaledReply}
+use Rattle.tfm.specs.declared.ScaledAt.{ScaledAt}
+use Rattle.tfm.specs.declared.ScaledAt.the-variants as At
+use Rattle.tfm.specs.Scaled.{scaledReply, scaledAtReply}
 
 number-of : (x y : ToScaled) → scaledReply x ≡ scaledReply y → scaledReply x .number ≡ scaledReply y .number
 number-of x y e = ap (λ (r : Reply). r .number) e
@@ -21,3 +26,19 @@ scaled-injective NegativeDesignSize TooLarge e = absurd (omega (arith, number-of
 scaled-injective TooLarge (Scaled w) e = absurd (omega (arith, number-of TooLarge (Scaled w) e))
 scaled-injective TooLarge NegativeDesignSize e = absurd (omega (arith, number-of TooLarge NegativeDesignSize e))
 scaled-injective TooLarge TooLarge e = refl
+
+-- at a size: the answer of a reply
+replied : Reply → ScaledAt
+replied r =
+    cond (eqb (r .number) 5) At.NegativeDesignSize
+    (cond (eqb (r .number) 13) At.TooLarge (cond (eqb (r .number) 19) At.SizeOutOfRange (At.Scaled (getD (r .values) 0 (pos 0)))))
+
+replied-is : (x : ScaledAt) → replied (scaledAtReply x) ≡ x
+unfolding replied
+replied-is (At.Scaled v) = refl
+replied-is At.NegativeDesignSize = refl
+replied-is At.TooLarge = refl
+replied-is At.SizeOutOfRange = refl
+
+pub scaled-at-injective : (x y : ScaledAt) → scaledAtReply x ≡ scaledAtReply y → x ≡ y
+scaled-at-injective x y e = sym (replied-is x) ∙ ap replied e ∙ replied-is y

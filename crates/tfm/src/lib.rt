@@ -4,6 +4,8 @@ ghost use mathlib.Core.Path.{_≡_};
 ghost use Prim.Native.Nat.{_<_, _^_, _/_, _%_};
 ghost use lib.Dec.{leb};
 ghost use Rattle.tfm.specs.Scaled.{scaledReply, toScaled, zOfDesign, multiplier, Below, lowBytes, scaledFrom};
+ghost use Rattle.tfm.specs.Scaled.{zRefusal, magnified, wordsRefusal, zAt, isAsked, designWord};
+ghost use Rattle.tfm.specs.Scaled.{askedRefusal, designAt, sized, scaledAt, scaledAtReply};
 
 // A fix_word: a number in units of 2^-20.
 pub struct FixWord(pub i32);
@@ -17,13 +19,24 @@ pub enum ToScaled {
     TooLarge,
 }
 
+// What scaling at a size answers: the scaled value, or why there is none.
+pub enum ScaledAt {
+    Scaled(i32),
+    // The design size is negative.
+    NegativeDesignSize,
+    // The top byte of the number is neither 0 nor 255.
+    TooLarge,
+    // The size is out of range, or a size and a magnification are asked for.
+    SizeOutOfRange,
+}
+
 impl FixWord {
     pub const ZERO: FixWord = FixWord(0);
 
     pub const ONE: FixWord = FixWord(1048576);
 
     // This number times the design size, in scaled points.
-    pub fn to_scaled(self, design_size: FixWord) -> ToScaled
+    pub fn at_design_size(self, design_size: FixWord) -> ToScaled
         ensures { λ r. ⌜ scaledReply r ≡ scaledReply (toScaled (self .0) («design_size» .0)) ⌝ }
     {
         let design = words::word_of(design_size.0);
@@ -33,6 +46,122 @@ impl FixWord {
         let word = words::word_of(self.0);
         scaled_from(z_of_design(design), word)
     }
+
+    // This number times a size, or times the design size magnified, in scaled points; zero is not asked for.
+    pub fn to_scaled(self, design_size: FixWord, size: i32, magnification: i32) -> ScaledAt
+        ensures { λ r. ⌜ scaledAtReply r ≡ scaledAtReply (scaledAt (self .0) («design_size» .0) size magnification) ⌝ }
+    {
+        let at = FixWord(design_at(design_size.0, size, magnification));
+        let number = asked_refusal(design_size.0, size, magnification);
+        size_scaled(number, self.at_design_size(at))
+    }
+}
+
+// What was scaled, unless the size's number refuses it; 13 comes before that.
+fn size_scaled(number: u32, scaled: ToScaled) -> ScaledAt
+    ensures { λ r. ⌜ r ≡ sized number scaled ⌝ }
+{
+    match scaled {
+        ToScaled::NegativeDesignSize => ScaledAt::NegativeDesignSize,
+        ToScaled::TooLarge => ScaledAt::TooLarge,
+        ToScaled::Scaled(v) => {
+            if number == 0 {
+                ScaledAt::Scaled(v)
+            } else {
+                ScaledAt::SizeOutOfRange
+            }
+        }
+    }
+}
+
+// 19 of a size and a magnification, any two numbers.
+pub fn asked_refusal(design_size: i32, size: i32, magnification: i32) -> u32
+    ensures { λ r. ⌜ r ≡ askedRefusal «design_size» size magnification ⌝ }
+{
+    words_refusal(
+        words::word_of(design_size),
+        words::word_of(size),
+        words::word_of(magnification),
+    )
+}
+
+// The design size at which scaling is scaling at this size.
+pub fn design_at(design_size: i32, size: i32, magnification: i32) -> i32
+    ensures { λ r. ⌜ r ≡ designAt «design_size» size magnification ⌝ }
+{
+    let design = words::word_of(design_size);
+    if 2147483648 <= design {
+        return design_size;
+    }
+    words::number_of(design_word(design, words::word_of(size), words::word_of(magnification)))
+}
+
+// The same of the 32 bits of the three, the design size not negative.
+fn design_word(design: u32, size: u32, magnification: u32) -> u32
+    ensures { λ r. ⌜ r ≡ designWord design size magnification ⌝ }
+{
+    if !is_asked(size, magnification) {
+        return design;
+    }
+    if words_refusal(design, size, magnification) != 0 {
+        return 0;
+    }
+    16 * (z_at(design, size, magnification) as u32)
+}
+
+fn is_asked(size: u32, magnification: u32) -> bool
+    ensures { λ r. ⌜ r ≡ isAsked size magnification ⌝ }
+{
+    size != 0 || magnification != 0
+}
+
+// 19, by the 32 bits of the three.
+fn words_refusal(design: u32, size: u32, magnification: u32) -> u32
+    ensures { λ r. ⌜ r ≡ wordsRefusal design size magnification ⌝ }
+{
+    if size != 0 {
+        if magnification != 0 {
+            return 19;
+        }
+        return z_refusal(size as u64);
+    }
+    if magnification == 0 {
+        return 0;
+    }
+    if 32768 < magnification {
+        return 19;
+    }
+    z_refusal(magnify(design, magnification))
+}
+
+// 19 unless z is from 1 and below 2^27.
+fn z_refusal(z: u64) -> u32
+    ensures { λ r. ⌜ r ≡ zRefusal z ⌝ }
+{
+    if z < 1 {
+        return 19;
+    }
+    if z <= 134217727 { 0 } else { 19 }
+}
+
+// z of the design size, of the size or magnified.
+fn z_at(design: u32, size: u32, magnification: u32) -> u64
+    ensures { λ r. ⌜ r ≡ zAt design size magnification ⌝ }
+{
+    if size != 0 {
+        return size as u64;
+    }
+    if magnification == 0 {
+        return z_of_design(design) as u64;
+    }
+    magnify(design, magnification)
+}
+
+// z of the design size times a magnification in thousandths: the product needs 64 bits.
+fn magnify(design: u32, magnification: u32) -> u64
+    ensures { λ r. ⌜ r ≡ magnified design magnification ⌝ }
+{
+    (z_of_design(design) as u64) * (magnification as u64) / 1000
 }
 
 // z below 2^23, and alpha before it is multiplied by z.

@@ -57,7 +57,7 @@ static struct list list_of(size_t n) {
 }
 
 static void compile(void) {
-    said = ligkern_compile(instructions.at, instructions.n, kerns.at, kerns.n, entries.at, entries.n, boundary, left_entry, design, pairs.at, pairs.n, ops.at, ops.n, loops.at, loops.n, work,
+    said = ligkern_compile(instructions.at, instructions.n, kerns.at, kerns.n, entries.at, entries.n, boundary, left_entry, design, 0, 0, pairs.at, pairs.n, ops.at, ops.n, loops.at, loops.n, work,
                            16 * pair_room, counts, 3);
 }
 

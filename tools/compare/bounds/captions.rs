@@ -22,7 +22,7 @@ fn compiled_sizes(font: &Font, design: i32, rules: usize, ops: usize) -> [usize;
     unsafe {
         ligkern_compile(
             is.as_ptr(), is.len(), font.kerns.as_ptr(), font.kerns.len(), es.as_ptr(), es.len(), font.boundary,
-            font.left_entry, design, pairs.as_mut_ptr(), pairs.len(), ops.as_mut_ptr(), ops.len(),
+            font.left_entry, design, 0, 0, pairs.as_mut_ptr(), pairs.len(), ops.as_mut_ptr(), ops.len(),
             loops.as_mut_ptr(), loops.len(), work.as_mut_ptr(), work.len(), counts.as_mut_ptr(), counts.len(),
         )
     };
@@ -35,6 +35,12 @@ pub fn compiled(r: &mut Random, drawn: &Drawn, counts: &mut Counts) -> Tried {
     let reading = reading::read(font);
     let rules = reading.rules.len();
     let [ops, loops] = compiled_sizes(font, design, rules, reading.ops as usize);
+    let kern = r.within(-20_000_000, 20_000_000) as i32;
+    let scale = |_: &[List], o: &[List]| unsafe {
+        ligkern_to_scaled(kern, design, 0, 0, o[0].pointer(), o[0].length)
+    };
+    Call { name: "ligkern_to_scaled", refusals: &[13], sources: vec![], sinks: vec![sink(4, 1, 15)], call: &scale }
+        .try_all(counts)?;
     let call = compile_call(font, design);
     let tried = Call {
         name: "ligkern_compile",
@@ -62,7 +68,7 @@ fn compile_call(font: &Font, design: i32) -> impl Fn(&[List], &[List]) -> u32 {
     move |i, o| unsafe {
         ligkern_compile(
             i[0].pointer(), i[0].length, i[1].pointer(), i[1].length, i[2].pointer(), i[2].length, boundary,
-            left_entry, design, o[0].pointer(), o[0].length, o[1].pointer(), o[1].length, o[2].pointer(),
+            left_entry, design, 0, 0, o[0].pointer(), o[0].length, o[1].pointer(), o[1].length, o[2].pointer(),
             o[2].length, o[3].pointer(), o[3].length, o[4].pointer(), o[4].length,
         )
     }

@@ -73,6 +73,18 @@ fn lend_counted(font: &Font, passthrough: &[u16], tally: &mut Tally) -> publishe
     lent
 }
 
+// ---- one kern
+
+pub fn to_scaled(kern: i32, design: i32, tally: &mut Tally) -> Answer {
+    match caught(|| published::to_scaled(kern, design)) {
+        Err(said) if is_unscaled(&said) => {
+            tally.class(tally::SCALED);
+            Answer::Refused(13)
+        }
+        result => plain(result),
+    }
+}
+
 // ---- a compiled font
 
 /// The font to be compiled, as it is lent to the Rust.

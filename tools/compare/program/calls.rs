@@ -11,6 +11,8 @@ extern "C" {
         boundary: i32,
         left_entry: i32,
         design_size: i32,
+        size: i32,
+        magnification: i32,
         pairs: *mut i32,
         pairs_length: usize,
         ops: *mut i32,
@@ -21,6 +23,15 @@ extern "C" {
         work_length: usize,
         counts: *mut u64,
         counts_length: usize,
+    ) -> u32;
+
+    pub fn ligkern_to_scaled(
+        kern: i32,
+        design_size: i32,
+        size: i32,
+        magnification: i32,
+        scaled: *mut i32,
+        scaled_length: usize,
     ) -> u32;
 
     pub fn ligkern_set_word(

@@ -214,6 +214,7 @@ pub fn ask_program(ask: &Ask, font: &Font, spare: usize, tally: &mut Tally) -> R
             (published, lent.pack_entrypoints(room))
         }
         Ask::PackKerns => (asked::pack_kerns(font), lent.pack_kerns()),
+        Ask::Scale { kern, design } => (asked::to_scaled(*kern, *design, tally), lent.to_scaled(*kern, *design)),
         Ask::UnpackKerns => {
             let published = asked::unpack_kerns(font);
             let room = published.count(0);

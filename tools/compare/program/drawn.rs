@@ -125,7 +125,13 @@ fn entries(r: &mut Random, letters: &[i32], count: i64, strange: u64) -> Vec<[i3
     entries
 }
 
+/// A design size. A fifth are sixteen times a z of which the library is asked by a size or a magnification (library.rs).
 fn design(r: &mut Random) -> i32 {
+    if r.percent(20) {
+        let bits = r.within(3, 26);
+        let z = 7 * r.within(0, (1 << bits) / 7) + r.within(1, 2);
+        return (16 * z) as i32;
+    }
     match r.percent(85) {
         true => DESIGN,
         false => match r.percent(50) {

@@ -28,6 +28,7 @@ pub enum Ask {
     PackKerns,
     UnpackKerns,
     Repair(Damage),
+    Scale { kern: i32, design: i32 },
 }
 
 /// A word and the options of a run.
@@ -48,7 +49,7 @@ pub struct Damage {
 }
 
 /// The calls, in the order of `Ask`.
-pub const CALLS: [&str; 15] = [
+pub const CALLS: [&str; 16] = [
     "ligkern_compile",
     "ligkern_set_word",
     "ligkern_begin, ligkern_step",
@@ -64,6 +65,7 @@ pub const CALLS: [&str; 15] = [
     "ligkern_unpack_kerns",
     "ligkern_validate_and_fix",
     "ligkern_fill_index, ligkern_set_word_indexed",
+    "ligkern_to_scaled",
 ];
 
 impl Ask {
@@ -85,6 +87,7 @@ impl Ask {
             Ask::UnpackKerns => 12,
             Ask::Repair(_) => 13,
             Ask::Indexed(_) => 14,
+            Ask::Scale { .. } => 15,
         }
     }
 }
@@ -162,6 +165,12 @@ pub fn request(ask: &Ask, font: &Font) -> String {
         Ask::Repair(damage) => {
             out.push('X');
             put_damage(&mut out, damage);
+        }
+        Ask::Scale { kern, design } => {
+            out.push('S');
+            put(&mut out, *kern);
+            put(&mut out, *design);
+            return out;
         }
     }
     put_font(&mut out, font);

@@ -52,6 +52,20 @@ pub fn taken(number: u32, outputs: &[&dyn Zeroed]) -> Result<(), Stop> {
     Err(Stop::Number(number))
 }
 
+/// The design size, size and magnification that the library is asked for, where the Rust is asked for this design size.
+/// Sixteen times z is asked for by the size z where z is one more than a multiple of seven, and by a magnification of
+/// another design size where it is two more; drawn.rs makes a fifth of the fonts such ones.
+fn asked_at(design: i32) -> [i32; 3] {
+    let z = design as i64 / 16;
+    let magnification = 1 + z % 1000;
+    let magnified = 16 * ((1000 * z + magnification - 1) / magnification);
+    match (design % 16 == 0 && design > 0, z % 7) {
+        (true, 1) => [(37 * z % i32::MAX as i64) as i32, z as i32, 0],
+        (true, 2) if magnified <= i32::MAX as i64 => [magnified as i32, 0, magnification as i32],
+        _ => [design, 0, 0],
+    }
+}
+
 /// A list of values, and so many of them.
 pub fn values(spare: usize, count: usize) -> Output<u64> {
     Output::new("values", count + spare)
@@ -110,6 +124,7 @@ impl Lent {
         let mut loops = Output::<i32>::new("loops", 2 * room[2] + spare);
         let mut work = Output::<u32>::new("work", 16 * room[0] + spare);
         let mut counts = Output::<u64>::new("counts", 3 + spare);
+        let [design, size, magnification] = asked_at(design);
         let number = unsafe {
             ligkern_compile(
                 self.instructions.pointer(),
@@ -121,6 +136,8 @@ impl Lent {
                 self.boundary,
                 self.left_entry,
                 design,
+                size,
+                magnification,
                 pairs.pointer(),
                 pairs.length(),
                 ops.pointer(),
@@ -145,6 +162,17 @@ impl Lent {
         put(&mut out, ops);
         put(&mut out, loops.taken(2 * counts[2] as usize)?);
         Ok((out, Table::new(pairs.to_vec(), ops.to_vec(), self.boundary, spare)))
+    }
+
+    /// One kern, which need not be the font's.
+    pub fn to_scaled(&mut self, kern: i32, design: i32) -> Given {
+        let mut scaled = Output::<i32>::new("scaled", 1 + self.spare);
+        let [design, size, magnification] = asked_at(design);
+        let number = unsafe {
+            ligkern_to_scaled(kern, design, size, magnification, scaled.pointer(), scaled.length())
+        };
+        taken(number, &[&scaled])?;
+        Ok(vec![scaled.taken(1)?[0] as i64])
     }
 
     pub fn program_is_seven_bit_safe(&mut self) -> Given {

@@ -71,6 +71,9 @@ fn program(r: &mut Random, drawn: &Drawn, spare: usize, tally: &mut Tally) -> As
     for ask in [Ask::ProgramSafe, Ask::Pack, Ask::PackKerns, Ask::UnpackKerns] {
         ask_program(&ask, font, spare, tally)?;
     }
+    for kern in [r.within(-16_777_216, 16_777_215) as i32, r.within(i32::MIN as i64, i32::MAX as i64) as i32] {
+        ask_program(&Ask::Scale { kern, design: drawn.design }, font, spare, tally)?;
+    }
     for entry in [0, r.within(0, count as i64 + 1) as i32, r.pick(&[255, 256, 32_766, 65_535])] {
         ask_program(&Ask::Chain { entry }, font, spare, tally)?;
     }

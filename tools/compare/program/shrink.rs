@@ -158,7 +158,7 @@ fn smaller_asks(ask: &Ask) -> Vec<Ask> {
             out.push(Ask::Repair(Damage { smallest: 0, ..damage.clone() }));
             out
         }
-        Ask::ProgramSafe | Ask::Pack | Ask::PackKerns | Ask::UnpackKerns => vec![],
+        Ask::ProgramSafe | Ask::Pack | Ask::PackKerns | Ask::UnpackKerns | Ask::Scale { .. } => vec![],
     }
 }
 

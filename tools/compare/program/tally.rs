@@ -7,7 +7,7 @@ use std::collections::BTreeMap;
 
 /// Where what is due is not simply the Rust's answer.
 pub const CLASSES: [&str; 13] = [
-    "13 due: the Rust panics in to_scaled (compiling)",
+    "13 due: the Rust panics in to_scaled (compiling, one kern)",
     "14 due: over the op table lent, by a count of the ops of our own; the Rust is not asked",
     "10 due: the Rust panics at the 256th redirect (packing)",
     "10 due: the Rust panics over 65,535 first, and at the 256th redirect when it is asked with lower entries (packing)",

@@ -252,6 +252,11 @@ fn character(c: i32) -> Option<char> {
     u8::try_from(c).ok().map(char::from)
 }
 
+/// A kern in scaled points.
+pub fn to_scaled(kern: i32, design: i32) -> Numbers {
+    vec![FixWord(kern).to_scaled(FixWord(design)).0 as i64]
+}
+
 pub fn has_replacement(compiled: &CompiledProgram, left: i32, right: i32) -> Numbers {
     vec![compiled.has_replacement(character(left), character(right)) as i64]
 }

@@ -43,6 +43,10 @@ impl Numbers {
     fn word(&mut self) -> Read<FixWord> {
         Ok(FixWord(self.int(i32::MIN as i64, i32::MAX as i64)? as i32))
     }
+    /// A design size, a size and a magnification.
+    fn sized(&mut self) -> Read<Sized> {
+        Ok(Sized { design: self.word()?, size: self.word()?.0, magnification: self.word()?.0 })
+    }
     fn optional_byte(&mut self) -> Read<Option<u8>> {
         Ok(u8::try_from(self.int(-1, 255)?).ok())
     }
@@ -199,6 +203,57 @@ impl Font {
         let (compiled, loops) =
             CompiledProgram::compile(&self.program, design, &self.kerns, self.map());
         (compiled, loops.into_iter().map(|l| l.starting_pair).collect())
+    }
+}
+
+impl Font {
+    /// The pair table and the loops.
+    fn table(&self, design: FixWord) -> Answer {
+        let (compiled, loops) = self.compile(design);
+        let rows = oracle_table::rows(&compiled);
+        let mut out = vec![rows.len() as i64];
+        for row in rows {
+            put_pair(&mut out, row.pair);
+            out.push(row.last.0 as i64);
+            out.push(row.last_is_lig as i64);
+            out.push(row.ops.len() as i64);
+            for (kind, value) in row.ops {
+                out.push(kind);
+                out.push(value);
+            }
+        }
+        put_pairs(&mut out, &loops);
+        out
+    }
+}
+
+/// A design size with a size in scaled points or a magnification in thousandths; 0 is not asked for. The Rust
+/// has only a design size: sixteen times z, the size itself or the design size magnified (docs/RULES.md).
+struct Sized {
+    design: FixWord,
+    size: i32,
+    magnification: i32,
+}
+
+impl Sized {
+    /// The design size to ask the Rust for; the number of the refusal where there is none.
+    fn at(&self) -> Result<FixWord, i64> {
+        let z = match (self.size as i64, self.magnification as i64) {
+            (0, 0) => return Ok(self.design),
+            (size, 0) => size,
+            (0, magnification @ 1..=32768) => self.design.0 as i64 / 16 * magnification / 1000,
+            _ => return Err(19),
+        };
+        if (1..=134217727).contains(&z) { Ok(FixWord(16 * z as i32)) } else { Err(19) }
+    }
+
+    /// The Rust's answer at that size. 5 comes before its refusals, and 19 after them.
+    fn answer<A>(&self, ask: impl FnOnce(FixWord) -> A) -> A {
+        assert!(self.design.0 >= 0, "rule 5");
+        let at = self.at();
+        let answer = ask(at.unwrap_or(FixWord(0)));
+        assert!(at.is_ok(), "rule 19");
+        answer
     }
 }
 
@@ -414,6 +469,10 @@ fn read(letter: &str, n: &mut Numbers) -> Read<Call> {
             let (kern, design) = (n.word()?, n.word()?);
             Box::new(move || vec![kern.to_scaled(design).0 as i64])
         }
+        "Z" => {
+            let (kern, sized) = (n.word()?, n.sized()?);
+            Box::new(move || vec![sized.answer(|design| kern.to_scaled(design)).0 as i64])
+        }
         "O" => {
             let (op_byte, remainder) = (n.byte()?, n.byte()?);
             Box::new(move || {
@@ -526,23 +585,13 @@ fn read(letter: &str, n: &mut Numbers) -> Read<Call> {
         "C" => {
             let design = n.word()?;
             let font = n.compiled_font()?;
-            Box::new(move || {
-                let (compiled, loops) = font.compile(design);
-                let rows = oracle_table::rows(&compiled);
-                let mut out = vec![rows.len() as i64];
-                for row in rows {
-                    put_pair(&mut out, row.pair);
-                    out.push(row.last.0 as i64);
-                    out.push(row.last_is_lig as i64);
-                    out.push(row.ops.len() as i64);
-                    for (kind, value) in row.ops {
-                        out.push(kind);
-                        out.push(value);
-                    }
-                }
-                put_pairs(&mut out, &loops);
-                out
-            })
+            Box::new(move || font.table(design))
+        }
+        "M" => {
+            let (size, magnification) = (n.word()?.0, n.word()?.0);
+            let sized = Sized { design: n.word()?, size, magnification };
+            let font = n.compiled_font()?;
+            Box::new(move || sized.answer(|design| font.table(design)))
         }
         "W" => {
             let use_left_boundary = n.flag()?;
@@ -660,11 +709,13 @@ fn listen() {
 
 /// The number of the refusal that the last panic stands for, by what it said: the assertion of
 /// `to_scaled`; the offset of packing counted past a byte; the target of a redirect, an entry or the
-/// left-boundary entry plus the offset past 65535.
+/// left-boundary entry plus the offset past 65535; the two refusals of a size, which the Rust has not.
 fn said(letter: &str) -> Option<i64> {
     let text = SAID.lock().unwrap();
     if text.ends_with("a == 0 || a == 255") {
         Some(13)
+    } else if text.starts_with("rule ") {
+        text["rule ".len()..].parse().ok()
     } else if letter == "P" && text.contains("cannot exceed 256") {
         Some(10)
     } else if letter == "P" && (text.contains("enough space") || text.ends_with("add with overflow")) {
@@ -729,8 +780,9 @@ pub fn main() -> i32 {
                 }
             }
             None => {
-                text.push_str(" panic");
-                if let Some(number) = refusal(&line) {
+                let number = refusal(&line);
+                text.push_str(if matches!(number, Some(5 | 19)) { " ?" } else { " panic" });
+                if let Some(number) = number {
                     text.push_str(&format!(" {number}"));
                 }
             }

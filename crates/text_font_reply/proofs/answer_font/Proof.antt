@@ -9,6 +9,7 @@ use lib.Seq.{length-take-le}
 use borrow.Author.Needs.{needs}
 use Rattle.words.specs.Words.{wordOf, numberOf}
 use Rattle.words.proofs.Bits.{number-word}
+use Rattle.tfm.proofs.Sizes.{design-plain}
 use Rattle.lang.specs.Checks.{lower}
 use Rattle.lang.proofs.Refusals.{lower-some}
 use Rattle.fonts.specs.declared.Compiled.{Compiled}
@@ -37,21 +38,22 @@ rows-at m = m .before .before .before .before .before .before
 
 -- what compile answered, of that font
 done : (m : tie.After-compile) (r : Compiled) → r ≡ m .compile .result → let w = m .before .before .before .before .before .before in
-    Compiles (font (start m)) (w .before .before .before .pair-list .result) (w .before .before .op-list .result) (w .before .loop-list .result)
-    (w .rows .result) r (m .compile .last .1 .1 .1 .1 .1 .1 .0) (m .compile .last .1 .1 .1 .1 .1 .1 .1 .0) (m .compile .last .1 .1 .1 .1 .1 .1 .1 .1 .0)
-    (m .compile .last .1 .1 .1 .1 .1 .1 .1 .1 .1 .0)
+    Compiles (font (start m)) 0 (w .before .before .before .pair-list .result) (w .before .before .op-list .result) (w .before .loop-list .result)
+    (w .rows .result) r (m .compile .last .1 .1 .1 .1 .1 .1 .1 .1 .0) (m .compile .last .1 .1 .1 .1 .1 .1 .1 .1 .1 .0)
+    (m .compile .last .1 .1 .1 .1 .1 .1 .1 .1 .1 .1 .0) (m .compile .last .1 .1 .1 .1 .1 .1 .1 .1 .1 .1 .1 .0)
 done m r e =
     let s = start m in
     let a = s .args in
     let w = m .before .before .before .before .before .before in
-    subst (λ (x : Compiled). Compiles (font s) (w .before .before .before .pair-list .result) (w .before .before .op-list .result)
-    (w .before .loop-list .result) (w .rows .result) x (m .compile .last .1 .1 .1 .1 .1 .1 .0) (m .compile .last .1 .1 .1 .1 .1 .1 .1 .0)
-    (m .compile .last .1 .1 .1 .1 .1 .1 .1 .1 .0) (m .compile .last .1 .1 .1 .1 .1 .1 .1 .1 .1 .0)) (sym e)
+    subst (λ (x : Compiled). Compiles (font s) 0 (w .before .before .before .pair-list .result) (w .before .before .op-list .result)
+    (w .before .loop-list .result) (w .rows .result) x (m .compile .last .1 .1 .1 .1 .1 .1 .1 .1 .0) (m .compile .last .1 .1 .1 .1 .1 .1 .1 .1 .1 .0)
+    (m .compile .last .1 .1 .1 .1 .1 .1 .1 .1 .1 .1 .0) (m .compile .last .1 .1 .1 .1 .1 .1 .1 .1 .1 .1 .1 .0)) (sym e)
     (subst₃
-    (λ (b l d : ℤ). Compiles (fontOf (a .instructions .now) (a .kerns .now) (a .entries .now) b l d) (w .before .before .before .pair-list .result)
-    (w .before .before .op-list .result) (w .before .loop-list .result) (w .rows .result) (m .compile .result) (m .compile .last .1 .1 .1 .1 .1 .1 .0)
-    (m .compile .last .1 .1 .1 .1 .1 .1 .1 .0) (m .compile .last .1 .1 .1 .1 .1 .1 .1 .1 .0) (m .compile .last .1 .1 .1 .1 .1 .1 .1 .1 .1 .0))
-    (number-word (a .boundary) (s .fits .boundary)) (number-word (a .left-entry) (s .fits .left-entry)) (number-word (a .design-size) (s .fits .design-size))
+    (λ (b l d : ℤ). Compiles (fontOf (a .instructions .now) (a .kerns .now) (a .entries .now) b l d) 0 (w .before .before .before .pair-list .result)
+    (w .before .before .op-list .result) (w .before .loop-list .result) (w .rows .result) (m .compile .result) (m .compile .last .1 .1 .1 .1 .1 .1 .1 .1 .0)
+    (m .compile .last .1 .1 .1 .1 .1 .1 .1 .1 .1 .0) (m .compile .last .1 .1 .1 .1 .1 .1 .1 .1 .1 .1 .0) (m .compile .last .1 .1 .1 .1 .1 .1 .1 .1 .1 .1 .1 .0))
+    (number-word (a .boundary) (s .fits .boundary)) (number-word (a .left-entry) (s .fits .left-entry))
+    (design-plain (numberOf (wordOf (a .design-size))) ∙ number-word (a .design-size) (s .fits .design-size))
     (m .compile .ensures))
 
 pair-list-requires : tie.Need-pair-list-requires
@@ -123,10 +125,10 @@ abbrev compiled-at : tie.After-p → tie.After-compile
 compiled-at v = v .before .before .before .before .before .before
 
 tables : (v : tie.After-p) → let m = compiled-at v in
-    Compiles (font (start m)) (rows-at m .before .before .before .pair-list .result) (rows-at m .before .before .op-list .result)
+    Compiles (font (start m)) 0 (rows-at m .before .before .before .pair-list .result) (rows-at m .before .before .op-list .result)
     (rows-at m .before .loop-list .result) (rows-at m .rows .result) (compiled.Tables (v .p .given .0 .0) (v .p .given .0 .1 .0) (v .p .given .0 .1 .1 .0))
-    (m .compile .last .1 .1 .1 .1 .1 .1 .0) (m .compile .last .1 .1 .1 .1 .1 .1 .1 .0) (m .compile .last .1 .1 .1 .1 .1 .1 .1 .1 .0)
-    (m .compile .last .1 .1 .1 .1 .1 .1 .1 .1 .1 .0)
+    (m .compile .last .1 .1 .1 .1 .1 .1 .1 .1 .0) (m .compile .last .1 .1 .1 .1 .1 .1 .1 .1 .1 .0) (m .compile .last .1 .1 .1 .1 .1 .1 .1 .1 .1 .1 .0)
+    (m .compile .last .1 .1 .1 .1 .1 .1 .1 .1 .1 .1 .1 .0)
 tables v = done (compiled-at v) (compiled.Tables (v .p .given .0 .0) (v .p .given .0 .1 .0) (v .p .given .0 .1 .1 .0)) (sym (v .p .given .1))
 
 taken : (v : tie.After-p) → compileRefusal (font (start (compiled-at v))) columnRoom ≡ 0
@@ -136,34 +138,34 @@ taken v =
     (rows-at m .before .loop-list .result) (rows-at m .rows .result) (rows-at m .before .before .before .pair-list .ensures)
     (rows-at m .before .before .op-list .ensures) (rows-at m .before .loop-list .ensures) (rows-at m .rows .ensures) (tables v)
 
-few-pairs : (v : tie.After-p) → (6 * v .p .given .0 .0 ≤ 3072) × (length (compiled-at v .compile .last .1 .1 .1 .1 .1 .1 .0) ≡ 3072)
+few-pairs : (v : tie.After-p) → (6 * v .p .given .0 .0 ≤ 3072) × (length (compiled-at v .compile .last .1 .1 .1 .1 .1 .1 .1 .1 .0) ≡ 3072)
 few-pairs v =
     let m = compiled-at v in (
       pairs-fit (font (start m)) (rows-at m .before .before .before .pair-list .result) (rows-at m .before .before .op-list .result)
           (rows-at m .before .loop-list .result) (rows-at m .rows .result) (rows-at m .before .before .before .pair-list .ensures)
           (rows-at m .before .before .op-list .ensures) (rows-at m .before .loop-list .ensures) (rows-at m .rows .ensures) (tables v)
-          (m .compile .kept .1 .1 .1 .1 .1 .1 .0),
-      omega (arith, m .compile .kept .1 .1 .1 .1 .1 .1 .0, rows-at m .before .before .before .pair-list .ensures),
+          (m .compile .kept .1 .1 .1 .1 .1 .1 .1 .1 .0),
+      omega (arith, m .compile .kept .1 .1 .1 .1 .1 .1 .1 .1 .0, rows-at m .before .before .before .pair-list .ensures),
     )
 
-few-ops : (v : tie.After-p) → (2 * v .p .given .0 .1 .0 ≤ 4096) × (length (compiled-at v .compile .last .1 .1 .1 .1 .1 .1 .1 .0) ≡ 4096)
+few-ops : (v : tie.After-p) → (2 * v .p .given .0 .1 .0 ≤ 4096) × (length (compiled-at v .compile .last .1 .1 .1 .1 .1 .1 .1 .1 .1 .0) ≡ 4096)
 few-ops v =
     let m = compiled-at v in (
       ops-fit (font (start m)) (rows-at m .before .before .before .pair-list .result) (rows-at m .before .before .op-list .result)
           (rows-at m .before .loop-list .result) (rows-at m .rows .result) (rows-at m .before .before .before .pair-list .ensures)
           (rows-at m .before .before .op-list .ensures) (rows-at m .before .loop-list .ensures) (rows-at m .rows .ensures) (tables v)
-          (m .compile .kept .1 .1 .1 .1 .1 .1 .1 .0),
-      omega (arith, m .compile .kept .1 .1 .1 .1 .1 .1 .1 .0, rows-at m .before .before .op-list .ensures),
+          (m .compile .kept .1 .1 .1 .1 .1 .1 .1 .1 .1 .0),
+      omega (arith, m .compile .kept .1 .1 .1 .1 .1 .1 .1 .1 .1 .0, rows-at m .before .before .op-list .ensures),
     )
 
-few-loops : (v : tie.After-p) → (2 * v .p .given .0 .1 .1 .0 ≤ 128) × (length (compiled-at v .compile .last .1 .1 .1 .1 .1 .1 .1 .1 .0) ≡ 128)
+few-loops : (v : tie.After-p) → (2 * v .p .given .0 .1 .1 .0 ≤ 128) × (length (compiled-at v .compile .last .1 .1 .1 .1 .1 .1 .1 .1 .1 .1 .0) ≡ 128)
 few-loops v =
     let m = compiled-at v in (
       loops-fit (font (start m)) (rows-at m .before .before .before .pair-list .result) (rows-at m .before .before .op-list .result)
           (rows-at m .before .loop-list .result) (rows-at m .rows .result) (rows-at m .before .before .before .pair-list .ensures)
           (rows-at m .before .before .op-list .ensures) (rows-at m .before .loop-list .ensures) (rows-at m .rows .ensures) (tables v)
-          (m .compile .kept .1 .1 .1 .1 .1 .1 .1 .1 .0),
-      omega (arith, m .compile .kept .1 .1 .1 .1 .1 .1 .1 .1 .0, rows-at m .before .loop-list .ensures),
+          (m .compile .kept .1 .1 .1 .1 .1 .1 .1 .1 .1 .1 .0),
+      omega (arith, m .compile .kept .1 .1 .1 .1 .1 .1 .1 .1 .1 .1 .0, rows-at m .before .loop-list .ensures),
     )
 
 returns : tie.Need-returns
@@ -189,7 +191,7 @@ array-share-prefix-pairs c = let v = c .before .before in omega (arith, few-pair
 slice-aggregate-answer-table : tie.Need-slice-aggregate-answer-table
 slice-aggregate-answer-table c =
     let v = c .before .before .before in
-    sym (length-take-le (6 * v .p .given .0 .0) (compiled-at v .compile .last .1 .1 .1 .1 .1 .1 .0) (omega (arith, few-pairs v .0, few-pairs v .1)))
+    sym (length-take-le (6 * v .p .given .0 .0) (compiled-at v .compile .last .1 .1 .1 .1 .1 .1 .1 .1 .0) (omega (arith, few-pairs v .0, few-pairs v .1)))
 
 mul-ops : tie.Need-mul-ops
 mul-ops c = omega (arith, few-ops (c .before .before .before) .0)
@@ -200,7 +202,7 @@ array-share-prefix-ops c = let v = c .before .before .before in omega (arith, fe
 slice-aggregate-answer-table-2 : tie.Need-slice-aggregate-answer-table-2
 slice-aggregate-answer-table-2 c =
     let v = c .before .before .before .before in
-    sym (length-take-le (2 * v .p .given .0 .1 .0) (compiled-at v .compile .last .1 .1 .1 .1 .1 .1 .1 .0) (omega (arith, few-ops v .0, few-ops v .1)))
+    sym (length-take-le (2 * v .p .given .0 .1 .0) (compiled-at v .compile .last .1 .1 .1 .1 .1 .1 .1 .1 .1 .0) (omega (arith, few-ops v .0, few-ops v .1)))
 
 mul-loops : tie.Need-mul-loops
 mul-loops c = omega (arith, few-loops (c .before .before .before .before) .0)
@@ -211,7 +213,8 @@ array-share-prefix-loops c = let v = c .before .before .before .before in omega 
 slice-aggregate-answer-table-3 : tie.Need-slice-aggregate-answer-table-3
 slice-aggregate-answer-table-3 c =
     let v = c .before .before .before .before .before in
-    sym (length-take-le (2 * v .p .given .0 .1 .1 .0) (compiled-at v .compile .last .1 .1 .1 .1 .1 .1 .1 .1 .0) (omega (arith, few-loops v .0, few-loops v .1)))
+    sym (length-take-le (2 * v .p .given .0 .1 .1 .0) (compiled-at v .compile .last .1 .1 .1 .1 .1 .1 .1 .1 .1 .1 .0)
+    (omega (arith, few-loops v .0, few-loops v .1)))
 
 answer-table-requires : tie.Need-answer-table-requires
 answer-table-requires c κs = search needs
@@ -247,9 +250,9 @@ returns-3 c =
     let l = m .before .before .before .before .before .letters-refusal in
     let w = lists-of (tables v) .1 in
     let n : l .result ≡ 0 = omega (arith, e .if1 .left) in
-    let ps = take (6 * v .p .given .0 .0) (m .compile .last .1 .1 .1 .1 .1 .1 .0) in
-    let os = take (2 * v .p .given .0 .1 .0) (m .compile .last .1 .1 .1 .1 .1 .1 .1 .0) in
-    let ls = take (2 * v .p .given .0 .1 .1 .0) (m .compile .last .1 .1 .1 .1 .1 .1 .1 .1 .0) in
+    let ps = take (6 * v .p .given .0 .0) (m .compile .last .1 .1 .1 .1 .1 .1 .1 .1 .0) in
+    let os = take (2 * v .p .given .0 .1 .0) (m .compile .last .1 .1 .1 .1 .1 .1 .1 .1 .1 .0) in
+    let ls = take (2 * v .p .given .0 .1 .1 .0) (m .compile .last .1 .1 .1 .1 .1 .1 .1 .1 .1 .1 .0) in
     font-set (font s) (a .letters) (a .word .now) (a .reply .now) (x .result) (x .last .1 .1 .1 .1 .1 .1 .0) (taken v) (sym (l .ensures) ∙ n) ps os ls
     (w .table) (w .op-table) (w .loop-table)
     (subst (λ (z : ℤ). AnswersBytes (freshNumber ps os ls z (a .letters) (a .word .now) (length (a .reply .now)))

@@ -14,14 +14,14 @@ use Rattle.compile_prepare.proofs.encode.kern_effect.Statement.{stateme
 use Rattle.compile_prepare.proofs.encode.kern_effect.Tie as tie
 
 -- what scaling answers, from its reply
-scaled : (c : tie.After-to-scaled) → c .to-scaled .result ≡ toScaled (c .before .args .kern .0) (c .before .args .design-size)
+scaled : (c : tie.After-at-design-size) → c .at-design-size .result ≡ toScaled (c .before .args .kern .0) (c .before .args .design-size)
 scaled c =
     let a = c .before in
-    scaled-injective (c .to-scaled .result) (toScaled (a .args .kern .0) (numberOf (wordOf (a .args .design-size)))) (c .to-scaled .ensures)
+    scaled-injective (c .at-design-size .result) (toScaled (a .args .kern .0) (numberOf (wordOf (a .args .design-size)))) (c .at-design-size .ensures)
     ∙ ap (toScaled (a .args .kern .0)) (number-word (a .args .design-size) (a .fits .design-size))
 
-to-scaled-requires : tie.Need-to-scaled-requires
-to-scaled-requires c κs = search needs
+at-design-size-requires : tie.Need-at-design-size-requires
+at-design-size-requires c κs = search needs
 
 enum-known-v : tie.Need-enum-known-v
 enum-known-v c = search needs
@@ -33,15 +33,16 @@ returns : tie.Need-returns
 returns c =
     let a = c .before .before .before .before .before in
     let f : SFits w32 (c .before .before .v .given .0 .0) = record { sfits = c .before .known-told .given .0 .1 } in
-    kern-scaled (c .before .before .before .before .to-scaled .result) (c .before .before .v .given .0 .0) (c .word-of .result) (c .before .before .v .given .1)
+    kern-scaled (c .before .before .before .before .at-design-size .result) (c .before .before .v .given .0 .0) (c .word-of .result)
+    (c .before .before .v .given .1)
     (c .word-of .ensures ∙ ap wordOf (number-word (c .before .before .v .given .0 .0) f))
     ∙ ap kernEffect (scaled (c .before .before .before .before))
 
 returns-2 : tie.Need-returns-2
 returns-2 c =
     let a = c .before .before in
-    kern-unscaled (c .before .to-scaled .result) (c .match .keys2) ∙ ap kernEffect (scaled (c .before))
+    kern-unscaled (c .before .at-design-size .result) (c .match .keys2) ∙ ap kernEffect (scaled (c .before))
 
 pub kern-effect-spec : {M : Type 1} → statement M
 kern-effect-spec =
-    tie.close (tie.spec to-scaled-requires enum-known-v word-of-requires returns returns-2)
+    tie.close (tie.spec at-design-size-requires enum-known-v word-of-requires returns returns-2)
