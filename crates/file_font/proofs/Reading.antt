@@ -67,11 +67,11 @@ unshort zero zero (suc b) z x h = refl
 unshort zero zero zero z x h = rw (h refl)
 
 -- an answer that is a refusal, and one that is not, by what it must be
-refused-known : (m : ℕ) {n : ℕ} (v : ℤ) (vs : List ℤ) → _≡_ {A = Reply} (record { number = n; values = [] }) (replyOf m (v ∷ vs)) → (n ≡ m) × (n ≡ 0 → ⊥)
+pub refused-known : (m : ℕ) {n : ℕ} (v : ℤ) (vs : List ℤ) → _≡_ {A = Reply} (record { number = n; values = [] }) (replyOf m (v ∷ vs)) → (n ≡ m) × (n ≡ 0 → ⊥)
 refused-known zero v vs e = taken-unlike (sym e)
 refused-known (suc m) {n} v vs e = let q : n ≡ suc m = number-known e in (q, λ z. omega (arith, q, z))
 
-taken-known : (m : ℕ) {u : ℤ} {us : List ℤ} (v : ℤ) (vs : List ℤ) → _≡_ {A = Reply} (record { number = 0; values = u ∷ us }) (replyOf m (v ∷ vs)) →
+pub taken-known : (m : ℕ) {u : ℤ} {us : List ℤ} (v : ℤ) (vs : List ℤ) → _≡_ {A = Reply} (record { number = 0; values = u ∷ us }) (replyOf m (v ∷ vs)) →
     (m ≡ 0) × (_≡_ {A = List ℤ} (u ∷ us) (v ∷ vs))
 taken-known zero v vs e = (refl, values-known e)
 taken-known (suc m) v vs e = taken-unlike e
@@ -92,10 +92,10 @@ pub record FontRead (file : List ℕ) (is ks packed : List ℤ) (n k e : ℕ) (b
   pub program-list : is′ ≡ listOf 0 (pos 0) (length is) (fileInstructions file)
   pub kern-list : ks′ ≡ listOf 0 (pos 0) (length ks) (fileKerns file)
 
-front-fits : (n k : ℕ) (xs : List ℤ) {d : List ℤ} → length xs ≡ k → d ≡ listOf 0 (pos 0) n xs → k ≤ length d
+pub front-fits : (n k : ℕ) (xs : List ℤ) {d : List ℤ} → length xs ≡ k → d ≡ listOf 0 (pos 0) n xs → k ≤ length d
 front-fits n k xs e g = rw (g, ← e) (simp length-append (omega arith))
 
-front : (n k : ℕ) (xs : List ℤ) {d : List ℤ} → length xs ≡ k → d ≡ listOf 0 (pos 0) n xs → take k d ≡ xs
+pub front : (n k : ℕ) (xs : List ℤ) {d : List ℤ} → length xs ≡ k → d ≡ listOf 0 (pos 0) n xs → take k d ≡ xs
 front n k xs e g = rw g (take-at xs (replicate (n - length xs) (pos 0)) k e)
 
 pub font-read : {file : List ℕ} {is ks packed : List ℤ} {r : Deserialized} {n k e : ℕ} {b l : ℤ} {is′ ks′ packed′ : List ℤ} →

@@ -1,0 +1,2 @@
+-- The stages of checking a font file: Stages.
+pub mod Stages

@@ -1,0 +1,2 @@
+-- Two parts of checking a font file: CheckParts.
+pub mod CheckParts
