@@ -164,7 +164,8 @@ fn file_fits(old: &[u8], l: FileLengths, n: usize, k: usize, room: usize) -> boo
     4 * size <= room
 }
 
-// The old file with the words of a packed program and its kerns, in front of what is lent; what can't be written is not.
+// The old file with the words of a packed program and its kerns, in front of what is lent; what can't be written is
+// not.
 pub fn write_file(
     old: &[u8],
     program: &[i32],

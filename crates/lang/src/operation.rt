@@ -1,5 +1,5 @@
-// Op bytes, after `Operation` and `PostLigOperation` of ligkern/lang.rs: TeX 545, TFtoPL 77. What one below 128 means is
-// worked out from its quotient by four and its two low bits; no table holds it.
+// Op bytes, after `Operation` and `PostLigOperation` of ligkern/lang.rs: TeX 545, TFtoPL 77. What one below 128 means
+// is worked out from its quotient by four and its two low bits; no table holds it.
 ghost use mathlib.Core.Path.{_≡_};
 ghost use Prim.Native.Nat.{_+_, _≤_};
 ghost use Rattle.lang.specs.Operations.{retains, ligature, fromBytes};
@@ -80,7 +80,7 @@ fn retains(left: u8, right: u8, advance: u8) -> PostLigOperation
     }
 }
 
-// The operation of an op byte below 128, 4a + 2b + c: it is standard where a is at most b + c. Any other is LIG, marked.
+// The operation of an op byte below 128, 4a + 2b + c: standard where a is at most b + c. Any other is LIG, marked.
 fn ligature(op_byte: u8, inserted: u8) -> Operation
     ensures { λ r. ⌜ r ≡ ligature «op_byte» inserted ⌝ }
 {

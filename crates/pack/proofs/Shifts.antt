@@ -107,7 +107,8 @@ module _ (n n′ o : ℕ) (program program′ : Program) (room : n + o ≤ n′)
         let h = ltb-true i n e in
         ap (firstFor program′ right) (chain-step n′ program′ (i + o) (omega arith))
         ∙ ap
-        (λ (x : Instruction). cond (isRuleFor right x) (some (i + o)) (firstFor program′ right (chain n′ program′ (onwardFrom n′ (x .«next_instruction») (i + o)))))
+        (λ (x : Instruction). cond (isRuleFor right x) (some (i + o))
+        (firstFor program′ right (chain n′ program′ (onwardFrom n′ (x .«next_instruction») (i + o)))))
         (same i h)
         ∙ either (isRuleFor right (program i)) i _ _ (rest-moved right i (program i .«next_instruction») h r)
         ∙ ap (λ (is : List ℕ). Option·map (λ (j : ℕ). j + o) (firstFor program right is)) (sym (chain-step n program i h))

@@ -13,7 +13,8 @@ use Rattle.program_chain.proofs.Rules.{taken-plain, plain-acts}
 -- ---- a rule is no redirect
 
 module _ (program : Program) (right i : ℕ) where
-  plain-by : (j : ℕ) (is : List ℕ) (t : Bool) → isRuleFor right (program j) ≡ t → (firstFor program right is ≡ some i → isRedirectOp (program i .operation) ≡ false) →
+  plain-by : (j : ℕ) (is : List ℕ) (t : Bool) → isRuleFor right (program j) ≡ t →
+      (firstFor program right is ≡ some i → isRedirectOp (program i .operation) ≡ false) →
       cond t (some j) (firstFor program right is) ≡ some i → isRedirectOp (program i .operation) ≡ false
   plain-by j is true e k h = let m : j ≡ i = cc in rw (← m) (taken-plain right (program j) e)
   plain-by j is false e k h = k h
@@ -31,7 +32,8 @@ no-redirect n program entry right i h =
 -- ---- a list without redirects
 
 module _ (program : Program) (right : ℕ) where
-  first-without : (is : List ℕ) → ((i : ℕ) → List·Memᴰ i is → isRedirectOp (program i .operation) ≡ false) → firstFor program right is ≡ firstWith program right is
+  first-without : (is : List ℕ) → ((i : ℕ) → List·Memᴰ i is → isRedirectOp (program i .operation) ≡ false) →
+      firstFor program right is ≡ firstWith program right is
   unfolding firstFor firstWith
   first-without [] h = refl
   first-without (i ∷ is) h = rw (h i (List·Memᴰ·head refl), first-without is (λ j m. h j (List·Memᴰ·tail m)))

@@ -19,7 +19,8 @@ use Rattle.read_rule.specs.declared.PairRule.{PairRule}
 use Rattle.read_rule.specs.declared.PairRule.the-variants as Answer
 use Rattle.read_rule.specs.Meant.{meant}
 use Rattle.read_change.specs.declared.Change.{Change}
-use Rattle.read_change.specs.Changes.{retainsLeft, retainsRight, passes, leftOfRule, rightOfRule, advanceOfRule, kindOfRule, valueOfRule, changeOf, Retains}
+use Rattle.read_change.specs.Changes.{retainsLeft, retainsRight, passes, leftOfRule, rightOfRule}
+use Rattle.read_change.specs.Changes.{advanceOfRule, kindOfRule, valueOfRule, changeOf, Retains}
 use Rattle.read_change.specs.Changes.{finishedBy, changedNumbers, ChangesAs}
 
 -- ---- the functions on a rule
