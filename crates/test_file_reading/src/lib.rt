@@ -1,4 +1,6 @@
 // F roomInstructions roomKerns roomEntries FILE: a file is read into three lists of so many places.
+ghost use Prim.Native.Nat.{_≤_};
+ghost use lib.ListN.{length};
 use files::Deserialized;
 use test_file_runs::bytes::unroll_bytes;
 use test_file_runs::rooms::file_room;
@@ -36,7 +38,9 @@ fn put_lists(
     m: usize,
     entries: &[i32],
     e: usize,
-) -> usize {
+) -> usize
+    ensures { λ r. ⌜ (6 ≤ length (now (out .entry)) → (6 ≤ r) × (r ≤ length (now (out .exit)))) ⌝ }
+{
     let a = put_runs(out, 6, instructions, n);
     let b = put_runs(out, a, kerns, m);
     let c = put_runs(out, b, entries, e);
@@ -50,7 +54,9 @@ fn put_font(
     instructions: &[i32],
     kerns: &[i32],
     entries: &[i32],
-) -> usize {
+) -> usize
+    ensures { λ r. ⌜ (6 ≤ length (now (out .entry)) → (2 ≤ r) × (r ≤ length (now (out .exit)))) ⌝ }
+{
     match answer {
         Deserialized::Font(n, m, e, boundary, left) => {
             let a = n % 4294967296;
@@ -81,7 +87,9 @@ fn read_into(
     kerns: &mut [i32],
     entries: &mut [i32],
     out: &mut [i32],
-) -> usize {
+) -> usize
+    ensures { λ r. ⌜ (6 ≤ length (now (out .entry)) → (2 ≤ r) × (r ≤ length (now (out .exit)))) ⌝ }
+{
     let answer = file_reading::deserialize(file, instructions, kerns, entries);
     put_font(out, answer, instructions, kerns, entries)
 }
@@ -94,7 +102,9 @@ fn read_within(
     kerns: &mut [i32],
     entries: &mut [i32],
     out: &mut [i32],
-) -> usize {
+) -> usize
+    ensures { λ r. ⌜ (6 ≤ length (now (out .entry)) → (2 ≤ r) × (r ≤ length (now (out .exit)))) ⌝ }
+{
     let a = within(word_at(numbers, 0), instructions.len());
     let b = within(word_at(numbers, 1), kerns.len());
     let c = within(word_at(numbers, 2), entries.len());
@@ -107,8 +117,10 @@ fn read_within(
     )
 }
 
-// The numbers of the answer.
-pub fn read_file(numbers: &[i32], out: &mut [i32]) -> usize {
+// The numbers of the answer. Their count is within a list that has room for the first six.
+pub fn read_file(numbers: &[i32], out: &mut [i32]) -> usize
+    ensures { λ r. ⌜ (6 ≤ length (now (out .entry)) → (2 ≤ r) × (r ≤ length (now (out .exit)))) ⌝ }
+{
     let mut file = file_room();
     let mut instructions = number_room();
     let mut kerns = value_room();

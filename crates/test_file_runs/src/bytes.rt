@@ -1,4 +1,9 @@
 // Files among the numbers of a request or an answer: each byte a number.
+ghost use mathlib.Core.Path.{_≡_};
+ghost use mathlib.Core.List.{map};
+ghost use Prim.Native.Nat.{_≤_};
+ghost use lib.IntN.{pos};
+ghost use lib.Seq.{sets};
 use crate::rooms::number_room;
 use crate::runs::unroll;
 use test_requests::request::part;
@@ -16,8 +21,10 @@ fn narrow(list: &[i32], bytes: &mut [u8]) {
     }
 }
 
-// Bytes as numbers.
-pub fn widen(bytes: &[u8], list: &mut [i32]) {
+// Bytes as numbers, in front; what there is no room for is left off.
+pub fn widen(bytes: &[u8], list: &mut [i32])
+    ensures { λ _. ⌜ now (list .exit) ≡ sets (now (list .entry)) 0 (map pos (now (bytes .entry))) ⌝ }
+{
     let mut i = 0;
     while i < bytes.len() {
         put_word(list, i, u8_at(bytes, i) as u32);
@@ -25,8 +32,10 @@ pub fn widen(bytes: &[u8], list: &mut [i32]) {
     }
 }
 
-// The bytes whose runs these are. How many there are.
-pub fn unroll_bytes(runs: &[i32], bytes: &mut [u8]) -> usize {
+// The bytes whose runs these are. How many there are: no more than number_room has places.
+pub fn unroll_bytes(runs: &[i32], bytes: &mut [u8]) -> usize
+    ensures { λ r. ⌜ r ≤ 131080 ⌝ }
+{
     let mut list = number_room();
     let n = unroll(runs, &mut list);
     narrow(part(&list, 0, n), bytes);

@@ -8,7 +8,9 @@ use test_requests::request::rest;
 use words::i32s::word_at;
 
 // A number so many times. The place after it.
-fn put_times(list: &mut [i32], at: usize, times: u32, word: u32) -> usize {
+fn put_times(list: &mut [i32], at: usize, times: u32, word: u32) -> usize
+    ensures { λ r. ⌜ (at ≤ length (now (list .entry)) → (at ≤ r) × (r ≤ length (now (list .exit)))) ⌝ }
+{
     let mut next = at;
     let mut k: u32 = 0;
     while k < times {
@@ -19,7 +21,9 @@ fn put_times(list: &mut [i32], at: usize, times: u32, word: u32) -> usize {
 }
 
 // The list whose runs these are. How long it is.
-pub fn unroll(runs: &[i32], list: &mut [i32]) -> usize {
+pub fn unroll(runs: &[i32], list: &mut [i32]) -> usize
+    ensures { λ r. ⌜ r ≤ length (now (list .exit)) ⌝ }
+{
     let mut next = 0;
     let mut i = 0;
     while i < runs.len() / 2 {
@@ -46,13 +50,17 @@ fn run_end(list: &[i32], i: usize) -> usize
 }
 
 // A run. The place after it.
-fn put_run(out: &mut [i32], at: usize, times: usize, word: u32) -> usize {
+fn put_run(out: &mut [i32], at: usize, times: usize, word: u32) -> usize
+    ensures { λ r. ⌜ (at ≤ length (now (out .entry)) → (at ≤ r) × (r ≤ length (now (out .exit)))) ⌝ }
+{
     let value = put_count(out, at, times);
     put_one(out, value, word)
 }
 
 // The runs of a list.
-fn put_each(out: &mut [i32], at: usize, list: &[i32]) -> usize {
+fn put_each(out: &mut [i32], at: usize, list: &[i32]) -> usize
+    ensures { λ r. ⌜ (at ≤ length (now (out .entry)) → (at ≤ r) × (r ≤ length (now (out .exit)))) ⌝ }
+{
     let mut next = at;
     let mut i = 0;
     while i < list.len() {
@@ -72,7 +80,9 @@ fn runs_within(from: usize, to: usize) -> usize {
 }
 
 // The first n numbers of a list: how many runs, and these.
-pub fn put_runs(out: &mut [i32], at: usize, list: &[i32], n: usize) -> usize {
+pub fn put_runs(out: &mut [i32], at: usize, list: &[i32], n: usize) -> usize
+    ensures { λ r. ⌜ (at ≤ length (now (out .entry)) → (at ≤ r) × (r ≤ length (now (out .exit)))) ⌝ }
+{
     let from = put_count(out, at, 0);
     let to = put_each(out, from, part(list, 0, n));
     put_count(out, at, runs_within(from, to));

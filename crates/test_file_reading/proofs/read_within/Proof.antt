@@ -1,4 +1,4 @@
--- `test_file_reading::read_within` lends no more than there is.
+-- `test_file_reading::read_within` lends no more than there is, and stays within the answer as `read_into` does.
 -- Assumes nothing.
 use mathlib.Core.Path.{sym}
 use lib.Seq.{length-take-le}
