@@ -1,0 +1,25 @@
+-- `phrase_put::put_byte` meets its contract: a byte, or nothing past the end.
+-- Assumes nothing.
+use denote.Ref.{now}
+use borrow.Author.Needs.{needs}
+use Rattle.phrases.proofs.Putting.{puts-one, puts-past}
+use Rattle.phrase_put.proofs.put_byte.Statement.{statement}
+use Rattle.phrase_put.proofs.put_byte.Tie as tie
+
+slice-write-out : tie.Need-slice-write-out
+slice-write-out c = search needs
+
+add-result : tie.Need-add-result
+add-result c = search needs
+
+same-length : tie.Need-same-length
+same-length c = search needs
+
+returns : tie.Need-returns
+returns c = search needs
+
+returns-2 : tie.Need-returns-2
+returns-2 c = let a = c .before .args in puts-past (now (a .out)) (a .at) (a .b) (c .if1 .left)
+
+pub put-byte-spec : {M : Type 1} → statement M
+put-byte-spec = tie.close (tie.spec slice-write-out add-result same-length returns returns-2)

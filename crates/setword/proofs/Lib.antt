@@ -1,0 +1,2 @@
+-- Zeros: how long an array of zeros is.
+pub mod Zeros
