@@ -25,14 +25,15 @@ extern "C" {
 
    Where the text is refused, it returns minus the number of the refusal, with zeros in all of reply:
       2  a line I is no instruction: one of its numbers is out of range
-      4  a letter, the boundary character or an entry is out of range, or a letter has two lines E
+      4  a letter is below 0, the boundary character or an entry is out of range, or a letter has two lines E
       5  the design size is below zero
      12  more than 512 pairs have a rule
      13  a kern that some pair uses is below -16,777,216 or above 16,777,215
      14  the pairs have more than 2,048 ops
      15  there are more than 64 loops, or the reply has too little room
      16  a line can't be read, is out of place or passes a limit, or D is missing
-   Where several hold, the lowest is returned, but 16 comes before all.
+     20  a letter is none: a surrogate, or above 1,114,111. 15 of the lines P, O and X comes before it, that of W and T after it
+   Where several hold, the lowest is returned, but 16 comes before all, and 20 before a 15 of the lines W and T.
 
    Who owns what: both buffers are the caller's. Nothing is allocated, and no pointer is kept after the return. Both pointers must be valid for their lengths
    and not null, also where a length is 0. The two buffers must not overlap, and nobody may write to either during the call.

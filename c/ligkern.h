@@ -17,7 +17,8 @@
 
    WHAT GOES IN
 
-   A character is 0 to 255. A boundary character, a left entry or an override of -1 is absent.
+   A character of a font is 0 to 255. A letter of a word, and an override, is 0 to 1,114,111, surrogates (55,296 to 57,343) aside: above 255 it pairs with
+   nothing and is set as itself (R371, R372). A boundary character, a left entry or an override of -1 is absent.
 
    The instructions of a left character, or of the left boundary, are a chain: it starts at its entry and goes on by next. The first one on it that is for the
    right character and is no redirect is the rule of the pair. An instruction is four numbers (R25 to R31):
@@ -66,7 +67,8 @@
       1  the numbers of the instructions are not in fours, or there are more than 32,767 instructions
       2  four of these numbers are no instruction: one is out of range
       3  there are more than 32,767 kerns
-      4  a character or an entry is out of range, a character has two entries, entries are not in twos, or passthrough is not one byte an instruction
+      4  a character or an entry is out of range, an override is below -1, a character has two entries, entries are not in twos, or passthrough is not one
+         byte an instruction
       5  the design size is below zero
       6  the word has more than 65,535 letters
       7  the table is not as ligkern_compile wrote it, the state is none or points outside, or the index says a wrong place
@@ -83,6 +85,7 @@
      18  a font can't be written into a file: it has a boundary character without an instruction, a redirect, a next above 127, or a kern index, an entry or
          a left entry past its list; or an entry for a character that the file has not; or the file would have more than 32,767 words
      19  a size, asked for or made by magnifying, is not 1 to 134,217,727, a magnification is not 1 to 32,768, or both are asked for. 15 comes before it
+     20  a letter of the word, or the override, is none: a surrogate, or above 1,114,111. 15 of a list of fixed size comes before it, that of the items after it
    Zeros stand after what is written, and a refusal leaves zeros in every list that the call writes. A step alone leaves the rest of its state list as it is,
    and a refused step all of it.
 
@@ -159,7 +162,7 @@ uint32_t ligkern_compile(const int32_t *instructions, size_t instructions_length
 uint32_t ligkern_to_scaled(int32_t kern, int32_t design_size, int32_t size, int32_t magnification, int32_t *scaled, size_t scaled_length);
 
 /* Sets a word whole. Lend the pairs and the ops that were written, without the zeros after them: 6 * counts[0] and 2 * counts[1] numbers. Lend the boundary
-   character of the font; the override, at the word's end, takes its place. Writes six numbers an item; count: how many items. 4, 6, 7, 15.
+   character of the font; the override, at the word's end, takes its place. Writes six numbers an item; count: how many items. 4, 6, 7, 20, 15.
    An item is kind (0 character, 1 ligature, 2 kern), value, start and length of its original in the word, left flag, right flag. A flag is 1 if the item
    took in that boundary. */
 uint32_t ligkern_set_word(const int32_t *pairs, size_t pairs_length, const int32_t *ops, size_t ops_length, int32_t boundary, const uint32_t *word,
@@ -171,7 +174,7 @@ uint32_t ligkern_set_word(const int32_t *pairs, size_t pairs_length, const int32
 uint32_t ligkern_fill_index(const int32_t *pairs, size_t pairs_length, uint64_t *index, size_t index_length);
 
 /* Sets a word whole, and finds pairs by an index. By the one that ligkern_fill_index wrote for these pairs it answers and writes what ligkern_set_word
-   does. 4, 6, 7, 15.
+   does. 4, 6, 7, 20, 15.
    Any other index is taken too (R139, R140). It is asked only where a step begins with a character left of a letter, and nothing is pending. There a pair
    that it does not name is set as if it had no rule, and a pair for which it says a wrong place is 7. Elsewhere pairs are found as ligkern_set_word finds
    them: in the first step of a word with its left boundary, with a ligature on the left, and at the word's end. Take the pairs 102 105 200 1 0 0 and an
@@ -182,14 +185,15 @@ uint32_t ligkern_set_word_indexed(const uint64_t *index, size_t index_length, co
                                   int32_t boundary, const uint32_t *word, size_t word_length, bool disable_left_boundary, int32_t right_boundary_override,
                                   int32_t *items, size_t items_length, uint64_t *count, size_t count_length);
 
-/* A fresh run over a word: nine numbers of state. The table is checked whole. A list shorter than nine is 15. 4, 6, 7, 15. */
+/* A fresh run over a word: nine numbers of state. The table is checked whole. A list shorter than nine is 15. 4, 6, 7, 15, 20. */
 uint32_t ligkern_begin(const int32_t *pairs, size_t pairs_length, const int32_t *ops, size_t ops_length, int32_t boundary, const uint32_t *word,
                        size_t word_length, bool disable_left_boundary, int32_t right_boundary_override, uint64_t *state, size_t state_length);
 
 /* One step of a run, with all that begin was lent and the state that the last call left. Writes 1 and the six numbers of an item, or seven zeros at the
-   end. The next state stands in place of the last. A list of exactly seven numbers for the item is the quickest. 4, 6, 7, 15.
-   A step looks only at what it reads, and returns the first number that it meets, not the lowest. First come 4 and 6 of its arguments, and 7 of the state.
-   Then come 4 of a letter and 7 of a pair or an op, as they are read, and last 15 of the item. A state list shorter than nine is 7 here, not 15.
+   end. The next state stands in place of the last. A list of exactly seven numbers for the item is the quickest. 4, 6, 7, 15, 20.
+   A step looks only at what it reads, and returns the first number that it meets, not the lowest. First come 4 and 6 of its arguments, 7 of the
+   state and 20 of its right item. Then come 20 of a letter and 7 of a pair or an op, as they are read. 15 of the item comes last, but before 20. A state list
+   shorter than nine is 7 here, not 15.
    The word may be parted before the next item if state[3], the count of ops still to be given, is 0, and state[0] is neither 2 nor 3. This is the kind of
    the next left: 0 boundary, 1 character, 2 ligature, 3 last ligature, 4 none. */
 uint32_t ligkern_step(const int32_t *pairs, size_t pairs_length, const int32_t *ops, size_t ops_length, int32_t boundary, const uint32_t *word,

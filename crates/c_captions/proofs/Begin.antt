@@ -8,8 +8,9 @@ use native.Mathlib.Omega.{arith}
 use lib.IntN.{ℤ}
 use lib.ListN.{length, drop, replicate}
 use Rattle.words.proofs.Lists.{drop-replicate}
+use Rattle.lang.specs.Checks.{lower}
 use Rattle.lang.specs.Answers.{roomRefusal, listOf}
-use Rattle.lang.proofs.Refusals.{first-is, second-is}
+use Rattle.lang.proofs.Refusals.{lower-some}
 use Rattle.lang.proofs.Filled.{refused-list}
 use Rattle.captions.specs.declared.RunOptions.{RunOptions}
 use Rattle.captions.specs.declared.State.{State}
@@ -38,11 +39,13 @@ module _ (pairs ops : List ℤ) (boundary : ℤ) (word : List ℕ) (options : Ru
   abbrev fresh : State
   fresh = freshState word options
 
-  pub begins-refused : (n : ℕ) → Refused n ≡ beginOf pairs ops boundary word options → BeginsRun pairs ops boundary word options state n zeros
-  begins-refused n e =
+  pub begins-refused : (n : ℕ) → Refused n ≡ beginOf pairs ops boundary word options → (r : ℕ) → r ≡ lower n (roomRefusal 9 (length zeros)) →
+      BeginsRun pairs ops boundary word options state r zeros
+  begins-refused n e r g =
       let q = refused-known refusal n fresh e in
-      let k : n ≡ number = q .0 ∙ sym (first-is refusal (roomRefusal 9 (length state)) (λ z. q .1 (q .0 ∙ z))) in
-      record { number = k; list = refused-list 0 (length state) (numbersOf fresh) k (q .1) blank; again = λ z. absurd (q .1 z) }
+      let k : r ≡ number = g ∙ (λ i. lower (q .0 i) (roomRefusal 9 (zeroed-length 0 (length state) blank i))) in
+      let h : r ≡ 0 → ⊥ = λ z. omega (arith, lower-some n (roomRefusal 9 (length zeros)) (q .1), sym g ∙ z) in
+      record { number = k; list = refused-list 0 (length state) (numbersOf fresh) k h blank; again = λ z. absurd (h z) }
 
   moved : (m : ℕ) (s : State) (d : List ℕ) → d ≡ movedTo m zeros s → d ≡ listOf m 0 (length state) (numbersOf s)
   moved zero s d e = e ∙ ap (λ (t : List ℕ). numbersOf s ++ t) (ap (drop 9) blank ∙ drop-replicate 9 (length state) 0)
@@ -53,7 +56,7 @@ module _ (pairs ops : List ℤ) (boundary : ℤ) (word : List ℕ) (options : Ru
   begins-run s e r d p =
       let q = run-known refusal fresh s e in
       let k : roomRefusal 9 (length zeros)
-      ≡ number = ap (roomRefusal 9) (zeroed-length 0 (length state) blank) ∙ sym (second-is refusal (roomRefusal 9 (length state)) (q .0)) in
+      ≡ number = ap (roomRefusal 9) (zeroed-length 0 (length state) blank) ∙ sym (ap (λ (m : ℕ). lower m (roomRefusal 9 (length state))) (q .0)) in
       let w : d ≡ movedTo number zeros s = p .stored ∙ ap (λ (m : ℕ). movedTo m zeros s) k in
       let n : r ≡ number = p .number ∙ k in
       record {

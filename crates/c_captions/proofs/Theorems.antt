@@ -8,9 +8,9 @@ use Prim.Native.Nat.{ℕ, zero, suc, _≤_}
 use native.Mathlib.Omega.{arith}
 use lib.IntN.{ℤ, pos}
 use lib.ListN.{length}
-use Rattle.lang.specs.Checks.{orElse}
+use Rattle.lang.specs.Checks.{lower}
 use Rattle.lang.specs.Answers.{roomRefusal, listOf}
-use Rattle.lang.proofs.Refusals.{room-is, lower-none, taken-reply}
+use Rattle.lang.proofs.Refusals.{room-is, lower-none, lower-first, taken-reply}
 use Rattle.fonts.specs.declared.Compiled.the-variants.{Tables}
 use Rattle.fonts.specs.Fonts.{Font}
 use Rattle.fonts.specs.Compiled.{roomIn, sizedRefusal, tablePairs, totalOps, loopsOfFont, fontCounts, Compiles}
@@ -61,9 +61,8 @@ stays : (state : List ℕ) (s : State) (n k : ℕ) → n ≡ suc k → movedTo n
 stays state s n k e = rw e
 
 -- with room for an item the number is the step's
-roomy : (m n : ℕ) → 7 ≤ n → orElse m (roomRefusal 7 n) ≡ m
-roomy zero n h = room-is 7 n h
-roomy (suc m) n h = refl
+roomy : (m n : ℕ) → 7 ≤ n → lower m (roomRefusal 7 n) ≡ m
+roomy m n h = sym (lower-first m (roomRefusal 7 n) (room-is 7 n h))
 
 module _ (pairs ops : List ℤ) (boundary : ℤ) (word : List ℕ) (options : RunOptions) (room : ℕ) (fits : 7 ≤ room) where
   abbrev after : State → Step

@@ -5,12 +5,12 @@ use mathlib.Core.List.{List, [], _∷_}
 use Prim.Native.Nat.{ℕ, _/_}
 use lib.IntN.{ℤ, pos}
 use lib.ListN.{length}
-use Rattle.lang.specs.Checks.{orElse}
+use Rattle.lang.specs.Checks.{lower}
 use Rattle.lang.specs.Answers.{Reply, listOf, roomRefusal}
 
--- the reply's number, then 15 where n places do not hold the count (R216)
+-- the reply's number, and 15 where n places do not hold the count (R216): the lower of the two, so that 15 comes before 20 (R375)
 abbrev pub captionNumber : Reply → ℕ → ℕ
-captionNumber reply n = orElse (reply .number) (roomRefusal 1 n)
+captionNumber reply n = lower (reply .number) (roomRefusal 1 n)
 
 -- the number, and what the two lists hold: the numbers of the items and how many items there are, with zeros after them; or zeros
 pub record SetsCaption (reply : Reply) (items : List ℤ) (count : List ℕ) (r : ℕ) (items′ : List ℤ) (count′ : List ℕ) : Type 0 where

@@ -5,10 +5,12 @@ use c_states::states::put_state;
 use caption_run::begin::begin;
 use captions::Begun;
 use captions::RunOptions;
+use program_checks::lower_of;
+use program_limits::room_refusal;
 use words::u64s::zero_u64;
 
-// The state of a fresh run, nine numbers with zeros after them. Begin's numbers, then 15 where the list has no room for
-// it.
+// The state of a fresh run, nine numbers with zeros after them. Begin's numbers; 15 where the list has no room for it
+// comes before 20.
 #[no_mangle]
 pub extern "C" fn ligkern_begin(
     pairs: &[i32],
@@ -29,7 +31,7 @@ pub extern "C" fn ligkern_begin(
         right_boundary_override: right_boundary_override,
     };
     match begin(pairs, ops, boundary, word, options) {
-        Begun::Refused(n) => n,
+        Begun::Refused(n) => lower_of(n, room_refusal(9, state.len())),
         Begun::Run(fresh) => put_state(state, fresh),
     }
 }

@@ -6,10 +6,12 @@ ghost use Rattle.c_states.specs.States.{optionsOf};
 use c_values::i32s::keep_i32;
 use c_values::tell;
 use captions::RunOptions;
+use program_checks::lower_of;
+use program_limits::room_refusal;
 use word_set::set_word;
 
-// The items of a word up to its end, six numbers each, with zeros after them, and their count. set_word's numbers, then
-// 15 where the count has no room.
+// The items of a word up to its end, six numbers each, with zeros after them, and their count. set_word's numbers; 15
+// where the count has no room comes before 20.
 #[no_mangle]
 pub extern "C" fn ligkern_set_word(
     pairs: &[i32],
@@ -30,8 +32,9 @@ pub extern "C" fn ligkern_set_word(
         disable_left_boundary: disable_left_boundary,
         right_boundary_override: right_boundary_override,
     };
+    let room = room_refusal(1, count.len());
     let written = set_word(pairs, ops, boundary, word, options, items);
-    let number = tell(written, count);
+    let number = lower_of(tell(written, count), room);
     keep_i32(number, items);
     number
 }

@@ -11,6 +11,8 @@ use c_values::tell;
 use captions::RunOptions;
 use index_fill::fill_index;
 use index_set_word::set_word_indexed;
+use program_checks::lower_of;
+use program_limits::room_refusal;
 
 // The index of a table, 1,285 numbers with zeros after them. 7, 15.
 #[no_mangle]
@@ -21,7 +23,7 @@ pub extern "C" fn ligkern_fill_index(pairs: &[i32], index: &mut [u64]) -> u32
 }
 
 // The items of a word up to its end, six numbers each, with zeros after them, and their count. set_word_indexed's
-// numbers, then 15 where the count has no room.
+// numbers; 15 where the count has no room comes before 20.
 #[no_mangle]
 pub extern "C" fn ligkern_set_word_indexed(
     index: &[u64],
@@ -43,8 +45,9 @@ pub extern "C" fn ligkern_set_word_indexed(
         disable_left_boundary: disable_left_boundary,
         right_boundary_override: right_boundary_override,
     };
+    let room = room_refusal(1, count.len());
     let written = set_word_indexed(index, pairs, ops, boundary, word, options, items);
-    let number = tell(written, count);
+    let number = lower_of(tell(written, count), room);
     keep_i32(number, items);
     number
 }

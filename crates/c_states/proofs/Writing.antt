@@ -7,9 +7,9 @@ use native.Mathlib.Omega.{arith}
 use lib.ListN.{length, replicate, length-replicate}
 use lib.Seq.{sets}
 use Rattle.words.proofs.Lists.{sets-front, drop-replicate}
-use Rattle.lang.specs.Checks.{orElse}
+use Rattle.lang.specs.Checks.{lower}
 use Rattle.lang.specs.Answers.{roomRefusal, listOf}
-use Rattle.lang.proofs.Refusals.{second-is, room-is, room-short}
+use Rattle.lang.proofs.Refusals.{room-is, room-short}
 
 pub zeroed-length : {A : Type 0} (o : A) (n : ℕ) {d : List A} → d ≡ replicate n o → length d ≡ n
 zeroed-length o n e = ap length e ∙ length-replicate n o
@@ -23,8 +23,8 @@ written-front {A} o n vs z a l e =
 
 -- nothing else is refused, and there is room or there is none
 module _ {m : ℕ} (needed room : ℕ) (z : m ≡ 0) where
-  pub with-room : needed ≤ room → orElse m (roomRefusal needed room) ≡ 0
-  with-room h = second-is m (roomRefusal needed room) z ∙ room-is needed room h
+  pub with-room : needed ≤ room → lower m (roomRefusal needed room) ≡ 0
+  with-room h = ap (λ (k : ℕ). lower k (roomRefusal needed room)) z ∙ room-is needed room h
 
-  pub without-room : room < needed → orElse m (roomRefusal needed room) ≡ 15
-  without-room h = second-is m (roomRefusal needed room) z ∙ room-short needed room h
+  pub without-room : room < needed → lower m (roomRefusal needed room) ≡ 15
+  without-room h = ap (λ (k : ℕ). lower k (roomRefusal needed room)) z ∙ room-short needed room h

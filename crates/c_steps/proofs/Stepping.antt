@@ -11,9 +11,9 @@ use lib.Dec.{leb}
 use lib.ListN.{length, set, drop, replicate, length-set}
 use lib.Seq.{sets}
 use borrow.Author.Tests.{leb-true, lt-leb}
-use Rattle.lang.specs.Checks.{orElse}
+use Rattle.lang.specs.Checks.{orElse, lower}
 use Rattle.lang.specs.Answers.{roomRefusal, listOf}
-use Rattle.lang.proofs.Refusals.{first-is, room-is, orElse-none, unless-none}
+use Rattle.lang.proofs.Refusals.{room-is, orElse-none, unless-none, lower-some}
 use Rattle.lang.proofs.Filled.{refused-list}
 use Rattle.captions.specs.declared.RunOptions.{RunOptions}
 use Rattle.captions.specs.declared.State.{State}
@@ -125,10 +125,11 @@ module _ (pairs ops : List ℤ) (boundary : ℤ) (word : List ℕ) (options : Ru
           again = none-taken h;
         }
 
-    pub steps-refused : (n : ℕ) → n ≡ answerReply (t .answer) .number → (n ≡ 0 → ⊥) → StepsRun pairs ops boundary word options state item n state zeros
-    steps-refused n q h =
-        let r = answerReply (given .answer) .number in
-        left n (known n q ∙ sym (first-is r (roomRefusal 7 (length item)) (λ z. h (known n q ∙ z)))) h
+    pub steps-refused : (n : ℕ) → n ≡ answerReply (t .answer) .number → (n ≡ 0 → ⊥) → (r : ℕ) → r ≡ lower n (roomRefusal 7 (length zeros)) →
+        StepsRun pairs ops boundary word options state item r state zeros
+    steps-refused n q h r g =
+        let l : length zeros ≡ length item = zeroed-length (pos 0) (length item) blank in
+        left r (g ∙ (λ i. lower (known n q i) (roomRefusal 7 (l i)))) (λ z. omega (arith, lower-some n (roomRefusal 7 (length zeros)) h, sym g ∙ z))
 
     module _ (n : ℕ) (q : n ≡ answerReply (t .answer) .number) (z : n ≡ 0) where
       given-long : 9 ≤ length state

@@ -6,7 +6,7 @@ use mathlib.Core.Option.{Option, none, some}
 use Prim.Native.Nat.{ℕ}
 use lib.IntN.{ℤ, pos}
 use lib.ListN.{length}
-use Rattle.lang.specs.Checks.{orElse}
+use Rattle.lang.specs.Checks.{orElse, lower}
 use Rattle.lang.specs.Answers.{listOf, roomRefusal}
 use Rattle.captions.specs.declared.RunOptions.{RunOptions}
 use Rattle.captions.specs.declared.State.{State}
@@ -26,10 +26,10 @@ stepRunFrom pairs ops boundary word options (some s) = stepOf pairs ops boundary
 abbrev pub stepIn : List ℤ → List ℤ → ℤ → List ℕ → RunOptions → List ℕ → Step
 stepIn pairs ops boundary word options state = stepRunFrom pairs ops boundary word options (stateRead state)
 
--- the number of that step, then 15 where n places do not hold an item (R216)
+-- the number of that step, and 15 where n places do not hold an item (R216): the lower of the two, so that 15 comes before 20 (R375)
 abbrev pub stepNumber : List ℤ → List ℤ → ℤ → List ℕ → RunOptions → List ℕ → ℕ → ℕ
 stepNumber pairs ops boundary word options state n =
-    orElse (answerReply (stepIn pairs ops boundary word options state .answer) .number) (roomRefusal 7 n)
+    lower (answerReply (stepIn pairs ops boundary word options state .answer) .number) (roomRefusal 7 n)
 
 -- 1 and the six numbers of an item as a T line has them; the end has none, so that zeros stand for it (R225)
 abbrev pub itemNumbers : Answer → List ℤ

@@ -12,6 +12,8 @@ use captions::RunOptions;
 use items::refusal_of;
 use items::tell;
 use items::tell_character;
+use program_checks::lower_of;
+use program_limits::room_refusal;
 use step_quick::left::quick_left;
 use step_quick_find::found_place;
 use step_quick_op::is_ready;
@@ -40,7 +42,7 @@ fn any_step(
     let answer = stepped.answer;
     let number = refusal_of(answer);
     if number != 0 {
-        return number;
+        return lower_of(number, room_refusal(7, item.len()));
     }
     if item.len() < 7 {
         return 15;
@@ -51,8 +53,8 @@ fn any_step(
 }
 
 // One step: 1 and the six numbers of its item, or zeros at the end; the next state in place of the last. A refused step
-// leaves the state as it was. A step's numbers, with 7 for numbers that are no state, then 15 where the item has no
-// room.
+// leaves the state as it was. A step's numbers, with 7 for numbers that are no state; 15 where the item has no room
+// comes before 20.
 #[no_mangle]
 pub extern "C" fn ligkern_step(
     pairs: &[i32],

@@ -1,47 +1,70 @@
--- The letters of a word or-ed together; a fresh run, by the tests of the code and by its refusal.
+-- The letters of a word, or-ed together and one by one; the override by its bits; a fresh run, by the tests of the code and by its refusal.
 -- Assumes nothing.
-use mathlib.Core.Path.{_≡_, refl, sym, ap, _∙_}
+use mathlib.Core.Path.{_≡_, refl, sym, ap}
 use mathlib.Core.Bool.{Bool, true, false}
 use mathlib.Core.List.{List, [], _∷_}
-use Prim.Native.Nat.{ℕ, zero, suc, _+_, _≤_}
+use mathlib.Core.Logic.{_⊎_, inl, inr}
+use Prim.Native.Nat.{ℕ, zero, suc, _+_, _<_, _≤_}
+use native.Mathlib.Nat.{eq-or-lt-of-le, le-of-suc-le-suc}
+use native.Mathlib.Numerals.{add-one}
 use native.Mathlib.Omega.{arith}
-use lib.Bits.{bitOr, and-le-l, and-le-r, or-lt, or-add-and}
-use lib.Dec.{leb}
+use lib.Bits.{bitOr, and-le-l, and-le-r, or-add-and}
+use lib.IntN.{ℤ}
+use lib.Dec.{eqb}
 use lib.ListN.{length, getD}
-use borrow.Author.Tests.{le-leb, lt-leb, leb-true, leb-false}
-use Rattle.lang.specs.Every.{both, every}
-use Rattle.lang.specs.Checks.{unless}
-use Rattle.lang.proofs.Every.{every-step}
+use borrow.Author.Tests.{le-leb}
+use Rattle.words.specs.Words.{Word}
+use Rattle.words.proofs.Bits.{number-is, read-lt, read-pos, read-neg}
+use Rattle.lang.specs.Every.{every}
+use Rattle.lang.specs.Checks.{unless, absentRefusal, isLetter}
+use Rattle.lang.proofs.Every.{every-all, every-to, every-fails}
+use Rattle.lang.proofs.Records.{absent-past}
+use Rattle.lang.proofs.Checks.{letter-low}
 use Rattle.lang.specs.Answers.{replyOf}
 use Rattle.captions.specs.declared.RunOptions.{RunOptions}
 use Rattle.captions.specs.declared.NextLeft.the-variants as next
 use Rattle.captions.specs.declared.State.{State}
 use Rattle.captions.specs.declared.Begun.the-variants.{Run, Refused}
 use Rattle.captions.specs.Replies.{stateNumbers, begunReply}
-use Rattle.captions.specs.Begin.{fresh, freshState, lettersRefusal}
+use Rattle.captions.specs.Begin.{fresh, freshState, lettersRefusal, overrideRefusal}
 
 -- ---- the letters
 
--- 255 is all of the low eight bits
-or-by : (a b : ℕ) (t u : Bool) → leb a 255 ≡ t → leb b 255 ≡ u → leb (bitOr a b) 255 ≡ both t u
-or-by a b true true p q =
-    le-leb (bitOr a b) 255 (omega (arith, or-lt 8 a b (omega (arith, leb-true a 255 p)) (omega (arith, leb-true b 255 q))))
-or-by a b true false p q = lt-leb (bitOr a b) 255 (omega (arith, leb-false b 255 q, or-add-and a b, and-le-l a b))
-or-by a b false u p q = lt-leb (bitOr a b) 255 (omega (arith, leb-false a 255 p, or-add-and a b, and-le-r a b))
-
 module _ (word : List ℕ) where
-  -- one letter more
-  pub letters-more : (i all : ℕ) → leb all 255 ≡ every i (λ j. leb (getD word j 0) 255) →
-      leb (bitOr all (getD word i 0)) 255 ≡ every (i + 1) (λ j. leb (getD word j 0) 255)
-  letters-more i all e =
-      or-by all (getD word i 0) (leb all 255) (leb (getD word i 0) 255) refl refl
-      ∙ ap (λ (t : Bool). both t (leb (getD word i 0) 255)) e
-      ∙ sym (every-step i (λ j. leb (getD word j 0) 255))
+  -- one letter more or-ed to those before it: none of them is greater
+  pub letters-more : (i all : ℕ) → ((j : ℕ) → j < i → getD word j 0 ≤ all) → (j : ℕ) → j < i + 1 → getD word j 0 ≤ bitOr all (getD word i 0)
+  letters-more i all h j l = go (eq-or-lt-of-le (le-of-suc-le-suc (rw add-one at l)))
+    where
+      go : (j ≡ i) ⊎ (j < i) → getD word j 0 ≤ bitOr all (getD word i 0)
+      go (inl e) = rw e (omega (arith, or-add-and all (getD word i 0), and-le-l all (getD word i 0)))
+      go (inr k) = omega (arith, h j k, or-add-and all (getD word i 0), and-le-r all (getD word i 0))
 
-  -- the end of the word
-  pub letters-all : (i all : ℕ) (t : Bool) → leb all 255 ≡ every i (λ j. leb (getD word j 0) 255) → i ≤ length word → length word ≤ i →
-      leb all 255 ≡ t → unless 4 t ≡ lettersRefusal word
-  letters-all i all t e l h q = let s : length word ≡ i = omega arith in rw (s, ← e, q)
+  -- the end of the word: each letter is below 32,768
+  pub letters-low : (i all : ℕ) → ((j : ℕ) → j < i → getD word j 0 ≤ all) → length word ≤ i → all ≤ 32767 → 0 ≡ lettersRefusal word
+  letters-low i all h l a =
+      sym (ap (unless 20)
+      (every-all (length word) (λ j. isLetter (getD word j 0)) (λ j k. letter-low (getD word j 0) (omega (arith, h j (omega arith))))))
+
+  -- letter by letter: the end of the word, and one that is none
+  pub letters-each : (i : ℕ) → every i (λ j. isLetter (getD word j 0)) ≡ true → i ≤ length word → length word ≤ i → 0 ≡ lettersRefusal word
+  letters-each i e h l = rw (every-to (length word) i (λ j. isLetter (getD word j 0)) e h l)
+
+  pub letters-fail : (i : ℕ) → i < length word → isLetter (getD word i 0) ≡ false → 20 ≡ lettersRefusal word
+  letters-fail i h e = rw (every-fails (length word) i (λ j. isLetter (getD word j 0)) h e)
+
+-- ---- the override, by its bits
+
+pub low-within : {z : ℤ} {w : ℕ} → Word z w → w ≤ 2147483647 → 0 ≡ absentRefusal 2147483647 z
+low-within {w = w} r h = rw (read-pos r (omega arith), le-leb w 2147483647 h)
+
+pub low-past : {z : ℤ} {w : ℕ} (t : Bool) → Word z w → 2147483647 < w → eqb w 4294967295 ≡ t → unless 4 t ≡ absentRefusal 2147483647 z
+low-past {w = w} t r h e = rw (← number-is r, absent-past 2147483647 w h (read-lt r), e)
+
+pub over-none : {z : ℤ} {w : ℕ} → Word z w → 2147483648 ≤ w → 0 ≡ overrideRefusal z
+over-none r h = rw (read-neg r h)
+
+pub over-letter : {z : ℤ} {w : ℕ} (t : Bool) → Word z w → w < 2147483648 → isLetter w ≡ t → unless 20 t ≡ overrideRefusal z
+over-letter t r h e = rw (read-pos r h, e)
 
 -- ---- a fresh run
 

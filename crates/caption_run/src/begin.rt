@@ -1,18 +1,36 @@
 // A fresh run, after `run_with_options` of ligkern/mod.rs: what it is given is checked whole, in time linear in it.
 ghost use mathlib.Core.Path.{_≡_};
 ghost use Rattle.captions.specs.Replies.{begunReply};
-ghost use Rattle.captions.specs.Begin.{lettersRefusal, beginRefusal, freshState, beginReply};
+ghost use Rattle.lang.specs.Checks.{orElse};
+ghost use Rattle.captions.specs.Begin.{lettersRefusal, overrideRefusal, beginRefusal, freshState, beginReply};
 ghost use Rattle.captions.specs.Begin as begun;
 use crate::edges::edges_refusal;
+use crate::edges::override_refusal;
 use crate::edges::word_refusal;
 use captions::Begun;
 use captions::Consumes;
 use captions::NextLeft;
 use captions::RunOptions;
 use captions::State;
+use program_checks::is_letter;
 use table_form::table_refusal;
 
-// 4: a letter out of range. The letters are or-ed together, since 255 is all of the low eight bits.
+// 20: a letter that is none, asked letter by letter.
+fn each_refusal(word: &[u32]) -> u32
+    ensures { λ r. ⌜ r ≡ lettersRefusal (now (word .entry)) ⌝ }
+{
+    let mut i = 0;
+    while i < word.len() {
+        if !is_letter(word[i]) {
+            return 20;
+        }
+        i += 1;
+    }
+    0
+}
+
+// 20: a letter that is none. The letters are or-ed together: 32,767 is all of the low fifteen bits, and what is not
+// above it is a letter.
 pub fn letters_refusal(word: &[u32]) -> u32
     ensures { λ r. ⌜ r ≡ lettersRefusal (now (word .entry)) ⌝ }
 {
@@ -22,10 +40,22 @@ pub fn letters_refusal(word: &[u32]) -> u32
         all = all | word[i];
         i += 1;
     }
-    if 255 < all { 4 } else { 0 }
+    if 32767 < all { each_refusal(word) } else { 0 }
 }
 
-// 4, 6 or 7, the lowest that holds.
+// 20: a letter or the override is none.
+fn codes_refusal(word: &[u32], options: RunOptions) -> u32
+    ensures { λ r. ⌜ r ≡ orElse (lettersRefusal (now (word .entry)))
+        (overrideRefusal (options .«right_boundary_override»)) ⌝ }
+{
+    let letters = letters_refusal(word);
+    if letters != 0 {
+        return letters;
+    }
+    override_refusal(options.right_boundary_override)
+}
+
+// 4, 6, 7 or 20, the lowest that holds.
 fn begin_refusal(
     pairs: &[i32],
     ops: &[i32],
@@ -40,15 +70,15 @@ fn begin_refusal(
     if edges != 0 {
         return edges;
     }
-    let letters = letters_refusal(word);
-    if letters != 0 {
-        return letters;
-    }
     let long = word_refusal(word);
     if long != 0 {
         return long;
     }
-    table_refusal(pairs, ops)
+    let table = table_refusal(pairs, ops);
+    if table != 0 {
+        return table;
+    }
+    codes_refusal(word, options)
 }
 
 // No ops, no letters given and no pending ligature.

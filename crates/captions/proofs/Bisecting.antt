@@ -1,4 +1,4 @@
--- On a table in ascending order bisection finds every pair, since its keys ascend.
+-- On a table whose keys are of the form lefts and rights are in range, and bisection finds every pair, since its keys ascend.
 -- Assumes nothing.
 use mathlib.Core.Path.{_≡_, refl, sym, ap, subst}
 use mathlib.Core.Bool.{Bool, true, false, cond}
@@ -8,16 +8,38 @@ use mathlib.Core.Option.{some}
 use Prim.Native.Nat.{ℕ, zero, suc, _+_, _-_, _/_, _<_, _≤_}
 use native.Mathlib.Nat.{eq-or-lt-of-le, le-of-suc-le-suc}
 use native.Mathlib.Omega.{arith}
-use lib.IntN.{ℤ}
+use lib.IntN.{ℤ, pos, negsuc}
 use lib.Dec.{ltb}
-use borrow.Author.Tests.{ltb-true, ltb-false, lt-ltb, eq-eqb}
+use borrow.Author.Tests.{leb-true, ltb-true, ltb-false, lt-ltb, eqb-true, eq-eqb}
+use Rattle.words.specs.Words.{wordOf}
 use Rattle.words.proofs.Tests.{less-or-not}
 use Rattle.lang.specs.Every.{both, every}
 use Rattle.lang.specs.Records.{within, absentOr}
-use Rattle.lang.proofs.Every.{both-right, every-at}
+use Rattle.lang.proofs.Every.{both-left, both-right, every-at}
+use Rattle.lang.proofs.Records.{within-bound}
 use Rattle.lang.proofs.Bisection.{Ascends, bisect-finds}
-use Rattle.captions.specs.Tables.{pairCount, number, keyAt, find}
+use Rattle.captions.specs.Tables.{pairCount, number, leftPlace, keyAt, find}
 use Rattle.captions.specs.Form.{comesAfter, keyForm}
+
+-- ---- lefts and rights in range
+
+place-small : (z : ℤ) → absentOr 255 z ≡ true → leftPlace z ≤ 256
+place-small (pos m) t = let h = leb-true m 255 t in omega arith
+place-small (negsuc m) t = let e = eqb-true m 0 t in rw e (omega arith)
+
+module _ (pairs : List ℤ) (form : every (pairCount pairs) (keyForm pairs) ≡ true) where
+  pub left-small : (k : ℕ) → k < pairCount pairs → leftPlace (number pairs k 0) ≤ 256
+  left-small k h =
+      place-small (number pairs k 0)
+      (both-left (absentOr 255 (number pairs k 0)) (both (within 255 (number pairs k 1)) (comesAfter pairs k))
+      (every-at (pairCount pairs) k (keyForm pairs) form h))
+
+  -- a right is a character
+  pub right-small : (k : ℕ) → k < pairCount pairs → wordOf (number pairs k 1) ≤ 255
+  right-small k h =
+      let t = every-at (pairCount pairs) k (keyForm pairs) form h in
+      let u = both-right (absentOr 255 (number pairs k 0)) (both (within 255 (number pairs k 1)) (comesAfter pairs k)) t in
+      within-bound 255 (number pairs k 1) (both-left (within 255 (number pairs k 1)) (comesAfter pairs k) u)
 
 -- ---- ascending keys
 

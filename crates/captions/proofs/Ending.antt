@@ -12,6 +12,7 @@ use lib.Dec.{ltb, leb, eqb}
 use lib.ListN.{length, getD, replicate}
 use Rattle.words.specs.Words.{wordOf}
 use Rattle.lang.specs.Every.{both}
+use Rattle.lang.specs.Checks.{isLetter}
 use Rattle.lang.proofs.Every.{both-right}
 use Rattle.reading.specs.Items.{Item, item, plain}
 use Rattle.captions.specs.declared.RunOptions.{RunOptions}
@@ -23,10 +24,10 @@ use Rattle.captions.specs.declared.Answer.the-variants.{Char, Ligature, 
 use Rattle.captions.specs.declared.Step.{Step}
 use Rattle.captions.specs.declared.Turned.{Turned}
 use Rattle.captions.specs.declared.Turned.the-variants.{Gives, Goes}
-use Rattle.captions.specs.Tables.{opKind, opValue, keyBy, find, countOf, lastCode, lastFlag, recordFits}
+use Rattle.captions.specs.Tables.{opKind, opValue, countOf, lastCode, lastFlag, recordFits}
 use Rattle.captions.specs.Steps.{refused, taken, takesBoundary, giveCharacter, giveLigature, endsWord, giveOp, opsFit, readOp, longer, afterRight, readOn}
-use Rattle.captions.specs.Steps.{withNext, enteredAt, entryReads, givesNothing, turnBy, turnWith, turnAtEnd, turnAtLetter, turn, goesOn, byNext, runOn}
-use Rattle.captions.specs.Steps.{afterOp, withNothingNext, placed, rightItem, ranFrom, stepRefusal, handBack, steppedBy, stepOf}
+use Rattle.captions.specs.Steps.{withNext, enteredAt, entryReads, givesNothing, findWithin, turnBy, turnWith, turnAtEnd, turnAtLetter, turn, goesOn}
+use Rattle.captions.specs.Steps.{byNext, runOn, afterOp, withNothingNext, placed, rightItemFits, rightItem, ranFrom, stepRefusal, handBack, steppedBy, stepOf}
 use Rattle.captions.specs.Runs.{answers}
 use Rattle.captions.specs.Ending.{EndStays}
 
@@ -129,15 +130,15 @@ module _ (pairs ops : List ℤ) where
       by-entry next.Boundary true s k (entryReads pairs ops next.Boundary k) (λ _ _. letter-next (item (lastFlag pairs k) (lastCode pairs k)))
 
   letter-quiet : (x : NextLeft) (y : ℕ) (s : State) → Quiet (turnWith pairs ops x true y s) → Quiet (turnAtLetter pairs ops x y s)
-  letter-quiet x y s q = quiet-either (leb y 255) q (gives (refusal 4))
+  letter-quiet x y s q = quiet-either (isLetter y) q (gives (refusal 20))
 
   end-character : (c : ℕ) (s : State) (o : Option ℕ) → Quiet (turnAtEnd pairs ops o (next.Char c) s)
   end-character c s none = gives (character-given c (withNext next.None (s .read) s))
-  end-character c s (some r) = character-quiet c false r s (find pairs (keyBy (suc c) r))
+  end-character c s (some r) = character-quiet c false r s (findWithin pairs (suc c) r)
 
   end-ligature : (c : ℕ) (s : State) (o : Option ℕ) → Quiet (turnAtEnd pairs ops o (next.Lig c) s)
   end-ligature c s none = gives (character-given c (withNext next.None (s .read) s))
-  end-ligature c s (some r) = ligature-quiet c false r s (find pairs (keyBy (suc c) r))
+  end-ligature c s (some r) = ligature-quiet c false r s (findWithin pairs (suc c) r)
 
 -- ---- all turns
 
@@ -156,13 +157,13 @@ module _ (pairs ops : List ℤ) (right : Option ℕ) (word : List ℕ) where
   look-character c s =
       let y = getD word (s .read) 0 in
       quiet-either (ltb (s .read) (length word))
-      (letter-quiet pairs ops (next.Char c) y s (character-quiet pairs ops c true y s (find pairs (keyBy (suc c) y)))) (end-character pairs ops c s right)
+      (letter-quiet pairs ops (next.Char c) y s (character-quiet pairs ops c true y s (findWithin pairs (suc c) y))) (end-character pairs ops c s right)
 
   look-ligature : (c : ℕ) (s : State) → Quiet (look (next.Lig c) s)
   look-ligature c s =
       let y = getD word (s .read) 0 in
       let g = longer s in
-      quiet-either (ltb (s .read) (length word)) (letter-quiet pairs ops (next.Lig c) y g (ligature-quiet pairs ops c true y g (find pairs (keyBy (suc c) y))))
+      quiet-either (ltb (s .read) (length word)) (letter-quiet pairs ops (next.Lig c) y g (ligature-quiet pairs ops c true y g (findWithin pairs (suc c) y)))
       (end-ligature pairs ops c g right)
 
   module _ (go : State → Step) (later : (t : State) → Later t → Tells (go t)) where
@@ -182,7 +183,7 @@ module _ (pairs ops : List ℤ) (right : Option ℕ) (word : List ℕ) where
         Unmoved s (goesOn go (cond b (turnAtLetter pairs ops next.Boundary (getD word (s .read) 0) s) (turnAtEnd pairs ops right next.Boundary s)))
     boundary-unmoved s true =
         let y = getD word (s .read) 0 in
-        tells (onward-quiet (letter-quiet pairs ops next.Boundary y s (boundary-quiet pairs ops y s (find pairs (keyBy 0 y)))))
+        tells (onward-quiet (letter-quiet pairs ops next.Boundary y s (boundary-quiet pairs ops y s (findWithin pairs 0 y))))
     boundary-unmoved s false = λ _. refl
 
     next-unmoved : (s : State) (b : Bool) (x : NextLeft) → Unmoved s (cond b (byNext look go s x) (readOp ops s))
@@ -203,9 +204,10 @@ module _ (pairs ops : List ℤ) (right : Option ℕ) (word : List ℕ) where
   run-unmoved zero s = next-unmoved (refused 7) (λ _ _. refusal 7) s (eqb (s .ops) 0) (s .«next_left»)
   run-unmoved (suc n) s = next-unmoved (runOn ops look n) (run-later n) s (eqb (s .ops) 0) (s .«next_left»)
 
-  ran-by : (b : Bool) (s : State) → Unmoved s (cond b (runOn ops look (suc (length word - s .read)) s) (refused 7 s))
-  ran-by true s = run-unmoved (suc (length word - s .read)) s
-  ran-by false s = tells (refusal 7)
+  ran-by : (b t : Bool) (s : State) → Unmoved s (cond b (cond t (runOn ops look (suc (length word - s .read)) s) (refused 20 s)) (refused 7 s))
+  ran-by true true s = run-unmoved (suc (length word - s .read)) s
+  ran-by true false s = tells (refusal 20)
+  ran-by false t s = tells (refusal 7)
 
 -- ---- the step
 
@@ -225,7 +227,8 @@ module _ (pairs ops : List ℤ) (boundary : ℤ) (word : List ℕ) (options : Ru
   right = rightItem boundary (options .«right_boundary_override»)
 
   unmoves : Unmoved s (stepOf pairs ops boundary word options s)
-  unmoves = stepped (stepRefusal boundary word options) s (ranFrom pairs ops right word s) (ran-by pairs ops right word (placed ops word s) s)
+  unmoves =
+      stepped (stepRefusal boundary word options) s (ranFrom pairs ops right word s) (ran-by pairs ops right word (placed ops word s) (rightItemFits right) s)
 
   module _ (e : stepOf pairs ops boundary word options s .answer ≡ End) where
     ends-for-ever : (n : ℕ) → answers pairs ops boundary word options n s ≡ replicate n End

@@ -13,7 +13,7 @@ use borrow.Author.Tests.{leb-true, ne-eqb}
 use Rattle.words.specs.Words.{wordOf}
 use Rattle.lang.specs.Every.{both, every}
 use Rattle.lang.specs.Records.{within, absentOr}
-use Rattle.lang.proofs.Every.{every-at, both-left, both-right}
+use Rattle.lang.proofs.Every.{every-at, every-all, both-left, both-right}
 use Rattle.lang.proofs.Records.{within-bound}
 use Rattle.reading.specs.Items.{Out, glyph, kern}
 use Rattle.reading.specs.Depth.{Finished}
@@ -69,6 +69,10 @@ module _ (pairs ops : List ℤ) (table : tableForm pairs ops ≡ true) where
 
   pub all-pairs : every (pairCount pairs) (pairForm pairs ops) ≡ true
   all-pairs = parts .2
+
+  pub keys-formed : every (pairCount pairs) (keyForm pairs) ≡ true
+  keys-formed =
+      every-all (pairCount pairs) (keyForm pairs) (λ k h. both-left (keyForm pairs k) _ (every-at (pairCount pairs) k (pairForm pairs ops) all-pairs h))
 
   pub found-formed : (left y k : ℕ) → y ≤ 255 → find pairs (keyBy left y) ≡ some k → Formed pairs ops left k
   found-formed left y k small e =

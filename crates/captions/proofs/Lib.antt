@@ -8,6 +8,7 @@
 --   FontTable  the table that compile writes: its form, and what it holds
 --   Raising    a left that is a ligature puts its flag into the first character op
 --   Sound      the states that a run can be in, and the plain run that each stands for
+--   Beyond     codes above 255: no font has a rule for one, and none is looked up: specs/Beyond
 --   Giving, Following, Turning   a step answers as the plain run does: ops, what is given at once, and lefts that are looked up
 --   Running    any number of steps from a fresh state
 --   Replies    each reply determines its answer; the reply to a question
@@ -25,6 +26,7 @@ pub mod Raising
 pub mod Sound
 pub mod Giving
 pub mod Following
+pub mod Beyond
 pub mod Turning
 pub mod Running
 pub mod Ending

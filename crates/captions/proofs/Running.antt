@@ -7,12 +7,13 @@ use mathlib.Core.Option.{Option, none, some}
 use Prim.Native.Nat.{ℕ, zero, suc, _+_, _-_, _<_, _≤_}
 use native.Mathlib.Omega.{arith}
 use lib.IntN.{ℤ, pos, negsuc}
-use lib.Dec.{leb}
 use lib.ListN.{length, getD}
 use borrow.Author.Tests.{le-leb, leb-true}
 use Rattle.lang.specs.Every.{every}
 use Rattle.lang.specs.Records.{absentOr}
+use Rattle.lang.specs.Checks.{isLetter}
 use Rattle.lang.proofs.Every.{every-at}
+use Rattle.lang.proofs.Checks.{letter-low, letter-bound}
 use Rattle.reading.specs.Items.{Out}
 use Rattle.reading.specs.Depth.{Finished}
 use Rattle.reading.specs.Form.{noPlain}
@@ -25,9 +26,10 @@ use Rattle.captions.specs.declared.Answer.the-variants.{Char, Ligature, 
 use Rattle.captions.specs.declared.Begun.the-variants.{Run}
 use Rattle.captions.specs.Tables.{opCount, entries, opsFrom}
 use Rattle.captions.specs.Form.{tableForm}
-use Rattle.captions.specs.Begin.{edgesRefusal, wordRefusal, fresh, withoutBoundary, freshState, beginOf}
-use Rattle.captions.specs.Steps.{placed, turn, runOn, stepRefusal, handBack, stepOf, rightItem}
+use Rattle.captions.specs.Begin.{edgesRefusal, wordRefusal, overrideRefusal, fresh, withoutBoundary, freshState, beginOf}
+use Rattle.captions.specs.Steps.{placed, turn, runOn, rightItemFits, stepRefusal, handBack, stepOf, rightItem}
 use Rattle.captions.specs.Runs.{answers, Shown, shows, ends, shown, thenEnds}
+use Rattle.captions.specs.Demand3.{overrideFits}
 use Rattle.captions.proofs.Raising.{raiseFirst}
 use Rattle.captions.proofs.Sound.{state, shownOf, Sound, opsOf, runOf, Follows}
 use Rattle.captions.proofs.FontTable.{below}
@@ -50,17 +52,26 @@ in-order zero os = refl
 in-order (suc n) [] = ap (λ (ss : List Shown). ends ∷ ss) (in-order n [])
 in-order (suc n) (o ∷ os) = ap (λ (ss : List Shown). shows o ∷ ss) (in-order n os)
 
--- the right item of a word is a character
-right-item : (boundary override : ℤ) (y : ℕ) → absentOr 255 boundary ≡ true → absentOr 255 override ≡ true → rightItem boundary override ≡ some y → y ≤ 255
-right-item boundary (pos c) y h i e = let m : c ≡ y = cc in omega (arith, leb-true c 255 i)
-right-item (pos b) (negsuc n) y h i e = let m : b ≡ y = cc in omega (arith, leb-true b 255 h)
-right-item (negsuc b) (negsuc n) y h i e = absurd (let z : _≡_ {A = ℕ} 0 1 = cc in omega arith)
+-- the right item of a word is a letter
+pub right-item : (boundary override : ℤ) → absentOr 255 boundary ≡ true → overrideFits override ≡ true → rightItemFits (rightItem boundary override) ≡ true
+right-item boundary (pos c) h i = i
+right-item (pos b) (negsuc n) h i = letter-low b (omega (arith, leb-true b 255 h))
+right-item (negsuc b) (negsuc n) h i = refl
+
+-- an override that is -1 or a letter is not refused
+override-absent : (override : ℤ) → overrideFits override ≡ true → absentOr 2147483647 override ≡ true
+override-absent (pos c) h = le-leb c 2147483647 (omega (arith, letter-bound c h))
+override-absent (negsuc n) h = h
+
+override-taken : (override : ℤ) → overrideFits override ≡ true → overrideRefusal override ≡ 0
+override-taken (pos c) h = rw h
+override-taken (negsuc n) h = refl
 
 -- What begin and step ask of a word, of the boundary character and of the options.
 pub record Fit (boundary : ℤ) (word : List ℕ) (options : RunOptions) : Type 0 where
   pub boundary-fits : absentOr 255 boundary ≡ true
-  pub override-fits : absentOr 255 (options .«right_boundary_override») ≡ true
-  pub letters-fit : every (length word) (λ i. leb (getD word i 0) 255) ≡ true
+  pub override-fits : overrideFits (options .«right_boundary_override») ≡ true
+  pub letters-fit : every (length word) (λ i. isLetter (getD word i 0)) ≡ true
   pub word-fits : length word ≤ 65535
 
 module _ (pairs ops : List ℤ) (table : tableForm pairs ops ≡ true) (boundary : ℤ) (word : List ℕ) (options : RunOptions) (fit : Fit boundary word options) where
@@ -70,11 +81,11 @@ module _ (pairs ops : List ℤ) (table : tableForm pairs ops ≡ true) (boundary
   abbrev right : Option ℕ
   right = rightItem boundary (options .«right_boundary_override»)
 
-  letters : (i : ℕ) → i < length word → getD word i 0 ≤ 255
-  letters i h = leb-true (getD word i 0) 255 (every-at (length word) i (λ j. leb (getD word j 0) 255) (fit .letters-fit) h)
+  letters : (i : ℕ) → i < length word → isLetter (getD word i 0) ≡ true
+  letters i h = every-at (length word) i (λ j. isLetter (getD word j 0)) (fit .letters-fit) h
 
   edges : edgesRefusal boundary options ≡ 0
-  edges = rw (fit .boundary-fits, fit .override-fits) refl
+  edges = rw (fit .boundary-fits, override-absent (options .«right_boundary_override») (fit .override-fits)) refl
 
   word-taken : wordRefusal word ≡ 0
   word-taken = rw (le-leb (length word) 65535 (fit .word-fits)) refl
@@ -99,10 +110,10 @@ module _ (pairs ops : List ℤ) (table : tableForm pairs ops ≡ true) (boundary
   step-follows s h =
       let t = runOn ops (turn pairs ops right word) (suc (length word - s .read)) s in
       let f : Follows ops word t (plainly.step held right (runOf ops word s)) =
-      follows pairs ops table word right letters (λ y e. right-item boundary (options .«right_boundary_override») y (fit .boundary-fits) (fit .override-fits) e)
-      (suc (length word - s .read))
+      follows pairs ops table word right letters (suc (length word - s .read))
       (s .«next_left») (s .op) (s .ops) (s .read) (s .given) (s .pending) (s .«pending_boundary») (s .«consumes_left») (λ _. omega arith) h in
-      rw (not-refused, is-placed s h, handed s (t .state) (t .answer) (plainly.step held right (runOf ops word s) .gives) (f .answers)) f
+      let i = right-item boundary (options .«right_boundary_override») (fit .boundary-fits) (fit .override-fits) in
+      rw (not-refused, is-placed s h, i, handed s (t .state) (t .answer) (plainly.step held right (runOf ops word s) .gives) (f .answers)) f
 
   -- any number of steps
   steps-follow : (n : ℕ) (s : State) → Sound ops word s (opsOf ops word s) →
@@ -119,7 +130,7 @@ module _ (pairs ops : List ℤ) (table : tableForm pairs ops ≡ true) (boundary
   Starts b cs s = Sound ops word s (opsOf ops word s) × (runOf ops word s ≡ plainly.begin b cs)
 
   begin-taken : beginOf pairs ops boundary word options ≡ Run (freshState word options)
-  begin-taken = rw (edges, fit .letters-fit, word-taken, table) refl
+  begin-taken = rw (edges, word-taken, table, fit .letters-fit, override-taken (options .«right_boundary_override») (fit .override-fits)) refl
 
   starts-by : (cs : List ℕ) → word ≡ cs → (d : Bool) → Starts (not d) word (cond d (withoutBoundary cs) (fresh next.Boundary 0))
   unfolding opsFrom raiseFirst noPlain
@@ -128,8 +139,8 @@ module _ (pairs ops : List ℤ) (table : tableForm pairs ops ≡ true) (boundary
   starts-by (c ∷ cs) e true =
       let l : 0 < length word = rw e (omega arith) in
       let z : getD word 0 0 ≡ c = rw e refl in
-      let h : c ≤ 255 = omega (arith, letters 0 l, z) in
-      (record { inside = omega arith; counted = omega arith; among = omega arith; fits = le-leb c 255 h; holds = refl }, rw e refl)
+      let h : isLetter c ≡ true = rw z at (letters 0 l) in
+      (record { inside = omega arith; counted = omega arith; among = omega arith; fits = h; holds = refl }, rw e refl)
 
   starts : Starts (not (options .«disable_left_boundary»)) word (freshState word options)
   starts = starts-by word refl (options .«disable_left_boundary»)

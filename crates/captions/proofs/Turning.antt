@@ -8,13 +8,15 @@ use mathlib.Core.Option.{Option, none, some, Option·map}
 use Prim.Native.Nat.{ℕ, zero, suc, _+_, _-_, _<_, _≤_}
 use native.Mathlib.Omega.{arith}
 use lib.IntN.{ℤ}
-use lib.Dec.{ltb, leb, eqb}
+use lib.Dec.{ltb, eqb}
 use lib.ListN.{length, drop, getD, drop-of-length-le}
 use lib.Seq.{drop-cons}
-use borrow.Author.Tests.{le-leb, ltb-true, ltb-false, lt-ltb, ne-eqb}
+use borrow.Author.Tests.{le-leb, ltb-true, ltb-false, ne-eqb}
 use Rattle.words.specs.Words.{wordOf}
 use Rattle.lang.specs.Every.{both}
-use Rattle.reading.specs.Items.{chr, Item, item, plain, inserted, Head, edge, at, Out, glyph}
+use Rattle.lang.specs.Checks.{isLetter}
+use Rattle.lang.proofs.Checks.{letter-low}
+use Rattle.reading.specs.Items.{chr, Item, item, plain, inserted, Head, edge, at, key, Out, glyph}
 use Rattle.reading.specs.Depth.{Res, Finished, raiseLeft}
 use Rattle.reading.specs.Form.{noPlain, opsForm}
 use Rattle.reading.specs.Run as plainly
@@ -25,15 +27,16 @@ use Rattle.captions.specs.declared.Consumes.{Consumes}
 use Rattle.captions.specs.declared.Consumes.the-variants as consumes
 use Rattle.captions.specs.declared.State.{State}
 use Rattle.captions.specs.declared.Turned.{Turned}
-use Rattle.captions.specs.Tables.{opCount, number, keyBy, find, firstOp, countOf, lastCode, lastFlag, entryOfPair, entries, opAt, opsFrom, recordFits}
+use Rattle.captions.specs.Tables.{opCount, number, firstOp, countOf, lastCode, lastFlag, entryOfPair, entries, opAt, opsFrom, recordFits}
 use Rattle.captions.specs.Form.{tableForm}
-use Rattle.captions.specs.Steps.{refused, leftLetters, takesBoundary, leftPlaceOf, leftConsumed, afterRight, readOn, enteredAt, turnBy, turnWith}
-use Rattle.captions.specs.Steps.{turnAtEnd, turnAtLetter, givesNothing, entryReads, turn, goesOn, runOn, nextFits}
+use Rattle.captions.specs.Steps.{refused, leftLetters, takesBoundary, leftPlaceOf, leftConsumed, afterRight, readOn, enteredAt, findWithin, turnBy}
+use Rattle.captions.specs.Steps.{turnWith, turnAtEnd, turnAtLetter, givesNothing, entryReads, turn, goesOn, runOn, nextFits}
 use Rattle.captions.proofs.FontTable.{below}
 use Rattle.captions.proofs.Raising.{raiseFirst, raise-outs, raise-last, raise-last-none, hasGlyph, plainFirst, form-ops, left-plain-first, left-carried}
 use Rattle.captions.proofs.Raising.{boundary-no-plain}
 use Rattle.captions.proofs.Sound.{state, isPending, waiting, isLigature, mode, nextOf, Sound, Follows}
 use Rattle.captions.proofs.Giving.{gives-letter, gives-pending}
+use Rattle.captions.proofs.Beyond.{within-some, held-looked}
 use Rattle.captions.proofs.Following.{Formed, found-formed, all-ops, isNow, gives-now, given-first, given-final, given-stop}
 
 no : {A : Type 0} → _≡_ {A = Bool} false true → A
@@ -62,7 +65,7 @@ flagged-ligature false false c = refl
 
 code-fits : (letter f : Bool) (c : ℕ) → c ≤ 255 → nextFits (afterRight letter (item f c)) ≡ true
 code-fits true true c h = le-leb c 255 h
-code-fits true false c h = le-leb c 255 h
+code-fits true false c h = letter-low c (omega (arith, h))
 code-fits false true c h = le-leb c 255 h
 code-fits false false c h = refl
 
@@ -119,7 +122,7 @@ no-lig : {c : ℕ} → next.Lig c ≡ next.Boundary → ⊥
 no-lig e = let z : _≡_ {A = ℕ} 0 1 = cc in omega arith
 
 module _ (pairs ops : List ℤ) (table : tableForm pairs ops ≡ true) (word : List ℕ) (right : Option ℕ)
-    (letters : (i : ℕ) → i < length word → getD word i 0 ≤ 255) (right-small : (y : ℕ) → right ≡ some y → y ≤ 255) where
+    (letters : (i : ℕ) → i < length word → isLetter (getD word i 0) ≡ true) where
   abbrev look : NextLeft → State → Turned
   look = turn pairs ops right word
 
@@ -167,24 +170,25 @@ module _ (pairs ops : List ℤ) (table : tableForm pairs ops ≡ true) (word : L
       (plainly.stepFrom held right (drop r word) (raiseFirst (isPending p) (opsFrom ops o m)) (nextOf n))
 
   -- a letter
-  at-letter : (F : ℕ) → Goal F → {x : NextLeft} {p : ℕ} → Lefts x p → (o r g y : ℕ) (b : Bool) (k : Consumes) → suc r ≤ length word → y ≤ 255 →
+  at-letter : (F : ℕ) → Goal F → {x : NextLeft} {p : ℕ} → Lefts x p → (o r g y : ℕ) (b : Bool) (k : Consumes) → suc r ≤ length word → isLetter y ≡ true →
       length word - r < suc F → o ≤ opCount ops → g + (p + leftLetters (leftConsumed x)) ≤ r →
-      (e : Option ℕ) → find pairs (keyBy (leftPlaceOf x) y) ≡ e →
+      (e : Option ℕ) → findWithin pairs (leftPlaceOf x) y ≡ e →
       Follows ops word (goesOn (runOn ops look F) (turnBy pairs ops x true y (state x o 0 r g p b k) e))
       (plainly.stepFrom held right (drop (suc r) word) (plainly.entryOr (Option·map (entryOfPair pairs ops) e) (headOf x) y .outs)
       (plainly.left (at (plainly.entryOr (Option·map (entryOfPair pairs ops) e) (headOf x) y .last))))
   unfolding opsFrom raiseFirst noPlain
   at-letter F ih boundary o r g y b k i small enough u h none e =
       ih (next.Char y) o 0 (suc r) g 0 b consumes.Nothing (λ _. omega arith)
-      record { inside = i; counted = omega arith; among = omega arith; fits = le-leb y 255 small; holds = refl }
+      record { inside = i; counted = omega arith; among = omega arith; fits = small; holds = refl }
   at-letter F ih (character c) o r g y b k i small enough u h none e =
       rw (given-one held right (drop (suc r) word) (glyph (plain c)) (plainly.left (at (plain y))))
-      (gives-letter ops word (next.Char y) o 0 (suc r) g b consumes.Nothing c (i, omega arith, le-leb y 255 small, refl) (omega arith))
+      (gives-letter ops word (next.Char y) o 0 (suc r) g b consumes.Nothing c (i, omega arith, small, refl) (omega arith))
   at-letter F ih (ligature c p) o r g y b k i small enough u h none e =
       rw (given-one held right (drop (suc r) word) (glyph (inserted c)) (plainly.left (at (plain y))))
-      (gives-pending ops word (next.Char y) o 0 (suc r) g p b consumes.Nothing c (i, omega arith, le-leb y 255 small, refl) (omega arith))
+      (gives-pending ops word (next.Char y) o 0 (suc r) g p b consumes.Nothing c (i, omega arith, small, refl) (omega arith))
   at-letter F ih {x} {p} s o r g y b k i small enough u h (some j) e =
-      let f = found-formed pairs ops table (leftPlaceOf x) y j small e in
+      let w = within-some pairs (leftPlaceOf x) y j e in
+      let f = found-formed pairs ops table (leftPlaceOf x) y j (w .0) (w .1) in
       let os = opsFrom ops (firstOp pairs j) (countOf pairs j) in
       let q = entry-looked s y (lastFlag pairs j) (lastCode pairs j) os
       (form-ops (leftOf (leftPlaceOf x)) (wordOf (number pairs j 1)) (entryOfPair pairs ops j) (f .form)) in
@@ -201,19 +205,20 @@ module _ (pairs ops : List ℤ) (table : tableForm pairs ops ≡ true) (word : L
 
   -- the word's end, with a right item
   at-right : (F : ℕ) {x : NextLeft} {p : ℕ} → Lefts x p → (x ≡ next.Boundary → ⊥) → (o r g y : ℕ) (b : Bool) (k : Consumes) → r ≤ length word →
-      drop r word ≡ [] → y ≤ 255 → o ≤ opCount ops → g + (p + leftLetters (leftConsumed x)) ≤ r →
-      (e : Option ℕ) → find pairs (keyBy (leftPlaceOf x) y) ≡ e →
+      drop r word ≡ [] → o ≤ opCount ops → g + (p + leftLetters (leftConsumed x)) ≤ r →
+      (e : Option ℕ) → findWithin pairs (leftPlaceOf x) y ≡ e →
       Follows ops word (goesOn (runOn ops look F) (turnBy pairs ops x false y (state x o 0 r g p b k) e))
       (plainly.given (plainly.entryOr (Option·map (entryOfPair pairs ops) e) (headOf x) y .outs)
       (plainly.plainAfterRight (plainly.entryOr (Option·map (entryOfPair pairs ops) e) (headOf x) y .last)) [])
   unfolding opsFrom noPlain
-  at-right F boundary z o r g y b k i d small u h none e = absurd (z refl)
-  at-right F (character c) z o r g y b k i d small u h none e =
+  at-right F boundary z o r g y b k i d u h none e = absurd (z refl)
+  at-right F (character c) z o r g y b k i d u h none e =
       rw (← d) (gives-letter ops word next.None o 0 r g b consumes.Nothing c (i, omega arith, refl, refl) (omega arith))
-  at-right F (ligature c p) z o r g y b k i d small u h none e =
+  at-right F (ligature c p) z o r g y b k i d u h none e =
       rw (← d) (gives-pending ops word next.None o 0 r g p b consumes.Nothing c (i, omega arith, refl, refl) (omega arith))
-  at-right F {x} {p} s z o r g y b k i d small u h (some j) e =
-      let f = found-formed pairs ops table (leftPlaceOf x) y j small e in
+  at-right F {x} {p} s z o r g y b k i d u h (some j) e =
+      let w = within-some pairs (leftPlaceOf x) y j e in
+      let f = found-formed pairs ops table (leftPlaceOf x) y j (w .0) (w .1) in
       let os = opsFrom ops (firstOp pairs j) (countOf pairs j) in
       let q = entry-looked s y (lastFlag pairs j) (lastCode pairs j) os
       (form-ops (leftOf (leftPlaceOf x)) (wordOf (number pairs j 1)) (entryOfPair pairs ops j) (f .form)) in
@@ -233,13 +238,11 @@ module _ (pairs ops : List ℤ) (table : tableForm pairs ops ≡ true) (word : L
   at-end F (character c) none q o r g b k i d u h z =
       rw (← d) (gives-letter ops word next.None o 0 r g b consumes.Nothing c (i, omega arith, refl, refl) (omega arith))
   at-end F (character c) (some y) q o r g b k i d u h z =
-      let t : ltb y 256 ≡ true = lt-ltb y 256 (omega (arith, right-small y q)) in
-      rw t (at-right F (character c) (λ e. no-char e) o r g y b k i d (right-small y q) u h (find pairs (keyBy (suc c) y)) refl)
+      rw (held-looked pairs ops table (suc c) y) (at-right F (character c) (λ e. no-char e) o r g y b k i d u h (findWithin pairs (suc c) y) refl)
   at-end F (ligature c p) none q o r g b k i d u h z =
       rw (← d) (gives-pending ops word next.None o 0 r g p b consumes.Nothing c (i, omega arith, refl, refl) (omega arith))
   at-end F (ligature c p) (some y) q o r g b k i d u h z =
-      let t : ltb y 256 ≡ true = lt-ltb y 256 (omega (arith, right-small y q)) in
-      rw t (at-right F (ligature c p) (λ e. no-lig e) o r g y b k i d (right-small y q) u h (find pairs (keyBy (suc c) y)) refl)
+      rw (held-looked pairs ops table (suc c) y) (at-right F (ligature c p) (λ e. no-lig e) o r g y b k i d u h (findWithin pairs (suc c) y) refl)
 
   -- ---- all turns
 
@@ -251,20 +254,30 @@ module _ (pairs ops : List ℤ) (table : tableForm pairs ops ≡ true) (word : L
   clear (suc p) consumes.Letter n e h = no h
   clear (suc p) consumes.Boundary n e h = no h
 
+  -- what the plain run looks up
+  held-left : {x : NextLeft} {p : ℕ} → Lefts x p → (y : ℕ) →
+      held (key (headOf x)) y ≡ Option·map (entryOfPair pairs ops) (findWithin pairs (leftPlaceOf x) y)
+  held-left boundary y = held-looked pairs ops table 0 y
+  held-left (character c) y = held-looked pairs ops table (suc c) y
+  held-left (ligature c p) y = held-looked pairs ops table (suc c) y
+
+  -- .. with a letter
+  looks-letter : (x : Head) (y : ℕ) (ys : List ℕ) (o : Option Res) → held (key x) y ≡ o →
+      plainly.stepFrom held right (y ∷ ys) [] (plainly.left x)
+      ≡ plainly.stepFrom held right ys (plainly.entryOr o x y .outs) (plainly.left (at (plainly.entryOr o x y .last)))
+  unfolding plainly.stepFrom
+  looks-letter x y ys o e =
+      ap (λ (q : Option Res). plainly.stepFrom held right ys (plainly.entryOr q x y .outs) (plainly.left (at (plainly.entryOr q x y .last)))) e
+
   -- a left with a letter
-  by-letter : (F : ℕ) → Goal F → {x : NextLeft} {p : ℕ} → Lefts x p → (o r g y : ℕ) (b : Bool) (k : Consumes) → suc r ≤ length word → y ≤ 255 →
+  by-letter : (F : ℕ) → Goal F → {x : NextLeft} {p : ℕ} → Lefts x p → (o r g y : ℕ) (b : Bool) (k : Consumes) → suc r ≤ length word → isLetter y ≡ true →
       length word - r < suc F → o ≤ opCount ops → g + (p + leftLetters (leftConsumed x)) ≤ r →
       Follows ops word (goesOn (runOn ops look F) (turnWith pairs ops x true y (state x o 0 r g p b k)))
       (plainly.stepFrom held right (y ∷ drop (suc r) word) [] (plainly.left (headOf x)))
-  unfolding plainly.stepFrom
-  by-letter F ih boundary o r g y b k i small enough u h =
-      let t : ltb y 256 ≡ true = lt-ltb y 256 (omega arith) in rw t (at-letter F ih boundary o r g y b k i small enough u h (find pairs (keyBy 0 y)) refl)
-  by-letter F ih (character c) o r g y b k i small enough u h =
-      let t : ltb y 256 ≡ true = lt-ltb y 256 (omega arith) in
-      rw t (at-letter F ih (character c) o r g y b k i small enough u h (find pairs (keyBy (suc c) y)) refl)
-  by-letter F ih (ligature c p) o r g y b k i small enough u h =
-      let t : ltb y 256 ≡ true = lt-ltb y 256 (omega arith) in
-      rw t (at-letter F ih (ligature c p) o r g y b k i small enough u h (find pairs (keyBy (suc c) y)) refl)
+  by-letter F ih {x} s o r g y b k i small enough u h =
+      let q = findWithin pairs (leftPlaceOf x) y in
+      rw (looks-letter (headOf x) y (drop (suc r) word) (Option·map (entryOfPair pairs ops) q) (held-left s y))
+      (at-letter F ih s o r g y b k i small enough u h q refl)
 
   -- a left with what is next in the word
   at-left : (F : ℕ) → Goal F → {x : NextLeft} {p : ℕ} → Lefts x p → (o r g : ℕ) (b : Bool) (k : Consumes) → r ≤ length word → length word - r < suc F →
@@ -278,8 +291,7 @@ module _ (pairs ops : List ℤ) (table : tableForm pairs ops ≡ true) (word : L
   at-left F ih {x} {p} s o r g b k i enough u h z true e =
       let l : r < length word = ltb-true r (length word) e in
       let small = letters r l in
-      let t : leb (getD word r 0) 255 ≡ true = le-leb (getD word r 0) 255 small in
-      rw (drop-cons word r 0 l, t)
+      rw (drop-cons word r 0 l, small)
       (by-letter F ih s o r g (getD word r 0) b k l small enough u h)
   at-left F ih {x} {p} s o r g b k i enough u h z false e =
       let d : drop r word ≡ [] = drop-of-length-le word (ltb-false r (length word) e) in

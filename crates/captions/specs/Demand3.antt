@@ -2,15 +2,15 @@
 -- contracts say that they answer `beginOf` and `stepOf` (proofs/Replies); `answers` are n steps, each handed the state that the last one
 -- returned. What is proved of an accepted font is the record `Demand3`; the statement whole is `EveryAcceptedFont`, at the end.
 use mathlib.Core.Path.{_≡_}
-use mathlib.Core.Bool.{true, not}
+use mathlib.Core.Bool.{Bool, true, not}
 use mathlib.Core.List.{List, map, List·Memᴰ}
 use mathlib.Core.Logic.{_↔_}
 use Prim.Native.Nat.{ℕ, _*_, _<_, _≤_}
-use lib.IntN.{ℤ}
-use lib.Dec.{leb}
+use lib.IntN.{ℤ, pos, negsuc}
+use lib.Dec.{eqb}
 use lib.ListN.{length, getD, take}
 use Rattle.lang.specs.Every.{every}
-use Rattle.lang.specs.Records.{absentOr}
+use Rattle.lang.specs.Checks.{isLetter}
 use Rattle.reading.specs.Items.{Left, Out}
 use Rattle.reading.specs.Reading.{reading, ended, NeverEnds, Ends}
 use Rattle.reading.specs.Depth.{Pair}
@@ -25,11 +25,16 @@ use Rattle.captions.specs.Begin.{beginOf}
 use Rattle.captions.specs.Steps.{rightItem}
 use Rattle.captions.specs.Runs.{answers, shown, thenEnds}
 
--- a word of at most 65,535 characters of 0 to 255, either boundary choice, any override from -1 to 255 (R17)
+-- an override: -1, or a letter
+abbrev pub overrideFits : ℤ → Bool
+overrideFits (pos c) = isLetter c
+overrideFits (negsuc n) = eqb n 0
+
+-- a word of at most 65,535 letters (R371), either boundary choice, any override that is a letter or -1 (R17)
 pub record Caption (word : List ℕ) (options : RunOptions) : Type 0 where
-  pub letters-fit : every (length word) (λ i. leb (getD word i 0) 255) ≡ true
+  pub letters-fit : every (length word) (λ i. isLetter (getD word i 0)) ≡ true
   pub word-fits : length word ≤ 65535
-  pub override-fits : absentOr 255 (options .«right_boundary_override») ≡ true
+  pub override-fits : overrideFits (options .«right_boundary_override») ≡ true
 
 -- Begin, lent these pairs and ops and the font's boundary character (R15), is not refused; and for every n the answers of the n steps from
 -- it (R16) are the first n of the items, by kind and by code or scaled kern (R22), followed by the end at each step. So no step is refused.

@@ -10,7 +10,7 @@ use lib.Dec.{ltb, leb, eqb}
 use lib.ListN.{length, getD}
 use Rattle.words.specs.Words.{wordOf}
 use Rattle.lang.specs.Every.{both}
-use Rattle.lang.specs.Checks.{orElse}
+use Rattle.lang.specs.Checks.{orElse, isLetter}
 use Rattle.reading.specs.Items.{Item, item, plain}
 use Rattle.captions.specs.declared.RunOptions.{RunOptions}
 use Rattle.captions.specs.declared.NextLeft.{NextLeft}
@@ -246,9 +246,14 @@ abbrev pub turnBy : List ℤ → List ℤ → NextLeft → Bool → ℕ → Stat
 turnBy pairs ops x letter y s none = giveLeft x (withNext (afterRight letter (plain y)) (readOn letter (s .read)) s)
 turnBy pairs ops x letter y s (some k) = cond (entryReads pairs ops x k) (Goes (enteredAt pairs x letter s k)) (Gives (refused 7 s))
 
+-- the pair of a left, by its place x, and a right y. One of them above 255 is not looked up (R372), so that it has no pair, whatever the
+-- table holds.
+abbrev pub findWithin : List ℤ → ℕ → ℕ → Option ℕ
+findWithin pairs x y = cond (both (leb x 256) (leb y 255)) (find pairs (keyBy x y)) none
+
 -- a left and a right y, their pair looked up in the table; `letter` is whether y is a letter of the word
 abbrev pub turnWith : List ℤ → List ℤ → NextLeft → Bool → ℕ → State → Turned
-turnWith pairs ops x letter y s = turnBy pairs ops x letter y s (find pairs (keyBy (leftPlaceOf x) y))
+turnWith pairs ops x letter y s = turnBy pairs ops x letter y s (findWithin pairs (leftPlaceOf x) y)
 
 -- the boundary character, where there is one (R112)
 abbrev pub orBoundary : ℤ → Option ℕ
@@ -270,9 +275,9 @@ turnAtEnd pairs ops (some r) (next.Lig c) s = turnWith pairs ops (next.Lig c) fa
 turnAtEnd pairs ops right (next.FinalLig c) s = Gives (ended s)
 turnAtEnd pairs ops right next.None s = Gives (ended s)
 
--- 4 (R264): a letter out of range
+-- 20 (R373): a letter of the word that is none, as it is read
 abbrev pub turnAtLetter : List ℤ → List ℤ → NextLeft → ℕ → State → Turned
-turnAtLetter pairs ops x y s = cond (leb y 255) (turnWith pairs ops x true y s) (Gives (refused 4 s))
+turnAtLetter pairs ops x y s = cond (isLetter y) (turnWith pairs ops x true y s) (Gives (refused 20 s))
 
 -- one turn: the next left with the next letter, or with the right item
 abbrev pub turn : List ℤ → List ℤ → Option ℕ → List ℕ → NextLeft → State → Turned
@@ -319,10 +324,10 @@ unfoldable pub runOn : List ℤ → (NextLeft → State → Turned) → ℕ → 
 runOn ops look zero s = stepBy ops look (refused 7) s
 runOn ops look (suc n) s = stepBy ops look (runOn ops look n) s
 
--- the next left, where it has a code, has one of 0 to 255 (R265)
+-- the next left (R265, R374): a character is a letter, and a ligature's code is one of 0 to 255
 abbrev pub nextFits : NextLeft → Bool
 nextFits next.Boundary = true
-nextFits (next.Char c) = leb c 255
+nextFits (next.Char c) = isLetter c
 nextFits (next.Lig c) = leb c 255
 nextFits (next.FinalLig c) = leb c 255
 nextFits next.None = true
@@ -339,11 +344,18 @@ placed ops word s =
     (both (leb (s .pending) (s .read))
     (both (opsPlaced ops s) (nextFits (s .«next_left»)))))
 
+-- the right item, where there is one, is a letter
+abbrev pub rightItemFits : Option ℕ → Bool
+rightItemFits none = true
+rightItemFits (some c) = isLetter c
+
 -- THE contract of run: turns from a state until one answers, one letter a turn and a turn for the right item; 7 where the state points
--- outside
+-- outside, else 20 where the right item is no letter (R373), before anything is looked up
 abbrev pub ranFrom : List ℤ → List ℤ → Option ℕ → List ℕ → State → Step
 ranFrom pairs ops right word s =
-    cond (placed ops word s) (runOn ops (turn pairs ops right word) (suc (length word - s .read)) s) (refused 7 s)
+    cond (placed ops word s)
+    (cond (rightItemFits right) (runOn ops (turn pairs ops right word) (suc (length word - s .read)) s) (refused 20 s))
+    (refused 7 s)
 
 -- 4 or 6 (R265): what is checked before the state is
 abbrev pub stepRefusal : ℤ → List ℕ → RunOptions → ℕ

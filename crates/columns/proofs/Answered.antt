@@ -14,7 +14,7 @@ use Rattle.columns.specs.Lines.{writeLine}
 use Rattle.columns.specs.Texts.{fontOfText}
 use Rattle.columns.specs.Scanned.{lettersOf, lengthOfWord}
 use Rattle.columns.specs.Replying.{replyLines}
-use Rattle.columns.specs.Ligcols.{columnRoom, columnOptions, itemRoom, columnItems, wordOfText}
+use Rattle.columns.specs.Ligcols.{columnRoom, itemRoom, columnItems, wordOfText}
 use Rattle.columns.specs.ReplyRead.{EndsInFeed, EveryAnsweredText}
 use Rattle.columns.proofs.FontBegins.{loops-long}
 use Rattle.columns.proofs.LinesBack.{text-ends}
@@ -24,6 +24,7 @@ use Rattle.columns.proofs.Fitting.{Fits, all-fit}
 use Rattle.columns.proofs.Reported.{Worded, without, letters, reply-read}
 use Rattle.columns.proofs.FontFits.{font-table-fits, font-ops-fit, font-loops-fit, font-contiguous}
 use Rattle.columns.proofs.ItemFits.{set-sixes}
+use Rattle.captions.specs.Begin.{plainOptions}
 
 -- Every reply is empty or ends in a line feed.
 pub ends-in-feed : EndsInFeed
@@ -38,7 +39,7 @@ word-items : (f : Font) (o : Option (List ℤ)) (word : List ℕ) → Fits (font
     Worded (lengthOfWord o) (columnItems f (lengthOfWord o) word .values)
 word-items f none word h l = without
 word-items f (some zs) word h l =
-    let s = set-sixes (fontTable f) (fontOps f) h (f .boundary) word columnOptions itemRoom in
+    let s = set-sixes (fontTable f) (fontOps f) h (f .boundary) word plainOptions itemRoom in
     let items = columnItems f (lengthOfWord (some zs)) word .values in
     letters (length zs) items (omega (arith, l)) (s .whole) (all-fit items (s .fits))
 

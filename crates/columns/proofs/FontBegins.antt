@@ -5,10 +5,10 @@ use mathlib.Core.List.{List, [], _∷_}
 use Prim.Native.Nat.{ℕ, zero, suc, _-_, _*_, _≤_}
 use native.Mathlib.Omega.{arith}
 use lib.IntN.{ℤ, pos}
-use lib.Dec.{leb}
 use lib.ListN.{length, getD, take, replicate, length-append, length-replicate}
 use lib.Seq.{take-at}
 use Rattle.lang.specs.Every.{every}
+use Rattle.lang.specs.Checks.{isLetter}
 use Rattle.lang.specs.Answers.{padded, listOf}
 use Rattle.lang.proofs.Refusals.{second-none, unless-none, taken-reply}
 use Rattle.reading.specs.Depth.{Finished, Pair}
@@ -21,11 +21,10 @@ use Rattle.fonts.specs.Compiled.{sizedRefusal, Compiles}
 use Rattle.compiling.proofs.OpLaws.{length-numbers}
 use Rattle.captions.specs.declared.State.{State}
 use Rattle.captions.specs.declared.Begun.the-variants.{Run}
-use Rattle.captions.specs.Begin.{lettersRefusal, beginRefusal, freshState, begunBy}
+use Rattle.captions.specs.Begin.{lettersRefusal, beginRefusal, freshState, begunBy, plainOptions}
 use Rattle.captions.specs.Demand3.{Caption, Demand3}
 use Rattle.captions.proofs.Decoding.{kept, length-table, whole-table}
 use Rattle.captions.proofs.Theorems.{accepted, demand-3}
-use Rattle.columns.specs.Ligcols.{columnOptions}
 
 -- ---- how long the lists are
 
@@ -135,16 +134,16 @@ demand-of f room taken =
 
 -- ---- begin
 
-pub letters-caption : (word : List ℕ) → lettersRefusal word ≡ 0 → length word ≤ 65535 → Caption word columnOptions
+pub letters-caption : (word : List ℕ) → lettersRefusal word ≡ 0 → length word ≤ 65535 → Caption word plainOptions
 letters-caption word e l =
-    record { letters-fit = unless-none 3 (every (length word) (λ i. leb (getD word i 0) 255)) e; word-fits = l; override-fits = refl }
+    record { letters-fit = unless-none 19 (every (length word) (λ i. isLetter (getD word i 0))) e; word-fits = l; override-fits = refl }
 
 begun : (m : ℕ) (s t : State) → begunBy m s ≡ Run t → m ≡ 0
 begun zero s t e = refl
 begun (suc m) s t e = absurd (let z : _≡_ {A = ℕ} 0 1 = cc in omega arith)
 
 pub font-begins : (f : Font) (room : Room) (word : List ℕ) → compileRefusal f room ≡ 0 → lettersRefusal word ≡ 0 → length word ≤ 65535 →
-    beginRefusal (fontTable f) (fontOps f) (f .boundary) word columnOptions ≡ 0
+    beginRefusal (fontTable f) (fontOps f) (f .boundary) word plainOptions ≡ 0
 font-begins f room word taken e l =
-    let r = demand-of f room taken .run-ends word columnOptions (letters-caption word e l) in
-    begun (beginRefusal (fontTable f) (fontOps f) (f .boundary) word columnOptions) (freshState word columnOptions) (r .1 .start) (r .1 .begins)
+    let r = demand-of f room taken .run-ends word plainOptions (letters-caption word e l) in
+    begun (beginRefusal (fontTable f) (fontOps f) (f .boundary) word plainOptions) (freshState word plainOptions) (r .1 .start) (r .1 .begins)

@@ -24,7 +24,7 @@ use Rattle.fonts.proofs.Theorems.{reported-never, never-in-range}
 use Rattle.compiling.proofs.OpLaws.{numbers-append, length-numbers}
 use Rattle.captions.specs.Tables.{pairCount, opCount, number, firstOp, countOf, lastCode, lastFlag, opFits, recordFits}
 use Rattle.captions.specs.Form.{opsEnd, keyForm, pairForm, sizesForm, tableForm, tableRefusal}
-use Rattle.captions.specs.Begin.{edgesRefusal, lettersRefusal, wordRefusal}
+use Rattle.captions.specs.Begin.{edgesRefusal, lettersRefusal, wordRefusal, plainOptions}
 use Rattle.captions.proofs.Codes.{Small, Coded}
 use Rattle.captions.proofs.Codes as codes
 use Rattle.captions.proofs.FontCodes.{small}
@@ -32,7 +32,6 @@ use Rattle.captions.proofs.Decoding.{Entry, kept, opsAll, tableFrom, whole-tabl
 use Rattle.captions.proofs.Forming.{InRange}
 use Rattle.captions.proofs.FontPairs.{pairs-ranged, kept-finishes}
 use Rattle.columns.specs.Purpose.{isI32, allI32}
-use Rattle.columns.specs.Ligcols.{columnOptions}
 use Rattle.columns.proofs.FontBegins.{font-begins}
 use Rattle.columns.proofs.KernFits.{Kerned, kerns-fit}
 use Rattle.columns.proofs.KernFits as kerns
@@ -157,8 +156,8 @@ module _ (f : Font) (room : Room) (taken : compileRefusal f room ≡ 0) where
       let p = fontTable f in
       let o = fontOps f in
       let t = tableRefusal p o in
-      let c = orElse-none (edgesRefusal (f .boundary) columnOptions) (orElse (lettersRefusal []) (orElse (wordRefusal []) t)) b .1 in
-      unless-none 6 (tableForm p o) c
+      let c = orElse-none (edgesRefusal (f .boundary) plainOptions) (orElse (wordRefusal []) (orElse t (orElse (lettersRefusal []) 0))) b .1 in
+      unless-none 6 (tableForm p o) (orElse-none t (orElse (lettersRefusal []) 0) c .0)
 
   module _ (fits : isI32 (f .design) ≡ true) where
     abbrev entries : List Entry

@@ -11,6 +11,7 @@ use lib.Dec.{ltb, leb, eqb}
 use lib.ListN.{length, getD, length-append}
 use borrow.Author.Tests.{le-leb}
 use Rattle.words.specs.Words.{wordOf}
+use Rattle.lang.specs.Checks.{isLetter}
 use Rattle.lang.specs.Answers.{Reply, replyOf}
 use Rattle.reading.specs.Items.{plain}
 use Rattle.captions.specs.declared.RunOptions.{RunOptions}
@@ -22,12 +23,12 @@ use Rattle.captions.specs.declared.Answer.the-variants.{Char, Ligature, Kern, E
 use Rattle.captions.specs.declared.Step.{Step}
 use Rattle.captions.specs.declared.Turned.{Turned}
 use Rattle.captions.specs.declared.Turned.the-variants.{Gives, Goes}
-use Rattle.captions.specs.Tables.{opKind, opValue, keyBy, find}
+use Rattle.captions.specs.Tables.{opKind, opValue}
 use Rattle.captions.specs.Replies.{bitNumber, answerReply}
 use Rattle.captions.specs.Begin.{beginRefusal, freshState}
 use Rattle.captions.specs.Steps.{refused, taken, giveCharacter, giveLigature, afterOp, endsWord, opsFit, readOp, gathered, leftPlaceOf, afterRight, readOn}
-use Rattle.captions.specs.Steps.{withNext, giveLeft, entryReads, turnBy, turnAtEnd, turn, goesOn, withNothingNext, byNext, stepBy, runOn, placed, rightItem}
-use Rattle.captions.specs.Steps.{ranFrom, stepRefusal, handBack, steppedBy, stepOf}
+use Rattle.captions.specs.Steps.{withNext, giveLeft, entryReads, findWithin, turnBy, turnAtEnd, turn, goesOn, withNothingNext, byNext, stepBy, runOn, placed}
+use Rattle.captions.specs.Steps.{rightItemFits, rightItem, ranFrom, stepRefusal, handBack, steppedBy, stepOf}
 use Rattle.word_set.specs.Setting.{andThen, itemsBy, itemsFrom, afterBegin, setReply}
 use Rattle.word_items.specs.ItemLists.{Small}
 use Rattle.word_set.proofs.Bounds.{step-small}
@@ -96,9 +97,9 @@ module _ (pairs ops : List ℤ) (fits : Fits ops) where
   end-fits : (q : Option ℕ) (x : NextLeft) (s : State) → TurnFits (turnAtEnd pairs ops q x s)
   end-fits q next.Boundary s = record { turn = refl }
   end-fits none (next.Char c) s = left-fits (next.Char c) (withNext next.None (s .read) s)
-  end-fits (some y) (next.Char c) s = with-fits (next.Char c) false y s (find pairs (keyBy (suc c) y))
+  end-fits (some y) (next.Char c) s = with-fits (next.Char c) false y s (findWithin pairs (suc c) y)
   end-fits none (next.Lig c) s = left-fits (next.Lig c) (withNext next.None (s .read) s)
-  end-fits (some y) (next.Lig c) s = with-fits (next.Lig c) false y s (find pairs (keyBy (suc c) y))
+  end-fits (some y) (next.Lig c) s = with-fits (next.Lig c) false y s (findWithin pairs (suc c) y)
   end-fits q (next.FinalLig c) s = record { turn = refl }
   end-fits q next.None s = record { turn = refl }
 
@@ -109,7 +110,7 @@ module _ (pairs ops : List ℤ) (fits : Fits ops) where
         let g = gathered x s in
         let y = getD word (s .read) 0 in
         either-turn (ltb (s .read) (length word))
-        (either-turn (leb y 255) (with-fits x true y g (find pairs (keyBy (leftPlaceOf x) y))) (record { turn = refl }))
+        (either-turn (isLetter y) (with-fits x true y g (findWithin pairs (leftPlaceOf x) y)) (record { turn = refl }))
         (end-fits q x g)
 
     goes-fit : (go : State → Step) → ((s : State) → StepFits (go s)) → (x : Turned) → TurnFits x → StepFits (goesOn go x)
@@ -132,7 +133,8 @@ module _ (pairs ops : List ℤ) (fits : Fits ops) where
     run-fits (suc n) s = by-fits (runOn ops (turn pairs ops q word) n) (run-fits n) s
 
     ran-fits : (s : State) → StepFits (ranFrom pairs ops q word s)
-    ran-fits s = either (placed ops word s) (run-fits (suc (length word - s .read)) s) (record { step = refl })
+    ran-fits s =
+        either (placed ops word s) (either (rightItemFits q) (run-fits (suc (length word - s .read)) s) (record { step = refl })) (record { step = refl })
 
   handed-fits : (s t : State) (a : Answer) → kernFits a ≡ true → kernFits (handBack s t a .answer) ≡ true
   handed-fits s t (Char c p) e = e

@@ -6,24 +6,25 @@ use mathlib.Core.List.{List, [], _∷_, List·Memᴰ, List·Memᴰ·head, List·
 use mathlib.Core.Option.{Option, none, some}
 use Prim.Native.Nat.{ℕ, zero, suc, _*_, _/_, _%_, _<_, _≤_}
 use native.Mathlib.Omega.{arith}
-use lib.IntN.{ℤ}
-use lib.Dec.{leb, eqb}
+use lib.IntN.{ℤ, negsuc}
+use lib.Dec.{leb, ltb, eqb}
 use lib.ListN.{length, getD}
 use lib.Signed.{nonNeg}
 use borrow.Author.Tests.{le-leb}
 use Rattle.lang.specs.Every.{both, every}
 use Rattle.lang.specs.Records.{count, isInstruction, absentOr}
-use Rattle.lang.specs.Checks.{unless, orElse, lower, sizeRefusal, kernsRefusal, entryFits}
+use Rattle.lang.specs.Checks.{unless, orElse, lower, sizeRefusal, kernsRefusal, entryFits, isLetter}
 use Rattle.lang.proofs.Refusals.{lower-none}
 use Rattle.fonts.specs.Fonts.{Font, pairsOf}
-use Rattle.fonts.specs.Compiled.{Room, loopsOfFont, totalOps, allScale, fontRefusal, compileRefusal}
+use Rattle.fonts.specs.Compiled.{Room, loopsOfFont, totalOps, fontTable, fontOps, fontLoops, allScale, fontRefusal, compileRefusal}
 use Rattle.captions.specs.Begin.{lettersRefusal}
 use Rattle.columns.specs.Texts.{Text, readText, fontOfText}
 use Rattle.columns.specs.Scanned.{lengthOfWord}
-use Rattle.columns.specs.Ligcols.{columnRoom, columnItems, columnBytes, wordOfText, numberOfText}
+use Rattle.columns.specs.Replying.{replyBytes, replyRefusal}
+use Rattle.columns.specs.Ligcols.{columnRoom, columnItems, columnBytes, signsRefusal, orLower, wordOfText, numberOfText}
 use Rattle.columns.specs.Purpose.{refusalsOfTexts, TextNumbers}
 use Rattle.columns.proofs.TextLaws.{Known, text-known}
-use Rattle.columns.proofs.WordRead.{set-or-15, word-short}
+use Rattle.columns.proofs.WordRead.{word-none, set-or-15, word-short}
 
 -- ---- 0, or one of the numbers
 
@@ -36,7 +37,7 @@ there (x ∷ xs) zero h = List·Memᴰ·head refl
 there (x ∷ xs) (suc i) h = List·Memᴰ·tail (there xs i (omega arith))
 
 -- the number at a place of the list
-told : (i : ℕ) → i < 9 → Told (getD (0 ∷ refusalsOfTexts) i 0)
+told : (i : ℕ) → i < 10 → Told (getD (0 ∷ refusalsOfTexts) i 0)
 told i h = there (0 ∷ refusalsOfTexts) i h
 
 unless-told : {n : ℕ} (b : Bool) → Told n → Told (unless n b)
@@ -59,6 +60,10 @@ lower-told {m = suc m} {n = suc n} h k = by (leb m n)
     by : (b : Bool) → Told (cond b (suc m) (suc n))
     by true = h
     by false = k
+
+word-told : {m n : ℕ} → Told m → Told n → Told (orLower m n)
+word-told {m = zero} h k = h
+word-told {m = suc m} h k = lower-told h k
 
 -- ---- compiling
 
@@ -102,11 +107,16 @@ module _ (t : Text) (k : Known t) where
       let f = fontOfText t in
       let w = wordOfText t in
       let bytes = columnBytes f (lengthOfWord (t .word)) w in
+      let alone = replyBytes (fontTable f) (fontOps f) (fontLoops f) (negsuc 0) [] in
       or-by
       (lower-told (compile-told f (k .fours) (k .instructions) (k .kerns) columnRoom)
-      (unless-told (every (length w) (λ i. leb (getD w i 0) 255)) (told 2 (omega arith))))
-      (λ e. let n = lower-none (compileRefusal f columnRoom) (lettersRefusal w) e in
-      or-told (set-told (t .word) (n .0) (n .1)) (unless-told (both (leb (length bytes) 65536) (leb (length bytes) room)) (told 7 (omega arith))))
+      (unless-told (every (length w) (λ i. ltb (getD w i 0) 2147483648)) (told 2 (omega arith))))
+      (λ e. or-by
+      (word-told (unless-told (every (length w) (λ i. isLetter (getD w i 0))) (told 9 (omega arith)))
+      (unless-told (both (leb (length alone) 65536) (leb (length alone) room)) (told 7 (omega arith))))
+      (λ z. or-told
+      (set-told (t .word) (lower-none (compileRefusal f columnRoom) (signsRefusal w) e .0) (word-none (lettersRefusal w) (replyRefusal alone room) z))
+      (unless-told (both (leb (length bytes) 65536) (leb (length bytes) room)) (told 7 (omega arith)))))
 
 pub text-numbers : TextNumbers
 text-numbers text room = by (readText text) refl

@@ -26,7 +26,7 @@ use Rattle.captions.specs.declared.RunOptions.{RunOptions}
 use Rattle.captions.specs.declared.State.{State}
 use Rattle.captions.specs.declared.Answer.{Answer}
 use Rattle.captions.specs.declared.Answer.the-variants.{Char, Ligature, Kern, End, Refused}
-use Rattle.captions.specs.Begin.{lettersRefusal}
+use Rattle.captions.specs.Begin.{lettersRefusal, plainOptions}
 use Rattle.captions.specs.Steps.{stepOf}
 use Rattle.captions.specs.Runs.{answers, Shown, shows, ends, shown, thenEnds}
 use Rattle.captions.specs.Demand3.{Caption, Answered, Reads}
@@ -37,12 +37,18 @@ use Rattle.word_set.proofs.Theorems.{every-word}
 use Rattle.columns.specs.Texts.{Text, fontOfText}
 use Rattle.columns.specs.Scanned.{lettersOf, lengthOfWord}
 use Rattle.columns.specs.Replying.{replyRefusal}
-use Rattle.columns.specs.Ligcols.{columnRoom, columnOptions, itemRoom, columnItems, columnBytes, wordOfText, numberOfText}
+use Rattle.columns.specs.Ligcols.{columnRoom, itemRoom, columnItems, columnBytes, signsRefusal, orLower, wordNumber}
+use Rattle.columns.specs.Ligcols.{aloneNumber, wordOfText, numberOfText}
 use Rattle.columns.specs.ReplyRead.{WordReads, WordRuns, WordWritten}
 use Rattle.columns.proofs.FontBegins.{demand-of, letters-caption}
 use Rattle.columns.proofs.TextLaws.{Known}
 
 -- ---- what is not refused
+
+-- where the word has no number, each of its letters is one
+pub word-none : (m n : ℕ) → orLower m n ≡ 0 → m ≡ 0
+word-none zero n e = refl
+word-none (suc m) n e = lower-none (suc m) n e .0
 
 pub record Accepted (t : Text) : Type 0 where
   pub compiled : compileRefusal (fontOfText t) columnRoom ≡ 0
@@ -56,9 +62,14 @@ accepted t room e =
     let w = wordOfText t in
     let i = columnItems f n w .number in
     let r = replyRefusal (columnBytes f n w) room in
-    let a = orElse-none (lower (compileRefusal f columnRoom) (lettersRefusal w)) (orElse i r) e in
-    let b = lower-none (compileRefusal f columnRoom) (lettersRefusal w) (a .0) in
-    record { compiled = b .0; letters = b .1; set = orElse-none i r (a .1) .0 }
+    let v = wordNumber (fontTable f) (fontOps f) (fontLoops f) w room in
+    let a = orElse-none (lower (compileRefusal f columnRoom) (signsRefusal w)) (orElse v (orElse i r)) e in
+    let b = orElse-none v (orElse i r) (a .1) in
+    record {
+      compiled = lower-none (compileRefusal f columnRoom) (signsRefusal w) (a .0) .0;
+      letters = word-none (lettersRefusal w) (aloneNumber (fontTable f) (fontOps f) (fontLoops f) room) (b .0);
+      set = orElse-none i r (b .1) .0;
+    }
 
 -- ---- the meter
 
@@ -123,33 +134,33 @@ module _ (pairs ops : List ℤ) (boundary : ℤ) (word : List ℕ) (options : Ru
 -- ---- the word
 
 module _ (f : Font) (word : List ℕ) (taken : compileRefusal f columnRoom ≡ 0) (letters : lettersRefusal word ≡ 0) (short : length word ≤ 65535) where
-  font-caption : Caption word columnOptions
+  font-caption : Caption word plainOptions
   font-caption = letters-caption word letters short
 
   -- setting it is refused by 15 alone
-  set-number : (items : List Out) → Answered f (fontTable f) (fontOps f) word columnOptions items →
-      setReply (fontTable f) (fontOps f) (f .boundary) word columnOptions itemRoom .number ≡ roomRefusal (length items) 885
+  set-number : (items : List Out) → Answered f (fontTable f) (fontOps f) word plainOptions items →
+      setReply (fontTable f) (fontOps f) (f .boundary) word plainOptions itemRoom .number ≡ roomRefusal (length items) 885
   set-number items a =
-      ap (λ (r : Reply). r .number) (set-run (fontTable f) (fontOps f) (f .boundary) word columnOptions (a .start) (sym (a .begins)) itemRoom)
-      ∙ items-number (fontTable f) (fontOps f) (f .boundary) word columnOptions items 885 (a .start) (a .answered)
+      ap (λ (r : Reply). r .number) (set-run (fontTable f) (fontOps f) (f .boundary) word plainOptions (a .start) (sym (a .begins)) itemRoom)
+      ∙ items-number (fontTable f) (fontOps f) (f .boundary) word plainOptions items 885 (a .start) (a .answered)
 
-  font-run : (items : List Out) × Answered f (fontTable f) (fontOps f) word columnOptions items
-  font-run = demand-of f columnRoom taken .run-ends word columnOptions font-caption
+  font-run : (items : List Out) × Answered f (fontTable f) (fontOps f) word plainOptions items
+  font-run = demand-of f columnRoom taken .run-ends word plainOptions font-caption
 
-  pub set-or-15 : (k : ℕ) × (setReply (fontTable f) (fontOps f) (f .boundary) word columnOptions itemRoom .number ≡ roomRefusal k 885)
+  pub set-or-15 : (k : ℕ) × (setReply (fontTable f) (fontOps f) (f .boundary) word plainOptions itemRoom .number ≡ roomRefusal k 885)
   set-or-15 = (length (font-run .0), set-number (font-run .0) (font-run .1))
 
-  font-reads : (items : List Out) → Reads f word columnOptions items → Answered f (fontTable f) (fontOps f) word columnOptions items
-  font-reads = demand-of f columnRoom taken .run-reads word columnOptions font-caption
+  font-reads : (items : List Out) → Reads f word plainOptions items → Answered f (fontTable f) (fontOps f) word plainOptions items
+  font-reads = demand-of f columnRoom taken .run-reads word plainOptions font-caption
 
-  font-word : fontLoops f ≡ [] → (items : List Out) × Reads f word columnOptions items × Answered f (fontTable f) (fontOps f) word columnOptions items
-  font-word e = demand-of f columnRoom taken .set-as-read (ap length (none-numbered (loopsOfFont f) e)) word columnOptions font-caption
+  font-word : fontLoops f ≡ [] → (items : List Out) × Reads f word plainOptions items × Answered f (fontTable f) (fontOps f) word plainOptions items
+  font-word e = demand-of f columnRoom taken .set-as-read (ap length (none-numbered (loopsOfFont f) e)) word plainOptions font-caption
 
-  set-as : setReply (fontTable f) (fontOps f) (f .boundary) word columnOptions itemRoom .number ≡ 0 → (items : List Out) →
-      Answered f (fontTable f) (fontOps f) word columnOptions items → SetAs f (fontTable f) (fontOps f) word columnOptions itemRoom items
+  set-as : setReply (fontTable f) (fontOps f) (f .boundary) word plainOptions itemRoom .number ≡ 0 → (items : List Out) →
+      Answered f (fontTable f) (fontOps f) word plainOptions items → SetAs f (fontTable f) (fontOps f) word plainOptions itemRoom items
   set-as set items a =
       let l = room-fits (length items) 885 (sym (set-number items a) ∙ set) in
-      every-word f (fontTable f) (fontOps f) word columnOptions items itemRoom a (omega (arith, l))
+      every-word f (fontTable f) (fontOps f) word plainOptions items itemRoom a (omega (arith, l))
 
 pub word-short : (t : Text) → Known t → length (wordOfText t) ≤ 65535
 word-short t k = omega (arith, length-map (lettersOf (t .word)) wordOf, k .short)

@@ -1,21 +1,21 @@
 -- What a text is answered with (R200 to R212): THE contract of `ligcols`, the function that a host calls. The whole text is judged first
--- (16, R247); then comes the lowest number of compiling and of the word (R246); then 15, where the items or the bytes of the reply are too
--- many (R204).
+-- (16, R247); then comes the lowest number of compiling and of a letter below 0 (R246); then 20, where a letter is none (R376), but 15
+-- before it where the lines without the word are too many; then 15, where the items or the bytes of the reply are too many (R204).
 use mathlib.Core.Path.{_≡_}
-use mathlib.Core.Bool.{false, cond}
+use mathlib.Core.Bool.{cond}
 use mathlib.Core.List.{List, [], map}
 use mathlib.Core.Option.{Option, none, some}
 use Prim.Native.Nat.{ℕ, zero, suc, _*_}
 use lib.IntN.{ℤ, pos, negsuc}
-use lib.Dec.{leb}
-use lib.ListN.{length}
+use lib.Dec.{leb, ltb}
+use lib.ListN.{length, getD}
 use Rattle.words.specs.Words.{wordOf}
-use Rattle.lang.specs.Checks.{orElse, lower}
+use Rattle.lang.specs.Every.{every}
+use Rattle.lang.specs.Checks.{unless, orElse, lower}
 use Rattle.lang.specs.Answers.{Reply, replyOf, listOf}
 use Rattle.fonts.specs.Fonts.{Font}
 use Rattle.fonts.specs.Compiled.{Room, roomOf, compileRefusal, fontTable, fontOps, fontLoops}
-use Rattle.captions.specs.declared.RunOptions.{RunOptions}
-use Rattle.captions.specs.Begin.{lettersRefusal}
+use Rattle.captions.specs.Begin.{lettersRefusal, plainOptions}
 use Rattle.word_set.specs.Setting.{setReply}
 use Rattle.columns.specs.Texts.{Text, readText, fontOfText}
 use Rattle.columns.specs.Scanned.{lettersOf, lengthOfWord}
@@ -27,28 +27,42 @@ use Rattle.columns.specs.Replying.{replyBytes, replyRefusal}
 abbrev pub columnRoom : Room
 columnRoom = roomOf (6 * 512) (2 * 2048) (2 * 64) (16 * 512)
 
--- a word is set with the left boundary and no override (R200)
-abbrev pub columnOptions : RunOptions
-columnOptions = record { «disable_left_boundary» = false; «right_boundary_override» = negsuc 0 }
-
 -- room for 885 items (R204), six numbers each: a reply of 65,536 bytes has room for the lines of no more, 74 bytes each
 abbrev pub itemRoom : ℕ
 itemRoom = 6 * 885
 
 -- the items of a word of so many characters; none where there is no word, which a negative length says
 abbrev pub columnItems : Font → ℤ → List ℕ → Reply
-columnItems f (pos n) word = setReply (fontTable f) (fontOps f) (f .boundary) word columnOptions itemRoom
+columnItems f (pos n) word = setReply (fontTable f) (fontOps f) (f .boundary) word plainOptions itemRoom
 columnItems f (negsuc n) word = replyOf 0 []
 
 -- the bytes of the reply, where nothing is refused
 abbrev pub columnBytes : Font → ℤ → List ℕ → List ℕ
 columnBytes f letters word = replyBytes (fontTable f) (fontOps f) (fontLoops f) letters (columnItems f letters word .values)
 
--- the lowest number of compiling and of the word; else that of setting; else 15 of the reply
+-- 4 (R376): a letter below 0. A field is an i32, and its bits would be 20.
+abbrev pub signsRefusal : List ℕ → ℕ
+signsRefusal word = unless 4 (every (length word) (λ i. ltb (getD word i 0) 2147483648))
+
+-- a number, or a lower one; 0 where there is none
+abbrev pub orLower : ℕ → ℕ → ℕ
+orLower zero n = 0
+orLower (suc m) n = lower (suc m) n
+
+-- 15 where the lines without a word, P, O and X, are too many
+abbrev pub aloneNumber : List ℤ → List ℤ → List ℤ → ℕ → ℕ
+aloneNumber pairs ops loops room = replyRefusal (replyBytes pairs ops loops (negsuc 0) []) room
+
+-- 20 (R376): a word with what is no letter has no items; 15 of the lines without it comes first
+abbrev pub wordNumber : List ℤ → List ℤ → List ℤ → List ℕ → ℕ → ℕ
+wordNumber pairs ops loops word room = orLower (lettersRefusal word) (aloneNumber pairs ops loops room)
+
+-- the lowest number of compiling and of a letter below 0; else that of the word; else that of setting; else 15 of the reply
 abbrev pub columnNumber : Font → ℤ → List ℕ → ℕ → ℕ
 columnNumber f letters word room =
-    orElse (lower (compileRefusal f columnRoom) (lettersRefusal word))
-    (orElse (columnItems f letters word .number) (replyRefusal (columnBytes f letters word) room))
+    orElse (lower (compileRefusal f columnRoom) (signsRefusal word))
+    (orElse (wordNumber (fontTable f) (fontOps f) (fontLoops f) word room)
+    (orElse (columnItems f letters word .number) (replyRefusal (columnBytes f letters word) room)))
 
 -- ---- a text
 

@@ -45,10 +45,10 @@ LinesWritten = (bs : List ℕ) (ls : List (List ℕ)) → linesOf bs ≡ some ls
 
 -- the numbers that refuse a text
 abbrev pub refusalsOfTexts : List ℕ
-refusalsOfTexts = 2 ∷ 4 ∷ 5 ∷ 12 ∷ 13 ∷ 14 ∷ 15 ∷ 16 ∷ []
+refusalsOfTexts = 2 ∷ 4 ∷ 5 ∷ 12 ∷ 13 ∷ 14 ∷ 15 ∷ 16 ∷ 20 ∷ []
 
 -- Whatever text is lent, with whatever room, it is answered, which is 0, or refused by one of these. Not by 1 or 3: its I lines are in
--- fours (R190), and they and its K lines are few (R198). Not by 6 or 7: its word is short (R199), and its table is compile's own. 8 to 11 are of
--- other calls (R248, R249).
+-- fours (R190), and they and its K lines are few (R198). Not by 6 or 7: its word is short (R199), and its table is compile's own. 8 to 11
+-- and 17 to 19 are of other calls (R248, R249).
 abbrev pub TextNumbers : Type 0
 TextNumbers = (text : List ℕ) (room : ℕ) → List·Memᴰ (numberOfText (readText text) room) (0 ∷ refusalsOfTexts)

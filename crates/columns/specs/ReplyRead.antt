@@ -15,11 +15,12 @@ use Rattle.reading.specs.Reading.{Ends}
 use Rattle.fonts.specs.Fonts.{rulesOf}
 use Rattle.fonts.specs.Compiled.{fontTable, fontOps, fontLoops}
 use Rattle.captions.specs.Demand3.{Answered, Reads}
+use Rattle.captions.specs.Begin.{plainOptions}
 use Rattle.word_set.specs.Purpose.{SetAs}
 use Rattle.columns.specs.Lines.{Line, linesOf, readLine}
 use Rattle.columns.specs.Texts.{Text, readText, fontOfText}
 use Rattle.columns.specs.Scanned.{lengthOfWord}
-use Rattle.columns.specs.Ligcols.{columnOptions, itemRoom, columnItems, wordOfText, numberOfText, bytesOfText}
+use Rattle.columns.specs.Ligcols.{itemRoom, columnItems, wordOfText, numberOfText, bytesOfText}
 
 -- ---- a reply read back
 
@@ -103,15 +104,15 @@ EndsInFeed = (r : Option Text) → (bytesOfText r ≡ []) ⊎ ((bs : List ℕ) �
 
 -- the reading of the word of a text ends, and gives these items
 abbrev pub WordReads : Text → List Out → Type 0
-WordReads t items = Reads (fontOfText t) (wordOfText t) columnOptions items
+WordReads t items = Reads (fontOfText t) (wordOfText t) plainOptions items
 
 -- the run of its word answers these items, and then the end for ever
 abbrev pub WordRuns : Text → List Out → Type 0
-WordRuns t items = Answered (fontOfText t) (fontTable (fontOfText t)) (fontOps (fontOfText t)) (wordOfText t) columnOptions items
+WordRuns t items = Answered (fontOfText t) (fontTable (fontOfText t)) (fontOps (fontOfText t)) (wordOfText t) plainOptions items
 
 -- these items are what is set of its word, which `read-back` finds in the T lines
 abbrev pub WordWritten : Text → List Out → Type 0
-WordWritten t items = SetAs (fontOfText t) (fontTable (fontOfText t)) (fontOps (fontOfText t)) (wordOfText t) columnOptions itemRoom items
+WordWritten t items = SetAs (fontOfText t) (fontTable (fontOfText t)) (fontOps (fontOfText t)) (wordOfText t) plainOptions itemRoom items
 
 -- of a text that is answered
 pub record AnsweredText (t : Text) : Type 0 where

@@ -1,4 +1,4 @@
--- On a table whose keys are of the form: lefts and rights are in range and the lefts ascend; as many keys come before that of a pair as the pair has pairs
+-- On a table whose keys are of the form: the lefts ascend; as many keys come before that of a pair as the pair has pairs
 -- before it; and the keys that come before a left and a right are those of the lefts before it, and one for each smaller right that has a pair. Where the pairs
 -- of a left begin. Assumes nothing.
 use mathlib.Core.Path.{_≡_, sym, ap, ap₂, _∙_}
@@ -9,18 +9,15 @@ use Prim.Native.Nat.{ℕ, zero, suc, _+_, _-_, _*_, _<_, _≤_}
 use native.Mathlib.Nat.{add-suc, add-assoc, eq-or-lt-of-le, le-of-suc-le-suc}
 use native.Mathlib.Numerals.{add-one}
 use native.Mathlib.Omega.{arith}
-use lib.IntN.{ℤ, pos, negsuc}
+use lib.IntN.{ℤ}
 use lib.Dec.{ltb, eqb}
-use borrow.Author.Tests.{leb-true, ltb-true, lt-ltb, le-ltb, eqb-true, eq-eqb, ne-eqb}
+use borrow.Author.Tests.{ltb-true, lt-ltb, le-ltb, eqb-true, eq-eqb, ne-eqb}
 use Rattle.words.specs.Words.{wordOf}
 use Rattle.words.proofs.Tests.{less-or-not}
-use Rattle.lang.specs.Every.{both, every}
-use Rattle.lang.specs.Records.{within, absentOr}
-use Rattle.lang.proofs.Every.{both-left, both-right, every-at}
-use Rattle.lang.proofs.Records.{within-bound}
+use Rattle.lang.specs.Every.{every}
 use Rattle.captions.specs.Tables.{pairCount, number, keyBy, leftPlace, keyAt}
-use Rattle.captions.specs.Form.{comesAfter, keyForm}
-use Rattle.captions.proofs.Bisecting.{keys-ascend}
+use Rattle.captions.specs.Form.{keyForm}
+use Rattle.captions.proofs.Bisecting.{right-small, keys-ascend}
 use Rattle.index.specs.Index.{howMany, isAmong, pairsBefore}
 use Rattle.index.proofs.Tests.{one, many-ext, many-all, many-none, many-add, many-sum, many-once, many-mono, many-le}
 
@@ -48,29 +45,12 @@ by-left a b l h = go (less-or-not a l)
     go (inl e) = rw (lt-ltb (keyBy a b) (keyBy l 0) (omega arith), lt-ltb a l e)
     go (inr e) = rw (le-ltb (keyBy a b) (keyBy l 0) (omega arith), le-ltb a l e)
 
-place-small : (z : ℤ) → absentOr 255 z ≡ true → leftPlace z ≤ 256
-place-small (pos m) t = let h = leb-true m 255 t in omega arith
-place-small (negsuc m) t = let e = eqb-true m 0 t in rw e (omega arith)
-
 module _ (pairs : List ℤ) (form : every (pairCount pairs) (keyForm pairs) ≡ true) where
-  pub left-small : (k : ℕ) → k < pairCount pairs → leftPlace (number pairs k 0) ≤ 256
-  left-small k h =
-      place-small (number pairs k 0)
-      (both-left (absentOr 255 (number pairs k 0)) (both (within 255 (number pairs k 1)) (comesAfter pairs k))
-      (every-at (pairCount pairs) k (keyForm pairs) form h))
-
-  -- a right is a character
-  pub right-small : (k : ℕ) → k < pairCount pairs → wordOf (number pairs k 1) ≤ 255
-  right-small k h =
-      let t = every-at (pairCount pairs) k (keyForm pairs) form h in
-      let u = both-right (absentOr 255 (number pairs k 0)) (both (within 255 (number pairs k 1)) (comesAfter pairs k)) t in
-      within-bound 255 (number pairs k 1) (both-left (within 255 (number pairs k 1)) (comesAfter pairs k) u)
-
   -- before a left's first right
   before-left : (l : ℕ) → keysBelow pairs (keyBy l 0) ≡ pairsBefore pairs l
   before-left l =
       many-ext (pairCount pairs) (λ k. ltb (keyAt pairs k) (keyBy l 0)) (λ k. ltb (leftPlace (number pairs k 0)) l)
-      (λ k h. by-left (leftPlace (number pairs k 0)) (wordOf (number pairs k 1)) l (omega (arith, right-small k h)))
+      (λ k h. by-left (leftPlace (number pairs k 0)) (wordOf (number pairs k 1)) l (omega (arith, right-small pairs form k h)))
 
   -- one key more
   one-more : (key : ℕ) → keysBelow pairs (suc key) ≡ keysBelow pairs key + one (isAmong pairs (pairCount pairs) key)
@@ -107,7 +87,7 @@ module _ (pairs : List ℤ) (form : every (pairCount pairs) (keyForm pairs) ≡ 
   -- ---- where the pairs of a left begin
 
   lefts-ascend : (i j : ℕ) → i < j → j < pairCount pairs → leftPlace (number pairs i 0) ≤ leftPlace (number pairs j 0)
-  lefts-ascend i j h l = omega (arith, keys-ascend pairs form i j h l, right-small i (omega arith), right-small j l)
+  lefts-ascend i j h l = omega (arith, keys-ascend pairs form i j h l, right-small pairs form i (omega arith), right-small pairs form j l)
 
   pub before-mono : (l m : ℕ) → l ≤ m → pairsBefore pairs l ≤ pairsBefore pairs m
   before-mono l m h =

@@ -38,11 +38,12 @@ module _ (pairs ops : List ℤ) (boundary : ℤ) (word : List ℕ) (options : Ru
         let r = both-right (ltb 0 (countOf pairs k)) _ (both-right (recordFits pairs ops k) (firstPlain ops i (countOf pairs k)) e) in
         let z = eqb-true (wordOf (opKind ops i)) 0 (both-left (eqb (wordOf (opKind ops i)) 0) _ r) in
         let h = both-left (opHolds ops i) _ (both-right (eqb (wordOf (opKind ops i)) 0) _ r) in
-        (holds-code (opKind ops i) (opValue ops i) (within 1 (opKind ops i)) refl z h, quick-short ops boundary word options s q .2)
+        let b = holds-code (opKind ops i) (opValue ops i) (within 1 (opKind ops i)) refl z h in
+        (omega (arith, b), quick-short ops boundary word options s q .2)
     entered-by k false e = step-small pairs ops boundary word options s
 
     looked-small : (o : Looked) → Small (lookedStep pairs ops boundary word options s o .answer)
-    looked-small Missing = let f = quick-short ops boundary word options s q in (f .1, f .2)
+    looked-small Missing = let f = quick-short ops boundary word options s q in (omega (arith, f .1), f .2)
     looked-small (At k) = entered-by k (isEntered pairs ops k) refl
     looked-small Wrong = (omega arith, omega arith)
 

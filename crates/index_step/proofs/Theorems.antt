@@ -10,13 +10,13 @@ use lib.IntN.{ℤ}
 use lib.Dec.{eqb}
 use lib.ListN.{length}
 use borrow.Author.Tests.{leb-true, le-leb}
-use Rattle.lang.specs.Every.{both, every}
-use Rattle.lang.proofs.Every.{both-left, both-right, every-at, every-all}
+use Rattle.lang.proofs.Every.{both-left}
 use Rattle.captions.specs.declared.RunOptions.{RunOptions}
 use Rattle.captions.specs.declared.State.{State}
-use Rattle.captions.specs.Tables.{pairCount, opCount, keyBy, find, opFits}
-use Rattle.captions.specs.Form.{opsEnd, keyForm, pairForm, sizesForm}
+use Rattle.captions.specs.Tables.{keyBy, find}
+use Rattle.captions.specs.Form.{sizesForm}
 use Rattle.captions.specs.Steps.{stepOf}
+use Rattle.captions.proofs.Following.{keys-formed}
 use Rattle.step_quick.specs.Quick.{plainCode, nextLetter, isQuick, isEntered, givenFirst}
 use Rattle.step_quick.proofs.Theorems.{quick-is, quick-passes, quick-enters}
 use Rattle.index.specs.Index.{FillsIndex, lookedUp, lookedAt}
@@ -60,11 +60,5 @@ indexed-steps pairs ops index index′ w boundary word options s =
 
 pub form-is-indexed : FormIsIndexed
 form-is-indexed pairs ops room t h =
-    let sizes = sizesForm pairs ops in
-    let fits = every (opCount ops) (opFits ops) in
-    let pairs-form = every (pairCount pairs) (pairForm pairs ops) in
-    let ends = eqb (opsEnd pairs (pairCount pairs)) (opCount ops) in
-    let a = both-left sizes (both fits (both pairs-form ends)) t in
-    let b = both-left pairs-form ends (both-right fits (both pairs-form ends) (both-right sizes (both fits (both pairs-form ends)) t)) in
-    let e = every-all (pairCount pairs) (keyForm pairs) (λ k l. both-left (keyForm pairs k) _ (every-at (pairCount pairs) k (pairForm pairs ops) b l)) in
-    rw (both-left (eqb (length pairs % 6) 0) _ a, e, le-leb 1285 room h)
+    let a = both-left (sizesForm pairs ops) _ t in
+    rw (both-left (eqb (length pairs % 6) 0) _ a, keys-formed pairs ops t, le-leb 1285 room h)

@@ -1,24 +1,24 @@
--- Laws of what the refusals 1 to 5 test: a negative number, and the marks by which a character that is entered twice is found.
+-- Laws of what the refusals test: a negative number, a letter, and the marks by which a character that is entered twice is found.
 -- Assumes nothing.
 use mathlib.Core.Path.{_≡_, refl, sym, _∙_}
-use mathlib.Core.Bool.{Bool, true, false, not}
+use mathlib.Core.Bool.{Bool, true, false, cond, not}
 use mathlib.Core.List.{List}
-use Prim.Native.Nat.{ℕ, _+_, _<_}
+use Prim.Native.Nat.{ℕ, _+_, _<_, _≤_}
 use native.Mathlib.Omega.{arith}
 use lib.IntN.{ℤ, pos, negsuc}
-use lib.Dec.{eqb}
+use lib.Dec.{leb, eqb}
 use lib.ListN.{length, getD, set, replicate, length-set, getD-replicate}
 use lib.Seq.{getD-set-same, getD-set-other}
 use lib.Signed.{ltZ, nonNeg}
 use mir.Syntax.{w32}
 use mir.Val.{ofZ, toZ, SFits}
 use mir.ValLaws.{toZ-ofZ}
-use borrow.Author.Tests.{le-ltb, eq-eqb, eqb-true, eqb-false}
+use borrow.Author.Tests.{le-ltb, le-leb, lt-leb, leb-true, eq-eqb, eqb-true, eqb-false}
 use Rattle.words.specs.Words.{wordOf}
 use Rattle.lang.specs.Every.{both, every}
 use Rattle.lang.specs.Records.{within}
-use Rattle.lang.specs.Checks.{charAt, entryAt, enteredOnce, entryFits}
-use Rattle.lang.proofs.Every.{both-left, both-true, both-false, every-none, every-step}
+use Rattle.lang.specs.Checks.{charAt, entryAt, enteredOnce, entryFits, isLetter}
+use Rattle.lang.proofs.Every.{both-left, both-right, both-true, both-false, every-none, every-step}
 use Rattle.lang.proofs.Records.{within-bound}
 pub use Rattle.lang.proofs.Refusals.{first-is, second-is}
 
@@ -30,6 +30,23 @@ sign-test z f = rw (toZ-ofZ w32 z f) (go z)
     go : (y : ℤ) → nonNeg y ≡ not (ltZ y (pos 0))
     go (pos n) = rw (le-ltb n 0 (omega arith))
     go (negsuc n) = refl
+
+-- ---- a letter
+
+-- one below the surrogates, and so every character of a font
+pub letter-low : (c : ℕ) → c ≤ 55295 → isLetter c ≡ true
+letter-low c h = rw (le-leb c 55295 h)
+
+-- one that is not below them is above them, and no greater than the last
+pub letter-high : (c : ℕ) → 55295 < c → isLetter c ≡ both (leb 57344 c) (leb c 1114111)
+letter-high c h = rw (lt-leb c 55295 h)
+
+pub letter-bound : (c : ℕ) → isLetter c ≡ true → c ≤ 1114111
+letter-bound c h = go (leb c 55295) refl h
+  where
+    go : (t : Bool) → leb c 55295 ≡ t → cond t true (both (leb 57344 c) (leb c 1114111)) ≡ true → c ≤ 1114111
+    go true e k = omega (arith, leb-true c 55295 e)
+    go false e k = leb-true c 1114111 (both-right (leb 57344 c) (leb c 1114111) k)
 
 -- ---- entries: a place for each character, 0 until the character is entered
 

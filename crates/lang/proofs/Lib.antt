@@ -7,7 +7,7 @@
 --   Records   the numbers of an instruction
 --   Refusals  refusals in a row, room, and the answer by the refusal
 --   Filled    a list that is filled from the front, and the list by the refusal
---   Checks    what the refusals 1 to 5 test
+--   Checks    what the refusals test: a sign, a letter, entries
 --   Tables    the table of 257 places
 --   Entered   entries that are taken are at most 256
 pub mod Table

@@ -1,5 +1,5 @@
--- The refusals 1 to 5 (R230 to R234), each the number where it holds and 0 where it does not.
-use mathlib.Core.Bool.{Bool, cond, not}
+-- The refusals 1 to 5 (R230 to R234), each the number where it holds and 0 where it does not; and what a letter is (R371).
+use mathlib.Core.Bool.{Bool, true, cond, not}
 use mathlib.Core.List.{List}
 use Prim.Native.Nat.{ℕ, zero, suc, _+_, _*_, _/_, _%_}
 use lib.IntN.{ℤ, pos}
@@ -47,8 +47,8 @@ entryFits limit es i = both (within 255 (charAt es i)) (both (within limit (entr
 abbrev pub entriesRefusal : ℕ → List ℤ → ℕ
 entriesRefusal limit es = unless 4 (both (eqb (length es % 2) 0) (every (length es / 2) (entryFits limit es)))
 
--- 4 (R233): a boundary character (R35), an override (R37) or a left entry (R36) out of range; n is 255 for the characters and 65,535 for
--- the entry
+-- 4 (R233): a boundary character (R35), an override (R37) or a left entry (R36) out of range; n is 255 for the character, 65,535 for the
+-- entry, and the greatest i32 for the override, which is 20 where it is no letter
 abbrev pub absentRefusal : ℕ → ℤ → ℕ
 absentRefusal n z = unless 4 (absentOr n z)
 
@@ -74,6 +74,10 @@ abbrev pub lower : ℕ → ℕ → ℕ
 lower zero n = n
 lower (suc m) zero = suc m
 lower (suc m) (suc n) = cond (leb m n) (suc m) (suc n)
+
+-- a letter (R371): 0 to 1,114,111, surrogates (55,296 to 57,343) aside
+abbrev pub isLetter : ℕ → Bool
+isLetter c = cond (leb c 55295) true (both (leb 57344 c) (leb c 1114111))
 
 -- the refusals of a program alone
 abbrev pub programRefusal : List ℤ → ℕ

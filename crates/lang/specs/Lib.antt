@@ -3,7 +3,7 @@
 --   Every       every index below a number passes a test
 --   Bisection   a search by halves, over places that have keys
 --   Records     the four numbers of an instruction, and the instruction that they are
---   Checks      the refusals 1 to 5 of what is lent
+--   Checks      the refusals 1 to 5 of what is lent, and what a letter is
 --   Answers     what a function that fills a list answers, and what the list then holds
 --   Entries     the table of 257 places: the entry of each left character and of the left boundary
 pub mod Operations

@@ -1,10 +1,11 @@
 // The refusals 1 and 2 of a program (R230, R231), and 4 of a single number (R233), each a function whose result is the
 // number where it holds and 0 where it does not. Every one is linear in what it is lent. The refusals of what is lent
-// beside the program are crate program_limits. And the lower of two numbers.
+// beside the program are crate program_limits. And what a letter is, and the lower of two numbers.
 ghost use mathlib.Core.Path.{_≡_};
 ghost use Prim.Native.Nat.{_<_};
 ghost use Rattle.lang.specs.Records.{isInstruction, absentOr, within, operandFits};
 ghost use Rattle.lang.specs.Checks.{sizeRefusal, recordRefusal, absentRefusal, rangeRefusal, programRefusal, lower};
+ghost use Rattle.lang.specs.Checks.{isLetter};
 ghost use Rattle.words.specs.Words.{numberOf};
 use lang::instruction::field_at;
 
@@ -91,7 +92,7 @@ pub fn program_refusal(instructions: &[i32]) -> u32
     record_refusal(instructions)
 }
 
-// 4: a boundary character or an override (n is 255), or a left entry (n is 65,535), neither -1 nor in range.
+// 4: a boundary character (n is 255) or a left entry (n is 65,535), neither -1 nor in range.
 pub fn absent_refusal(n: u16, x: i32) -> u32
     ensures { λ r. ⌜ r ≡ absentRefusal n x ⌝ }
 {
@@ -111,6 +112,16 @@ pub fn range_refusal(n: u16, x: i32) -> u32
     } else {
         4
     }
+}
+
+// A letter: 0 to 1,114,111, surrogates aside.
+pub fn is_letter(c: u32) -> bool
+    ensures { λ r. ⌜ r ≡ isLetter c ⌝ }
+{
+    if c <= 55295 {
+        return true;
+    }
+    57344 <= c && c <= 1114111
 }
 
 // The lower of two numbers of which 0 is none.

@@ -1,20 +1,23 @@
 -- The quick path gives what the step gives: specs/Purpose. Each is one unfolding of `stepOf`, by the tests that hold.
 -- Assumes nothing.
-use mathlib.Core.Path.{_≡_, refl, sym, ap, _∙_}
+use mathlib.Core.Path.{_≡_, refl, sym, ap, ap₂, _∙_}
 use mathlib.Core.Bool.{Bool, true, false, cond}
 use mathlib.Core.List.{List}
 use mathlib.Core.Option.{Option, none, some}
 use Prim.Native.Nat.{ℕ, zero, suc, _+_, _-_, _<_, _≤_}
 use native.Mathlib.Omega.{arith}
-use lib.IntN.{ℤ}
+use lib.IntN.{ℤ, pos, negsuc}
 use lib.Dec.{ltb, leb, eqb}
 use lib.ListN.{length, getD}
 use borrow.Author.Tests.{ltb-true, lt-ltb, leb-true, le-ltb, le-leb, eqb-true, eq-eqb, ne-eqb}
 use Rattle.words.specs.Words.{wordOf}
 use Rattle.lang.specs.Every.{both}
-use Rattle.lang.specs.Records.{within}
+use Rattle.lang.specs.Records.{within, absentOr}
+use Rattle.lang.specs.Checks.{absentRefusal}
 use Rattle.lang.proofs.Every.{both-left, both-right}
 use Rattle.lang.proofs.Records.{within-bound}
+use Rattle.lang.proofs.Refusals.{orElse-none, unless-none}
+use Rattle.lang.proofs.Checks.{letter-low}
 use Rattle.reading.specs.Items.{item}
 use Rattle.captions.specs.declared.RunOptions.{RunOptions}
 use Rattle.captions.specs.declared.NextLeft.{NextLeft}
@@ -26,12 +29,16 @@ use Rattle.captions.specs.declared.Step.{Step}
 use Rattle.captions.specs.declared.Turned.{Turned}
 use Rattle.captions.specs.declared.Turned.the-variants.{Gives, Goes}
 use Rattle.captions.specs.Tables.{pairCount, opCount, number, opKind, opValue, keyBy, find, firstOp, countOf, lastCode, lastFlag, opHolds, recordFits}
+use Rattle.captions.specs.Begin.{edgesRefusal, wordRefusal}
+use Rattle.captions.specs.Demand3.{overrideFits}
 use Rattle.captions.specs.Steps.{refused, afterOp, afterRight, settled, giveCharacter, opsFit, readOp, withNext, enteredAt, entryReads, turnBy, rightItem, turn}
-use Rattle.captions.specs.Steps.{goesOn, byNext, runOn, opsPlaced, nextFits, placed, ranFrom, stepRefusal, handBack, steppedBy, stepOf}
+use Rattle.captions.specs.Steps.{goesOn, byNext, runOn, opsPlaced, nextFits, placed, rightItemFits, ranFrom, stepRefusal, handBack, steppedBy, stepOf}
 use Rattle.captions.proofs.Finding.{find-inside}
+use Rattle.captions.proofs.Beyond.{looks-up-within}
+use Rattle.captions.proofs.Running.{right-item}
 use Rattle.step_items.proofs.Laws.{item-given, character-plain, op-character, op-kern, op-fit}
-use Rattle.step_quick.specs.Quick.{plainCode, nextLetter, isCalm, isPlain, hasLetter, isQuick, quickLeft, isKern, placeOr, foundPlace, firstPlain}
-use Rattle.step_quick.specs.Quick.{isEntered, isReady, givenPlain, givenFirst, quickStep, givenKern}
+use Rattle.step_quick.specs.Quick.{plainCode, nextLetter, isCalm, isTaken, isPlain, hasLetter, isQuick, quickLeft, isKern, placeOr, foundPlace}
+use Rattle.step_quick.specs.Quick.{firstPlain, isEntered, isReady, givenPlain, givenFirst, quickStep, givenKern}
 use Rattle.step_quick.specs.Purpose.{QuickPasses, QuickEnters, QuickSteps, QuickKerns}
 
 no : {A : Type 0} → _≡_ {A = Bool} false true → A
@@ -46,6 +53,11 @@ plain-char (next.Lig c) h = no h
 plain-char (next.FinalLig c) h = no h
 plain-char next.None h = no h
 
+-- an override up to 255 is -1 or a letter
+override-letter : (z : ℤ) → absentOr 255 z ≡ true → overrideFits z ≡ true
+override-letter (pos m) h = letter-low m (omega (arith, leb-true m 255 h))
+override-letter (negsuc m) h = h
+
 -- a step refuses nothing before it looks a left up or reads an op
 pub record Calm (ops : List ℤ) (boundary : ℤ) (word : List ℕ) (options : RunOptions) (s : State) : Type 0 where
   pub nothing : s .pending ≡ 0
@@ -53,6 +65,7 @@ pub record Calm (ops : List ℤ) (boundary : ℤ) (word : List ℕ) (options : R
   pub is : s .«next_left» ≡ next.Char (plainCode (s .«next_left»))
   pub inside : placed ops word s ≡ true
   pub taken : stepRefusal boundary word options ≡ 0
+  pub override : absentOr 255 (options .«right_boundary_override») ≡ true
 
 pub record Quick (ops : List ℤ) (boundary : ℤ) (word : List ℕ) (options : RunOptions) (s : State) : Type 0 where
   pub none : s .ops ≡ 0
@@ -64,7 +77,10 @@ pub record Quick (ops : List ℤ) (boundary : ℤ) (word : List ℕ) (options : 
 module _ (ops : List ℤ) (boundary : ℤ) (word : List ℕ) (options : RunOptions) (s : State) where
   pub calm-is : isPlain ops boundary word options s ≡ true → Calm ops boundary word options s
   calm-is h =
-      let a = both-left (isCalm ops word s) (eqb (stepRefusal boundary word options) 0) h in
+      let over = absentOr 255 (options .«right_boundary_override») in
+      let none = eqb (stepRefusal boundary word options) 0 in
+      let a = both-left (isCalm ops word s) (isTaken boundary word options) h in
+      let t = both-right (isCalm ops word s) (isTaken boundary word options) h in
       let b = both-right (eqb (s .pending) 0) (both (leb (plainCode (s .«next_left»)) 255) (placed ops word s)) a in
       let c = both-left (leb (plainCode (s .«next_left»)) 255) (placed ops word s) b in
       record {
@@ -72,7 +88,8 @@ module _ (ops : List ℤ) (boundary : ℤ) (word : List ℕ) (options : RunOptio
         code = leb-true (plainCode (s .«next_left»)) 255 c;
         is = plain-char (s .«next_left») c;
         inside = both-right (leb (plainCode (s .«next_left»)) 255) (placed ops word s) b;
-        taken = eqb-true (stepRefusal boundary word options) 0 (both-right (isCalm ops word s) (eqb (stepRefusal boundary word options) 0) h);
+        taken = eqb-true (stepRefusal boundary word options) 0 (both-right over none t);
+        override = both-left over none t;
       }
 
   -- the ops that are to be given are among the ops
@@ -113,12 +130,20 @@ module _ (pairs ops : List ℤ) (boundary : ℤ) (word : List ℕ) (options : Ru
   abbrev look : NextLeft → State → Turned
   look = turn pairs ops (rightItem boundary (options .«right_boundary_override»)) word
 
+  -- the right item is a letter
+  right-is : Calm ops boundary word options s → rightItemFits (rightItem boundary (options .«right_boundary_override»)) ≡ true
+  right-is h =
+      let e = orElse-none (edgesRefusal boundary options) (wordRefusal word) (h .taken) .0 in
+      let b = orElse-none (absentRefusal 255 boundary) (absentRefusal 2147483647 (options .«right_boundary_override»)) e .0 in
+      right-item boundary (options .«right_boundary_override») (unless-none 3 (absentOr 255 boundary) b)
+      (override-letter (options .«right_boundary_override») (h .override))
+
   stepped : Calm ops boundary word options s → (t : Step) → runOn ops look (suc (length word - s .read)) s ≡ t →
       stepOf pairs ops boundary word options s ≡ handBack s (t .state) (t .answer)
   stepped h t e =
       ap (λ (n : ℕ). steppedBy n s (ranFrom pairs ops (rightItem boundary (options .«right_boundary_override»)) word s)) (h .taken)
       ∙ ap (λ (u : Step). handBack s (u .state) (u .answer))
-      (ap (λ (b : Bool). cond b (runOn ops look (suc (length word - s .read)) s) (refused 7 s)) (h .inside) ∙ e)
+      (ap₂ (λ (b t : Bool). cond b (cond t (runOn ops look (suc (length word - s .read)) s) (refused 20 s)) (refused 7 s)) (h .inside) (right-is h) ∙ e)
 
   -- an op is given
   run-op : (n : ℕ) (u : State) → (u .ops ≡ 0 → ⊥) → runOn ops look n u ≡ readOp ops u
@@ -138,7 +163,10 @@ module _ (pairs ops : List ℤ) (boundary : ℤ) (word : List ℕ) (options : Ru
   run-next n e = rw (eq-eqb (s .ops) 0 e)
 
   looks : Quick ops boundary word options s → look (next.Char c) s ≡ turnBy pairs ops (next.Char c) true y s (find pairs (keyBy (suc c) y))
-  looks q = rw (lt-ltb (s .read) (length word) (q .there), q .letter)
+  looks q =
+      let small = leb-true y 255 (q .letter) in
+      rw (lt-ltb (s .read) (length word) (q .there), letter-low y (omega (arith, small)))
+      (ap (turnBy pairs ops (next.Char c) true y s) (looks-up-within pairs (suc c) y (omega (arith, q .calm .code)) small))
 
   run-look : Quick ops boundary word options s → (n : ℕ) (o : Option ℕ) → find pairs (keyBy (suc c) y) ≡ o →
       runOn ops look (suc n) s ≡ goesOn (runOn ops look n) (turnBy pairs ops (next.Char c) true y s o)
@@ -319,10 +347,12 @@ quick-moves ops boundary word options s h l e =
       lt-ltb (suc (s .given)) (suc (s .read)) (omega (arith, q .waits)),
       e,
       q .letter,
+      letter-low (nextLetter word s) (omega (arith, leb-true (nextLetter word s) 255 (q .letter))),
       le-leb (suc (s .read)) (length word) (omega arith),
       le-leb (suc (s .given)) (suc (s .read)) (omega (arith, q .waits)),
       le-leb 0 (suc (s .read)) (omega arith),
       placed-few ops boundary word options s d,
       le-leb (s .op + 0) (opCount ops) (omega (arith, placed-among ops boundary word options s d)),
+      d .override,
       d .taken,
     )

@@ -10,6 +10,7 @@ use lib.Dec.{ltb, leb, eqb}
 use lib.ListN.{length, getD}
 use Rattle.words.specs.Words.{wordOf}
 use Rattle.lang.specs.Every.{both}
+use Rattle.lang.specs.Records.{absentOr}
 use Rattle.reading.specs.Items.{item}
 use Rattle.captions.specs.declared.RunOptions.{RunOptions}
 use Rattle.captions.specs.declared.NextLeft.{NextLeft}
@@ -40,9 +41,14 @@ nextLetter word s = getD word (s .read) 0
 abbrev pub isCalm : List ℤ → List ℕ → State → Bool
 isCalm ops word s = both (eqb (s .pending) 0) (both (leb (plainCode (s .«next_left»)) 255) (placed ops word s))
 
--- .. and nothing else is refused before a left is looked up or an op is read
+-- nothing else is refused before a left is looked up or an op is read; an override above 255 goes by turns
+abbrev pub isTaken : ℤ → List ℕ → RunOptions → Bool
+isTaken boundary word options =
+    both (absentOr 255 (options .«right_boundary_override»)) (eqb (stepRefusal boundary word options) 0)
+
+-- a calm state, and a call that is taken
 abbrev pub isPlain : List ℤ → ℤ → List ℕ → RunOptions → State → Bool
-isPlain ops boundary word options s = both (isCalm ops word s) (eqb (stepRefusal boundary word options) 0)
+isPlain ops boundary word options s = both (isCalm ops word s) (isTaken boundary word options)
 
 -- there is a letter to be read, and one that was read and not given
 abbrev pub hasLetter : List ℕ → State → Bool

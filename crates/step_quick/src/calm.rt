@@ -1,9 +1,8 @@
 // What is asked of a state and of the call before anything is looked up: what a step refuses, that nothing is pending,
 // and that a character is next.
 ghost use mathlib.Core.Path.{_≡_};
-ghost use lib.Dec.{eqb};
-ghost use Rattle.captions.specs.Steps.{opsPlaced, stepRefusal};
-ghost use Rattle.step_quick.specs.Quick.{isCalm, isPlain};
+ghost use Rattle.captions.specs.Steps.{opsPlaced};
+ghost use Rattle.step_quick.specs.Quick.{isCalm, isTaken, isPlain};
 use crate::left::plain_code;
 use captions::RunOptions;
 use captions::State;
@@ -43,9 +42,9 @@ fn is_calm(ops: &[i32], word: &[u32], s: State) -> bool
     ops_placed(ops, s)
 }
 
-// The boundary character, the override and the word's length are in range.
+// The boundary character, the override and the word's length are in range; an override above 255 goes by turns.
 fn is_taken(boundary: i32, word: &[u32], options: RunOptions) -> bool
-    ensures { λ r. ⌜ r ≡ eqb (stepRefusal boundary (now (word .entry)) options) 0 ⌝ }
+    ensures { λ r. ⌜ r ≡ isTaken boundary (now (word .entry)) options ⌝ }
 {
     if absent_refusal(255, boundary) != 0 {
         return false;

@@ -11,6 +11,8 @@ use lib.ListN.{length, getD}
 use borrow.Author.Tests.{le-leb, lt-leb, lt-ltb, le-ltb, leb-true, leb-false, eq-eqb, ne-eqb}
 use Rattle.words.specs.Words.{numberOf, Word}
 use Rattle.words.proofs.Bits.{number-pos, number-neg}
+use Rattle.lang.specs.Checks.{isLetter}
+use Rattle.lang.proofs.Checks.{letter-bound}
 use Rattle.reading.specs.Items.{plain}
 use Rattle.captions.specs.declared.NextLeft.{NextLeft}
 use Rattle.captions.specs.declared.NextLeft.the-variants as next
@@ -20,11 +22,11 @@ use Rattle.captions.specs.declared.State.{State}
 use Rattle.captions.specs.declared.Turned.{Turned}
 use Rattle.captions.specs.declared.Turned.the-variants.{Gives, Goes}
 use Rattle.captions.specs.declared.Found.the-variants.{At, Nothing}
-use Rattle.captions.specs.Tables.{number, keyBy, find, foundAt, recordFits}
+use Rattle.captions.specs.Tables.{number, foundAt, recordFits}
 use Rattle.captions.specs.Replies.{nextCode}
 use Rattle.captions.specs.Steps.{refused, ended, giveCharacter, isCharacter, leftLetters, withPending, longer, opsPlaced, gathered, leftPlaceOf, afterRight}
-use Rattle.captions.specs.Steps.{readOn, withNext, giveLeft, enteredAt, swallows, entryReads, turnBy, turnWith, orBoundary, turnAtEnd, turnAtLetter, turn}
-use Rattle.captions.specs.Steps.{nextFits, placed}
+use Rattle.captions.specs.Steps.{readOn, withNext, giveLeft, enteredAt, swallows, entryReads, findWithin, turnBy, turnWith, orBoundary, turnAtEnd, turnAtLetter}
+use Rattle.captions.specs.Steps.{turn, nextFits, placed, rightItemFits}
 use Rattle.step_turns.specs.Turns.{turnNext, lefts}
 
 no : {A : Type 0} → _≡_ {A = Bool} false true → A
@@ -74,9 +76,9 @@ left-goes (next.Lig c) s h = no (sym h)
 left-goes (next.FinalLig c) s h = refl
 left-goes next.None s h = refl
 
-pub left-small : (x : NextLeft) → nextFits x ≡ true → leftPlaceOf x ≤ 256
+pub left-small : (x : NextLeft) → nextFits x ≡ true → leftPlaceOf x ≤ 1114112
 left-small next.Boundary h = omega arith
-left-small (next.Char c) h = omega (arith, leb-true c 255 h)
+left-small (next.Char c) h = omega (arith, letter-bound c h)
 left-small (next.Lig c) h = omega (arith, leb-true c 255 h)
 left-small (next.FinalLig c) h = omega (arith, leb-true c 255 h)
 left-small next.None h = omega arith
@@ -97,11 +99,11 @@ gathered-read (next.FinalLig c) s = refl
 gathered-read next.None s = refl
 
 module _ (pairs ops : List ℤ) (s : State) where
-  pub turn-none : (x : NextLeft) (letter : Bool) (y : ℕ) → find pairs (keyBy (leftPlaceOf x) y) ≡ none →
+  pub turn-none : (x : NextLeft) (letter : Bool) (y : ℕ) → findWithin pairs (leftPlaceOf x) y ≡ none →
       turnWith pairs ops x letter y s ≡ giveLeft x (withNext (afterRight letter (plain y)) (readOn letter (s .read)) s)
   turn-none x letter y h = ap (turnBy pairs ops x letter y s) h
 
-  pub turn-some : (x : NextLeft) (letter : Bool) (y k : ℕ) → find pairs (keyBy (leftPlaceOf x) y) ≡ some k →
+  pub turn-some : (x : NextLeft) (letter : Bool) (y k : ℕ) → findWithin pairs (leftPlaceOf x) y ≡ some k →
       turnWith pairs ops x letter y s ≡ cond (entryReads pairs ops x k) (Goes (enteredAt pairs x letter s k)) (Gives (refused 7 s))
   turn-some x letter y k h = ap (turnBy pairs ops x letter y s) h
 
@@ -134,11 +136,11 @@ module _ (pairs ops : List ℤ) (s : State) where
     pub end-free : 2 ^ 31 ≤ w → turnAtEnd pairs ops (orBoundary (numberOf w)) x s ≡ giveLeft x (withNext next.None (s .read) s)
     end-free l = ap (λ (z : ℤ). turnAtEnd pairs ops (orBoundary z) x s) (number-neg w l) ∙ end-none x h
 
-  pub letter-fits : (x : NextLeft) (y : ℕ) → y ≤ 255 → turnAtLetter pairs ops x y s ≡ turnWith pairs ops x true y s
-  letter-fits x y h = rw (le-leb y 255 h)
+  pub letter-fits : (x : NextLeft) (y : ℕ) → isLetter y ≡ true → turnAtLetter pairs ops x y s ≡ turnWith pairs ops x true y s
+  letter-fits x y h = rw h
 
-  pub letter-unfit : (x : NextLeft) (y : ℕ) → 255 < y → turnAtLetter pairs ops x y s ≡ Gives (refused 4 s)
-  letter-unfit x y h = rw (lt-leb y 255 h)
+  pub letter-unfit : (x : NextLeft) (y : ℕ) → isLetter y ≡ false → turnAtLetter pairs ops x y s ≡ Gives (refused 20 s)
+  letter-unfit x y h = rw h
 
   pub turn-letter : (o : Option ℕ) (word : List ℕ) (x : NextLeft) → s .read < length word →
       turn pairs ops o word x s ≡ turnAtLetter pairs ops x (getD word (s .read) 0) (gathered x s)
@@ -171,6 +173,13 @@ module _ (pairs ops : List ℤ) (x : NextLeft) (k : ℕ) where
   followed h e = rw (h, e)
 
 -- ---- what is checked first
+
+-- the right item, by its bits
+pub right-some : (w : ℕ) → w < 2 ^ 31 → rightItemFits (orBoundary (numberOf w)) ≡ isLetter w
+right-some w h = ap (λ (z : ℤ). rightItemFits (orBoundary z)) (number-pos w h)
+
+pub right-none : (w : ℕ) → 2 ^ 31 ≤ w → rightItemFits (orBoundary (numberOf w)) ≡ true
+right-none w h = ap (λ (z : ℤ). rightItemFits (orBoundary z)) (number-neg w h)
 
 -- a sum that is not made: where a is in range, b is tested against what is left
 pub leb-sum : (a b n : ℕ) → a ≤ n → leb b (n - a) ≡ leb (a + b) n

@@ -11,7 +11,9 @@ use lib.Dec.{ltb, leb, eqb}
 use lib.ListN.{length, getD}
 use borrow.Author.Tests.{ltb-true, ltb-false, leb-true, le-leb}
 use Rattle.words.specs.Words.{wordOf}
+use Rattle.lang.specs.Checks.{isLetter}
 use Rattle.lang.specs.Records.{within}
+use Rattle.lang.proofs.Checks.{letter-low}
 use Rattle.lang.proofs.Every.{both-left, both-right}
 use Rattle.lang.proofs.Records.{within-bound}
 use Rattle.reading.specs.Items.{Item, item, plain, code}
@@ -21,9 +23,9 @@ use Rattle.captions.specs.declared.State.{State}
 use Rattle.captions.specs.declared.Step.{Step}
 use Rattle.captions.specs.declared.Turned.{Turned}
 use Rattle.captions.specs.declared.Turned.the-variants.{Gives, Goes}
-use Rattle.captions.specs.Tables.{opCount, number, keyBy, find, firstOp, countOf, lastCode, lastFlag, recordFits}
-use Rattle.captions.specs.Steps.{refused, readOp, gathered, leftPlaceOf, afterRight, readOn, giveLeft, enteredAt, entryReads, turnBy, turnWith, turnAtEnd}
-use Rattle.captions.specs.Steps.{turnAtLetter, turn, goesOn, byNext, stepBy, runOn, nextFits, opsPlaced, placed}
+use Rattle.captions.specs.Tables.{opCount, number, firstOp, countOf, lastCode, lastFlag, recordFits}
+use Rattle.captions.specs.Steps.{refused, readOp, gathered, leftPlaceOf, afterRight, readOn, giveLeft, enteredAt, entryReads, findWithin, turnBy, turnWith}
+use Rattle.captions.specs.Steps.{turnAtEnd, turnAtLetter, turn, goesOn, byNext, stepBy, runOn, nextFits, opsPlaced, placed}
 use Rattle.step_turns.specs.Turns.{lefts, turnsLeft, turnNext, turnOnce, Within}
 use Rattle.step_turns.proofs.Laws.{letters-few}
 
@@ -43,13 +45,13 @@ goes-is : {u t : State} → Goes u ≡ Goes t → u ≡ t
 goes-is h = cc
 
 after-fits : (letter : Bool) (i : Item) → code i ≤ 255 → nextFits (afterRight letter i) ≡ true
-after-fits true (item false c) h = le-leb c 255 h
+after-fits true (item false c) h = letter-low c (omega (arith, h))
 after-fits true (item true c) h = le-leb c 255 h
 after-fits false (item false c) h = refl
 after-fits false (item true c) h = le-leb c 255 h
 
-after-plain : (letter : Bool) (y : ℕ) → (letter ≡ true → y ≤ 255) → nextFits (afterRight letter (plain y)) ≡ true
-after-plain true y h = le-leb y 255 (h refl)
+after-plain : (letter : Bool) (y : ℕ) → (letter ≡ true → isLetter y ≡ true) → nextFits (afterRight letter (plain y)) ≡ true
+after-plain true y h = h refl
 after-plain false y h = refl
 
 after-left : (letter : Bool) (i : Item) → lefts (afterRight letter i) ≡ cond letter 1 0
@@ -89,7 +91,7 @@ module _ (pairs ops : List ℤ) (g t : State) where
       })
   entered-goes x letter k false e h = absurd (never h)
 
-  with-goes : (x : NextLeft) (letter : Bool) (y : ℕ) → (letter ≡ true → y ≤ 255) → g .op + g .ops ≤ opCount ops → (o : Option ℕ) →
+  with-goes : (x : NextLeft) (letter : Bool) (y : ℕ) → (letter ≡ true → isLetter y ≡ true) → g .op + g .ops ≤ opCount ops → (o : Option ℕ) →
       turnBy pairs ops x letter y g o ≡ Goes t → Reached (opCount ops) letter g t
   with-goes x letter y l p none h =
       subst (λ (u : State). Reached (opCount ops) letter g u) (free-goes x h)
@@ -100,16 +102,16 @@ module _ (pairs ops : List ℤ) (g t : State) where
   end-goes next.Boundary o p h = absurd (never h)
   end-goes (next.Char c) none p h = absurd (never h)
   end-goes (next.Char c) (some r) p h =
-      with-goes (next.Char c) false r (λ e. absurd (let z : _≡_ {A = ℕ} 0 1 = cc in omega arith)) p (find pairs (keyBy (suc c) r)) h
+      with-goes (next.Char c) false r (λ e. absurd (let z : _≡_ {A = ℕ} 0 1 = cc in omega arith)) p (findWithin pairs (suc c) r) h
   end-goes (next.Lig c) none p h = absurd (never h)
   end-goes (next.Lig c) (some r) p h =
-      with-goes (next.Lig c) false r (λ e. absurd (let z : _≡_ {A = ℕ} 0 1 = cc in omega arith)) p (find pairs (keyBy (suc c) r)) h
+      with-goes (next.Lig c) false r (λ e. absurd (let z : _≡_ {A = ℕ} 0 1 = cc in omega arith)) p (findWithin pairs (suc c) r) h
   end-goes (next.FinalLig c) o p h = absurd (never h)
   end-goes next.None o p h = absurd (never h)
 
-  letter-goes : (x : NextLeft) (y : ℕ) (b : Bool) → leb y 255 ≡ b → g .op + g .ops ≤ opCount ops →
-      cond b (turnWith pairs ops x true y g) (Gives (refused 4 g)) ≡ Goes t → Reached (opCount ops) true g t
-  letter-goes x y true e p h = with-goes x true y (λ _. leb-true y 255 e) p (find pairs (keyBy (leftPlaceOf x) y)) h
+  letter-goes : (x : NextLeft) (y : ℕ) (b : Bool) → isLetter y ≡ b → g .op + g .ops ≤ opCount ops →
+      cond b (turnWith pairs ops x true y g) (Gives (refused 20 g)) ≡ Goes t → Reached (opCount ops) true g t
+  letter-goes x y true e p h = with-goes x true y (λ _. e) p (findWithin pairs (leftPlaceOf x) y) h
   letter-goes x y false e p h = absurd (never h)
 
 -- ---- a turn that goes on
@@ -165,7 +167,7 @@ module _ (pairs ops : List ℤ) (o : Option ℕ) (word : List ℕ) (s t : State)
   turn-goes x l true e h =
       let q = gathered-is x s in
       moved-letter (length word) (opCount ops) s (gathered x s) t w q l (ltb-true (s .read) (length word) e)
-      (letter-goes pairs ops (gathered x s) t x (getD word (s .read) 0) (leb (getD word (s .read) 0) 255) refl (omega (arith, q .ops, w .ops)) h)
+      (letter-goes pairs ops (gathered x s) t x (getD word (s .read) 0) (isLetter (getD word (s .read) 0)) refl (omega (arith, q .ops, w .ops)) h)
   turn-goes x l false e h =
       let q = gathered-is x s in
       moved-end (length word) (opCount ops) s (gathered x s) t w q l (ltb-false (s .read) (length word) e)

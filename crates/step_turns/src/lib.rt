@@ -1,6 +1,6 @@
 // The turns of a step, after `RunIter::next` of ligkern/mod.rs, whose call of itself is here a turn of the loop. Each
 // function is the definition of the same name in captions/specs/Steps.antt, or in specs/Turns.antt.
-//   check  that the state points inside
+//   check  that the state points inside, and that the right item is a letter
 //   left   the left of a pair        turn   looking a left up
 ghost use mathlib.Core.Path.{_≡_};
 ghost use mathlib.Core.Bool.{true};
@@ -9,6 +9,7 @@ ghost use lib.ListN.{length};
 ghost use Rattle.words.specs.Words.{numberOf};
 ghost use Rattle.captions.specs.Tables.{opCount};
 ghost use Rattle.captions.specs.Steps.{giveLigature, withNothingNext, orBoundary, turn, runOn, ranFrom};
+ghost use Rattle.captions.specs.Steps as turned;
 ghost use Rattle.step_turns.specs.Turns.{turnNext, turnOnce, Within};
 
 mod check;
@@ -21,6 +22,7 @@ use captions::State;
 use captions::Step;
 use captions::Turned;
 use check::placed;
+use check::right_fits;
 use step_items::give::give_ligature;
 use step_items::op::read_op;
 use turn::ends;
@@ -101,16 +103,26 @@ fn run_on(pairs: &[i32], ops: &[i32], right: u32, word: &[u32], s: State) -> Ste
     }
 }
 
-// The step from a state that points inside; 7 where it does not.
+// A refusal, which leaves the state.
+fn refused(number: u32, s: State) -> Step
+    ensures { λ r. ⌜ r ≡ turned.refused number s ⌝ }
+{
+    Step {
+        answer: Answer::Refused(number),
+        state: s,
+    }
+}
+
+// The step from a state that points inside, with a right item that is a letter; else 7 or 20.
 pub fn run(pairs: &[i32], ops: &[i32], right: u32, word: &[u32], s: State) -> Step
     ensures { λ r. ⌜ r ≡ ranFrom (now (pairs .entry)) (now (ops .entry)) (orBoundary (numberOf right))
         (now (word .entry)) s ⌝ }
 {
-    if placed(ops, word, s) {
-        return run_on(pairs, ops, right, word, s);
+    if !placed(ops, word, s) {
+        return refused(7, s);
     }
-    Step {
-        answer: Answer::Refused(7),
-        state: s,
+    if !right_fits(right) {
+        return refused(20, s);
     }
+    run_on(pairs, ops, right, word, s)
 }

@@ -4,8 +4,10 @@ ghost use mathlib.Core.Bool.{true, cond};
 ghost use Prim.Native.Nat.{_<_};
 ghost use Rattle.words.specs.Words.{numberOf};
 ghost use Rattle.reading.specs.Items.{plain};
+ghost use Rattle.captions.specs.Tables.{foundAt};
 ghost use Rattle.captions.specs.Steps.{refused, ended, afterRight, readOn, withNext, giveLeft, enteredAt, swallows};
-ghost use Rattle.captions.specs.Steps.{entryReads, turnWith, orBoundary, turnAtEnd, turnAtLetter, turn, nextFits};
+ghost use Rattle.captions.specs.Steps.{entryReads, findWithin, turnWith, orBoundary, turnAtEnd, turnAtLetter, turn};
+ghost use Rattle.captions.specs.Steps.{nextFits};
 use super::left::after_right;
 use super::left::gathered;
 use super::left::give_left;
@@ -20,6 +22,7 @@ use captions::NextLeft;
 use captions::State;
 use captions::Step;
 use captions::Turned;
+use program_checks::is_letter;
 use table_find::find;
 use table_numbers::number_at;
 use table_numbers::record_fits;
@@ -108,13 +111,26 @@ fn turn_entered(pairs: &[i32], ops: &[i32], x: NextLeft, letter: bool, s: State,
     Turned::Goes(after)
 }
 
+// The pair of a left and a right; one of them above 255 is not looked up.
+fn find_within(pairs: &[i32], left: u32, right: u32) -> Found
+    ensures { λ r. ⌜ r ≡ foundAt (findWithin (now (pairs .entry)) left right) ⌝ }
+{
+    if 256 < left {
+        return Found::Nothing;
+    }
+    if 255 < right {
+        return Found::Nothing;
+    }
+    find(pairs, left, right)
+}
+
 // The next left with a right: a letter of the word, or the right item.
 fn turn_with(pairs: &[i32], ops: &[i32], x: NextLeft, letter: bool, y: u32, s: State) -> Turned
     requires { ⌜ (nextFits x ≡ true) × (s .read < 9223372036854775808) ⌝ }
     ensures { λ r. ⌜ r ≡ turnWith (now (pairs .entry)) (now (ops .entry)) x letter y s ⌝ }
 {
     let left = left_place_of(x);
-    match find(pairs, left, y) {
+    match find_within(pairs, left, y) {
         Found::Nothing => turn_free(x, letter, y, s),
         Found::At(k) => turn_entered(pairs, ops, x, letter, s, k),
     }
@@ -135,15 +151,15 @@ fn turn_at_end(pairs: &[i32], ops: &[i32], right: u32, x: NextLeft, s: State) ->
     give_left(x, after)
 }
 
-// 4: a letter out of range.
+// 20: a letter of the word that is none.
 fn turn_at_letter(pairs: &[i32], ops: &[i32], x: NextLeft, y: u32, s: State) -> Turned
     requires { ⌜ (nextFits x ≡ true) × (s .read < 9223372036854775808) ⌝ }
     ensures { λ r. ⌜ r ≡ turnAtLetter (now (pairs .entry)) (now (ops .entry)) x y s ⌝ }
 {
-    if y <= 255 {
+    if is_letter(y) {
         turn_with(pairs, ops, x, true, y, s)
     } else {
-        refuses(4, s)
+        refuses(20, s)
     }
 }
 

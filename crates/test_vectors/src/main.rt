@@ -3,8 +3,9 @@
 // here. Where the Rust panics, and the port refuses, both write `panic` and the number of the refusal, which the oracle
 // tells from the Rust's own panic. One line about a font has no answer of the Rust's: a pair of 2^102 ops, which the
 // Rust would write out one by one and the port refuses at once with 14. Behind it come the requests about font files,
-// F and G, whose answers are those of tools/files, and last those of which a chain reaches a redirect: there the Rust
-// was asked on the chains without their redirects.
+// F and G, whose answers are those of tools/files, then those of which a chain reaches a redirect: there the Rust was
+// asked on the chains without their redirects. Last come the requests Y, whose lists of warnings the Rust does not take:
+// they are answered by what it warns of and repairs.
 ghost use mathlib.Core.Path.{_≡_};
 ghost use lib.ListN.{length};
 use lang::Written;
@@ -28,7 +29,7 @@ fn answer_by(letter: u8, numbers: &[i32], out: &mut [i32]) -> Written {
     match letter {
         b'C' | b'M' | b'W' | b'A' => of_fonts::compiled(letter, numbers, out),
         b'K' | b'J' | b'P' => test_packing_answers::answer(letter, numbers, out),
-        b'X' => test_repair_answers::answer(numbers, out),
+        b'X' | b'Y' => test_repair_answers::answer(letter, numbers, out),
         b'F' | b'G' => test_file_answers::answer(letter, numbers, out),
         _ => test_program_answers::answer(letter, numbers, out),
     }

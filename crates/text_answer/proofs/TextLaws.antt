@@ -7,7 +7,7 @@ use mathlib.Core.Option.{Option, none, some}
 use Prim.Native.Nat.{ℕ, zero, suc, _-_, _*_, _/_, _%_, _<_, _≤_}
 use native.Mathlib.Omega.{arith}
 use lib.IntN.{ℤ, pos, negsuc}
-use lib.Dec.{leb, eqb}
+use lib.Dec.{leb, ltb, eqb}
 use lib.ListN.{length, take, getD}
 use lib.Signed.{nonNeg}
 use borrow.Author.Tests.{leb-true}
@@ -18,14 +18,15 @@ use Rattle.lang.specs.declared.Written.the-variants as written
 use Rattle.lang.specs.Every.{both, every}
 use Rattle.lang.specs.Records.{count, isInstruction, absentOr}
 use Rattle.lang.specs.Checks.{orElse, lower, sizeRefusal, recordRefusal, programRefusal, kernsRefusal, entriesRefusal, absentRefusal, designRefusal, entryFits}
+use Rattle.lang.specs.Checks.{isLetter}
 use Rattle.lang.specs.Answers.{Reply, replyOf, listOf}
 use Rattle.lang.proofs.Every.{both-left}
 use Rattle.lang.proofs.Refusals.{orElse-none, lower-few, unless-none}
 use Rattle.fonts.specs.Fonts.{Font, fontOf, pairsOf}
-use Rattle.fonts.specs.Compiled.{fontRefusal, pairsRefusal, kernRefusal, opsRefusal, loopsRefusal, tablesRefusal, compileRefusal, fontTable, fontOps, totalOps}
-use Rattle.fonts.specs.Compiled.{loopsOfFont, allScale}
+use Rattle.fonts.specs.Compiled.{fontRefusal, pairsRefusal, kernRefusal, opsRefusal, loopsRefusal, tablesRefusal, compileRefusal, fontTable, fontOps, fontLoops}
+use Rattle.fonts.specs.Compiled.{totalOps, loopsOfFont, allScale}
 use Rattle.captions.specs.Form.{tableForm, tableRefusal}
-use Rattle.captions.specs.Begin.{freshState, edgesRefusal, lettersRefusal, wordRefusal, beginRefusal}
+use Rattle.captions.specs.Begin.{freshState, edgesRefusal, lettersRefusal, wordRefusal, beginRefusal, plainOptions}
 use Rattle.word_set.specs.Setting.{itemsFrom, afterBegin}
 use Rattle.word_set.proofs.Bounds.{orElse-few}
 use Rattle.word_set.proofs.Few.{items-few}
@@ -33,9 +34,9 @@ use Rattle.columns.specs.declared.TextHeads.{TextHeads}
 use Rattle.columns.specs.declared.TextRead.the-variants as text
 use Rattle.columns.specs.Texts.{Text, readText, orAbsent, fontOfText}
 use Rattle.columns.specs.Scanned.{lettersOf, lengthOfWord, headNumbers, textRefusal, saidBy, textHeads, ReadsText}
-use Rattle.columns.specs.Replying.{replyRefusal}
-use Rattle.columns.specs.Ligcols.{columnRoom, columnOptions, columnItems, columnBytes, columnNumber, wordOfText, numberOfText, bytesOfText, lengthOr}
-use Rattle.columns.specs.Ligcols.{AnswersText}
+use Rattle.columns.specs.Replying.{replyBytes, replyRefusal}
+use Rattle.columns.specs.Ligcols.{columnRoom, columnItems, columnBytes, columnNumber, wordOfText, numberOfText, bytesOfText, lengthOr}
+use Rattle.columns.specs.Ligcols.{signsRefusal, orLower, wordNumber, AnswersText}
 use Rattle.text_font_reply.specs.Answering.{AnswersBytes}
 use Rattle.text_answer.specs.Letters.{lettersIn}
 use Rattle.text_font_reply.proofs.Laws.{front, room-known, count-known, refused-known}
@@ -144,7 +145,7 @@ said-answer s {reply} a =
     ∙ ap bytesOfText (sym (s .read)))
     a
 
--- ---- every number is at most 16
+-- ---- every number is at most 20
 
 few-if : (m n : ℕ) (t : Bool) → n ≤ m → cond t 0 n ≤ m
 few-if m n true l = omega arith
@@ -178,37 +179,51 @@ compile-few f =
     (few-if 15 12 (both (leb (length (pairsOf f)) (columnRoom .work / 16)) (leb (length (pairsOf f)) (columnRoom .pairs / 6))) (omega arith)) s in
     orElse-few 15 (fontRefusal f) (tablesRefusal f columnRoom) font t
 
-begin-few : (pairs ops : List ℤ) (boundary : ℤ) (word : List ℕ) → beginRefusal pairs ops boundary word columnOptions ≤ 15
-begin-few pairs ops boundary word =
-    let t = orElse-few 15 (wordRefusal word) (tableRefusal pairs ops) (few-if 15 6 (leb (length word) 65535) (omega arith))
-    (few-if 15 7 (tableForm pairs ops) (omega arith)) in
-    let l = orElse-few 15 (lettersRefusal word) (orElse (wordRefusal word) (tableRefusal pairs ops))
-    (few-if 15 4 (every (length word) (λ i. leb (getD word i 0) 255)) (omega arith)) t in
-    let e = orElse-few 15 (absentRefusal 255 boundary) (absentRefusal 255 (negsuc 0)) (few-if 15 4 (absentOr 255 boundary) (omega arith)) (omega arith) in
-    orElse-few 15 (edgesRefusal boundary columnOptions) (orElse (lettersRefusal word) (orElse (wordRefusal word) (tableRefusal pairs ops))) e l
+letters-few : (word : List ℕ) → lettersRefusal word ≤ 20
+letters-few word = few-if 20 20 (every (length word) (λ i. isLetter (getD word i 0))) (omega arith)
 
-after-few : (n : ℕ) (r : Reply) → n ≤ 15 → r .number ≤ 15 → afterBegin n r .number ≤ 15
+begin-few : (pairs ops : List ℤ) (boundary : ℤ) (word : List ℕ) → beginRefusal pairs ops boundary word plainOptions ≤ 20
+begin-few pairs ops boundary word =
+    let l = orElse-few 20 (lettersRefusal word) 0 (letters-few word) (omega arith) in
+    let t = orElse-few 20 (tableRefusal pairs ops) (orElse (lettersRefusal word) 0) (few-if 20 7 (tableForm pairs ops) (omega arith)) l in
+    let w = orElse-few 20 (wordRefusal word) (orElse (tableRefusal pairs ops) (orElse (lettersRefusal word) 0))
+    (few-if 20 6 (leb (length word) 65535) (omega arith)) t in
+    let e = orElse-few 20 (absentRefusal 255 boundary) (absentRefusal 2147483647 (negsuc 0)) (few-if 20 4 (absentOr 255 boundary) (omega arith))
+    (omega arith) in
+    orElse-few 20 (edgesRefusal boundary plainOptions) (orElse (wordRefusal word) (orElse (tableRefusal pairs ops) (orElse (lettersRefusal word) 0))) e w
+
+after-few : (n : ℕ) (r : Reply) → n ≤ 20 → r .number ≤ 20 → afterBegin n r .number ≤ 20
 after-few zero r l k = k
 after-few (suc n) r l k = l
 
-items-of-few : (f : Font) (letters : ℤ) (word : List ℕ) → columnItems f letters word .number ≤ 15
+items-of-few : (f : Font) (letters : ℤ) (word : List ℕ) → columnItems f letters word .number ≤ 20
 items-of-few f (pos n) word =
-    after-few (beginRefusal (fontTable f) (fontOps f) (f .boundary) word columnOptions)
-    (itemsFrom (fontTable f) (fontOps f) (f .boundary) word columnOptions 885 (freshState word columnOptions))
+    after-few (beginRefusal (fontTable f) (fontOps f) (f .boundary) word plainOptions)
+    (itemsFrom (fontTable f) (fontOps f) (f .boundary) word plainOptions 885 (freshState word plainOptions))
     (begin-few (fontTable f) (fontOps f) (f .boundary) word)
-    (items-few (fontTable f) (fontOps f) (f .boundary) word columnOptions 885 (freshState word columnOptions))
+    (items-few (fontTable f) (fontOps f) (f .boundary) word plainOptions 885 (freshState word plainOptions))
 items-of-few f (negsuc n) word = omega arith
 
-column-few : (f : Font) (letters : ℤ) (word : List ℕ) (room : ℕ) → columnNumber f letters word room ≤ 15
-column-few f letters word room =
-    orElse-few 15 (lower (compileRefusal f columnRoom) (lettersRefusal word))
-    (orElse (columnItems f letters word .number) (replyRefusal (columnBytes f letters word) room))
-    (lower-few 15 (compileRefusal f columnRoom) (lettersRefusal word) (compile-few f)
-    (few-if 15 4 (every (length word) (λ i. leb (getD word i 0) 255)) (omega arith)))
-    (orElse-few 15 (columnItems f letters word .number) (replyRefusal (columnBytes f letters word) room) (items-of-few f letters word)
-    (few-if 15 15 (both (leb (length (columnBytes f letters word)) 65536) (leb (length (columnBytes f letters word)) room)) (omega arith)))
+reply-few : (bytes : List ℕ) (room : ℕ) → replyRefusal bytes room ≤ 20
+reply-few bytes room = few-if 20 15 (both (leb (length bytes) 65536) (leb (length bytes) room)) (omega arith)
 
-pub text-few : (o : Option Text) (room : ℕ) → numberOfText o room ≤ 16
+or-lower-few : (m n : ℕ) → m ≤ 20 → n ≤ 20 → orLower m n ≤ 20
+or-lower-few zero n h k = h
+or-lower-few (suc m) n h k = lower-few 20 (suc m) n h k
+
+column-few : (f : Font) (letters : ℤ) (word : List ℕ) (room : ℕ) → columnNumber f letters word room ≤ 20
+column-few f letters word room =
+    let alone = replyBytes (fontTable f) (fontOps f) (fontLoops f) (negsuc 0) [] in
+    let set = orElse (columnItems f letters word .number) (replyRefusal (columnBytes f letters word) room) in
+    orElse-few 20 (lower (compileRefusal f columnRoom) (signsRefusal word)) (orElse (wordNumber (fontTable f) (fontOps f) (fontLoops f) word room) set)
+    (lower-few 20 (compileRefusal f columnRoom) (signsRefusal word) (omega (arith, compile-few f))
+    (few-if 20 4 (every (length word) (λ i. ltb (getD word i 0) 2147483648)) (omega arith)))
+    (orElse-few 20 (wordNumber (fontTable f) (fontOps f) (fontLoops f) word room) set
+    (or-lower-few (lettersRefusal word) (replyRefusal alone room) (letters-few word) (reply-few alone room))
+    (orElse-few 20 (columnItems f letters word .number) (replyRefusal (columnBytes f letters word) room) (items-of-few f letters word)
+    (reply-few (columnBytes f letters word) room)))
+
+pub text-few : (o : Option Text) (room : ℕ) → numberOfText o room ≤ 20
 text-few none room = omega arith
 text-few (some t) room = omega (arith, column-few (fontOfText t) (lengthOfWord (t .word)) (wordOfText t) room)
 
@@ -221,8 +236,9 @@ text-short (some t) room e =
     let n = lengthOfWord (t .word) in
     let w = wordOfText t in
     let k = length (columnBytes f n w) in
-    let a = orElse-none (lower (compileRefusal f columnRoom) (lettersRefusal w)) (orElse (columnItems f n w .number) (replyRefusal (columnBytes f n w) room))
-    e .1 in
+    let set = orElse (columnItems f n w .number) (replyRefusal (columnBytes f n w) room) in
+    let v = wordNumber (fontTable f) (fontOps f) (fontLoops f) w room in
+    let a = orElse-none v set (orElse-none (lower (compileRefusal f columnRoom) (signsRefusal w)) (orElse v set) e .1) .1 in
     let b = orElse-none (columnItems f n w .number) (replyRefusal (columnBytes f n w) room) a .1 in
     leb-true k 65536 (both-left (leb k 65536) (leb k room) (unless-none 14 (both (leb k 65536) (leb k room)) b))
 
@@ -243,10 +259,10 @@ minus (suc n) m h = ap negsuc (omega arith)
 
 pub number-answer : {text reply reply′ : List ℕ} (n : ℕ) →
     AnswersBytes (numberOfText (readText text) (length reply)) (bytesOfText (readText text)) reply (written.Refused n) reply′ →
-    (0 < n) × (n ≤ 16) × AnswersText text reply (numberOf (4294967295 - (n - 1))) reply′
+    (0 < n) × (n ≤ 20) × AnswersText text reply (numberOf (4294967295 - (n - 1))) reply′
 number-answer {text} {reply} n a =
     let k = refused-known (numberOfText (readText text) (length reply)) n (length (bytesOfText (readText text))) (a .answer) in
-    let few : n ≤ 16 = omega (arith, k .0, text-few (readText text) (length reply)) in
+    let few : n ≤ 20 = omega (arith, k .0, text-few (readText text) (length reply)) in
     let w : 4294967296 - suc (4294967295 - (n - 1)) ≡ n - 1 = omega (arith, k .1, few) in
     let z : numberOf (4294967295 - (n - 1)) ≡ negsuc (n - 1) = number-neg (4294967295 - (n - 1)) (omega (arith, few)) ∙ ap negsuc w in (
       k .1,

@@ -1,16 +1,16 @@
 -- From the parts of a text's answer to the whole: a refusal, a table with its items, a font with its word, a text. Over plain values.
 -- Assumes nothing.
-use mathlib.Core.Path.{_≡_, refl, sym, ap, subst, _∙_}
+use mathlib.Core.Path.{_≡_, refl, sym, ap, subst, subst₃, _∙_}
 use mathlib.Core.Bool.{Bool, true, false, cond}
 use mathlib.Core.List.{List, [], _∷_}
 use mathlib.Core.Logic.{_⊎_, inl, inr}
 use Prim.Native.Nat.{ℕ, zero, suc, _+_, _-_, _*_, _/_, _<_, _≤_}
 use native.Mathlib.Omega.{arith}
 use lib.IntN.{ℤ, pos, negsuc}
-use lib.Dec.{leb}
-use lib.ListN.{length, replicate, take, length-append, length-replicate}
+use lib.Dec.{leb, ltb}
+use lib.ListN.{length, getD, replicate, take, length-append, length-replicate}
 use lib.Seq.{take-at}
-use borrow.Author.Tests.{le-leb, lt-leb}
+use borrow.Author.Tests.{le-leb, lt-leb, le-ltb}
 use Rattle.words.specs.Words.{Word}
 use Rattle.words.proofs.Bits.{read-pos, read-neg}
 use Rattle.words.proofs.Tests.{less-or-not}
@@ -19,7 +19,8 @@ use Rattle.lang.specs.declared.Written.the-variants as written
 use Rattle.lang.specs.Every.{every}
 use Rattle.lang.specs.Checks.{orElse, lower}
 use Rattle.lang.specs.Answers.{Reply, replyOf, writtenReply, listOf}
-use Rattle.lang.proofs.Refusals.{first-is, second-is, second-none, orElse-none}
+use Rattle.lang.proofs.Every.{every-to, every-fails}
+use Rattle.lang.proofs.Refusals.{first-is, second-is, second-none, orElse-none, lower-some}
 use Rattle.fonts.specs.Fonts.{Font}
 use Rattle.fonts.specs.declared.Compiled.the-variants as compiled
 use Rattle.fonts.specs.Compiled.{roomOf, roomIn, loopsOfFont, totalOps, fontTable, tablePairs, fontOps, fontLoops, compileRefusal, sizedRefusal, Compiles}
@@ -28,14 +29,16 @@ use Rattle.captions.specs.declared.State.{State}
 use Rattle.captions.specs.declared.Answer.{Answer}
 use Rattle.captions.specs.declared.Answer.the-variants.{Refused}
 use Rattle.captions.specs.Form.{tableRefusal}
-use Rattle.captions.specs.Begin.{freshState, edgesRefusal, lettersRefusal, wordRefusal, beginRefusal}
+use Rattle.captions.specs.Begin.{freshState, edgesRefusal, lettersRefusal, wordRefusal, beginRefusal, plainOptions}
 use Rattle.captions.specs.Steps.{rightItem, ranFrom, stepRefusal, steppedBy, stepOf}
 use Rattle.word_set.specs.Setting.{andThen, itemsBy, itemsFrom, afterBegin, setReply}
 use Rattle.word_set.specs.Writing.{Tells}
 use Rattle.word_set.proofs.Few.{items-sixes}
 use Rattle.columns.specs.Replying.{replyBytes, replyRefusal, WritesReply}
 use Rattle.columns.proofs.FontBegins.{font-begins}
-use Rattle.columns.specs.Ligcols.{columnRoom, columnOptions, itemRoom, columnItems, columnBytes, columnNumber}
+use Rattle.columns.proofs.WordRead.{word-none}
+use Rattle.columns.specs.Ligcols.{columnNumber}
+use Rattle.columns.specs.Ligcols.{columnRoom, itemRoom, columnItems, columnBytes, signsRefusal, orLower, aloneNumber, wordNumber}
 use Rattle.text_font_reply.specs.Answering.{AnswersBytes, freshItems, freshBytes, freshNumber}
 
 -- ---- a refusal
@@ -49,6 +52,28 @@ refused-as m zero e h a = absurd (omega (arith, h))
 refused-as zero (suc n) e h a = absurd (omega (arith, e))
 refused-as {reply = reply} {reply′ = reply′} (suc m) (suc n) e h a =
     record { answer = a .answer ∙ ap (λ (k : ℕ). record { number = k; values = [] }) (sym e); list = a .list }
+
+-- a reply is known by its length
+pub refused-over : {n : ℕ} {reply d d′ : List ℕ} {r : Written} → length d ≡ length reply → AnswersBytes n [] d r d′ → AnswersBytes n [] reply r d′
+refused-over {n} l a = record { answer = a .answer; list = a .list ∙ ap (λ (k : ℕ). listOf n 0 k []) l }
+
+-- the bytes do not matter where the number refuses
+refused-bytes : {bytes bytes′ reply reply′ : List ℕ} {r : Written} (m n k : ℕ) → m ≡ suc k → n ≡ suc k → AnswersBytes m bytes reply r reply′ →
+    AnswersBytes n bytes′ reply r reply′
+refused-bytes {bytes} {bytes′} {reply} m n k e f a =
+    record {
+      answer = a .answer ∙ ap (λ (j : ℕ). replyOf j (pos (length bytes) ∷ [])) e ∙ sym (ap (λ (j : ℕ). replyOf j (pos (length bytes′) ∷ [])) f);
+      list = a .list ∙ ap (λ (j : ℕ). listOf j 0 (length reply) bytes) e ∙ sym (ap (λ (j : ℕ). listOf j 0 (length reply) bytes′) f);
+    }
+
+-- ---- a letter below 0
+
+module _ (word : List ℕ) where
+  pub signs-each : (i : ℕ) → every i (λ j. ltb (getD word j 0) 2147483648) ≡ true → i ≤ length word → length word ≤ i → 0 ≡ signsRefusal word
+  signs-each i e h l = rw (every-to (length word) i (λ j. ltb (getD word j 0) 2147483648) e h l)
+
+  pub signs-fail : (i : ℕ) → i < length word → 2147483648 ≤ getD word i 0 → 4 ≡ signsRefusal word
+  signs-fail i h e = rw (every-fails (length word) i (λ j. ltb (getD word j 0) 2147483648) h (le-ltb (getD word i 0) 2147483648 e))
 
 -- ---- what a function that fills a list answered
 
@@ -81,7 +106,7 @@ room-known o (suc n) m xs ys e z l = absurd (omega (arith, z))
 
 -- the items of a fresh run
 abbrev pub freshRun : List ℤ → List ℤ → ℤ → List ℕ → Reply
-freshRun pairs ops boundary word = itemsFrom pairs ops boundary word columnOptions 885 (freshState word columnOptions)
+freshRun pairs ops boundary word = itemsFrom pairs ops boundary word plainOptions 885 (freshState word plainOptions)
 
 -- what set_fresh left in a list of 5,310 numbers
 module _ (pairs ops : List ℤ) (boundary : ℤ) (word : List ℕ) (items items′ : List ℤ) (m : 5310 ≡ length items) (k : ℕ)
@@ -90,7 +115,7 @@ module _ (pairs ops : List ℤ) (boundary : ℤ) (word : List ℕ) (items items�
   known = count-known (freshRun pairs ops boundary word .number) k (length (freshRun pairs ops boundary word .values) / 6) (t .answer)
 
   six : length (freshRun pairs ops boundary word .values) ≡ 6 * k
-  six = omega (arith, known .1, items-sixes pairs ops boundary word columnOptions 885 (freshState word columnOptions))
+  six = omega (arith, known .1, items-sixes pairs ops boundary word plainOptions 885 (freshState word plainOptions))
 
   listed : items′ ≡ listOf (freshRun pairs ops boundary word .number) (pos 0) 5310 (freshRun pairs ops boundary word .values)
   listed = t .list ∙ ap (λ (j : ℕ). listOf (freshRun pairs ops boundary word .number) (pos 0) j (freshRun pairs ops boundary word .values)) (sym m)
@@ -142,6 +167,44 @@ module _ (reply : List ℕ) (r : Written) (reply′ : List ℕ) where
         (first-is (freshRun pairs ops boundary word .number) (replyRefusal (freshBytes pairs ops loops boundary (pos n) word) (length reply))
         (λ e. omega (arith, e, b .0, b .1)) ∙ sym (b .0)) (b .1) a
     table-refused items items′ k t (negsuc n) w h l a = absurd (let e = read-pos h l in let z : _≡_ {A = ℕ} 0 1 = cc in omega arith)
+
+-- ---- a word with what is no letter
+
+-- no lines without a word are answered but by their own number
+pub alone-number : (bytes reply : List ℕ) (r : Written) (reply′ : List ℕ) (n : ℕ) → WritesReply bytes reply r reply′ → n ≡ writtenReply r .number →
+    n ≡ replyRefusal bytes (length reply)
+alone-number bytes reply r reply′ n a e = e ∙ ap (λ (x : Reply). x .number) (a .answer) ∙ by (replyRefusal bytes (length reply))
+  where
+    by : (m : ℕ) → replyOf m (pos (length bytes) ∷ []) .number ≡ m
+    by zero = refl
+    by (suc m) = refl
+
+or-lower : (m n : ℕ) → (m ≡ 0 → ⊥) → orLower m n ≡ lower m n
+or-lower zero n h = absurd (h refl)
+or-lower (suc m) n h = refl
+
+module _ (pairs ops loops : List ℤ) (boundary letters : ℤ) (word reply : List ℕ) (r : Written) (reply′ : List ℕ) (bad : ℕ) (e : bad ≡ lettersRefusal word) where
+  abbrev Word-answered : Type 0
+  Word-answered = AnswersBytes
+      (orElse (wordNumber pairs ops loops word (length reply)) (freshNumber pairs ops loops boundary letters word (length reply)))
+      (freshBytes pairs ops loops boundary letters word) reply r reply′
+
+  pub word-refused : (bad ≡ 0 → ⊥) → AnswersBytes (lower bad (aloneNumber pairs ops loops (length reply))) [] reply r reply′ → Word-answered
+  word-refused h a =
+      let alone = aloneNumber pairs ops loops (length reply) in
+      let w : wordNumber pairs ops loops word (length reply) ≡ lower bad alone =
+      ap (λ (m : ℕ). orLower m alone) (sym e) ∙ or-lower bad alone h in
+      let some = lower-some bad alone h in
+      refused-as (orElse (wordNumber pairs ops loops word (length reply)) (freshNumber pairs ops loops boundary letters word (length reply))) (lower bad alone)
+      (first-is (wordNumber pairs ops loops word (length reply)) (freshNumber pairs ops loops boundary letters word (length reply))
+      (λ z. omega (arith, z, w, some)) ∙ w) some a
+
+  pub word-taken : bad ≡ 0 → AnswersBytes (freshNumber pairs ops loops boundary letters word (length reply)) (freshBytes pairs ops loops boundary letters word)
+      reply r reply′ → Word-answered
+  word-taken z a =
+      subst (λ (m : ℕ). AnswersBytes m (freshBytes pairs ops loops boundary letters word) reply r reply′)
+      (sym (second-is (wordNumber pairs ops loops word (length reply)) (freshNumber pairs ops loops boundary letters word (length reply))
+      (ap (λ (m : ℕ). orLower m (aloneNumber pairs ops loops (length reply))) (sym e ∙ z)))) a
 
 -- ---- a font compiled, in the room that a text has
 
@@ -196,79 +259,82 @@ unfolding every
 no-letters = refl
 
 -- a word over 65,535 is 6: at the first step of a run, and at begin
-module _ (pairs ops : List ℤ) (boundary : ℤ) (word : List ℕ) (edges : edgesRefusal boundary columnOptions ≡ 0) (long : 65535 < length word) where
+module _ (pairs ops : List ℤ) (boundary : ℤ) (word : List ℕ) (edges : edgesRefusal boundary plainOptions ≡ 0) (long : 65535 < length word) where
   word-long : wordRefusal word ≡ 6
   word-long = rw (lt-leb (length word) 65535 long)
 
-  step-long : (s : State) → stepOf pairs ops boundary word columnOptions s .answer ≡ Refused 6
+  step-long : (s : State) → stepOf pairs ops boundary word plainOptions s .answer ≡ Refused 6
   step-long s =
-      let e : stepRefusal boundary word columnOptions ≡ 6 = second-is (edgesRefusal boundary columnOptions) (wordRefusal word) edges ∙ word-long in
+      let e : stepRefusal boundary word plainOptions ≡ 6 = second-is (edgesRefusal boundary plainOptions) (wordRefusal word) edges ∙ word-long in
       ap (λ (n : ℕ). steppedBy n s (ranFrom pairs ops (rightItem boundary (negsuc 0)) word s) .answer) e
 
-  run-long : (n : ℕ) (s : State) → itemsFrom pairs ops boundary word columnOptions n s ≡ replyOf 6 []
+  run-long : (n : ℕ) (s : State) → itemsFrom pairs ops boundary word plainOptions n s ≡ replyOf 6 []
   unfolding itemsBy
   run-long zero s = ap (λ (x : Answer). andThen x (replyOf 15 [])) (step-long s)
   run-long (suc n) s =
-      ap (λ (x : Answer). andThen x (itemsFrom pairs ops boundary word columnOptions n (stepOf pairs ops boundary word columnOptions s .state))) (step-long s)
+      ap (λ (x : Answer). andThen x (itemsFrom pairs ops boundary word plainOptions n (stepOf pairs ops boundary word plainOptions s .state))) (step-long s)
 
-  begin-long : lettersRefusal word ≡ 0 → beginRefusal pairs ops boundary word columnOptions ≡ 6
-  begin-long e =
-      second-is (edgesRefusal boundary columnOptions) (orElse (lettersRefusal word) (orElse (wordRefusal word) (tableRefusal pairs ops))) edges
-      ∙ second-is (lettersRefusal word) (orElse (wordRefusal word) (tableRefusal pairs ops)) e
-      ∙ ap (λ (n : ℕ). orElse n (tableRefusal pairs ops)) word-long
+  begin-long : beginRefusal pairs ops boundary word plainOptions ≡ 6
+  begin-long =
+      second-is (edgesRefusal boundary plainOptions) (orElse (wordRefusal word) (orElse (tableRefusal pairs ops) (orElse (lettersRefusal word) 0))) edges
+      ∙ ap (λ (n : ℕ). orElse n (orElse (tableRefusal pairs ops) (orElse (lettersRefusal word) 0))) word-long
 
 module _ (f : Font) (letters : ℤ) (word reply : List ℕ) (r : Written) (reply′ : List ℕ) where
   abbrev Font-answered : Type 0
   Font-answered = AnswersBytes (columnNumber f letters word (length reply)) (columnBytes f letters word) reply r reply′
 
-  -- the number of compiling, or of the word
-  pub number-first : (m : ℕ) → m ≡ lower (compileRefusal f columnRoom) (lettersRefusal word) → 0 < m → AnswersBytes m [] reply r reply′ → Font-answered
+  abbrev lettered : ℕ
+  lettered = wordNumber (fontTable f) (fontOps f) (fontLoops f) word (length reply)
+
+  abbrev setting : ℕ
+  setting = orElse (columnItems f letters word .number) (replyRefusal (columnBytes f letters word) (length reply))
+
+  -- the number of compiling, or of a letter below 0
+  pub number-first : (m : ℕ) → m ≡ lower (compileRefusal f columnRoom) (signsRefusal word) → 0 < m → AnswersBytes m [] reply r reply′ → Font-answered
   number-first m e h a =
       refused-as (columnNumber f letters word (length reply)) m
-      (first-is (lower (compileRefusal f columnRoom) (lettersRefusal word))
-      (orElse (columnItems f letters word .number) (replyRefusal (columnBytes f letters word) (length reply))) (λ z. omega (arith, z, e, h)) ∙ sym e)
-      h
-      a
+      (first-is (lower (compileRefusal f columnRoom) (signsRefusal word)) (orElse lettered setting) (λ z. omega (arith, z, e, h)) ∙ sym e) h a
 
   -- the items of a table that compiling wrote, which begin would take, but for a word that is too long
   items-by : compileRefusal f columnRoom ≡ 0 → lettersRefusal word ≡ 0 → (length word < 65536) ⊎ (65536 ≤ length word) →
-      freshRun (fontTable f) (fontOps f) (f .boundary) word ≡ setReply (fontTable f) (fontOps f) (f .boundary) word columnOptions itemRoom
+      freshRun (fontTable f) (fontOps f) (f .boundary) word ≡ setReply (fontTable f) (fontOps f) (f .boundary) word plainOptions itemRoom
   items-by c n (inl h) =
       sym (ap (λ (k : ℕ). afterBegin k (freshRun (fontTable f) (fontOps f) (f .boundary) word)) (font-begins f columnRoom word c n (omega (arith, h))))
   items-by c n (inr h) =
-      let e : edgesRefusal (f .boundary) columnOptions ≡ 0 =
-      orElse-none (edgesRefusal (f .boundary) columnOptions) (orElse (lettersRefusal []) (orElse (wordRefusal []) (tableRefusal (fontTable f) (fontOps f))))
+      let e : edgesRefusal (f .boundary) plainOptions ≡ 0 =
+      orElse-none (edgesRefusal (f .boundary) plainOptions)
+      (orElse (wordRefusal []) (orElse (tableRefusal (fontTable f) (fontOps f)) (orElse (lettersRefusal []) 0)))
       (font-begins f columnRoom [] c no-letters (omega arith)) .0 in
       let l : 65535 < length word = omega (arith, h) in
-      run-long (fontTable f) (fontOps f) (f .boundary) word e l 885 (freshState word columnOptions)
+      run-long (fontTable f) (fontOps f) (f .boundary) word e l 885 (freshState word plainOptions)
       ∙ sym (ap (λ (k : ℕ). afterBegin k (freshRun (fontTable f) (fontOps f) (f .boundary) word))
-      (begin-long (fontTable f) (fontOps f) (f .boundary) word e l n))
+      (begin-long (fontTable f) (fontOps f) (f .boundary) word e l))
 
   fresh-items : (z : ℤ) → compileRefusal f columnRoom ≡ 0 → lettersRefusal word ≡ 0 →
       freshItems (fontTable f) (fontOps f) (f .boundary) z word ≡ columnItems f z word
   fresh-items (pos n) c e = items-by c e (less-or-not (length word) 65536)
   fresh-items (negsuc n) c e = refl
 
-  pub font-set : compileRefusal f columnRoom ≡ 0 → lettersRefusal word ≡ 0 → (pairs ops loops : List ℤ) → pairs ≡ fontTable f → ops ≡ fontOps f →
-      loops ≡ fontLoops f →
-      AnswersBytes (freshNumber pairs ops loops (f .boundary) letters word (length reply)) (freshBytes pairs ops loops (f .boundary) letters word) reply r
-      reply′ → Font-answered
-  font-set c n pairs ops loops p o x a =
-      let q = fresh-items letters c n in
-      let b : AnswersBytes (freshNumber (fontTable f) (fontOps f) (fontLoops f) (f .boundary) letters word (length reply))
-      (freshBytes (fontTable f) (fontOps f) (fontLoops f) (f .boundary) letters word) reply r reply′ =
-      subst (λ (xs : List ℤ). AnswersBytes (freshNumber xs (fontOps f) (fontLoops f) (f .boundary) letters word (length reply))
-      (freshBytes xs (fontOps f) (fontLoops f) (f .boundary) letters word) reply r reply′) p
-      (subst (λ (xs : List ℤ). AnswersBytes (freshNumber pairs xs (fontLoops f) (f .boundary) letters word (length reply))
-      (freshBytes pairs xs (fontLoops f) (f .boundary) letters word) reply r reply′) o
-      (subst (λ (xs : List ℤ). AnswersBytes (freshNumber pairs ops xs (f .boundary) letters word (length reply))
-      (freshBytes pairs ops xs (f .boundary) letters word) reply r reply′) x a)) in
-      let k : lower (compileRefusal f columnRoom) (lettersRefusal word) ≡ 0 = rw (c, n) in
-      let d : AnswersBytes (orElse (columnItems f letters word .number) (replyRefusal (columnBytes f letters word) (length reply))) (columnBytes f letters word)
-      reply r reply′ =
+  -- what is answered for the lists of the font, by the number of the word
+  set-by : compileRefusal f columnRoom ≡ 0 → (m : ℕ) → lettered ≡ m →
+      AnswersBytes (orElse m (freshNumber (fontTable f) (fontOps f) (fontLoops f) (f .boundary) letters word (length reply)))
+      (freshBytes (fontTable f) (fontOps f) (fontLoops f) (f .boundary) letters word) reply r reply′ →
+      AnswersBytes (orElse m setting) (columnBytes f letters word) reply r reply′
+  set-by c zero e a =
+      let n = word-none (lettersRefusal word) (aloneNumber (fontTable f) (fontOps f) (fontLoops f) (length reply)) e in
       subst (λ (i : Reply). AnswersBytes
       (orElse (i .number) (replyRefusal (replyBytes (fontTable f) (fontOps f) (fontLoops f) letters (i .values)) (length reply)))
-      (replyBytes (fontTable f) (fontOps f) (fontLoops f) letters (i .values)) reply r reply′) q b in
+      (replyBytes (fontTable f) (fontOps f) (fontLoops f) letters (i .values)) reply r reply′) (fresh-items letters c n) a
+  set-by c (suc m) e a = refused-bytes (suc m) (suc m) m refl refl a
+
+  pub font-set : compileRefusal f columnRoom ≡ 0 → signsRefusal word ≡ 0 → (pairs ops loops : List ℤ) → pairs ≡ fontTable f → ops ≡ fontOps f →
+      loops ≡ fontLoops f →
+      AnswersBytes (orElse (wordNumber pairs ops loops word (length reply)) (freshNumber pairs ops loops (f .boundary) letters word (length reply)))
+      (freshBytes pairs ops loops (f .boundary) letters word) reply r reply′ → Font-answered
+  font-set c n pairs ops loops p o x a =
+      let b = subst₃ (λ (xs ys zs : List ℤ). AnswersBytes
+      (orElse (wordNumber xs ys zs word (length reply)) (freshNumber xs ys zs (f .boundary) letters word (length reply)))
+      (freshBytes xs ys zs (f .boundary) letters word) reply r reply′) p o x a in
+      let k : lower (compileRefusal f columnRoom) (signsRefusal word) ≡ 0 = rw (c, n) in
       subst (λ (m : ℕ). AnswersBytes m (columnBytes f letters word) reply r reply′)
-      (sym (second-is (lower (compileRefusal f columnRoom) (lettersRefusal word))
-      (orElse (columnItems f letters word .number) (replyRefusal (columnBytes f letters word) (length reply))) k)) d
+      (sym (second-is (lower (compileRefusal f columnRoom) (signsRefusal word)) (orElse lettered setting) k)) (set-by c lettered refl b)

@@ -7,10 +7,9 @@ use lib.ListN.{length}
 use Rattle.lang.specs.declared.Written.{Written}
 use Rattle.lang.specs.Checks.{orElse}
 use Rattle.lang.specs.Answers.{Reply, replyOf, writtenReply, listOf}
-use Rattle.captions.specs.Begin.{freshState}
+use Rattle.captions.specs.Begin.{freshState, plainOptions}
 use Rattle.word_set.specs.Setting.{itemsFrom}
 use Rattle.columns.specs.Replying.{replyBytes, replyRefusal}
-use Rattle.columns.specs.Ligcols.{columnOptions}
 
 -- the bytes and zeros, and how many; or a number, and zeros
 pub record AnswersBytes (number : ℕ) (bytes reply : List ℕ) (r : Written) (reply′ : List ℕ) : Type 0 where
@@ -19,7 +18,7 @@ pub record AnswersBytes (number : ℕ) (bytes reply : List ℕ) (r : Written) (r
 
 -- the items that a fresh run gives over a table; none where there is no word
 abbrev pub freshItems : List ℤ → List ℤ → ℤ → ℤ → List ℕ → Reply
-freshItems pairs ops boundary (pos n) word = itemsFrom pairs ops boundary word columnOptions 885 (freshState word columnOptions)
+freshItems pairs ops boundary (pos n) word = itemsFrom pairs ops boundary word plainOptions 885 (freshState word plainOptions)
 freshItems pairs ops boundary (negsuc n) word = replyOf 0 []
 
 -- the bytes of the reply with those items

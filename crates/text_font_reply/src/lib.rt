@@ -5,7 +5,9 @@ ghost use mathlib.Core.List.{[]};
 ghost use Prim.Native.Nat.{_<_};
 ghost use lib.ListN.{length};
 ghost use Rattle.fonts.specs.Fonts.{fontOf};
-ghost use Rattle.columns.specs.Ligcols.{columnBytes, columnNumber};
+ghost use Rattle.lang.specs.Checks.{orElse, lower};
+ghost use Rattle.lang.specs.Answers.{writtenReply};
+ghost use Rattle.columns.specs.Ligcols.{signsRefusal, aloneNumber, wordNumber, columnBytes, columnNumber};
 ghost use Rattle.text_font_reply.specs.Answering.{AnswersBytes, freshBytes, freshNumber};
 use caption_run::begin::letters_refusal;
 use captions::RunOptions;
@@ -89,6 +91,68 @@ fn answer_table(
     }
 }
 
+// 4: a letter below 0, by the highest of its 32 bits.
+fn signs_refusal(word: &[u32]) -> u32
+    ensures { λ r. ⌜ r ≡ signsRefusal (now (word .entry)) ⌝ }
+{
+    let mut i = 0;
+    while i < word.len() {
+        if 2147483648 <= word[i] {
+            return 4;
+        }
+        i += 1;
+    }
+    0
+}
+
+// The number of a refusal, else 0.
+fn number_in(written: Written) -> u32
+    ensures { λ r. ⌜ r ≡ writtenReply written .number ⌝ }
+{
+    match written {
+        Written::Count(_) => 0,
+        Written::Refused(n) => n,
+    }
+}
+
+// The number of a word that can't be set, or 15 where that is lower and the lines without a word are too many.
+fn refuse_word(pairs: &[i32], ops: &[i32], loops: &[i32], number: u32, reply: &mut [u8]) -> Written
+    requires { ⌜ 0 < number ⌝ }
+    ensures { λ r. ⌜ AnswersBytes
+        (lower number (aloneNumber (now (pairs .entry)) (now (ops .entry)) (now (loops .entry))
+        (length (now (reply .entry))))) [] (now (reply .entry)) r (now (reply .exit)) ⌝ }
+{
+    let alone = write_reply(pairs, ops, loops, -1, &loops[..0], reply);
+    let short = number_in(alone);
+    refuse(reply, lower_of(number, short))
+}
+
+// The table, the loops and the items of a word, as a reply; 20 of a word with what is no letter.
+fn answer_word(
+    pairs: &[i32],
+    ops: &[i32],
+    loops: &[i32],
+    boundary: i32,
+    letters: i32,
+    word: &[u32],
+    reply: &mut [u8],
+) -> Written
+    ensures { λ r. ⌜ AnswersBytes
+        (orElse
+        (wordNumber (now (pairs .entry)) (now (ops .entry)) (now (loops .entry)) (now (word .entry))
+        (length (now (reply .entry))))
+        (freshNumber (now (pairs .entry)) (now (ops .entry)) (now (loops .entry)) boundary letters
+        (now (word .entry)) (length (now (reply .entry)))))
+        (freshBytes (now (pairs .entry)) (now (ops .entry)) (now (loops .entry)) boundary letters
+        (now (word .entry))) (now (reply .entry)) r (now (reply .exit)) ⌝ }
+{
+    let none = letters_refusal(word);
+    if none != 0 {
+        return refuse_word(pairs, ops, loops, none, reply);
+    }
+    answer_table(pairs, ops, loops, boundary, letters, word, reply)
+}
+
 // A font compiled, and its word set: the lowest number of the two, or the reply.
 pub fn answer_font(
     instructions: &[i32],
@@ -114,7 +178,7 @@ pub fn answer_font(
     let mut ops = op_list();
     let mut loops = loop_list();
     let mut work = rows();
-    let bad = letters_refusal(word);
+    let bad = signs_refusal(word);
     match compile(
         instructions,
         kerns,
@@ -134,7 +198,7 @@ pub fn answer_font(
             if bad != 0 {
                 return refuse(reply, bad);
             }
-            answer_table(
+            answer_word(
                 &pairs[..6 * p],
                 &ops[..2 * o],
                 &loops[..2 * l],

@@ -72,24 +72,24 @@ six-none d at = by (leb (at + 6) (length d))
 -- ---- the test of small numbers
 
 pub test-small : (a : Answer) → isSmall a ≡ true → Small a
-test-small (Char c p) e = (leb-true c 255 (both-left (leb c 255) (leb p 65535) e), leb-true p 65535 (both-right (leb c 255) (leb p 65535) e))
+test-small (Char c p) e = (leb-true c 1114111 (both-left (leb c 1114111) (leb p 65535) e), leb-true p 65535 (both-right (leb c 1114111) (leb p 65535) e))
 test-small (Ligature c p n a b) e =
     let o = both (leb p 65535) (leb n 65535) in
-    let f = both-right (leb c 255) o e in (
-      leb-true c 255 (both-left (leb c 255) o e),
+    let f = both-right (leb c 1114111) o e in (
+      leb-true c 1114111 (both-left (leb c 1114111) o e),
       leb-true p 65535 (both-left (leb p 65535) (leb n 65535) f),
       leb-true n 65535 (both-right (leb p 65535) (leb n 65535) f),
     )
 test-small (Kern k) e = tt
 test-small End e = tt
-test-small (Refused k) e = (ltb-true 0 k (both-left (ltb 0 k) (leb k 7) e), leb-true k 7 (both-right (ltb 0 k) (leb k 7) e))
+test-small (Refused k) e = (ltb-true 0 k (both-left (ltb 0 k) (leb k 20) e), leb-true k 20 (both-right (ltb 0 k) (leb k 20) e))
 
 small-test : (a : Answer) → Small a → isSmall a ≡ true
-small-test (Char c p) m = rw (le-leb c 255 (m .0), le-leb p 65535 (m .1))
-small-test (Ligature c p n a b) m = rw (le-leb c 255 (m .0), le-leb p 65535 (m .1), le-leb n 65535 (m .2))
+small-test (Char c p) m = rw (le-leb c 1114111 (m .0), le-leb p 65535 (m .1))
+small-test (Ligature c p n a b) m = rw (le-leb c 1114111 (m .0), le-leb p 65535 (m .1), le-leb n 65535 (m .2))
 small-test (Kern k) m = refl
 small-test End m = refl
-small-test (Refused k) m = rw (lt-ltb 0 k (m .0), le-leb k 7 (m .1))
+small-test (Refused k) m = rw (lt-ltb 0 k (m .0), le-leb k 20 (m .1))
 
 -- an item whose numbers are small, where there is room for them
 pub item-there : (d d′ : List ℤ) (at : ℕ) (a : Answer) → at + 6 ≤ length d → Small a → d′ ≡ itemAt d at a → d′ ≡ sets d at (answerReply a .values)

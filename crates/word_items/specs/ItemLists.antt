@@ -23,21 +23,22 @@ isItem (Kern k) = true
 isItem End = false
 isItem (Refused k) = false
 
--- a code is a character's, and a start and a length are within the longest word; a refusal is not 0, and at most 7
+-- a code is at most the greatest letter (R371), a ligature's too, since a lent state may have letters pending before any character; a start
+-- and a length are within the longest word; a refusal is not 0, and at most 20
 abbrev pub Small : Answer → Type 0
-Small (Char c start) = (c ≤ 255) × (start ≤ 65535)
-Small (Ligature c start n left right) = (c ≤ 255) × (start ≤ 65535) × (n ≤ 65535)
+Small (Char c start) = (c ≤ 1114111) × (start ≤ 65535)
+Small (Ligature c start n left right) = (c ≤ 1114111) × (start ≤ 65535) × (n ≤ 65535)
 Small (Kern k) = Unit {0}
 Small End = Unit {0}
-Small (Refused k) = (0 < k) × (k ≤ 7)
+Small (Refused k) = (0 < k) × (k ≤ 20)
 
 -- the same, as a test
 abbrev pub isSmall : Answer → Bool
-isSmall (Char c start) = both (leb c 255) (leb start 65535)
-isSmall (Ligature c start n left right) = both (leb c 255) (both (leb start 65535) (leb n 65535))
+isSmall (Char c start) = both (leb c 1114111) (leb start 65535)
+isSmall (Ligature c start n left right) = both (leb c 1114111) (both (leb start 65535) (leb n 65535))
 isSmall (Kern k) = true
 isSmall End = true
-isSmall (Refused k) = both (ltb 0 k) (leb k 7)
+isSmall (Refused k) = both (ltb 0 k) (leb k 20)
 
 -- the numbers of an item at a place; nothing where there is no room for six numbers, or where those of the answer are not small
 abbrev pub itemAt : List ℤ → ℕ → Answer → List ℤ

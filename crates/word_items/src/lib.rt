@@ -29,16 +29,16 @@ fn is_small(answer: Answer) -> bool
     ensures { λ r. ⌜ r ≡ isSmall answer ⌝ }
 {
     match answer {
-        Answer::Char(c, start) => c <= 255 && start <= 65535,
+        Answer::Char(c, start) => c <= 1114111 && start <= 65535,
         Answer::Ligature(c, start, n, _, _) => {
-            if 255 < c {
+            if 1114111 < c {
                 return false;
             }
             start <= 65535 && n <= 65535
         }
         Answer::Kern(_) => true,
         Answer::End => true,
-        Answer::Refused(n) => 0 < n && n <= 7,
+        Answer::Refused(n) => 0 < n && n <= 20,
     }
 }
 

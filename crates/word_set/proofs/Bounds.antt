@@ -1,5 +1,5 @@
--- The numbers of a step's answer are small, whatever the table and the state: a code is a character's, since a step checks what it reads; a start and a length
--- are within the letters that were read; and a refusal is not 0, and at most 7.
+-- The numbers of a step's answer are small, whatever the table and the state: a code is at most the greatest letter, since a step checks what it reads; a start
+-- and a length are within the letters that were read; and a refusal is not 0, and at most 20.
 -- Assumes nothing.
 use mathlib.Core.Path.{_≡_, refl, sym, subst}
 use mathlib.Core.Bool.{Bool, true, false, cond}
@@ -13,10 +13,11 @@ use lib.ListN.{length, getD}
 use borrow.Author.Tests.{ltb-true, leb-true, eqb-true}
 use Rattle.words.specs.Words.{wordOf}
 use Rattle.lang.specs.Records.{within, absentOr}
-use Rattle.lang.specs.Checks.{unless, orElse, absentRefusal}
+use Rattle.lang.specs.Checks.{unless, orElse, absentRefusal, isLetter}
 use Rattle.lang.proofs.Every.{both-left, both-right}
 use Rattle.lang.proofs.Records.{within-bound}
 use Rattle.lang.proofs.Refusals.{orElse-none, unless-none}
+use Rattle.lang.proofs.Checks.{letter-bound}
 use Rattle.reading.specs.Items.{plain}
 use Rattle.captions.specs.declared.RunOptions.{RunOptions}
 use Rattle.captions.specs.declared.NextLeft.{NextLeft}
@@ -27,11 +28,11 @@ use Rattle.captions.specs.declared.Answer.the-variants.{Char, Ligature, Kern, E
 use Rattle.captions.specs.declared.Step.{Step}
 use Rattle.captions.specs.declared.Turned.{Turned}
 use Rattle.captions.specs.declared.Turned.the-variants.{Gives, Goes}
-use Rattle.captions.specs.Tables.{opCount, opKind, opValue, opHolds, opFits, keyBy, find}
+use Rattle.captions.specs.Tables.{opCount, opKind, opValue, opHolds, opFits}
 use Rattle.captions.specs.Begin.{edgesRefusal, wordRefusal}
 use Rattle.captions.specs.Steps.{taken, takesBoundary, settled, giveItem, giveCharacter, giveLigature, afterOp, endsWord, giveOp, opsFit, readOp, gathered}
-use Rattle.captions.specs.Steps.{leftPlaceOf, afterRight, readOn, withNext, giveLeft, entryReads, turnBy, turnAtEnd, turnAtLetter, turn, withNothingNext, runOn}
-use Rattle.captions.specs.Steps.{nextFits, placed, rightItem, ranFrom, stepRefusal, handBack, steppedBy, stepOf}
+use Rattle.captions.specs.Steps.{leftPlaceOf, afterRight, readOn, withNext, giveLeft, entryReads, findWithin, turnBy, turnAtEnd, turnAtLetter, turn}
+use Rattle.captions.specs.Steps.{withNothingNext, runOn, nextFits, placed, rightItemFits, rightItem, ranFrom, stepRefusal, handBack, steppedBy, stepOf}
 use Rattle.step_turns.specs.Turns.{turnNext, turnOnce, turnsLeft, Within}
 use Rattle.step_turns.proofs.Laws.{gathered-read}
 use Rattle.step_turns.proofs.Turning.{Running, running-begin, running-less, running-more, running-end, placed-within}
@@ -40,11 +41,11 @@ use Rattle.word_items.specs.ItemLists.{Small}
 -- ---- a step whose answer has small numbers
 
 data Fit : Step → Type 0 where
-  character : (c p : ℕ) {s : State} → c ≤ 255 → p ≤ 65535 → Fit (record { answer = Char c p; state = s })
-  ligature : (c p n : ℕ) (a b : Bool) {s : State} → c ≤ 255 → p ≤ 65535 → n ≤ 65535 → Fit (record { answer = Ligature c p n a b; state = s })
+  character : (c p : ℕ) {s : State} → c ≤ 1114111 → p ≤ 65535 → Fit (record { answer = Char c p; state = s })
+  ligature : (c p n : ℕ) (a b : Bool) {s : State} → c ≤ 1114111 → p ≤ 65535 → n ≤ 65535 → Fit (record { answer = Ligature c p n a b; state = s })
   kern : (k : ℤ) {s : State} → Fit (record { answer = Kern k; state = s })
   over : {s : State} → Fit (record { answer = End; state = s })
-  refusal : (n : ℕ) {s : State} → n ≤ 6 → Fit (record { answer = Refused (suc n); state = s })
+  refusal : (n : ℕ) {s : State} → n ≤ 19 → Fit (record { answer = Refused (suc n); state = s })
 
 small : {t : Step} → Fit t → Small (t .answer)
 small (character c p l h) = (l, h)
@@ -69,13 +70,13 @@ module _ (n : ℕ) (few : n ≤ 65535) where
   item-fits a k s r h =
       either (leb (s .given + k) (s .read)) (λ e. h (omega (arith, leb-true (s .given + k) (s .read) e, r, few))) (λ _. refusal 6 (omega arith))
 
-  character-fits : (c : ℕ) (s : State) → c ≤ 255 → s .read ≤ n → Fit (giveCharacter c s)
+  character-fits : (c : ℕ) (s : State) → c ≤ 1114111 → s .read ≤ n → Fit (giveCharacter c s)
   character-fits c s l r =
       either (eqb (s .pending) 0) (λ _. item-fits (Char c (s .given)) 1 s r (λ h. character c (s .given) l (omega (arith, h))))
       (λ _. item-fits (Ligature c (s .given) (s .pending) (s .«pending_boundary») false) (s .pending) s r
       (λ h. ligature c (s .given) (s .pending) (s .«pending_boundary») false l (omega (arith, h)) (omega (arith, h))))
 
-  ligature-fits : (c : ℕ) (right : Bool) (s : State) → c ≤ 255 → s .read ≤ n → Fit (giveLigature c right s)
+  ligature-fits : (c : ℕ) (right : Bool) (s : State) → c ≤ 1114111 → s .read ≤ n → Fit (giveLigature c right s)
   ligature-fits c right s l r =
       item-fits (Ligature c (s .given) (taken s) (takesBoundary s) right) (taken s) s r
       (λ h. ligature c (s .given) (taken s) (takesBoundary s) right l (omega (arith, h)) (omega (arith, h)))
@@ -87,8 +88,8 @@ module _ (n : ℕ) (few : n ≤ 65535) where
         let c = wordOf (opValue ops (s .op)) in
         let o : opHolds ops (s .op) ≡ true = both-right (ltb (s .op) (opCount ops)) (opHolds ops (s .op)) (both-left (opFits ops (s .op)) _ h) in
         let f : k < 2 → c ≤ 255 = holds-code (within 1 (opKind ops (s .op))) k (opValue ops (s .op)) o in
-        either (eqb k 0) (λ e. character-fits c (afterOp s) (f (omega (arith, eqb-true k 0 e))) r)
-        (λ _. either (eqb k 1) (λ e. ligature-fits c (endsWord ops (afterOp s)) (afterOp s) (f (omega (arith, eqb-true k 1 e))) r)
+        either (eqb k 0) (λ e. character-fits c (afterOp s) (omega (arith, f (omega (arith, eqb-true k 0 e)))) r)
+        (λ _. either (eqb k 1) (λ e. ligature-fits c (endsWord ops (afterOp s)) (afterOp s) (omega (arith, f (omega (arith, eqb-true k 1 e)))) r)
         (λ _. kern (opValue ops (s .op))))
 
     read-fits : Fit (readOp ops s)
@@ -111,8 +112,8 @@ given-either false p q = q refl
 module _ (pairs ops : List ℤ) (o : Option ℕ) (word : List ℕ) (few : length word ≤ 65535) where
   left-given : (x : NextLeft) (s : State) → nextFits x ≡ true → s .read ≤ length word → Given (giveLeft x s)
   left-given next.Boundary s f r = goes
-  left-given (next.Char c) s f r = gives (character-fits (length word) few c s (leb-true c 255 f) r)
-  left-given (next.Lig c) s f r = gives (character-fits (length word) few c s (leb-true c 255 f) r)
+  left-given (next.Char c) s f r = gives (character-fits (length word) few c s (letter-bound c f) r)
+  left-given (next.Lig c) s f r = gives (character-fits (length word) few c s (omega (arith, leb-true c 255 f)) r)
   left-given (next.FinalLig c) s f r = goes
   left-given next.None s f r = goes
 
@@ -123,14 +124,14 @@ module _ (pairs ops : List ℤ) (o : Option ℕ) (word : List ℕ) (few : length
 
   letter-given : (x : NextLeft) (y : ℕ) (s : State) → nextFits x ≡ true → suc (s .read) ≤ length word → Given (turnAtLetter pairs ops x y s)
   letter-given x y s f r =
-      given-either (leb y 255) (λ _. with-given x true y s f r (find pairs (keyBy (leftPlaceOf x) y))) (λ _. gives (refusal 3 (omega arith)))
+      given-either (isLetter y) (λ _. with-given x true y s f r (findWithin pairs (leftPlaceOf x) y)) (λ _. gives (refusal 19 (omega arith)))
 
   end-given : (q : Option ℕ) (x : NextLeft) (s : State) → nextFits x ≡ true → s .read ≤ length word → Given (turnAtEnd pairs ops q x s)
   end-given q next.Boundary s f r = gives over
   end-given none (next.Char c) s f r = left-given (next.Char c) (withNext next.None (s .read) s) f r
-  end-given (some y) (next.Char c) s f r = with-given (next.Char c) false y s f r (find pairs (keyBy (suc c) y))
+  end-given (some y) (next.Char c) s f r = with-given (next.Char c) false y s f r (findWithin pairs (suc c) y)
   end-given none (next.Lig c) s f r = left-given (next.Lig c) (withNext next.None (s .read) s) f r
-  end-given (some y) (next.Lig c) s f r = with-given (next.Lig c) false y s f r (find pairs (keyBy (suc c) y))
+  end-given (some y) (next.Lig c) s f r = with-given (next.Lig c) false y s f r (findWithin pairs (suc c) y)
   end-given q (next.FinalLig c) s f r = gives over
   end-given q next.None s f r = gives over
 
@@ -144,7 +145,7 @@ module _ (pairs ops : List ℤ) (o : Option ℕ) (word : List ℕ) (few : length
   next-given s next.Boundary f r = turn-given next.Boundary s f r
   next-given s (next.Char c) f r = turn-given (next.Char c) s f r
   next-given s (next.Lig c) f r = turn-given (next.Lig c) s f r
-  next-given s (next.FinalLig c) f r = gives (ligature-fits (length word) few c true (withNothingNext s) (leb-true c 255 f) r)
+  next-given s (next.FinalLig c) f r = gives (ligature-fits (length word) few c true (withNothingNext s) (omega (arith, leb-true c 255 f)) r)
   next-given s next.None f r = gives over
 
   once-given : (s : State) → Within (length word) (opCount ops) s → Given (turnOnce ops (turn pairs ops o word) s)
@@ -173,8 +174,10 @@ module _ (pairs ops : List ℤ) (o : Option ℕ) (word : List ℕ) (few : length
     ran-fits : Fit (ranFrom pairs ops o word s)
     ran-fits =
         either (placed ops word s)
-        (λ e. ran-in (suc (turnsLeft (length word) s)) s (omega arith)
+        (λ e. either (rightItemFits o)
+        (λ _. ran-in (suc (turnsLeft (length word) s)) s (omega arith)
         (running-begin (length word) (opCount ops) run s (placed-within ops word s (omega (arith, few)) e)))
+        (λ _. refusal 19 (omega arith)))
         (λ _. refusal 6 (omega arith))
 
 -- ---- the step
@@ -186,7 +189,7 @@ handed s (kern k) = kern k
 handed s over = over
 handed s (refusal n l) = refusal n l
 
-stepped : (n : ℕ) (s : State) (t : Step) → n ≤ 7 → (n ≡ 0 → Fit t) → Fit (steppedBy n s t)
+stepped : (n : ℕ) (s : State) (t : Step) → n ≤ 20 → (n ≡ 0 → Fit t) → Fit (steppedBy n s t)
 stepped zero s t l h = handed s (h refl)
 stepped (suc n) s t l h = refusal n (omega (arith, l))
 
@@ -203,12 +206,13 @@ module _ (pairs ops : List ℤ) (boundary : ℤ) (word : List ℕ) (options : Ru
   short : stepRefusal boundary word options ≡ 0 → length word ≤ 65535
   short z = leb-true (length word) 65535 (unless-none 5 (leb (length word) 65535) (orElse-none (edgesRefusal boundary options) (wordRefusal word) z .1))
 
-  few : stepRefusal boundary word options ≤ 7
+  few : stepRefusal boundary word options ≤ 20
   few =
-      orElse-few 7 (edgesRefusal boundary options) (wordRefusal word)
-      (orElse-few 7 (absentRefusal 255 boundary) (absentRefusal 255 (options .«right_boundary_override»))
-      (unless-few 7 4 (absentOr 255 boundary) (omega arith)) (unless-few 7 4 (absentOr 255 (options .«right_boundary_override»)) (omega arith)))
-      (unless-few 7 6 (leb (length word) 65535) (omega arith))
+      let over = options .«right_boundary_override» in
+      orElse-few 20 (edgesRefusal boundary options) (wordRefusal word)
+      (orElse-few 20 (absentRefusal 255 boundary) (absentRefusal 2147483647 over) (unless-few 20 4 (absentOr 255 boundary) (omega arith))
+      (unless-few 20 4 (absentOr 2147483647 over) (omega arith)))
+      (unless-few 20 6 (leb (length word) 65535) (omega arith))
 
   pub step-small : Small (stepOf pairs ops boundary word options s .answer)
   step-small =

@@ -1,4 +1,4 @@
--- The number of a word set whole is at most 15, and it has six numbers an item.
+-- The number of a word set whole is at most 20, and it has six numbers an item.
 -- Assumes nothing.
 use mathlib.Core.Path.{_≡_, refl}
 use mathlib.Core.List.{List, [], _++_}
@@ -17,11 +17,11 @@ use Rattle.word_items.specs.ItemLists.{Small}
 use Rattle.word_set.specs.Setting.{andThen, itemsBy, itemsFrom}
 use Rattle.word_set.proofs.Bounds.{step-small}
 
-same : (n : ℕ) (vs : List ℤ) → n ≤ 15 → replyOf n vs .number ≤ 15
+same : (n : ℕ) (vs : List ℤ) → n ≤ 20 → replyOf n vs .number ≤ 20
 same zero vs l = l
 same (suc n) vs l = l
 
-then-few : (a : Answer) (r : Reply) → Small a → r .number ≤ 15 → andThen a r .number ≤ 15
+then-few : (a : Answer) (r : Reply) → Small a → r .number ≤ 20 → andThen a r .number ≤ 20
 then-few (Char c p) r m l = same (r .number) _ l
 then-few (Ligature c p n a b) r m l = same (r .number) _ l
 then-few (Kern k) r m l = same (r .number) _ l
@@ -40,7 +40,7 @@ then-sixes End r h = refl
 then-sixes (Refused k) r h = refl
 
 module _ (pairs ops : List ℤ) (boundary : ℤ) (word : List ℕ) (options : RunOptions) where
-  pub items-few : (n : ℕ) (s : State) → itemsFrom pairs ops boundary word options n s .number ≤ 15
+  pub items-few : (n : ℕ) (s : State) → itemsFrom pairs ops boundary word options n s .number ≤ 20
   unfolding itemsBy
   items-few zero s = then-few (stepOf pairs ops boundary word options s .answer) (replyOf 15 []) (step-small pairs ops boundary word options s) (omega arith)
   items-few (suc n) s =

@@ -57,7 +57,7 @@ module _ (alone : ℕ → ℕ → Bool) (ops : List ℤ) (boundary : ℤ) (word 
         ap (sets d (6 * k)) (ap (letterItems word s) (sym (add-one j)) ∙ items-more word s j) ∙ sets-append (letterItems word s j) (letterItem u) d (6 * k)
         ∙ ap (λ (x : ℕ). sets (dAt j) x (letterItem u)) at in
         let v : dAt (suc j) ≡ sets (dAt j) (6 * (k + j)) (answerReply (t .answer) .values) =
-        put-character (dAt j) (dAt (suc j)) (6 * (k + j)) {x = t .answer} refl (f .1, f .2) w in
+        put-character (dAt j) (dAt (suc j)) (6 * (k + j)) {x = t .answer} refl (omega (arith, f .1), f .2) w in
         let b : k + suc j ≡ k + j + 1 = omega arith in
         rw (state-more word s j, b) (standing-more step s₀ d₀ (dAt j) u (k + j) r t e refl few (dAt (suc j)) v)
 

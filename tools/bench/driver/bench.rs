@@ -47,7 +47,7 @@ fn instruction(next: i32, right: i32, kind: i32, operand: i32) -> Instruction {
 }
 
 fn char_of(code: i32) -> char {
-    char::from(code as u8)
+    char::from_u32(code as u32).expect("a letter")
 }
 
 /// The numbers of a request W.

@@ -2,7 +2,7 @@
 //! step. As fonts.rs.
 
 use crate::calls::*;
-use crate::drawn::{word, Drawn};
+use crate::drawn::{over, word, Drawn};
 use crate::font::Font;
 use crate::fonts::{entries, instructions, kerns, learned, sink, source, values, Tried};
 use crate::list::{of_u32, Content, List};
@@ -55,8 +55,8 @@ pub fn compiled(r: &mut Random, drawn: &Drawn, counts: &mut Counts) -> Tried {
     table.questions(r, &drawn.letters, counts)?;
     let index = table.index(counts)?;
     for disable_left_boundary in [false, true] {
-        for over in [-1, r.pick(&drawn.letters)] {
-            let word: Vec<u32> = word(r, &drawn.letters).iter().map(|c| *c as u32).collect();
+        for over in [-1, over(r, &drawn.letters)] {
+            let word = word(r, &drawn.letters);
             table.word(&Run { word, disable_left_boundary, over }, &index, counts)?;
         }
     }

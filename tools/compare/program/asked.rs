@@ -108,7 +108,7 @@ pub fn compile(font: &Font, design: i32, tally: &mut Tally) -> (Answer, Option<C
     }
 }
 
-pub fn set_word(compiled: &CompiledProgram, word: &[u8], disable_left_boundary: bool, over: i32) -> Answer {
+pub fn set_word(compiled: &CompiledProgram, word: &[u32], disable_left_boundary: bool, over: i32) -> Answer {
     plain(caught(|| published::set_word(compiled, word, disable_left_boundary, over)))
 }
 

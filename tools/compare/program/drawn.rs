@@ -200,9 +200,34 @@ fn doubling(r: &mut Random) -> Drawn {
 
 // ---- what is asked beside a font
 
-pub fn word(r: &mut Random, letters: &[i32]) -> Vec<u8> {
+/// A letter that no font has: at the ends of the ranges, or one of these letters but for higher bits.
+pub fn beyond(r: &mut Random, letters: &[i32]) -> u32 {
+    let c = r.pick(letters) as u32;
+    r.pick(&[256, 300, 55_295, 57_344, 1_114_111, c + 256, c + 65_536])
+}
+
+/// A word of these letters, in one of five with letters beyond the font among them.
+pub fn word(r: &mut Random, letters: &[i32]) -> Vec<u32> {
     let length = if r.percent(4) { r.within(7, 30) } else { r.within(0, 6) };
-    (0..length).map(|_| if r.percent(97) { r.pick(letters) as u8 } else { r.within(0, 255) as u8 }).collect()
+    let mut word: Vec<u32> =
+        (0..length).map(|_| if r.percent(97) { r.pick(letters) as u32 } else { r.within(0, 255) as u32 }).collect();
+    if r.percent(20) {
+        for letter in &mut word {
+            if r.percent(30) {
+                *letter = beyond(r, letters);
+            }
+        }
+    }
+    word
+}
+
+/// An override: one of the letters, in one of five beyond the font.
+pub fn over(r: &mut Random, letters: &[i32]) -> i32 {
+    if r.percent(20) {
+        beyond(r, letters) as i32
+    } else {
+        r.pick(letters)
+    }
 }
 
 /// Indices that are passed over; now and then one past the program, which the Rust's set can hold.

@@ -35,7 +35,7 @@ pub enum Ask {
 #[derive(Clone, Debug, PartialEq)]
 pub struct Setting {
     pub design: i32,
-    pub word: Vec<u8>,
+    pub word: Vec<u32>,
     pub disable_left_boundary: bool,
     pub over: i32,
 }

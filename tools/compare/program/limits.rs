@@ -1,5 +1,6 @@
 //! The limits of the rules: the longest program, list of kerns and word, compared with the Rust, and each one longer,
-//! which is refused with 1, 3 or 6. And the characters that a question about a table can name out of range, with 4.
+//! which is refused with 1, 3 or 6. And the characters that a question about a table can name out of range, with 4, and
+//! what is no letter, with 20.
 
 use crate::compare::{ask_program, ask_refused, compile, Mismatch};
 use crate::drawn::DESIGN;
@@ -86,7 +87,7 @@ fn kerns(tally: &mut Tally) -> Asked {
 fn letters(tally: &mut Tally) -> Asked {
     let font = font(vec![[0, 66, 2, 256 + 67], [0, 65, 0, -65_536], [-1, 67, 2, 65]]);
     let Some(mut both) = compile(&font, DESIGN, 1, &reading::read(&font), tally)? else { return Ok(()) };
-    let mut word: Vec<u8> = (0..LETTERS).map(|i| [65, 66, 67, 65, 65, 68][i * i % 6]).collect();
+    let mut word: Vec<u32> = (0..LETTERS).map(|i| [65, 66, 67, 65, 65, 68][i * i % 6]).collect();
     for disable_left_boundary in [false, true] {
         let setting = Setting { design: DESIGN, word: word.clone(), disable_left_boundary, over: 66 };
         both.ask_all_ways(setting, &font, tally)?;
@@ -104,10 +105,16 @@ fn characters(tally: &mut Tally) -> Asked {
     for (left, right) in [(-2, 66), (256, 66), (65, -2), (65, 256), (i32::MIN, i32::MAX)] {
         both.ask_refused(&Ask::HasReplacement { design: DESIGN, left, right }, &font, 4, tally)?;
     }
-    for over in [-2, 256, i32::MIN, i32::MAX] {
+    for (over, number) in [(-2, 4), (i32::MIN, 4), (0xd800, 20), (0xdfff, 20), (1_114_112, 20), (i32::MAX, 20)] {
         let setting = Setting { design: DESIGN, word: vec![65, 66], disable_left_boundary: false, over };
-        both.ask_refused(&Ask::SetWord(setting.clone()), &font, 4, tally)?;
-        both.ask_refused(&Ask::Steps(setting), &font, 4, tally)?;
+        both.ask_refused(&Ask::SetWord(setting.clone()), &font, number, tally)?;
+        both.ask_refused(&Ask::Steps(setting), &font, number, tally)?;
+    }
+    for letter in [0xd800, 0xdfff, 1_114_112, u32::MAX] {
+        let setting = Setting { design: DESIGN, word: vec![65, letter], disable_left_boundary: false, over: -1 };
+        both.ask_refused(&Ask::SetWord(setting.clone()), &font, 20, tally)?;
+        both.ask_refused(&Ask::Indexed(setting.clone()), &font, 20, tally)?;
+        both.ask_refused(&Ask::Steps(setting), &font, 20, tally)?;
     }
     Ok(())
 }

@@ -42,7 +42,7 @@ fn table(r: &mut Random, drawn: &Drawn, spare: usize, tally: &mut Tally) -> Aske
     }
     for _ in 0..3 {
         let word = drawn::word(r, &drawn.letters);
-        for over in [-1, r.pick(&drawn.letters)] {
+        for over in [-1, drawn::over(r, &drawn.letters)] {
             for disable_left_boundary in [false, true] {
                 let setting = Setting { design, word: word.clone(), disable_left_boundary, over };
                 both.ask_all_ways(setting, font, tally)?;

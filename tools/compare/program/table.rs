@@ -51,7 +51,7 @@ impl Table {
 
     /// How many items, and the items. Lent so many items of room.
     pub fn set_word(&mut self, setting: &Setting, room: usize) -> Given {
-        let mut word = Input::<u32>::new(setting.word.iter().map(|c| *c as u32).collect());
+        let mut word = Input::<u32>::new(setting.word.clone());
         let mut items = Output::<i32>::new("items", 6 * room + self.spare);
         let mut count = Output::<u64>::new("count", 1 + self.spare);
         let number = unsafe {
@@ -94,7 +94,7 @@ impl Table {
     pub fn set_word_indexed(&mut self, setting: &Setting, room: usize) -> Given {
         self.fill_index()?;
         let index = self.index.as_mut().expect("it is filled");
-        let mut word = Input::<u32>::new(setting.word.iter().map(|c| *c as u32).collect());
+        let mut word = Input::<u32>::new(setting.word.clone());
         let mut items = Output::<i32>::new("items", 6 * room + self.spare);
         let mut count = Output::<u64>::new("count", 1 + self.spare);
         let number = unsafe {
@@ -179,7 +179,7 @@ impl Table {
     /// How many items, and the items, step by step; no more than one past the expected count. Two further steps must
     /// give the end.
     pub fn steps(&mut self, setting: &Setting, expected: usize) -> Given {
-        let mut word = Input::<u32>::new(setting.word.iter().map(|c| *c as u32).collect());
+        let mut word = Input::<u32>::new(setting.word.clone());
         let mut state = Output::<u64>::new("state", STATE + self.spare);
         let mut item = Output::<i32>::new("item", ITEM + self.spare);
         self.begin(&mut word, setting, &mut state)?;

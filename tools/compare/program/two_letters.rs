@@ -77,11 +77,11 @@ fn font_of(rules: &Rules) -> Font {
 }
 
 /// All words of the two letters up to length 3.
-fn words() -> Vec<Vec<u8>> {
-    let mut words: Vec<Vec<u8>> = vec![vec![]];
+fn words() -> Vec<Vec<u32>> {
+    let mut words: Vec<Vec<u32>> = vec![vec![]];
     let mut longest = words.clone();
     for _ in 0..3 {
-        longest = longest.iter().flat_map(|w| [A, B].map(|c| [&w[..], &[c as u8]].concat())).collect();
+        longest = longest.iter().flat_map(|w| [A, B].map(|c| [&w[..], &[c as u32]].concat())).collect();
         words.extend(longest.clone());
     }
     words

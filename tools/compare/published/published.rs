@@ -273,8 +273,13 @@ pub fn table_is_seven_bit_safe(compiled: &CompiledProgram) -> Numbers {
     vec![compiled.is_seven_bit_safe() as i64]
 }
 
+/// A letter, which is never asked about where it is none.
+fn letter(code: u32) -> char {
+    char::from_u32(code).expect("a letter")
+}
+
 /// The six numbers of an item, after so many letters. An original is checked to be the part of the word that is named.
-fn item(item: TextItem, word: &[u8], given: &mut usize) -> [i64; 6] {
+fn item(item: TextItem, word: &[char], given: &mut usize) -> [i64; 6] {
     let start = *given;
     match item {
         TextItem::Char(c) => {
@@ -286,7 +291,7 @@ fn item(item: TextItem, word: &[u8], given: &mut usize) -> [i64; 6] {
             let length = original.chars().count();
             *given += length;
             assert!(
-                original.chars().eq(word[start..*given].iter().map(|c| *c as char)),
+                original.chars().eq(word[start..*given].iter().copied()),
                 "an original is no part of the word"
             );
             [1, c as i64, start as i64, length as i64, includes_left_boundary as i64, includes_right_boundary as i64]
@@ -295,16 +300,19 @@ fn item(item: TextItem, word: &[u8], given: &mut usize) -> [i64; 6] {
 }
 
 /// How many items, and the items. After the end two further calls are made, which must give the end.
-pub fn set_word(compiled: &CompiledProgram, word: &[u8], disable_left_boundary: bool, over: i32) -> Numbers {
-    let options = RunOptions { disable_left_boundary, right_boundary_override: character(over) };
-    let mut iter = compiled.run_with_options(word.iter().map(|c| *c as char), options);
+pub fn set_word(compiled: &CompiledProgram, word: &[u32], disable_left_boundary: bool, over: i32) -> Numbers {
+    let right_boundary_override = (over >= 0).then(|| letter(over as u32));
+    let options = RunOptions { disable_left_boundary, right_boundary_override };
+    let word: Vec<char> = word.iter().map(|c| letter(*c)).collect();
+    let mut iter = compiled.run_with_options(word.iter().copied(), options);
     let mut out = Vec::with_capacity(12 * word.len() + 13);
     out.push(0);
     let mut given = 0;
     while let Some(next) = iter.next() {
         out[0] += 1;
-        out.extend(item(next, word, &mut given));
+        out.extend(item(next, &word, &mut given));
     }
     assert!(iter.next().is_none() && iter.next().is_none(), "an item after the end");
+    assert!(given == word.len(), "a letter is lost");
     out
 }

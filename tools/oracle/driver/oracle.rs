@@ -40,8 +40,11 @@ impl Numbers {
     fn flag(&mut self) -> Read<bool> {
         Ok(self.int(0, 1)? == 1)
     }
+    fn number(&mut self) -> Read<i32> {
+        Ok(self.int(i32::MIN as i64, i32::MAX as i64)? as i32)
+    }
     fn word(&mut self) -> Read<FixWord> {
-        Ok(FixWord(self.int(i32::MIN as i64, i32::MAX as i64)? as i32))
+        Ok(FixWord(self.number()?))
     }
     /// A design size, a size and a magnification.
     fn sized(&mut self) -> Read<Sized> {
@@ -460,6 +463,13 @@ fn warning(w: &ValidationWarning) -> [i64; 4] {
     }
 }
 
+/// A letter of a word. What the Rust has no `char` for, the rules refuse.
+fn char_of(code: i32) -> char {
+    let c = char::from_u32(code as u32);
+    assert!(c.is_some(), "rule 20");
+    c.unwrap()
+}
+
 /// A request whose numbers have all been read. Calling it calls the published text.
 type Call = Box<dyn FnOnce() -> Answer>;
 
@@ -595,14 +605,17 @@ fn read(letter: &str, n: &mut Numbers) -> Read<Call> {
         }
         "W" => {
             let use_left_boundary = n.flag()?;
-            let right_boundary_override = n.optional_byte()?.map(char::from);
-            let word = n.many(Numbers::byte)?;
+            let right = n.number()?;
+            let word = n.many(Numbers::number)?;
             let design = n.word()?;
             let font = n.compiled_font()?;
             Box::new(move || {
                 let (compiled, _) = font.compile(design);
+                assert!(right >= -1, "rule 4");
+                let word: Vec<char> = word.into_iter().map(char_of).collect();
+                let right_boundary_override = (right >= 0).then(|| char_of(right));
                 let mut iter = compiled.run_with_options(
-                    word.into_iter().map(char::from),
+                    word.into_iter(),
                     RunOptions {
                         disable_left_boundary: !use_left_boundary,
                         right_boundary_override,
@@ -709,7 +722,8 @@ fn listen() {
 
 /// The number of the refusal that the last panic stands for, by what it said: the assertion of
 /// `to_scaled`; the offset of packing counted past a byte; the target of a redirect, an entry or the
-/// left-boundary entry plus the offset past 65535; the two refusals of a size, which the Rust has not.
+/// left-boundary entry plus the offset past 65535; the refusals of a size and of a
+/// letter, which the Rust has not.
 fn said(letter: &str) -> Option<i64> {
     let text = SAID.lock().unwrap();
     if text.ends_with("a == 0 || a == 255") {
@@ -781,7 +795,7 @@ pub fn main() -> i32 {
             }
             None => {
                 let number = refusal(&line);
-                text.push_str(if matches!(number, Some(5 | 19)) { " ?" } else { " panic" });
+                text.push_str(if matches!(number, Some(4 | 5 | 19 | 20)) { " ?" } else { " panic" });
                 if let Some(number) = number {
                     text.push_str(&format!(" {number}"));
                 }

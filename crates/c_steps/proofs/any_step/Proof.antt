@@ -1,8 +1,9 @@
 -- `c_steps::any_step` meets its contract: proofs/Stepping.
 -- Assumes nothing.
-use mathlib.Core.Path.{_≡_, _∙_}
+use mathlib.Core.Path.{_≡_, ap, _∙_}
 use native.Mathlib.Omega.{arith}
 use Rattle.words.proofs.Bits.{number-word}
+use Rattle.lang.specs.Checks.{lower}
 use Rattle.captions.specs.Steps.{stepOf}
 use Rattle.c_states.specs.States.{stateRead}
 use Rattle.c_steps.specs.Step.{stepIn}
@@ -33,6 +34,12 @@ kern-step-requires c κs = search needs
 refusal-of-requires : tie.Need-refusal-of-requires
 refusal-of-requires c κs = search needs
 
+room-refusal-requires : tie.Need-room-refusal-requires
+room-refusal-requires c κs = search needs
+
+lower-of-requires : tie.Need-lower-of-requires
+lower-of-requires c κs = search needs
+
 same-length : tie.Need-same-length
 same-length c = search needs
 
@@ -41,12 +48,15 @@ same-length-2 c = search needs
 
 returns : tie.Need-returns
 returns c =
-    let g = c .before .before in
+    let m = c .before in
+    let i = m .before in
+    let g = i .before .before in
     let z = g .before .before .before .before .zero-i32 in
     let a = g .before .before .before .before .before .before .before .before .args in
-    let n = c .before .refusal-of in
+    let n = i .before .refusal-of in
     steps-refused (a .pairs .now) (a .ops .now) (a .boundary) (a .word .now) (a .options) (a .state .now) (a .item .now) (z .last .0) (z .ensures)
-    (g .kern-step .result) (stepped g) (n .result) (n .ensures) (c .if1 .taken)
+    (g .kern-step .result) (stepped g) (n .result) (n .ensures) (i .if1 .taken) (c .lower-of .result)
+    (c .lower-of .ensures ∙ ap (lower (n .result)) (m .room-refusal .ensures))
 
 same-length-3 : tie.Need-same-length-3
 same-length-3 c = search needs
@@ -103,6 +113,8 @@ any-step-spec =
     state-in-requires
     kern-step-requires
     refusal-of-requires
+    room-refusal-requires
+    lower-of-requires
     same-length
     same-length-2
     returns

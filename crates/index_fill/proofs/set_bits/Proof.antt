@@ -9,7 +9,7 @@ use lib.ListN.{length}
 use denote.Ref.{now}
 use Rattle.words.specs.Words.{wordOf}
 use Rattle.captions.specs.Tables.{pairCount, number, leftPlace}
-use Rattle.index.proofs.Places.{left-small, right-small}
+use Rattle.captions.proofs.Bisecting.{left-small, right-small}
 use Rattle.index_fill.specs.Filling.{Filled}
 use Rattle.index_fill.proofs.Laws.{filled-none, filled-pair, place-read}
 use borrow.Author.Needs.{needs}

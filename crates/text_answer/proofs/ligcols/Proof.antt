@@ -33,7 +33,7 @@ counted : (v : tie.After-n) → let a = v .before .before .before .before in let
 counted v = length-answer (v .n .given .0 .0) (told (v .before .before .before .before) (written.Count (v .n .given .0 .0)) (sym (v .n .given .1)))
 
 refused : (v : tie.After-n2) → let a = v .before .before .before .before in let s = a .before .before .before .before in
-    (0 < v .n2 .given .0 .0) × (v .n2 .given .0 .0 ≤ 16)
+    (0 < v .n2 .given .0 .0) × (v .n2 .given .0 .0 ≤ 20)
     × AnswersText (s .args .text .now) (s .args .reply .now) (numberOf (4294967295 - (v .n2 .given .0 .0 - 1))) (a .answer .last .1 .0)
 refused v = number-answer (v .n2 .given .0 .0) (told (v .before .before .before .before) (written.Refused (v .n2 .given .0 .0)) (sym (v .n2 .given .1)))
 

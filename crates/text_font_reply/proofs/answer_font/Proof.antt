@@ -1,4 +1,4 @@
--- `text_font_reply::answer_font` meets its contract: the lowest number of compiling and of the word, or what `answer_table` answers for what compiling wrote.
+-- `text_font_reply::answer_font` meets its contract: the lowest number of compiling and of the word, or what `answer_word` answers for what compiling wrote.
 -- Assumes nothing.
 use mathlib.Core.Path.{_≡_, sym, ap, subst, subst₃, _∙_}
 use Prim.Native.Nat.{ℕ, _*_, _<_, _≤_}
@@ -10,15 +10,14 @@ use borrow.Author.Needs.{needs}
 use Rattle.words.specs.Words.{wordOf, numberOf}
 use Rattle.words.proofs.Bits.{number-word}
 use Rattle.tfm.proofs.Sizes.{design-plain}
-use Rattle.lang.specs.Checks.{lower}
+use Rattle.lang.specs.Checks.{orElse, lower}
 use Rattle.lang.proofs.Refusals.{lower-some}
 use Rattle.fonts.specs.declared.Compiled.{Compiled}
 use Rattle.fonts.specs.declared.Compiled.the-variants as compiled
 use Rattle.fonts.specs.Fonts.{Font, fontOf}
 use Rattle.fonts.specs.Compiled.{compileRefusal, Compiles}
-use Rattle.captions.specs.Begin.{lettersRefusal}
 use Rattle.columns.proofs.FontBegins.{lists-of}
-use Rattle.columns.specs.Ligcols.{columnRoom}
+use Rattle.columns.specs.Ligcols.{columnRoom, signsRefusal, wordNumber}
 use Rattle.text_font_reply.specs.Answering.{AnswersBytes, freshBytes, freshNumber}
 use Rattle.text_font_reply.proofs.Laws.{not-compiled, compiled-taken, pairs-fit, ops-fit, loops-fit, number-first, font-set}
 use Rattle.text_font_reply.proofs.answer_font.Statement.{statement}
@@ -68,8 +67,8 @@ loop-list-requires c κs = search needs
 rows-requires : tie.Need-rows-requires
 rows-requires c κs = search needs
 
-letters-refusal-requires : tie.Need-letters-refusal-requires
-letters-refusal-requires c κs = search needs
+signs-refusal-requires : tie.Need-signs-refusal-requires
+signs-refusal-requires c κs = search needs
 
 slice-aggregate-compile : tie.Need-slice-aggregate-compile
 slice-aggregate-compile c = search needs
@@ -105,7 +104,7 @@ refused-compile v =
 lower-positive : (c : tie.After-lower-of) → 0 < c .lower-of .result
 lower-positive c =
     let v = c .before .before .before in
-    let bad = v .before .before .before .before .before .before .before .before .before .before .before .letters-refusal .result in
+    let bad = v .before .before .before .before .before .before .before .before .before .before .before .signs-refusal .result in
     subst (λ (k : ℕ). 0 < k) (sym (c .lower-of .ensures)) (lower-some (v .n .given .0 .0) bad (λ z. omega (arith, z, refused-compile v .1)))
 
 refuse-requires : tie.Need-refuse-requires
@@ -176,9 +175,9 @@ returns c =
     let m = v .before .before .before .before .before .before in
     let s = start m in
     let a = s .args in
-    let l = m .before .before .before .before .before .letters-refusal in
+    let l = m .before .before .before .before .before .signs-refusal in
     number-first (font s) (a .letters) (a .word .now) (a .reply .now) (x .result) (x .last .0) (l .result)
-    (l .ensures ∙ sym (ap (λ (k : ℕ). lower k (lettersRefusal (a .word .now))) (taken v)))
+    (l .ensures ∙ sym (ap (λ (k : ℕ). lower k (signsRefusal (a .word .now))) (taken v)))
     (omega (arith, t .if1 .taken))
     (x .ensures)
 
@@ -188,8 +187,8 @@ mul-pairs c = omega (arith, few-pairs (c .before .before) .0)
 array-share-prefix-pairs : tie.Need-array-share-prefix-pairs
 array-share-prefix-pairs c = let v = c .before .before in omega (arith, few-pairs v .0, few-pairs v .1)
 
-slice-aggregate-answer-table : tie.Need-slice-aggregate-answer-table
-slice-aggregate-answer-table c =
+slice-aggregate-answer-word : tie.Need-slice-aggregate-answer-word
+slice-aggregate-answer-word c =
     let v = c .before .before .before in
     sym (length-take-le (6 * v .p .given .0 .0) (compiled-at v .compile .last .1 .1 .1 .1 .1 .1 .1 .1 .0) (omega (arith, few-pairs v .0, few-pairs v .1)))
 
@@ -199,8 +198,8 @@ mul-ops c = omega (arith, few-ops (c .before .before .before) .0)
 array-share-prefix-ops : tie.Need-array-share-prefix-ops
 array-share-prefix-ops c = let v = c .before .before .before in omega (arith, few-ops v .0, few-ops v .1)
 
-slice-aggregate-answer-table-2 : tie.Need-slice-aggregate-answer-table-2
-slice-aggregate-answer-table-2 c =
+slice-aggregate-answer-word-2 : tie.Need-slice-aggregate-answer-word-2
+slice-aggregate-answer-word-2 c =
     let v = c .before .before .before .before in
     sym (length-take-le (2 * v .p .given .0 .1 .0) (compiled-at v .compile .last .1 .1 .1 .1 .1 .1 .1 .1 .1 .0) (omega (arith, few-ops v .0, few-ops v .1)))
 
@@ -210,14 +209,14 @@ mul-loops c = omega (arith, few-loops (c .before .before .before .before) .0)
 array-share-prefix-loops : tie.Need-array-share-prefix-loops
 array-share-prefix-loops c = let v = c .before .before .before .before in omega (arith, few-loops v .0, few-loops v .1)
 
-slice-aggregate-answer-table-3 : tie.Need-slice-aggregate-answer-table-3
-slice-aggregate-answer-table-3 c =
+slice-aggregate-answer-word-3 : tie.Need-slice-aggregate-answer-word-3
+slice-aggregate-answer-word-3 c =
     let v = c .before .before .before .before .before in
     sym (length-take-le (2 * v .p .given .0 .1 .1 .0) (compiled-at v .compile .last .1 .1 .1 .1 .1 .1 .1 .1 .1 .1 .0)
     (omega (arith, few-loops v .0, few-loops v .1)))
 
-answer-table-requires : tie.Need-answer-table-requires
-answer-table-requires c κs = search needs
+answer-word-requires : tie.Need-answer-word-requires
+answer-word-requires c κs = search needs
 
 same-length-2 : tie.Need-same-length-2
 same-length-2 c = search needs
@@ -230,7 +229,7 @@ returns-2 c =
     let m = v .before .before .before .before .before .before in
     let s = start m in
     let a = s .args in
-    let l = m .before .before .before .before .before .letters-refusal in
+    let l = m .before .before .before .before .before .signs-refusal in
     number-first (font s) (a .letters) (a .word .now) (a .reply .now) (x .result) (x .last .0) (o .lower-of .result)
     (o .lower-of .ensures ∙ (λ i. lower (refused-compile v .0 i) (l .ensures i)))
     (lower-positive o)
@@ -241,13 +240,13 @@ same-length-3 c = search needs
 
 returns-3 : tie.Need-returns-3
 returns-3 c =
-    let x = c .before .before .answer-table in
+    let x = c .before .before .answer-word in
     let e = c .before .before .before .before .before .before .before in
     let v = e .before .before in
     let m = compiled-at v in
     let s = start m in
     let a = s .args in
-    let l = m .before .before .before .before .before .letters-refusal in
+    let l = m .before .before .before .before .before .signs-refusal in
     let w = lists-of (tables v) .1 in
     let n : l .result ≡ 0 = omega (arith, e .if1 .left) in
     let ps = take (6 * v .p .given .0 .0) (m .compile .last .1 .1 .1 .1 .1 .1 .1 .1 .0) in
@@ -255,10 +254,13 @@ returns-3 c =
     let ls = take (2 * v .p .given .0 .1 .1 .0) (m .compile .last .1 .1 .1 .1 .1 .1 .1 .1 .1 .1 .0) in
     font-set (font s) (a .letters) (a .word .now) (a .reply .now) (x .result) (x .last .1 .1 .1 .1 .1 .1 .0) (taken v) (sym (l .ensures) ∙ n) ps os ls
     (w .table) (w .op-table) (w .loop-table)
-    (subst (λ (z : ℤ). AnswersBytes (freshNumber ps os ls z (a .letters) (a .word .now) (length (a .reply .now)))
+    (subst (λ (z : ℤ). AnswersBytes
+    (orElse (wordNumber ps os ls (a .word .now) (length (a .reply .now))) (freshNumber ps os ls z (a .letters) (a .word .now) (length (a .reply .now))))
     (freshBytes ps os ls z (a .letters) (a .word .now)) (a .reply .now) (x .result) (x .last .1 .1 .1 .1 .1 .1 .0))
     (number-word (a .boundary) (s .fits .boundary))
-    (subst (λ (z : ℤ). AnswersBytes (freshNumber ps os ls (numberOf (wordOf (a .boundary))) z (a .word .now) (length (a .reply .now)))
+    (subst (λ (z : ℤ). AnswersBytes
+    (orElse (wordNumber ps os ls (a .word .now) (length (a .reply .now)))
+    (freshNumber ps os ls (numberOf (wordOf (a .boundary))) z (a .word .now) (length (a .reply .now))))
     (freshBytes ps os ls (numberOf (wordOf (a .boundary))) z (a .word .now)) (a .reply .now) (x .result) (x .last .1 .1 .1 .1 .1 .1 .0))
     (number-word (a .letters) (s .fits .letters)) (x .ensures)))
 
@@ -270,7 +272,7 @@ answer-font-spec =
     op-list-requires
     loop-list-requires
     rows-requires
-    letters-refusal-requires
+    signs-refusal-requires
     slice-aggregate-compile
     slice-aggregate-compile-2
     slice-aggregate-compile-3
@@ -285,14 +287,14 @@ answer-font-spec =
     returns
     mul-pairs
     array-share-prefix-pairs
-    slice-aggregate-answer-table
+    slice-aggregate-answer-word
     mul-ops
     array-share-prefix-ops
-    slice-aggregate-answer-table-2
+    slice-aggregate-answer-word-2
     mul-loops
     array-share-prefix-loops
-    slice-aggregate-answer-table-3
-    answer-table-requires
+    slice-aggregate-answer-word-3
+    answer-word-requires
     same-length-2
     returns-2
     same-length-3

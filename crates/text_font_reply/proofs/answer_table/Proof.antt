@@ -13,10 +13,9 @@ use Rattle.words.proofs.Bits.{number-word}
 use Rattle.lang.specs.declared.Written.{Written}
 use Rattle.lang.specs.declared.Written.the-variants as written
 use Rattle.lang.proofs.Records.{word-passed}
-use Rattle.captions.specs.Begin.{freshState}
+use Rattle.captions.specs.Begin.{freshState, plainOptions}
 use Rattle.word_set.specs.Setting.{itemsFrom}
 use Rattle.word_set.specs.Writing.{Tells}
-use Rattle.columns.specs.Ligcols.{columnOptions}
 use Rattle.columns.specs.Replying.{replyBytes, WritesReply}
 use Rattle.text_font_reply.specs.Answering.{AnswersBytes, freshBytes, freshNumber}
 use Rattle.text_font_reply.proofs.Laws.{refused-known, freshRun, items-room, table-alone, table-set, table-refused}
@@ -94,8 +93,8 @@ run-as f r e =
     subst (λ (x : Written). Tells (freshRun (a .pairs .now) (a .ops .now) (numberOf (wordOf (a .boundary))) (a .word .now)) (i .item-list .result) x
     (f .set-fresh .last .1 .1 .1 .1 .1 .0)) (sym e)
     (subst (λ (n : ℕ). Tells
-    (itemsFrom (a .pairs .now) (a .ops .now) (numberOf (wordOf (a .boundary))) (a .word .now) columnOptions (n / 6)
-    (freshState (a .word .now) columnOptions)) (i .item-list .result) (f .set-fresh .result) (f .set-fresh .last .1 .1 .1 .1 .1 .0))
+    (itemsFrom (a .pairs .now) (a .ops .now) (numberOf (wordOf (a .boundary))) (a .word .now) plainOptions (n / 6)
+    (freshState (a .word .now) plainOptions)) (i .item-list .result) (f .set-fresh .result) (f .set-fresh .last .1 .1 .1 .1 .1 .0))
     (sym (i .item-list .ensures)) (f .set-fresh .ensures))
 
 told : (v : tie.After-n) → let f = v .before .before .before in let s = f .before .before .before .before .before .before .before in let a = s .args in

@@ -12,7 +12,7 @@ enum-known-answer-2 : tie.Need-enum-known-answer-2
 enum-known-answer-2 c = search needs
 
 returns : tie.Need-returns
-returns c = let v = c .before .before in rw (v .answer2 .given .1, lt-leb (v .answer2 .given .0 .0) 255 (c .if2 .taken))
+returns c = let v = c .before .before in rw (v .answer2 .given .1, lt-leb (v .answer2 .given .0 .0) 1114111 (c .if2 .taken))
 
 enum-told : tie.Need-enum-told
 enum-told c = search needs
@@ -24,20 +24,20 @@ enum-known-answer-3 : tie.Need-enum-known-answer-3
 enum-known-answer-3 c = search needs
 
 returns-2 : tie.Need-returns-2
-returns-2 c = let v = c .before .before in rw (v .answer .given .1, le-leb (v .answer .given .0 .0) 255 (c .if1 .taken))
+returns-2 c = let v = c .before .before in rw (v .answer .given .1, le-leb (v .answer .given .0 .0) 1114111 (c .if1 .taken))
 
 returns-3 : tie.Need-returns-3
-returns-3 c = let v = c .before .before in rw (v .answer .given .1, lt-leb (v .answer .given .0 .0) 255 (c .if1 .left))
+returns-3 c = let v = c .before .before in rw (v .answer .given .1, lt-leb (v .answer .given .0 .0) 1114111 (c .if1 .left))
 
 returns-4 : tie.Need-returns-4
 returns-4 c =
     let v = c .before .before .before in
-    rw (v .answer2 .given .1, le-leb (v .answer2 .given .0 .0) 255 (c .before .if2 .left), le-leb (v .answer2 .given .0 .1 .0) 65535 (c .if3 .taken))
+    rw (v .answer2 .given .1, le-leb (v .answer2 .given .0 .0) 1114111 (c .before .if2 .left), le-leb (v .answer2 .given .0 .1 .0) 65535 (c .if3 .taken))
 
 returns-5 : tie.Need-returns-5
 returns-5 c =
     let v = c .before .before .before in
-    rw (v .answer2 .given .1, le-leb (v .answer2 .given .0 .0) 255 (c .before .if2 .left), lt-leb (v .answer2 .given .0 .1 .0) 65535 (c .if3 .left))
+    rw (v .answer2 .given .1, le-leb (v .answer2 .given .0 .0) 1114111 (c .before .if2 .left), lt-leb (v .answer2 .given .0 .1 .0) 65535 (c .if3 .left))
 
 returns-6 : tie.Need-returns-6
 returns-6 c = search needs

@@ -1,8 +1,9 @@
 -- `c_captions::runs::ligkern_begin` meets its contract: proofs/Begin.
 -- Assumes nothing.
-use mathlib.Core.Path.{_≡_, sym, _∙_}
+use mathlib.Core.Path.{_≡_, sym, ap, _∙_}
 use Rattle.words.specs.Words.{wordOf, numberOf}
 use Rattle.words.proofs.Bits.{number-word}
+use Rattle.lang.specs.Checks.{lower}
 use Rattle.captions.specs.Begin.{beginOf}
 use Rattle.captions.proofs.Replies.{begin-is}
 use Rattle.c_states.specs.States.{optionsOf}
@@ -32,6 +33,12 @@ begin-requires c κs = search needs
 enum-known-n : tie.Need-enum-known-n
 enum-known-n c = search needs
 
+room-refusal-requires : tie.Need-room-refusal-requires
+room-refusal-requires c κs = search needs
+
+lower-of-requires : tie.Need-lower-of-requires
+lower-of-requires c κs = search needs
+
 enum-known-fresh : tie.Need-enum-known-fresh
 enum-known-fresh c = search needs
 
@@ -43,12 +50,15 @@ same-length c = search needs
 
 returns : tie.Need-returns
 returns c =
-    let g = c .before .before .before in
+    let m = c .before in
+    let n = m .before .before in
+    let g = n .before .before in
     let z = g .before .before .before .zero-u64 in
     let a = g .before .before .before .before .before .before .before .args in
-    let v = c .before .n .given in
+    let v = n .n .given in
     begins-refused (a .pairs .now) (a .ops .now) (a .boundary) (a .word .now) (optionsOf (a .«disable-left-boundary») (a .«right-boundary-override»))
-    (a .state .now) (z .last .0) (z .ensures) (v .0 .0) (sym (v .1) ∙ begun g)
+    (a .state .now) (z .last .0) (z .ensures) (v .0 .0) (sym (v .1) ∙ begun g) (c .lower-of .result)
+    (c .lower-of .ensures ∙ ap (lower (v .0 .0)) (m .room-refusal .ensures))
 
 same-length-2 : tie.Need-same-length-2
 same-length-2 c = search needs
@@ -70,6 +80,8 @@ ligkern-begin-spec =
     zero-u64-requires
     begin-requires
     enum-known-n
+    room-refusal-requires
+    lower-of-requires
     enum-known-fresh
     put-state-requires
     same-length

@@ -20,35 +20,35 @@ edges-refusal-requires c κs = search needs
 returns : tie.Need-returns
 returns c = first-refusal _ (edges (c .before)) (c .if1 .taken)
 
-letters-refusal-requires : tie.Need-letters-refusal-requires
-letters-refusal-requires c κs = search needs
+word-refusal-requires : tie.Need-word-refusal-requires
+word-refusal-requires c κs = search needs
 
 returns-2 : tie.Need-returns-2
 returns-2 c =
     let d = c .before .before in
-    later-refusal (edges (d .before)) (d .if1 .left) (first-refusal _ (c .before .letters-refusal .ensures) (c .if2 .taken))
-
-word-refusal-requires : tie.Need-word-refusal-requires
-word-refusal-requires c κs = search needs
-
-returns-3 : tie.Need-returns-3
-returns-3 c =
-    let l = c .before .before in
-    let d = l .before .before in
-    later-refusal (edges (d .before)) (d .if1 .left)
-    (later-refusal (l .before .letters-refusal .ensures) (l .if2 .left) (first-refusal _ (c .before .word-refusal .ensures) (c .if3 .taken)))
+    later-refusal (edges (d .before)) (d .if1 .left) (first-refusal _ (c .before .word-refusal .ensures) (c .if2 .taken))
 
 table-refusal-requires : tie.Need-table-refusal-requires
 table-refusal-requires c κs = search needs
 
+returns-3 : tie.Need-returns-3
+returns-3 c =
+    let w = c .before .before in
+    let d = w .before .before in
+    later-refusal (edges (d .before)) (d .if1 .left)
+    (later-refusal (w .before .word-refusal .ensures) (w .if2 .left) (first-refusal _ (c .before .table-refusal .ensures) (c .if3 .taken)))
+
+codes-refusal-requires : tie.Need-codes-refusal-requires
+codes-refusal-requires c κs = search needs
+
 returns-4 : tie.Need-returns-4
 returns-4 c =
-    let w = c .before in
-    let l = w .before .before in
-    let d = l .before .before in
+    let t = c .before in
+    let w = t .before .before in
+    let d = w .before .before in
     later-refusal (edges (d .before)) (d .if1 .left)
-    (later-refusal (l .before .letters-refusal .ensures) (l .if2 .left)
-    (later-refusal (w .before .word-refusal .ensures) (w .if3 .left) (c .table-refusal .ensures)))
+    (later-refusal (w .before .word-refusal .ensures) (w .if2 .left)
+    (later-refusal (t .before .table-refusal .ensures) (t .if3 .left) (c .codes-refusal .ensures)))
 
 pub begin-refusal-spec : {M : Type 1} → statement M
 begin-refusal-spec =
@@ -56,9 +56,9 @@ begin-refusal-spec =
     (tie.spec
     edges-refusal-requires
     returns
-    letters-refusal-requires
-    returns-2
     word-refusal-requires
-    returns-3
+    returns-2
     table-refusal-requires
+    returns-3
+    codes-refusal-requires
     returns-4)

@@ -1,8 +1,9 @@
 -- `caption_run::edges::edges_refusal` meets its contract: the first of two numbers that is not 0.
 -- Assumes nothing.
-use mathlib.Core.Path.{_≡_, sym, _∙_}
+use mathlib.Core.Path.{_≡_, sym, ap, _∙_}
 use mir.Syntax.{w32}
 use mir.Val.{SFits}
+use Rattle.words.proofs.Bits.{number-word}
 use Rattle.lang.specs.Checks.{absentRefusal}
 use Rattle.lang.proofs.Checks.{first-is, second-is}
 use Rattle.captions.proofs.Passed.{absent-passed}
@@ -23,14 +24,15 @@ absent-refusal-requires c κs = search needs
 returns : tie.Need-returns
 returns c = let e = edge (c .before) in e ∙ sym (first-is _ _ (λ h. c .if1 .taken (e ∙ h)))
 
-absent-refusal-requires-2 : tie.Need-absent-refusal-requires-2
-absent-refusal-requires-2 c κs = search needs
+low-refusal-requires : tie.Need-low-refusal-requires
+low-refusal-requires c κs = search needs
 
 returns-2 : tie.Need-returns-2
 returns-2 c =
     let d = c .before .before in
-    absent-passed (override-fits (c .before)) (c .absent-refusal2 .ensures) ∙ sym (second-is _ _ (sym (edge (d .before)) ∙ d .if1 .left))
+    c .low-refusal .ensures
+    ∙ ap (absentRefusal 2147483647) (number-word _ (override-fits (c .before))) ∙ sym (second-is _ _ (sym (edge (d .before)) ∙ d .if1 .left))
 
 pub edges-refusal-spec : {M : Type 1} → statement M
 edges-refusal-spec =
-    tie.close (tie.spec absent-refusal-requires returns absent-refusal-requires-2 returns-2)
+    tie.close (tie.spec absent-refusal-requires returns low-refusal-requires returns-2)

@@ -2,11 +2,10 @@
 -- Assumes nothing.
 use mathlib.Core.Path.{sym, ap, _∙_}
 use lib.IntN.{ℤ}
-use lib.Dec.{eqb}
 use denote.Ref.{now}
 use borrow.Author.Tests.{not-true, not-false}
 use Rattle.words.proofs.Bits.{number-word}
-use Rattle.captions.specs.Steps.{stepRefusal}
+use Rattle.step_quick.specs.Quick.{isTaken}
 use borrow.Author.Needs.{needs}
 use Rattle.step_quick.proofs.calm.is_plain.Statement.{statement}
 use Rattle.step_quick.proofs.calm.is_plain.Tie as tie
@@ -25,7 +24,7 @@ returns-2 c =
     let a = c .before .before .before .before in
     rw (sym (c .before .before .is-calm .ensures) ∙ not-false _ (c .before .if1 .left))
     (c .is-taken .ensures
-    ∙ ap (λ (z : ℤ). eqb (stepRefusal z (now (a .args .word)) (a .args .options)) 0) (number-word (a .args .boundary) (a .fits .boundary)))
+    ∙ ap (λ (z : ℤ). isTaken z (now (a .args .word)) (a .args .options)) (number-word (a .args .boundary) (a .fits .boundary)))
 
 pub is-plain-spec : {M : Type 1} → statement M
 is-plain-spec = tie.close (tie.spec is-calm-requires returns is-taken-requires returns-2)

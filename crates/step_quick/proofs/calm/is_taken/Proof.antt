@@ -1,13 +1,10 @@
--- `step_quick::calm::is_taken` meets its contract: each of the three refusals of a call is 0.
+-- `step_quick::calm::is_taken` meets its contract: each of the three refusals of a call is 0, and the override is at most 255.
 -- Assumes nothing.
 use mathlib.Core.Path.{_≡_, sym, _∙_}
-use lib.ListN.{length}
-use lib.Dec.{leb}
 use denote.Ref.{now}
 use Rattle.lang.specs.Checks.{absentRefusal}
-use Rattle.captions.specs.Begin.{wordRefusal}
 use Rattle.captions.proofs.Passed.{absent-passed}
-use Rattle.step_quick.proofs.Laws.{first-refused, second-refused, neither-refused}
+use Rattle.step_quick.proofs.Laws.{boundary-refused, override-refused, word-taken}
 use borrow.Author.Needs.{needs}
 use Rattle.step_quick.proofs.calm.is_taken.Statement.{statement}
 use Rattle.step_quick.proofs.calm.is_taken.Tie as tie
@@ -29,8 +26,7 @@ returns : tie.Need-returns
 returns c =
     let a = c .before .before .before .args in
     let e = edge (c .before) in
-    first-refused (absentRefusal 255 (a .boundary)) (absentRefusal 255 (a .options .«right_boundary_override»)) (wordRefusal (now (a .word)))
-    (λ h. c .if1 .taken (e ∙ h))
+    boundary-refused (a .boundary) (now (a .word)) (a .options) (λ h. c .if1 .taken (e ∙ h))
 
 absent-refusal-requires-2 : tie.Need-absent-refusal-requires-2
 absent-refusal-requires-2 c κs = search needs
@@ -38,17 +34,15 @@ absent-refusal-requires-2 c κs = search needs
 returns-2 : tie.Need-returns-2
 returns-2 c =
     let a = c .before .before .before .before .before .before .args in
-    let e = edge (c .before .before .before .before) in
     let f = override (c .before) in
-    second-refused (absentRefusal 255 (a .boundary)) (absentRefusal 255 (a .options .«right_boundary_override»)) (wordRefusal (now (a .word)))
-    (sym e ∙ c .before .before .before .if1 .left) (λ h. c .if2 .taken (f ∙ h))
+    override-refused (a .boundary) (now (a .word)) (a .options) (λ h. c .if2 .taken (f ∙ h))
 
 returns-3 : tie.Need-returns-3
 returns-3 c =
     let a = c .before .before .before .before .before .before .args in
     let e = edge (c .before .before .before .before) in
     let f = override (c .before) in
-    neither-refused (absentRefusal 255 (a .boundary)) (absentRefusal 255 (a .options .«right_boundary_override»)) (leb (length (now (a .word))) 65535)
+    word-taken (a .boundary) (now (a .word)) (a .options)
     (sym e ∙ c .before .before .before .if1 .left) (sym f ∙ c .if2 .left)
 
 pub is-taken-spec : {M : Type 1} → statement M

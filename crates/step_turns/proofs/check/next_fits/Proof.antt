@@ -10,6 +10,9 @@ enum-told c = search needs
 enum-known-x : tie.Need-enum-known-x
 enum-known-x c = search needs
 
+is-letter-requires : tie.Need-is-letter-requires
+is-letter-requires c κs = search needs
+
 enum-known-x-2 : tie.Need-enum-known-x-2
 enum-known-x-2 c = search needs
 
@@ -23,7 +26,7 @@ returns : tie.Need-returns
 returns c = search needs
 
 returns-2 : tie.Need-returns-2
-returns-2 c = rw (c .before .x .given .1)
+returns-2 c = rw (c .before .before .x .given .1) (c .is-letter .ensures)
 
 returns-3 : tie.Need-returns-3
 returns-3 c = rw (c .before .x2 .given .1)
@@ -40,6 +43,7 @@ next-fits-spec =
     (tie.spec
     enum-told
     enum-known-x
+    is-letter-requires
     enum-known-x-2
     enum-known-x-3
     enum-told-2

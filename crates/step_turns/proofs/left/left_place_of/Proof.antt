@@ -1,4 +1,4 @@
--- `step_turns::left::left_place_of` meets its contract, by the arm that is taken: a code is at most 255.
+-- `step_turns::left::left_place_of` meets its contract, by the arm that is taken: a code is at most 1,114,111.
 -- Assumes nothing.
 use mathlib.Core.Path.{ap}
 use native.Mathlib.Numerals.{add-one}
