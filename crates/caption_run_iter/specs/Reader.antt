@@ -1,11 +1,11 @@
 -- A reader that keeps the word it is given (R284); after `RunIter` of ligkern/mod.rs. What a call of `next` answers and leaves is
 -- `MovesOn`, its contract; `Calls` are any number of calls, known by that contract alone, and `nexts` what they answer. What is proved of
--- them is at the end: `CallsAnswer`, `SameAsSteps` and `ReaderReads`, in proofs/Theorems.
+-- them is at the end: `CallsAnswer`, `SameAsSteps`, `ReaderReads` and `EveryReaderRun`, in proofs/Theorems.
 use mathlib.Core.Path.{_≡_}
 use mathlib.Core.List.{List, [], _∷_, map}
-use Prim.Native.Nat.{ℕ, zero, suc, _*_}
+use Prim.Native.Nat.{ℕ, zero, suc, _+_, _*_}
 use lib.IntN.{ℤ}
-use lib.ListN.{take}
+use lib.ListN.{length, take}
 use denote.Ref.{now}
 use Rattle.reading.specs.Items.{Out}
 use Rattle.fonts.specs.Fonts.{Font}
@@ -15,10 +15,11 @@ use Rattle.captions.specs.declared.RunOptions.{RunOptions}
 use Rattle.captions.specs.declared.State.{State}
 use Rattle.captions.specs.declared.Answer.{Answer}
 use Rattle.captions.specs.declared.Begun.the-variants.{Run}
-use Rattle.captions.specs.Begin.{beginOf}
+use Rattle.captions.specs.Begin.{beginRefusal, beginOf}
 use Rattle.captions.specs.Steps.{stepOf}
 use Rattle.captions.specs.Runs.{answers, shown, thenEnds}
 use Rattle.captions.specs.Demand3.{Caption, Reads}
+use Rattle.captions.specs.Letters.{joined}
 use Rattle.caption_run_iter.specs.declared.RunIter.{RunIter}
 
 -- ---- a call
@@ -93,3 +94,20 @@ ReaderReads =
     Compiles f size pairs ops loops work (Tables p o l) pairs′ ops′ loops′ work′ →
     (word : List ℕ) (options : RunOptions) → Caption word options →
     ReaderDemand3 f l (take (6 * p) pairs′) (take (2 * o) ops′) word options
+
+-- No letter lost (R387), of the calls of next on this word from the state that begin returned, on any reader that holds them: the letters
+-- of n answers are the first of the word, and from some number of calls on all of it.
+pub record ReaderLetters (pairs ops : List ℤ) (boundary : ℤ) (word : List ℕ) (options : RunOptions) : Type 0 where
+  pub start : State
+  pub begins : beginOf pairs ops boundary word options ≡ Run start
+  pub first-letters : (n : ℕ) (r : RunIter) (given : List Answer) → now (r .word) ≡ word → r .state ≡ start →
+      Calls pairs ops boundary options n r given → joined word given ≡ take (length (joined word given)) word
+  pub calls : ℕ
+  pub whole-word : (n : ℕ) (r : RunIter) (given : List Answer) → now (r .word) ≡ word → r .state ≡ start →
+      Calls pairs ops boundary options (calls + n) r given → joined word given ≡ word
+
+-- whatever begin is lent, where it is not refused
+abbrev pub EveryReaderRun : Type 0
+EveryReaderRun =
+    (pairs ops : List ℤ) (boundary : ℤ) (word : List ℕ) (options : RunOptions) → beginRefusal pairs ops boundary word options ≡ 0 →
+    ReaderLetters pairs ops boundary word options

@@ -42,6 +42,7 @@ use Rattle.captions.proofs.Giving.{gives-ligature, gives-op}
 pub record Formed (pairs ops : List ℤ) (left k : ℕ) : Type 0 where
   pub fits : recordFits pairs ops k ≡ true
   pub code : lastCode pairs k ≤ 255
+  pub right : wordOf (number pairs k 1) ≤ 255
   pub among : firstOp pairs k + countOf pairs k ≤ opCount ops
   pub form : formed (leftOf left) (wordOf (number pairs k 1)) (entryOfPair pairs ops k) ≡ true
 
@@ -89,6 +90,7 @@ module _ (pairs ops : List ℤ) (table : tableForm pairs ops ≡ true) where
       record {
         fits = h .1;
         code = within-bound 255 (number pairs k 2) (fits .0);
+        right = right;
         among = leb-true (firstOp pairs k + countOf pairs k) (opCount ops) (fits .3);
         form = subst (λ (l : ℕ). formed (leftOf l) (wordOf (number pairs k 1)) (entryOfPair pairs ops k) ≡ true) at-left (h .3);
       }

@@ -36,7 +36,7 @@ both-first false b h = no h
 module _ (ops : List ℤ) (word : List ℕ) where
   -- an item that takes in what is there: it is given, and the ops after it have no plain character
   gives-item : (n : NextLeft) (o m r g p : ℕ) (b : Bool) (k : Consumes) (a : Answer) (w : ℕ) (x : Out) →
-      shown a ≡ shows x → r ≤ length word → g + w + waiting n ≤ r → o + m ≤ opCount ops → nextFits n ≡ true → noPlain (opsFrom ops o m) ≡ true →
+      shown a ≡ shows x → r ≤ length word → g + w + waiting n ≡ r → o + m ≤ opCount ops → nextFits n ≡ true → noPlain (opsFrom ops o m) ≡ true →
       Follows ops word (giveItem a w (state n o m r g p b k)) (plainly.given (x ∷ opsFrom ops o m) (nextOf n) (drop r word))
   gives-item n o m r g p b k a w x e i c u f h =
       let t : leb (g + w) r ≡ true = le-leb (g + w) r (omega arith) in
@@ -53,12 +53,12 @@ module _ (ops : List ℤ) (word : List ℕ) where
   Before n o m r g = (r ≤ length word) × (o + m ≤ opCount ops) × (nextFits n ≡ true) × (noPlain (opsFrom ops o m) ≡ true)
 
   -- a character whose letter is there to be given
-  pub gives-letter : (n : NextLeft) (o m r g : ℕ) (b : Bool) (k : Consumes) (c : ℕ) → Before n o m r g → g + 1 + waiting n ≤ r →
+  pub gives-letter : (n : NextLeft) (o m r g : ℕ) (b : Bool) (k : Consumes) (c : ℕ) → Before n o m r g → g + 1 + waiting n ≡ r →
       Follows ops word (giveCharacter c (state n o m r g 0 b k)) (plainly.given (glyph (plain c) ∷ opsFrom ops o m) (nextOf n) (drop r word))
   gives-letter n o m r g b k c s h = gives-item n o m r g 0 b k (Char c g) 1 (glyph (plain c)) refl (s .0) h (s .1) (s .2) (s .3)
 
   -- the ligature that is pending
-  pub gives-pending : (n : NextLeft) (o m r g p : ℕ) (b : Bool) (k : Consumes) (c : ℕ) → Before n o m r g → g + suc p + waiting n ≤ r →
+  pub gives-pending : (n : NextLeft) (o m r g p : ℕ) (b : Bool) (k : Consumes) (c : ℕ) → Before n o m r g → g + suc p + waiting n ≡ r →
       Follows ops word (giveCharacter c (state n o m r g (suc p) b k)) (plainly.given (glyph (inserted c) ∷ opsFrom ops o m) (nextOf n) (drop r word))
   gives-pending n o m r g p b k c s h =
       let t : eqb (suc p) 0 ≡ false = ne-eqb (suc p) 0 (λ e. omega (arith, e)) in
@@ -67,7 +67,7 @@ module _ (ops : List ℤ) (word : List ℕ) where
 
   -- a ligature that takes in the left
   pub gives-ligature : (n : NextLeft) (o m r g p : ℕ) (b : Bool) (k : Consumes) (c : ℕ) (e : Bool) → Before n o m r g →
-      g + (p + leftLetters k) + waiting n ≤ r →
+      g + (p + leftLetters k) + waiting n ≡ r →
       Follows ops word (giveLigature c e (state n o m r g p b k)) (plainly.given (glyph (inserted c) ∷ opsFrom ops o m) (nextOf n) (drop r word))
   gives-ligature n o m r g p b k c e s h =
       gives-item n o m r g p b k (Ligature c g (p + leftLetters k) (takesBoundary (state n o m r g p b k)) e) (p + leftLetters k) (glyph (inserted c)) refl
@@ -76,7 +76,7 @@ module _ (ops : List ℤ) (word : List ℕ) where
   -- ---- an op
 
   -- after a ligature op there is no plain one
-  after-ligature : (p : ℕ) (k : Consumes) (c : ℕ) (os : List Out) (n : NextLeft) → mode p k (glyph (inserted c) ∷ os) n ≡ true → noPlain os ≡ true
+  pub after-ligature : (p : ℕ) (k : Consumes) (c : ℕ) (os : List Out) (n : NextLeft) → mode p k (glyph (inserted c) ∷ os) n ≡ true → noPlain os ≡ true
   unfolding noPlain plainFirst hasGlyph
   after-ligature zero consumes.Nothing c os n h = h
   after-ligature zero consumes.Letter c os n h = both-first (noPlain os) _ h
@@ -142,7 +142,7 @@ module _ (ops : List ℤ) (word : List ℕ) where
   op-by n o m r g p b k c z e false false s = kern-op n o m r g p b k z s
 
   -- both ops that are read are ops
-  fit-by : (o m : ℕ) → every (opCount ops) (opFits ops) ≡ true → o + suc m ≤ opCount ops → (t : Bool) → leb 2 (suc m) ≡ t →
+  pub fit-by : (o m : ℕ) → every (opCount ops) (opFits ops) ≡ true → o + suc m ≤ opCount ops → (t : Bool) → leb 2 (suc m) ≡ t →
       both (opFits ops o) (cond t (opFits ops (suc o)) true) ≡ true
   fit-by o m h u true e =
       let l : 2 ≤ suc m = leb-true 2 (suc m) e in

@@ -1,5 +1,5 @@
 -- The laws of captions.
---   Theorems   demand 3, whose statement is specs/Demand3
+--   Theorems   demand 3, whose statement is specs/Demand3; no letter lost, specs/Letters
 --   Finding, Bisecting   a pair that is found has the key; on a table in ascending order every pair is found
 --   Codes, FontCodes     every code in the reading of a font's pair is below 256
 --   Decoding   what compile writes, as a list of finished pairs, and what the numbers of one of them say
@@ -11,6 +11,8 @@
 --   Beyond     codes above 255: no font has a rule for one, and none is looked up: specs/Beyond
 --   Giving, Following, Turning   a step answers as the plain run does: ops, what is given at once, and lefts that are looked up
 --   Running    any number of steps from a fresh state
+--   Lettered, Letters   a step gives the next letters of the word: ops and what is given at once, and lefts that are looked up
+--   Joining    any number of steps: the letters joined are the first of the word, and at the end all of it
 --   Replies    each reply determines its answer; the reply to a question
 --   Ending     after the end comes only the end, for any table and state: specs/Ending
 --   Passed     a number that is passed to a check of another crate
@@ -29,6 +31,9 @@ pub mod Following
 pub mod Beyond
 pub mod Turning
 pub mod Running
+pub mod Lettered
+pub mod Letters
+pub mod Joining
 pub mod Ending
 pub mod Replies
 pub mod Theorems

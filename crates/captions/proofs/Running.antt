@@ -81,7 +81,7 @@ module _ (pairs ops : List ℤ) (table : tableForm pairs ops ≡ true) (boundary
   abbrev right : Option ℕ
   right = rightItem boundary (options .«right_boundary_override»)
 
-  letters : (i : ℕ) → i < length word → isLetter (getD word i 0) ≡ true
+  pub letters : (i : ℕ) → i < length word → isLetter (getD word i 0) ≡ true
   letters i h = every-at (length word) i (λ j. isLetter (getD word j 0)) (fit .letters-fit) h
 
   edges : edgesRefusal boundary options ≡ 0
@@ -104,16 +104,25 @@ module _ (pairs ops : List ℤ) (table : tableForm pairs ops ≡ true) (boundary
   not-refused : stepRefusal boundary word options ≡ 0
   not-refused = rw (edges, word-taken) refl
 
-  -- a step
+  -- the turns of a step
+  turns-follow : (s : State) → Sound ops word s (opsOf ops word s) →
+      Follows ops word (runOn ops (turn pairs ops right word) (suc (length word - s .read)) s) (plainly.step held right (runOf ops word s))
+  turns-follow s h =
+      follows pairs ops table word right letters (suc (length word - s .read))
+      (s .«next_left») (s .op) (s .ops) (s .read) (s .given) (s .pending) (s .«pending_boundary») (s .«consumes_left») (λ _. omega arith) h
+
+  -- a step is its turns
+  pub step-turns : (s : State) → Sound ops word s (opsOf ops word s) →
+      stepOf pairs ops boundary word options s ≡ runOn ops (turn pairs ops right word) (suc (length word - s .read)) s
+  step-turns s h =
+      let t = runOn ops (turn pairs ops right word) (suc (length word - s .read)) s in
+      let o = plainly.step held right (runOf ops word s) .gives in
+      let i = right-item boundary (options .«right_boundary_override») (fit .boundary-fits) (fit .override-fits) in
+      rw (not-refused, is-placed s h, i, handed s (t .state) (t .answer) o (turns-follow s h .answers)) refl
+
   pub step-follows : (s : State) → Sound ops word s (opsOf ops word s) →
       Follows ops word (stepOf pairs ops boundary word options s) (plainly.step held right (runOf ops word s))
-  step-follows s h =
-      let t = runOn ops (turn pairs ops right word) (suc (length word - s .read)) s in
-      let f : Follows ops word t (plainly.step held right (runOf ops word s)) =
-      follows pairs ops table word right letters (suc (length word - s .read))
-      (s .«next_left») (s .op) (s .ops) (s .read) (s .given) (s .pending) (s .«pending_boundary») (s .«consumes_left») (λ _. omega arith) h in
-      let i = right-item boundary (options .«right_boundary_override») (fit .boundary-fits) (fit .override-fits) in
-      rw (not-refused, is-placed s h, i, handed s (t .state) (t .answer) (plainly.step held right (runOf ops word s) .gives) (f .answers)) f
+  step-follows s h = rw (step-turns s h) (turns-follow s h)
 
   -- any number of steps
   steps-follow : (n : ℕ) (s : State) → Sound ops word s (opsOf ops word s) →
@@ -129,7 +138,7 @@ module _ (pairs ops : List ℤ) (table : tableForm pairs ops ≡ true) (boundary
   abbrev Starts : Bool → List ℕ → State → Type 0
   Starts b cs s = Sound ops word s (opsOf ops word s) × (runOf ops word s ≡ plainly.begin b cs)
 
-  begin-taken : beginOf pairs ops boundary word options ≡ Run (freshState word options)
+  pub begin-taken : beginOf pairs ops boundary word options ≡ Run (freshState word options)
   begin-taken = rw (edges, word-taken, table, fit .letters-fit, override-taken (options .«right_boundary_override») (fit .override-fits)) refl
 
   starts-by : (cs : List ℕ) → word ≡ cs → (d : Bool) → Starts (not d) word (cond d (withoutBoundary cs) (fresh next.Boundary 0))
@@ -142,7 +151,7 @@ module _ (pairs ops : List ℤ) (table : tableForm pairs ops ≡ true) (boundary
       let h : isLetter c ≡ true = rw z at (letters 0 l) in
       (record { inside = omega arith; counted = omega arith; among = omega arith; fits = h; holds = refl }, rw e refl)
 
-  starts : Starts (not (options .«disable_left_boundary»)) word (freshState word options)
+  pub starts : Starts (not (options .«disable_left_boundary»)) word (freshState word options)
   starts = starts-by word refl (options .«disable_left_boundary»)
 
   -- Begin is taken, and whatever list the plain run's answers are, the steps from it answer that list, and then the end for ever.

@@ -74,7 +74,7 @@ shownOf (some o) = shows o
 module _ (ops : List ℤ) (word : List ℕ) where
   pub record Sound (s : State) (os : List Out) : Type 0 where
     pub inside : s .read ≤ length word
-    pub counted : s .given + (s .pending + leftLetters (s .«consumes_left»)) + waiting (s .«next_left») ≤ s .read
+    pub counted : s .given + (s .pending + leftLetters (s .«consumes_left»)) + waiting (s .«next_left») ≡ s .read
     pub among : s .op + s .ops ≤ opCount ops
     pub fits : nextFits (s .«next_left») ≡ true
     pub holds : mode (s .pending) (s .«consumes_left») os (s .«next_left») ≡ true

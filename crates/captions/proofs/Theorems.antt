@@ -1,18 +1,19 @@
 -- Demand 3: what compile writes, begin and the steps from it, and the one-by-one reading agree. The statement is specs/Demand3.
+-- And that no letter is lost: specs/Letters.
 -- Assumes nothing.
 use mathlib.Core.Path.{_≡_, refl, sym, ap, _∙_}
 use mathlib.Core.Bool.{true, false, not}
 use mathlib.Core.List.{List, [], _∷_}
 use Prim.Native.Nat.{ℕ, zero, suc, _-_, _*_, _/_, _%_, _<_, _≤_}
 use native.Mathlib.Omega.{arith}
-use lib.IntN.{ℤ, pos}
+use lib.IntN.{ℤ, pos, negsuc}
 use lib.Dec.{leb, eqb}
 use lib.ListN.{length, replicate, take, length-append}
 use lib.Seq.{take-at}
 use borrow.Author.Tests.{leb-true, eqb-true}
 use Rattle.lang.specs.Every.{both}
 use Rattle.lang.specs.Records.{absentOr}
-use Rattle.lang.specs.Checks.{orElse, programRefusal, kernsRefusal, entriesRefusal, absentRefusal, designRefusal}
+use Rattle.lang.specs.Checks.{unless, orElse, isLetter, programRefusal, kernsRefusal, entriesRefusal, absentRefusal, designRefusal}
 use Rattle.lang.specs.Answers.{Reply, replyOf, padded}
 use Rattle.lang.proofs.Every.{both-left}
 use Rattle.lang.proofs.Refusals.{orElse-none, unless-none}
@@ -26,16 +27,19 @@ use Rattle.fonts.specs.declared.Compiled.the-variants.{Tables}
 use Rattle.fonts.specs.Numbers.{opsOf, entryOf, opNumbers, opsBefore, opsTable, loopNumbers}
 use Rattle.fonts.specs.Fonts.{Font, pairsOf, rulesOf}
 use Rattle.fonts.specs.Compiled.{Room, roomIn, finishedOf, loopsOfFont, totalOps, fontTable, fontOps, fontLoops, fontRefusal, pairsRefusal, kernRefusal}
-use Rattle.fonts.specs.Compiled.{opsRefusal, loopsRefusal, tablesRefusal, compileRefusal, sizedRefusal, compiledReply, fontCounts, ListsWritten}
+use Rattle.fonts.specs.Compiled.{opsRefusal, loopsRefusal, tablesRefusal, compileRefusal, sizedRefusal, compiledReply, fontCounts, ListsWritten, Compiles}
 use Rattle.fonts.proofs.Theorems as Compiling
 use Rattle.captions.specs.declared.RunOptions.{RunOptions}
 use Rattle.captions.specs.Tables.{opCount, entries}
-use Rattle.captions.specs.Form.{sizesForm}
+use Rattle.captions.specs.Form.{sizesForm, tableForm, tableRefusal}
+use Rattle.captions.specs.Begin.{edgesRefusal, lettersRefusal, overrideRefusal, wordRefusal}
 use Rattle.captions.specs.Steps.{rightItem}
-use Rattle.captions.specs.Demand3.{Caption, Answered, Reads, Loop, Demand3, EveryAcceptedFont}
+use Rattle.captions.specs.Demand3.{overrideFits, Caption, Answered, Reads, Loop, Demand3, EveryAcceptedFont}
+use Rattle.captions.specs.Letters.{EveryFormedTable, EveryRunBegun, EveryWrittenTable}
 use Rattle.captions.proofs.FontCodes.{font-form}
 use Rattle.captions.proofs.FontTable.{below, font-holds-below}
 use Rattle.captions.proofs.Running.{Fit, runs}
+use Rattle.captions.proofs.Joining.{no-letter-lost}
 
 -- ---- an accepted font
 
@@ -181,12 +185,64 @@ demand-by f l few fits e =
       run-reads = λ word options c items r. read-run f few fits word options c items r;
     }
 
--- DEMAND 3: specs/Demand3.
-pub demand-3 : EveryAcceptedFont
-demand-3 f size pairs ops loops work p o l pairs′ ops′ loops′ work′ c =
+-- a font that compile accepted, and the lists that it wrote
+record Accepted (f : Font) (p o l : ℕ) (pairs ops loops : List ℤ) : Type 0 where
+  few : opCount (fontOps f) ≤ 2147483647
+  boundary : absentOr 255 (f .boundary) ≡ true
+  counted : l ≡ length (loopsOfFont f)
+  lists : Lists f p o l pairs ops loops
+
+compiled : (f : Font) (size : ℕ) (pairs ops loops : List ℤ) (work : List ℕ) (p o l : ℕ) (pairs′ ops′ loops′ : List ℤ) (work′ : List ℕ) →
+    Compiles f size pairs ops loops work (Tables p o l) pairs′ ops′ loops′ work′ → Accepted f p o l pairs′ ops′ loops′
+compiled f size pairs ops loops work p o l pairs′ ops′ loops′ work′ c =
     let room = roomIn pairs ops loops work in
     let a = accepted (sizedRefusal f room size) f p o l (c .answer) in
     let taken : compileRefusal f room ≡ 0 = orElse-none (compileRefusal f room) size (a .0) .0 in
     let few : opCount (fontOps f) ≤ 2147483647 = omega (arith, few-ops f room taken, ops-length (finishedOf f) (pairsOf f) (length (pairsOf f))) in
-    let w = lists-by f p o l (sizedRefusal f room size) pairs ops loops pairs′ ops′ loops′ a few (c .lists) in
-    rw (w .table, w .op-table, w .loop-table) (demand-by f l few (boundary-fits f room taken) (a .3))
+    record {
+      few = few;
+      boundary = boundary-fits f room taken;
+      counted = a .3;
+      lists = lists-by f p o l (sizedRefusal f room size) pairs ops loops pairs′ ops′ loops′ a few (c .lists);
+    }
+
+-- DEMAND 3: specs/Demand3.
+pub demand-3 : EveryAcceptedFont
+demand-3 f size pairs ops loops work p o l pairs′ ops′ loops′ work′ c =
+    let a = compiled f size pairs ops loops work p o l pairs′ ops′ loops′ work′ c in
+    rw (a .lists .table, a .lists .op-table, a .lists .loop-table) (demand-by f l (a .few) (a .boundary) (a .counted))
+
+-- NO LETTER LOST: specs/Letters. Of every table of the form, ..
+pub every-formed-table : EveryFormedTable
+every-formed-table pairs ops boundary table fits word options caption =
+    no-letter-lost pairs ops (unless-none 6 (tableForm pairs ops) table) boundary word options
+    record { boundary-fits = fits; override-fits = caption .override-fits; letters-fit = caption .letters-fit; word-fits = caption .word-fits }
+
+-- an override that begin does not refuse
+override-begun : (z : ℤ) → absentRefusal 2147483647 z ≡ 0 → overrideRefusal z ≡ 0 → overrideFits z ≡ true
+override-begun (pos c) a l = unless-none 19 (isLetter c) l
+override-begun (negsuc n) a l = unless-none 3 (eqb n 0) a
+
+-- .. so of every run that begin begins, ..
+pub every-run-begun : EveryRunBegun
+every-run-begun pairs ops boundary word options e =
+    let override = options .«right_boundary_override» in
+    let last = orElse (lettersRefusal word) (overrideRefusal override) in
+    let a = orElse-none (edgesRefusal boundary options) (orElse (wordRefusal word) (orElse (tableRefusal pairs ops) last)) e in
+    let b = orElse-none (wordRefusal word) (orElse (tableRefusal pairs ops) last) (a .1) in
+    let c = orElse-none (tableRefusal pairs ops) last (b .1) in
+    let l = orElse-none (lettersRefusal word) (overrideRefusal override) (c .1) in
+    let d = orElse-none (absentRefusal 255 boundary) (absentRefusal 2147483647 override) (a .0) in
+    every-formed-table pairs ops boundary (c .0) (unless-none 3 (absentOr 255 boundary) (d .0)) word options
+    record {
+      letters-fit = unless-none 19 _ (l .0);
+      word-fits = leb-true (length word) 65535 (unless-none 5 (leb (length word) 65535) (b .0));
+      override-fits = override-begun override (d .1) (l .1);
+    }
+
+-- .. and of the table that compile wrote.
+pub every-written-table : EveryWrittenTable
+every-written-table f size pairs ops loops work p o l pairs′ ops′ loops′ work′ c word options caption =
+    let a = compiled f size pairs ops loops work p o l pairs′ ops′ loops′ work′ c in
+    rw (a .lists .table, a .lists .op-table)
+    (every-formed-table (fontTable f) (fontOps f) (f .boundary) (ap (unless 7) (font-form f (a .few))) (a .boundary) word options caption)

@@ -43,7 +43,7 @@ no : {A : Type 0} → _≡_ {A = Bool} false true → A
 no e = absurd (let z : _≡_ {A = ℕ} 0 1 = cc in omega arith)
 
 -- a left that is looked up, with the letters of the ligature that it is
-data Lefts : NextLeft → ℕ → Type 0 where
+pub data Lefts : NextLeft → ℕ → Type 0 where
   boundary : Lefts next.Boundary 0
   character : (c : ℕ) → Lefts (next.Char c) 0
   ligature : (c p : ℕ) → Lefts (next.Lig c) (suc p)
@@ -69,7 +69,7 @@ code-fits true false c h = letter-low c (omega (arith, h))
 code-fits false true c h = le-leb c 255 h
 code-fits false false c h = refl
 
-one-waits : (letter f : Bool) (c g w r : ℕ) → g + w ≤ r → g + w + waiting (afterRight letter (item f c)) ≤ readOn letter r
+one-waits : (letter f : Bool) (c g w r : ℕ) → g + w ≡ r → g + w + waiting (afterRight letter (item f c)) ≡ readOn letter r
 one-waits true true c g w r h = omega arith
 one-waits true false c g w r h = omega arith
 one-waits false true c g w r h = omega arith
@@ -110,16 +110,26 @@ next-final : (f : Bool) (c : ℕ) → nextOf (afterRight false (item f c)) ≡ p
 next-final true c = refl
 next-final false c = refl
 
-now-final : (m : ℕ) (f : Bool) (c : ℕ) → isNow m (afterRight false (item f c)) ≡ true
+pub now-final : (m : ℕ) (f : Bool) (c : ℕ) → isNow m (afterRight false (item f c)) ≡ true
 now-final zero true c = refl
 now-final zero false c = refl
 now-final (suc m) f c = refl
 
-no-char : {c : ℕ} → next.Char c ≡ next.Boundary → ⊥
+pub no-char : {c : ℕ} → next.Char c ≡ next.Boundary → ⊥
 no-char e = let z : _≡_ {A = ℕ} 0 1 = cc in omega arith
 
-no-lig : {c : ℕ} → next.Lig c ≡ next.Boundary → ⊥
+pub no-lig : {c : ℕ} → next.Lig c ≡ next.Boundary → ⊥
 no-lig e = let z : _≡_ {A = ℕ} 0 1 = cc in omega arith
+
+-- where no op is to be given, a left that is no ligature has nothing pending, and nothing is to be taken in
+pub clear : (p : ℕ) (k : Consumes) (n : NextLeft) → isLigature n ≡ false → mode p k [] n ≡ true → p + leftLetters k ≡ 0
+unfolding plainFirst hasGlyph
+clear zero consumes.Nothing n e h = refl
+clear zero consumes.Letter n e h = no (sym e ∙ h)
+clear zero consumes.Boundary n e h = refl
+clear (suc p) consumes.Nothing n e h = no (sym e ∙ h)
+clear (suc p) consumes.Letter n e h = no h
+clear (suc p) consumes.Boundary n e h = no h
 
 module _ (pairs ops : List ℤ) (table : tableForm pairs ops ≡ true) (word : List ℕ) (right : Option ℕ)
     (letters : (i : ℕ) → i < length word → isLetter (getD word i 0) ≡ true) where
@@ -142,13 +152,13 @@ module _ (pairs ops : List ℤ) (table : tableForm pairs ops ≡ true) (word : L
       let carried = left-carried a os (entryOfPair pairs ops k .last) (form-ops (chr a) (wordOf (number pairs k 1)) (entryOfPair pairs ops k) (f .form)) in
       rw (f .fits, keeps (firstOp pairs k) (countOf pairs k) (lastFlag pairs k) carried) refl
 
-  follows-entry : {x : NextLeft} {p k : ℕ} → Lefts x p → Formed pairs ops (leftPlaceOf x) k → entryReads pairs ops x k ≡ true
+  pub follows-entry : {x : NextLeft} {p k : ℕ} → Lefts x p → Formed pairs ops (leftPlaceOf x) k → entryReads pairs ops x k ≡ true
   follows-entry boundary f = rw (f .fits) refl
   follows-entry {k = k} (character a) f = keeps-left a k f
   follows-entry {k = k} (ligature a p) f = keeps-left a k f
 
-  entered-sound : {x : NextLeft} {p : ℕ} → Lefts x p → (letter : Bool) (o m r g k : ℕ) (b : Bool) (c : Consumes) → Formed pairs ops (leftPlaceOf x) k →
-      readOn letter r ≤ length word → g + (p + leftLetters (leftConsumed x)) ≤ r →
+  pub entered-sound : {x : NextLeft} {p : ℕ} → Lefts x p → (letter : Bool) (o m r g k : ℕ) (b : Bool) (c : Consumes) → Formed pairs ops (leftPlaceOf x) k →
+      readOn letter r ≤ length word → g + (p + leftLetters (leftConsumed x)) ≡ r →
       Sound ops word (enteredAt pairs x letter (state x o m r g p b c) k) (opsFrom ops (firstOp pairs k) (countOf pairs k))
   entered-sound {x} {p} s letter o m r g k b c f i h =
       record {
@@ -171,7 +181,7 @@ module _ (pairs ops : List ℤ) (table : tableForm pairs ops ≡ true) (word : L
 
   -- a letter
   at-letter : (F : ℕ) → Goal F → {x : NextLeft} {p : ℕ} → Lefts x p → (o r g y : ℕ) (b : Bool) (k : Consumes) → suc r ≤ length word → isLetter y ≡ true →
-      length word - r < suc F → o ≤ opCount ops → g + (p + leftLetters (leftConsumed x)) ≤ r →
+      length word - r < suc F → o ≤ opCount ops → g + (p + leftLetters (leftConsumed x)) ≡ r →
       (e : Option ℕ) → findWithin pairs (leftPlaceOf x) y ≡ e →
       Follows ops word (goesOn (runOn ops look F) (turnBy pairs ops x true y (state x o 0 r g p b k) e))
       (plainly.stepFrom held right (drop (suc r) word) (plainly.entryOr (Option·map (entryOfPair pairs ops) e) (headOf x) y .outs)
@@ -205,7 +215,7 @@ module _ (pairs ops : List ℤ) (table : tableForm pairs ops ≡ true) (word : L
 
   -- the word's end, with a right item
   at-right : (F : ℕ) {x : NextLeft} {p : ℕ} → Lefts x p → (x ≡ next.Boundary → ⊥) → (o r g y : ℕ) (b : Bool) (k : Consumes) → r ≤ length word →
-      drop r word ≡ [] → o ≤ opCount ops → g + (p + leftLetters (leftConsumed x)) ≤ r →
+      drop r word ≡ [] → o ≤ opCount ops → g + (p + leftLetters (leftConsumed x)) ≡ r →
       (e : Option ℕ) → findWithin pairs (leftPlaceOf x) y ≡ e →
       Follows ops word (goesOn (runOn ops look F) (turnBy pairs ops x false y (state x o 0 r g p b k) e))
       (plainly.given (plainly.entryOr (Option·map (entryOfPair pairs ops) e) (headOf x) y .outs)
@@ -229,7 +239,7 @@ module _ (pairs ops : List ℤ) (table : tableForm pairs ops ≡ true) (word : L
 
   -- .. or without
   at-end : (F : ℕ) {x : NextLeft} {p : ℕ} → Lefts x p → (e : Option ℕ) → right ≡ e → (o r g : ℕ) (b : Bool) (k : Consumes) → r ≤ length word →
-      drop r word ≡ [] → o ≤ opCount ops → g + (p + leftLetters (leftConsumed x)) ≤ r →
+      drop r word ≡ [] → o ≤ opCount ops → g + (p + leftLetters (leftConsumed x)) ≡ r →
       Sound ops word (state x o 0 r g p b k) (opsFrom ops o 0) ⊎ (x ≡ next.Boundary → ⊥) →
       Follows ops word (goesOn (runOn ops look F) (turnAtEnd pairs ops e x (state x o 0 r g p b k))) (plainly.atEnd held e (headOf x))
   unfolding opsFrom noPlain raiseFirst
@@ -245,14 +255,6 @@ module _ (pairs ops : List ℤ) (table : tableForm pairs ops ≡ true) (word : L
       rw (held-looked pairs ops table (suc c) y) (at-right F (ligature c p) (λ e. no-lig e) o r g y b k i d u h (findWithin pairs (suc c) y) refl)
 
   -- ---- all turns
-
-  -- where no op is to be given, a left that is no ligature has nothing pending
-  clear : (p : ℕ) (k : Consumes) (n : NextLeft) → isLigature n ≡ false → mode p k [] n ≡ true → p ≡ 0
-  unfolding plainFirst hasGlyph
-  clear zero k n e h = refl
-  clear (suc p) consumes.Nothing n e h = no (sym e ∙ h)
-  clear (suc p) consumes.Letter n e h = no h
-  clear (suc p) consumes.Boundary n e h = no h
 
   -- what the plain run looks up
   held-left : {x : NextLeft} {p : ℕ} → Lefts x p → (y : ℕ) →
@@ -271,7 +273,7 @@ module _ (pairs ops : List ℤ) (table : tableForm pairs ops ≡ true) (word : L
 
   -- a left with a letter
   by-letter : (F : ℕ) → Goal F → {x : NextLeft} {p : ℕ} → Lefts x p → (o r g y : ℕ) (b : Bool) (k : Consumes) → suc r ≤ length word → isLetter y ≡ true →
-      length word - r < suc F → o ≤ opCount ops → g + (p + leftLetters (leftConsumed x)) ≤ r →
+      length word - r < suc F → o ≤ opCount ops → g + (p + leftLetters (leftConsumed x)) ≡ r →
       Follows ops word (goesOn (runOn ops look F) (turnWith pairs ops x true y (state x o 0 r g p b k)))
       (plainly.stepFrom held right (y ∷ drop (suc r) word) [] (plainly.left (headOf x)))
   by-letter F ih {x} s o r g y b k i small enough u h =
@@ -281,7 +283,7 @@ module _ (pairs ops : List ℤ) (table : tableForm pairs ops ≡ true) (word : L
 
   -- a left with what is next in the word
   at-left : (F : ℕ) → Goal F → {x : NextLeft} {p : ℕ} → Lefts x p → (o r g : ℕ) (b : Bool) (k : Consumes) → r ≤ length word → length word - r < suc F →
-      o ≤ opCount ops → g + (p + leftLetters (leftConsumed x)) ≤ r →
+      o ≤ opCount ops → g + (p + leftLetters (leftConsumed x)) ≡ r →
       Sound ops word (state x o 0 r g p b k) (opsFrom ops o 0) ⊎ (x ≡ next.Boundary → ⊥) → (t : Bool) → ltb r (length word) ≡ t →
       Follows ops word
       (goesOn (runOn ops look F)
@@ -316,7 +318,7 @@ module _ (pairs ops : List ℤ) (table : tableForm pairs ops ≡ true) (word : L
 
   -- a left that is no ligature
   from-boundary : (F : ℕ) → Goal F → (o r g p : ℕ) (b : Bool) (k : Consumes) → length word - r < suc F →
-      Sound ops word (state next.Boundary o 0 r g p b k) (opsFrom ops o 0) → p ≡ 0 →
+      Sound ops word (state next.Boundary o 0 r g p b k) (opsFrom ops o 0) → p + leftLetters k ≡ 0 →
       Follows ops word (goesOn (runOn ops look F) (look next.Boundary (state next.Boundary o 0 r g p b k)))
       (plainly.stepFrom held right (drop r word) [] (plainly.left edge))
   from-boundary F ih o r g zero b k enough s e =
@@ -324,7 +326,7 @@ module _ (pairs ops : List ℤ) (table : tableForm pairs ops ≡ true) (word : L
   from-boundary F ih o r g (suc p) b k enough s e = absurd (omega (arith, e))
 
   from-character : (F : ℕ) → Goal F → (c o r g p : ℕ) (b : Bool) (k : Consumes) → length word - r < suc F →
-      Sound ops word (state (next.Char c) o 0 r g p b k) (opsFrom ops o 0) → p ≡ 0 →
+      Sound ops word (state (next.Char c) o 0 r g p b k) (opsFrom ops o 0) → p + leftLetters k ≡ 0 →
       Follows ops word (goesOn (runOn ops look F) (look (next.Char c) (state (next.Char c) o 0 r g p b k)))
       (plainly.stepFrom held right (drop r word) [] (plainly.left (at (plain c))))
   from-character F ih c o r g zero b k enough s e =

@@ -9,6 +9,7 @@
 --   Ending   after the end comes only the end (R114)
 --   Demand3  what is proved of an accepted font (R14 to R23), in the terms of the calls
 --   Queries  separation points, originals, and questions about a table (R119 to R127)
+--   Letters  the letters of the items, joined, are the word (R381 to R386)
 pub mod Tables
 pub mod Form
 pub mod Replies
@@ -19,3 +20,4 @@ pub mod Runs
 pub mod Ending
 pub mod Queries
 pub mod Demand3
+pub mod Letters

@@ -1,6 +1,6 @@
 -- What is proved of every text that is answered: the statements of specs/ReplyRead.
 -- Assumes nothing.
-use mathlib.Core.Path.{refl}
+use mathlib.Core.Path.{_≡_, refl}
 use mathlib.Core.List.{List, map}
 use mathlib.Core.Logic.{inl}
 use mathlib.Core.Option.{Option, none, some}
@@ -8,14 +8,17 @@ use Prim.Native.Nat.{ℕ, _≤_}
 use native.Mathlib.Omega.{arith}
 use lib.IntN.{ℤ}
 use lib.ListN.{length}
+use Rattle.words.specs.Words.{wordOf}
 use Rattle.fonts.specs.Fonts.{Font}
 use Rattle.fonts.specs.Compiled.{loopsOfFont, fontTable, fontOps, fontLoops}
+use Rattle.word_set.specs.Purpose.{itemsLetters, AllLetters}
+use Rattle.word_set.proofs.Letters.{every-set-word}
 use Rattle.columns.specs.Lines.{writeLine}
 use Rattle.columns.specs.Texts.{fontOfText}
 use Rattle.columns.specs.Scanned.{lettersOf, lengthOfWord}
 use Rattle.columns.specs.Replying.{replyLines}
 use Rattle.columns.specs.Ligcols.{columnRoom, itemRoom, columnItems, wordOfText}
-use Rattle.columns.specs.ReplyRead.{EndsInFeed, EveryAnsweredText}
+use Rattle.columns.specs.ReplyRead.{EndsInFeed, EveryAnsweredText, EveryLetterWritten}
 use Rattle.columns.proofs.FontBegins.{loops-long}
 use Rattle.columns.proofs.LinesBack.{text-ends}
 use Rattle.columns.proofs.TextLaws.{text-known}
@@ -61,3 +64,13 @@ every-answered-text text t room e taken =
       run-ends = run-ends t k a;
       run-reads = run-reads t k a;
     }
+
+-- No letter is lost; a text without a word has no items.
+letters-by : (f : Font) (o : Option (List ℤ)) → columnItems f (lengthOfWord o) (map wordOf (lettersOf o)) .number ≡ 0 →
+    AllLetters (map wordOf (lettersOf o)) (columnItems f (lengthOfWord o) (map wordOf (lettersOf o)))
+unfolding itemsLetters
+letters-by f none z = refl
+letters-by f (some zs) z = every-set-word (fontTable f) (fontOps f) (f .boundary) (map wordOf zs) plainOptions itemRoom z
+
+pub every-letter-written : EveryLetterWritten
+every-letter-written text t room e taken = letters-by (fontOfText t) (t .word) (accepted t room taken .set)

@@ -16,7 +16,7 @@ use Rattle.fonts.specs.Fonts.{rulesOf}
 use Rattle.fonts.specs.Compiled.{fontTable, fontOps, fontLoops}
 use Rattle.captions.specs.Demand3.{Answered, Reads}
 use Rattle.captions.specs.Begin.{plainOptions}
-use Rattle.word_set.specs.Purpose.{SetAs}
+use Rattle.word_set.specs.Purpose.{SetAs, AllLetters}
 use Rattle.columns.specs.Lines.{Line, linesOf, readLine}
 use Rattle.columns.specs.Texts.{Text, readText, fontOfText}
 use Rattle.columns.specs.Scanned.{lengthOfWord}
@@ -133,3 +133,9 @@ pub record AnsweredText (t : Text) : Type 0 where
 -- Whatever text is lent, with whatever room, if it is read and none of the numbers refuses it then that holds of it.
 abbrev pub EveryAnsweredText : Type 0
 EveryAnsweredText = (text : List ℕ) (t : Text) (room : ℕ) → readText text ≡ some t → numberOfText (some t) room ≡ 0 → AnsweredText t
+
+-- No letter is lost (R387): of the same texts, the letters of the T lines by their starts and lengths are the word.
+abbrev pub EveryLetterWritten : Type 0
+EveryLetterWritten =
+    (text : List ℕ) (t : Text) (room : ℕ) → readText text ≡ some t → numberOfText (some t) room ≡ 0 →
+    AllLetters (wordOfText t) (columnItems (fontOfText t) (lengthOfWord (t .word)) (wordOfText t))

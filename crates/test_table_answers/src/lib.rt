@@ -4,6 +4,7 @@ ghost use Rattle.test_requests.specs.Answers.{CountWithin};
 use lang::Written;
 use test_requests::answer::fitting;
 
+mod letters;
 mod questions;
 mod room;
 mod runs;

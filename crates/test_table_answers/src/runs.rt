@@ -1,5 +1,6 @@
 // The run over a word: W. A word has at most 1,024 letters, and a run at most 1,024 calls.
 ghost use Prim.Native.Nat.{_<_};
+use crate::letters::are_the_word;
 use crate::room;
 use caption_run::begin::begin;
 use captions::Answer;
@@ -103,10 +104,16 @@ fn put_calls(out: &mut [i32], n: usize, calls: &[i32]) -> usize
     put_list(out, b, part(calls, 6144, 6145 + n))
 }
 
-// The same, or the refusal.
-fn put_run(out: &mut [i32], answer: Written, calls: &[i32]) -> Written {
+// The same, or the refusal; 7 where the letters of the items, joined, are not the word.
+fn put_run(out: &mut [i32], answer: Written, word: &[u32], calls: &[i32]) -> Written {
     match answer {
-        Written::Count(n) => Written::Count(put_calls(out, n % 1024, calls)),
+        Written::Count(n) => {
+            let many = n % 1024;
+            if !are_the_word(word, part(calls, 0, 6 * many)) {
+                return Written::Refused(7);
+            }
+            Written::Count(put_calls(out, many, calls))
+        }
         Written::Refused(n) => Written::Refused(n),
     }
 }
@@ -146,5 +153,5 @@ pub(crate) fn word_set(numbers: &[i32], pairs: &[i32], ops: &[i32], out: &mut [i
     let mut calls = room::calls();
     let word = first(&letters, list.len());
     let answer = begin_and_run(pairs, ops, boundary, word, options, &mut calls);
-    put_run(out, answer, &calls)
+    put_run(out, answer, word, &calls)
 }

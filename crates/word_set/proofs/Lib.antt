@@ -5,9 +5,11 @@
 --   Laws          the steps of a run, and the contract of set_word
 --   Few           its number is at most 15, and it has six numbers an item
 --   Theorems      what is set is what demand 3 promises: specs/Purpose
+--   Letters       no letter of the word is lost: specs/Purpose
 pub mod Bounds
 pub mod Standing
 pub mod PlainLetters
 pub mod Laws
 pub mod Few
 pub mod Theorems
+pub mod Letters

@@ -1,10 +1,14 @@
 -- What a word set whole is, for a font that compile accepts: demand 3 (R14 to R23) speaks of any number of steps, and `Answered` of
--- captions/specs/Demand3 says what they answer. The theorem is `every-word` of proofs/Theorems.
+-- captions/specs/Demand3 says what they answer. The theorem is `every-word` of proofs/Theorems. And that no letter is lost, at the end.
 use mathlib.Core.Path.{_≡_}
+use mathlib.Core.Bool.{cond}
 use mathlib.Core.List.{List, [], _∷_, _++_, map}
-use Prim.Native.Nat.{ℕ, _*_, _/_, _≤_}
-use lib.IntN.{ℤ}
-use lib.ListN.{length}
+use Prim.Native.Nat.{ℕ, zero, suc, _*_, _/_, _≤_}
+use lib.IntN.{ℤ, pos}
+use lib.Dec.{leb}
+use lib.ListN.{length, getD, drop}
+use Rattle.words.specs.Words.{wordOf}
+use Rattle.lang.specs.Answers.{Reply}
 use Rattle.reading.specs.Items.{Out}
 use Rattle.fonts.specs.Fonts.{Font}
 use Rattle.captions.specs.declared.RunOptions.{RunOptions}
@@ -15,6 +19,7 @@ use Rattle.captions.specs.Replies.{answerReply}
 use Rattle.captions.specs.Begin.{beginOf}
 use Rattle.captions.specs.Runs.{answers, shows, shown}
 use Rattle.captions.specs.Demand3.{Answered}
+use Rattle.captions.specs.Queries.{originalOf}
 use Rattle.word_set.specs.Setting.{setReply}
 
 -- the numbers of answers, one after the other
@@ -39,3 +44,25 @@ abbrev pub EveryWord : Type 0
 EveryWord =
     (f : Font) (pairs ops : List ℤ) (word : List ℕ) (options : RunOptions) (items : List Out) (room : ℕ) →
     Answered f pairs ops word options items → 6 * length items ≤ room → SetAs f pairs ops word options room items
+
+-- ---- no letter lost (R387)
+
+-- the letters that the first item of a list says by its start and length, its numbers 2 and 3: of kinds 0 and 1; a kern has none
+abbrev pub firstLetters : List ℕ → List ℤ → List ℕ
+firstLetters word items =
+    cond (leb (wordOf (getD items 0 (pos 0))) 1) (originalOf word (wordOf (getD items 2 (pos 0))) (wordOf (getD items 3 (pos 0)))) []
+
+-- those of n items, six numbers each, one after the other
+unfoldable pub itemsLetters : List ℕ → ℕ → List ℤ → List ℕ
+itemsLetters word zero items = []
+itemsLetters word (suc n) items = firstLetters word items ++ itemsLetters word n (drop 6 items)
+
+-- those of all items of a reply are the word, each letter once
+abbrev pub AllLetters : List ℕ → Reply → Type 0
+AllLetters word r = itemsLetters word (length (r .values) / 6) (r .values) ≡ word
+
+-- Whatever set_word is lent, where it is not refused its items have all letters of the word. Proved: `every-set-word` of proofs/Letters.
+abbrev pub EverySetWord : Type 0
+EverySetWord =
+    (pairs ops : List ℤ) (boundary : ℤ) (word : List ℕ) (options : RunOptions) (room : ℕ) →
+    setReply pairs ops boundary word options room .number ≡ 0 → AllLetters word (setReply pairs ops boundary word options room)
