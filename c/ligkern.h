@@ -6,7 +6,8 @@
    WHAT A HOST DOES
 
    1. Read a font file: ligkern_deserialize. Its entries are packed.
-   2. Repair the font, with its packed entries: ligkern_validate_and_fix. Read the warnings.
+   2. Ask what repair would warn of, with the packed entries: ligkern_ask_repair. Read the warnings, and hand them over to have the font repaired:
+      ligkern_commit_repair.
    3. Unpack each entry, in the repaired instructions: ligkern_unpack_entrypoint. Leave out an entry that a warning 2 names.
    4. Compile the repaired instructions with the unpacked entries and the repaired left entry: ligkern_compile.
    5. Look at the third of the counts. A FONT WITH LOOPS IS NOT TO GO ON AIR: have it put right. The setter does not hang on it, but sets a pair
@@ -86,6 +87,7 @@
          a left entry past its list; or an entry for a character that the file has not; or the file would have more than 32,767 words
      19  a size, asked for or made by magnifying, is not 1 to 134,217,727, a magnification is not 1 to 32,768, or both are asked for. 15 comes before it
      20  a letter of the word, or the override, is none: a surrogate, or above 1,114,111. 15 of a list of fixed size comes before it, that of the items after it
+     25  the warnings handed over are not those that asking tells of the font as it is lent: ask again
    Zeros stand after what is written, and a refusal leaves zeros in every list that the call writes. A step alone leaves the rest of its state list as it is,
    and a refused step all of it.
 
@@ -104,7 +106,7 @@
      items     6 * ((n + 1) * m + 1) for a word of n letters, where m is the greatest count of ops of a pair, its sixth number, and at least 1.
                Each letter, and the word's end, brings the ops of one pair, or one item; one ligature may follow at the end.
                Or lend fewer, and after 15 twice as many
-     warnings  4 * (1 + e + 4 * i + LIGKERN_MOST_PAIRS) for e entries and i instructions
+     warnings  4 * (1 + e + 4 * i + LIGKERN_MOST_PAIRS) for e entries and i instructions. found: as many as are handed over
      of a font file: 4 * LIGKERN_MOST_WORDS for its instructions, LIGKERN_MOST_WORDS for its kerns, 512 for its entries, and 4 * LIGKERN_MOST_WORDS bytes
                for a new one
 
@@ -118,9 +120,10 @@
      ligkern_begin                              304     ligkern_pack_entrypoints             1,144
      ligkern_step                               761     ligkern_pack_kerns                      88
      ligkern_has_replacement                     40     ligkern_unpack_kerns               131,176
-     ligkern_all_pairs_with_replacements         72     ligkern_validate_and_fix           595,312
-     ligkern_table_is_seven_bit_safe            104     ligkern_replace_lig_kern_program 1,318,312
-     ligkern_deserialize                        412     ligkern_to_scaled                        56
+     ligkern_all_pairs_with_replacements         72     ligkern_ask_repair                 595,280
+     ligkern_table_is_seven_bit_safe            104     ligkern_commit_repair              595,312
+     ligkern_deserialize                        412     ligkern_replace_lig_kern_program 1,318,312
+     ligkern_to_scaled                           56
    Give a thread 16 KiB more, and what the host itself takes. Repair crashes in a thread of 512 KiB; 640 KiB are enough. Writing a font file takes about
    1.3 MB, for the packed program and the shared kerns: it crashes in a thread of 1 MiB, and 1,536 KiB are enough. */
 #ifndef LIGKERN_H
@@ -258,10 +261,10 @@ uint32_t ligkern_unpack_kerns(const int32_t *instructions, size_t instructions_l
 
 /* ---- repair */
 
-/* Repairs a font. Takes packed entries. The existing characters are 256 bits: those from 0, 64, 128 and 192 on, the lowest bit first. `replacement` takes
-   the place of a character that does not exist, and should exist itself. Writes the repaired instructions, their passthrough, in `left` the repaired left
-   entry, and the warnings, four numbers each; values: how many warnings. Work is as in compiling. 1 to 4, 12, 15.
-   A warning is its kind, and then:
+/* Asks what repair would warn of. Takes packed entries. The existing characters are 256 bits: those from 0, 64, 128 and 192 on, the lowest bit first.
+   `replacement` takes the place of a character that does not exist, and should exist itself. Writes the warnings, four numbers each; values: how many. The
+   font is not changed. Work is as in compiling. 1 to 4, 12, 15.
+   A warning is its kind, and then what is wrong and what committing does about it:
       1  0, 0, 0           the left entry is past the instructions; it is made -1
       2  character, 0, 0   its entry does not unpack. Repair writes no entries: leave this one out of what is compiled
       3  index, 0, 0       the next of a reachable instruction leads to the end or past it; it is made -1
@@ -272,11 +275,19 @@ uint32_t ligkern_unpack_kerns(const int32_t *instructions, size_t instructions_l
       8  index, 0, 0       the op byte of a ligature is none of the eight; it is made 0
       9  index, 0, 0       a redirect leads past the instructions; nothing is changed
      10  left, right, 0    a loop, left -1 the left boundary. Nothing is changed, and the font is not to go on air */
-uint32_t ligkern_validate_and_fix(const int32_t *instructions, size_t instructions_length, const int32_t *kerns, size_t kerns_length, const int32_t *entries,
-                                  size_t entries_length, int32_t boundary, int32_t left_entry, int32_t replacement, uint64_t from_0, uint64_t from_64,
-                                  uint64_t from_128, uint64_t from_192, const uint8_t *passthrough, size_t passthrough_length, int32_t *fixed,
-                                  size_t fixed_length, uint8_t *through, size_t through_length, int32_t *warnings, size_t warnings_length, uint32_t *work,
-                                  size_t work_length, int32_t *left, size_t left_length, uint64_t *values, size_t values_length);
+uint32_t ligkern_ask_repair(const int32_t *instructions, size_t instructions_length, const int32_t *kerns, size_t kerns_length, const int32_t *entries,
+                            size_t entries_length, int32_t boundary, int32_t left_entry, int32_t replacement, uint64_t from_0, uint64_t from_64,
+                            uint64_t from_128, uint64_t from_192, const uint8_t *passthrough, size_t passthrough_length, int32_t *warnings,
+                            size_t warnings_length, uint32_t *work, size_t work_length, uint64_t *values, size_t values_length);
+
+/* Repairs a font. The warnings are those that were asked for, without the zeros behind them: four numbers for each. The font is repaired if asking would
+   tell the same of it now, number for number; else 25. The rest is lent as in asking. Writes the repaired instructions, their passthrough, and in `left`
+   the repaired left entry. `found` is work, with a place for each number of the warnings, and is left zero. 1 to 4, 12, 15, 25. */
+uint32_t ligkern_commit_repair(const int32_t *warnings, size_t warnings_length, const int32_t *instructions, size_t instructions_length, const int32_t *kerns,
+                               size_t kerns_length, const int32_t *entries, size_t entries_length, int32_t boundary, int32_t left_entry, int32_t replacement,
+                               uint64_t from_0, uint64_t from_64, uint64_t from_128, uint64_t from_192, const uint8_t *passthrough,
+                               size_t passthrough_length, int32_t *fixed, size_t fixed_length, uint8_t *through, size_t through_length, int32_t *found,
+                               size_t found_length, uint32_t *work, size_t work_length, int32_t *left, size_t left_length);
 
 /* ---- font files (TFM) */
 

@@ -13,7 +13,7 @@ enum { INSTRUCTIONS = 32767, KERNS = 32767, LETTERS = 65535, PAIRS = LIGKERN_MOS
 /* One place more than may be lent, where a call is to refuse too much. */
 static int32_t instructions[4 * (INSTRUCTIONS + 1)], kerns[KERNS + 1], entries[2 * 256], pairs[6 * PAIRS], ops[2 * OPS], loops[2 * PAIRS];
 static int32_t items[6 * 4 * LETTERS], item[7], out[4 * (INSTRUCTIONS + 257)], entries_out[2 * 256], left[1], boundary, left_entry, design_size, override;
-static int32_t warnings[4 * (1 + 256 + 4 * INSTRUCTIONS + PAIRS)], entry, asked_left, asked_right, replacement;
+static int32_t warnings[4 * (1 + 256 + 4 * INSTRUCTIONS + PAIRS)], found[4 * (1 + 256 + 4 * INSTRUCTIONS + PAIRS)], entry, asked_left, asked_right, replacement;
 static uint32_t word[LETTERS + 1], work[16 * PAIRS], chain[INSTRUCTIONS], number;
 static uint64_t counts[3], count[1], values[3], state[9], state_before[9], numbers[LIGKERN_INDEX], existing[4];
 static uint8_t passthrough[INSTRUCTIONS], through[INSTRUCTIONS], text[LIGCOLS_TEXT + 2], reply[LIGCOLS_REPLY];
@@ -27,7 +27,7 @@ static struct {
     size_t pairs, ops, word, numbers;                                      /* read: a table, a word, an index */
     size_t pair_room, op_room, loops, work, counts, items, count, values;  /* written */
     size_t state, item, out, entries_out, through, chain, warnings, reply; /* written */
-    size_t edges, new_file, scaled;                                        /* written */
+    size_t edges, new_file, scaled, handed, found, left;                   /* written, but for what is handed over */
 } n;
 
 /* A function that calls `callee` with the arguments of a call, and puts its number into `number`. */
@@ -56,8 +56,10 @@ CALL(ligkern_reachable_iter, PROGRAM, entries, n.entries, left_entry, passthroug
 CALL(ligkern_pack_entrypoints, PROGRAM, entries, n.entries, boundary, left_entry, out, n.out, entries_out, n.entries_out, VALUES)
 CALL(ligkern_pack_kerns, PROGRAM, kerns, n.kerns, out, n.out, VALUES)
 CALL(ligkern_unpack_kerns, PROGRAM, out, n.out, loops, n.loops, VALUES)
-CALL(ligkern_validate_and_fix, PROGRAM, kerns, n.kerns, entries, n.entries, boundary, left_entry, replacement, existing[0], existing[1], existing[2],
-     existing[3], passthrough, n.passthrough, out, n.out, through, n.through, warnings, n.warnings, work, n.work, left, 1, VALUES)
+CALL(ligkern_ask_repair, PROGRAM, kerns, n.kerns, entries, n.entries, boundary, left_entry, replacement, existing[0], existing[1], existing[2], existing[3],
+     passthrough, n.passthrough, warnings, n.warnings, work, n.work, VALUES)
+CALL(ligkern_commit_repair, warnings, n.handed, PROGRAM, kerns, n.kerns, entries, n.entries, boundary, left_entry, replacement, existing[0], existing[1],
+     existing[2], existing[3], passthrough, n.passthrough, out, n.out, through, n.through, found, n.found, work, n.work, left, n.left)
 CALL(ligkern_deserialize, file, n.file, out, n.out, loops, n.loops, entries_out, n.entries_out, edges, n.edges, counts, n.counts)
 CALL(ligkern_replace_lig_kern_program, file, n.file, PROGRAM, kerns, n.kerns, entries, n.entries, boundary, left_entry, new_file, n.new_file, VALUES)
 CALL(ligcols, text, n.text, reply, n.reply)
@@ -65,7 +67,7 @@ CALL(ligcols, text, n.text, reply, n.reply)
 enum call {
     COMPILE, SCALE, SET, FILL, INDEXED, BEGIN, STEP,                                 /* captions */
     HAS, LISTED, TABLE_SAFE,                                                         /* questions about a table */
-    PROGRAM_SAFE, CHAIN, UNPACK, REACH, PACK, PACK_KERNS, UNPACK_KERNS, REPAIR,      /* programs */
+    PROGRAM_SAFE, CHAIN, UNPACK, REACH, PACK, PACK_KERNS, UNPACK_KERNS, ASK, COMMIT, /* programs */
     READ_FILE, WRITE_FILE, TEXT                                                      /* font files; a text */
 };
 
@@ -95,7 +97,8 @@ static struct {
     ROW(PACK, ligkern_pack_entrypoints, 1, 2, 4, 10, 11, 15),
     ROW(PACK_KERNS, ligkern_pack_kerns, 1, 2, 3, 15),
     ROW(UNPACK_KERNS, ligkern_unpack_kerns, 1, 2, 15),
-    ROW(REPAIR, ligkern_validate_and_fix, 1, 2, 3, 4, 12, 15),
+    ROW(ASK, ligkern_ask_repair, 1, 2, 3, 4, 12, 15),
+    ROW(COMMIT, ligkern_commit_repair, 1, 2, 3, 4, 12, 15, 25),
     ROW(READ_FILE, ligkern_deserialize, 15, 17),
     ROW(WRITE_FILE, ligkern_replace_lig_kern_program, 1, 2, 3, 4, 10, 11, 15, 17, 18),
     ROW(TEXT, ligcols, 2, 4, 5, 12, 13, 14, 15, 16),
@@ -189,6 +192,8 @@ static void lend_all(void)
     n.edges = 2;
     n.new_file = sizeof new_file;
     n.scaled = 1;
+    n.found = sizeof found / sizeof *found;
+    n.left = 1;
     size = magnification = 0;
     entry = 0;
     replacement = 97;
@@ -334,6 +339,13 @@ static void take_file(void)
     take(READ_FILE);
 }
 
+/* The warnings asked for, and the font repaired with them where they were told. */
+static uint32_t take_repair(void)
+{
+    n.handed = take(ASK) == 0 ? 4 * values[0] : 0;
+    return take(COMMIT);
+}
+
 static void take_font(void)
 {
     take(PROGRAM_SAFE);
@@ -346,7 +358,7 @@ static void take_font(void)
     take(PACK);
     take(PACK_KERNS);
     take(UNPACK_KERNS);
-    take(REPAIR);
+    take_repair();
     take_file();
     write_text();
     take(TEXT);
@@ -365,7 +377,7 @@ static void refuse_program(enum call c)
     with_length(&n.instructions, n.instructions - 1, c, 1);
     with_length(&n.instructions, 4 * (INSTRUCTIONS + 1), c, 1);
     with_number(instructions + 2, 9, c, 2);
-    if (c != COMPILE) with_length(&n.values, 0, c, 15);
+    if (c != COMPILE && c != COMMIT) with_length(&n.values, 0, c, 15);
 }
 
 static void refuse_table(enum call c)
@@ -404,12 +416,13 @@ static void plain_font(void)
 static void refuse_programs(void)
 {
     plain_font();
-    static const enum call programs[] = {COMPILE, PROGRAM_SAFE, CHAIN, UNPACK, REACH, PACK, PACK_KERNS, UNPACK_KERNS, REPAIR};
+    static const enum call programs[] = {COMPILE, PROGRAM_SAFE, CHAIN, UNPACK, REACH, PACK, PACK_KERNS, UNPACK_KERNS, ASK, COMMIT};
     for (size_t i = 0; i < sizeof programs / sizeof *programs; i++) refuse_program(programs[i]);
     with_length(&n.kerns, KERNS + 1, COMPILE, 3);
     with_length(&n.kerns, KERNS + 1, PACK_KERNS, 3);
-    with_length(&n.kerns, KERNS + 1, REPAIR, 3);
-    static const enum call entered[] = {COMPILE, PROGRAM_SAFE, REACH, PACK, REPAIR};
+    with_length(&n.kerns, KERNS + 1, ASK, 3);
+    with_length(&n.kerns, KERNS + 1, COMMIT, 3);
+    static const enum call entered[] = {COMPILE, PROGRAM_SAFE, REACH, PACK, ASK, COMMIT};
     for (size_t i = 0; i < sizeof entered / sizeof *entered; i++) with_number(entries, 256, entered[i], 4);
     with_number(&entry, -1, CHAIN, 4);
     with_number(&entry, 256, UNPACK, 4);
@@ -418,7 +431,8 @@ static void refuse_programs(void)
     with_number(entries + 1, 65535, PACK, 11);
     with_number(&design_size, -1, COMPILE, 5);
     with_length(&n.work, 0, COMPILE, 12);
-    with_length(&n.work, 0, REPAIR, 12);
+    with_length(&n.work, 0, ASK, 12);
+    with_length(&n.work, 0, COMMIT, 12);
     with_number(kerns, 16777216, COMPILE, 13);
     with_length(&n.op_room, 0, COMPILE, 14);
     with_length(&n.loops, 0, COMPILE, 15);
@@ -431,9 +445,13 @@ static void refuse_programs(void)
     with_number(&magnification, 32769, SCALE, 19);
     with_length(&n.chain, 0, CHAIN, 15);
     with_length(&n.through, 0, UNPACK, 15);
-    static const enum call written[] = {REACH, PACK, PACK_KERNS, UNPACK_KERNS, REPAIR};
+    static const enum call written[] = {REACH, PACK, PACK_KERNS, UNPACK_KERNS, COMMIT};
     for (size_t i = 0; i < sizeof written / sizeof *written; i++) with_length(&n.out, 0, written[i], 15);
-    with_length(&n.warnings, 0, REPAIR, 15);
+    with_length(&n.warnings, 0, ASK, 15);
+    if (take_repair() != 0) die("a repair is refused");
+    with_length(&n.found, n.handed - 1, COMMIT, 15);
+    with_length(&n.left, 0, COMMIT, 15);
+    with_length(&n.handed, n.handed - 4, COMMIT, 25);
     n.entries = 0;
     for (int32_t c = 0; c < 256; c++) put_entry(c, 256 + c);
     due(PACK, 10);

@@ -1,5 +1,5 @@
--- The passes of repair one after the other: the contract of `mend`, of every font. Crate `repair` asks whether the lists that it was lent
--- are long enough, since that comes after 12 (R184).
+-- The passes of repair one after the other: the contract of `mend`, of every font. Crates `repair_ask` and `repair_commit` ask whether the
+-- lists that they were lent are long enough, since that comes after 12 (R184).
 use mathlib.Core.Path.{_≡_}
 use mathlib.Core.List.{List, [], _∷_, _++_}
 use Prim.Native.Nat.{ℕ, _*_, _/_}

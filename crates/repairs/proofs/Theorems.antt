@@ -8,7 +8,9 @@ use Rattle.lang.specs.Records.{count}
 use Rattle.fonts.proofs.Theorems.{no-loops, reported-never}
 use Rattle.repairs.specs.Damaged.{leftGoes}
 use Rattle.repairs.specs.Repaired.{repairedFont}
+use Rattle.repairs.specs.Committing.{commitRoom}
 use Rattle.repairs.specs.Purpose.{Untouched, again, TakenAgain, UnpackedAgain, RepairedOnce, RepairedInVain, LoopsTrue, NoLoopAtAnySize}
+use Rattle.repairs.specs.Purpose.{SameWhenEqual, AskedThenCommitted, EveryCommit, NothingToRepair}
 use Rattle.repairs.proofs.Steps.{same-count}
 use Rattle.repairs.proofs.Warned.{none-warned}
 use Rattle.repairs.proofs.Kept.{cond-false, program-kept}
@@ -16,6 +18,7 @@ use Rattle.repairs.proofs.SameReach.{same-unpacked, left-sound}
 use Rattle.repairs.proofs.Once.{skip-sound, right-sound, right-back, kern-sound, product-sound, product-back, tag-sound}
 use Rattle.repairs.proofs.Taken
 use Rattle.repairs.proofs.Loopless
+use Rattle.repairs.proofs.Committing
 
 -- A program without a warning of kinds 1 to 9 is left as it is.
 pub untouched : Untouched
@@ -57,3 +60,23 @@ loops-true d = record { never = reported-never (repairedFont d); none = no-loops
 -- Repaired without a warning of kind 10, a font compiles without a loop at every design size.
 pub no-loop-at-any-size : NoLoopAtAnySize
 no-loop-at-any-size d h size = Loopless.no-loop-at-any-size d h size
+
+-- The test of two lists says whether they are equal.
+pub same-when-equal : SameWhenEqual
+same-when-equal handed found = Committing.same-when-equal handed found
+
+-- Asked, and then committed with the list cut to its count, a font is repaired as the whole repair does it.
+pub asked-then-committed : AskedThenCommitted
+asked-then-committed d warnings work n warnings′ work′ asks fixed through found later r fixed′ through′ found′ later′ commits long bytes places rows =
+    Committing.in-two d warnings work n warnings′ work′ asks fixed through found later r fixed′ through′ found′ later′ commits long bytes places rows
+
+-- Committing answers 25, or is taken, exactly when no lower number holds and the lists differ, or are equal.
+pub every-commit : EveryCommit
+every-commit d handed fixed through found work r fixed′ through′ found′ work′ commits =
+    Committing.committed-by d handed (commitRoom fixed through found work) r (commits .answer)
+
+-- Of a font without warnings only the empty list is taken, and the left entry and the instructions stay.
+pub nothing-to-repair : NothingToRepair
+nothing-to-repair d handed fixed through found work left fixed′ through′ found′ work′ commits e =
+    Committing.nothing-changed d handed fixed through found work left fixed′ through′ found′ work′ commits e
+    (λ ok. untouched d ok (Committing.no-repair-warnings d e))

@@ -3,11 +3,13 @@ use mathlib.Core.Path.{_≡_}
 use mathlib.Core.Bool.{true, false, not}
 use mathlib.Core.List.{List, [], List·Memᴰ}
 use mathlib.Core.Logic.{_↔_}
-use Prim.Native.Nat.{ℕ, _*_, _/_, _<_}
+use Prim.Native.Nat.{ℕ, _*_, _/_, _<_, _≤_}
 use lib.IntN.{ℤ, pos}
-use lib.ListN.{length, getD, replicate}
+use lib.ListN.{length, getD, take, replicate}
+use Rattle.lang.specs.declared.Written.the-variants.{Count}
 use Rattle.lang.specs.Every.{both}
 use Rattle.lang.specs.Checks.{programRefusal}
+use Rattle.lang.specs.Answers.{padded}
 use Rattle.lang.specs.Records.{count}
 use Rattle.reading.specs.Items.{Left}
 use Rattle.reading.specs.Reading.{NeverEnds, Ends}
@@ -16,11 +18,16 @@ use Rattle.fonts.specs.declared.Compiled.{Compiled}
 use Rattle.fonts.specs.declared.Compiled.the-variants.{Tables}
 use Rattle.fonts.specs.Fonts.{Font, fontOf, rulesOf}
 use Rattle.fonts.specs.Compiled.{loopsOfFont, fontLoops, Compiles}
+use Rattle.repairs.specs.declared.Committed.{Committed}
+use Rattle.repairs.specs.declared.Committed.the-variants.{Fixed, Refused}
+use Rattle.repairs.specs.declared.Validated.the-variants as validated
 use Rattle.repairs.specs.Damaged.{Damaged, programOf, unpackedEntries, repairedPassthrough, leftGoes, repairedLeft}
 use Rattle.repairs.specs.Repaired.{exists, isBoundary, skipGoes, rightGoes, kernGoes, productGoes, tagGoes, repairedInstructions}
 use Rattle.repairs.specs.Repaired.{repairedFont}
 use Rattle.repairs.specs.Warnings.{repairWarnings, warningsOf}
-use Rattle.repairs.specs.Repairs.{damagedRefusal}
+use Rattle.repairs.specs.Repairs.{damagedRefusal, repairedPairsRefusal, Repairs}
+use Rattle.repairs.specs.Asking.{Asks}
+use Rattle.repairs.specs.Committing.{sameNumbers, CommitRoom, commitRoom, commitRoomRefusal, Commits}
 
 -- repair leaves the left entry and the instructions as they are
 pub record LeftAsItIs (d : Damaged) : Type 0 where
@@ -113,3 +120,57 @@ pub record CompilesWithoutLoop (f : Font) : Type 0 where
 -- repaired without a warning of kind 10, a font compiles without a loop at every design size
 abbrev pub NoLoopAtAnySize : Type 0
 NoLoopAtAnySize = (d : Damaged) → NoneOfKind 10 (warningsOf d) → (size : ℤ) → CompilesWithoutLoop (compiledAt d size)
+
+-- ---- asked, and committed (R401 to R406)
+
+-- the test of two lists says whether they are equal
+abbrev pub SameWhenEqual : Type 0
+SameWhenEqual = (handed found : List ℤ) → (sameNumbers handed found ≡ true) ↔ (handed ≡ found)
+
+-- asked, and then committed with the list cut to its count, the same font is repaired, if the lists are long enough and the work is no
+-- shorter than asking's; what the two calls leave is what the whole repair leaves
+abbrev pub AskedThenCommitted : Type 0
+AskedThenCommitted =
+    (d : Damaged) (warnings : List ℤ) (work : List ℕ) (n : ℕ) (warnings′ : List ℤ) (work′ : List ℕ) →
+    Asks d warnings work (Count n) warnings′ work′ →
+    (fixed : List ℤ) (through : List ℕ) (found : List ℤ) (later : List ℕ) (r : Committed) (fixed′ : List ℤ) (through′ : List ℕ)
+    (found′ : List ℤ) (later′ : List ℕ) →
+    Commits d (take (4 * n) warnings′) fixed through found later r fixed′ through′ found′ later′ →
+    4 * count (d .instructions) ≤ length fixed → count (d .instructions) ≤ length through → 4 * n ≤ length found →
+    length work ≤ length later →
+    (r ≡ Fixed (repairedLeft d))
+    × Repairs d fixed through warnings later (validated.Fixed (repairedLeft d) n) fixed′ through′ warnings′ later′
+
+-- no number of committing below 25 holds
+pub record NoneLower (d : Damaged) (handed : List ℤ) (room : CommitRoom) : Type 0 where
+  pub font : damagedRefusal d ≡ 0
+  pub pairs : repairedPairsRefusal d (room .work) ≡ 0
+  pub lists : commitRoomRefusal d handed room ≡ 0
+
+-- what is answered, by the list handed over and the warnings of now: 25 exactly when no lower number holds and they differ; taken exactly
+-- when no lower number holds and they are equal
+pub record CommittedBy (d : Damaged) (handed : List ℤ) (room : CommitRoom) (r : Committed) : Type 0 where
+  pub changed : (r ≡ Refused 25) ↔ (NoneLower d handed room × (handed ≡ warningsOf d → ⊥))
+  pub taken : ((left : ℤ) × (r ≡ Fixed left)) ↔ (NoneLower d handed room × (handed ≡ warningsOf d))
+
+-- so it is of every font and list
+abbrev pub EveryCommit : Type 0
+EveryCommit =
+    (d : Damaged) (handed fixed : List ℤ) (through : List ℕ) (found : List ℤ) (work : List ℕ) (r : Committed) (fixed′ : List ℤ)
+    (through′ : List ℕ) (found′ : List ℤ) (work′ : List ℕ) →
+    Commits d handed fixed through found work r fixed′ through′ found′ work′ →
+    CommittedBy d handed (commitRoom fixed through found work) r
+
+-- committed of a font without warnings: only the empty list was taken, and the left entry and the instructions are those that were lent
+pub record NothingChanged (d : Damaged) (handed fixed fixed′ : List ℤ) (left : ℤ) : Type 0 where
+  pub empty : handed ≡ []
+  pub entry : left ≡ d .left
+  pub instructions : fixed′ ≡ padded (pos 0) (length fixed) (d .instructions)
+
+-- so it is of every font without warnings
+abbrev pub NothingToRepair : Type 0
+NothingToRepair =
+    (d : Damaged) (handed fixed : List ℤ) (through : List ℕ) (found : List ℤ) (work : List ℕ) (left : ℤ) (fixed′ : List ℤ)
+    (through′ : List ℕ) (found′ : List ℤ) (work′ : List ℕ) →
+    Commits d handed fixed through found work (Fixed left) fixed′ through′ found′ work′ → warningsOf d ≡ [] →
+    NothingChanged d handed fixed fixed′ left

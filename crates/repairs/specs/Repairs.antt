@@ -1,4 +1,5 @@
--- THE contract of repair (R164, R165): its refusals, its answer, and the final content of every lent list.
+-- What the whole repair gives (R164, R165): its refusals, its answer, and the final content of every lent list. Asking and committing are
+-- its two parts (specs/Asking, specs/Committing).
 use mathlib.Core.Path.{_≡_}
 use mathlib.Core.Bool.{cond}
 use mathlib.Core.List.{List, [], _∷_}
@@ -62,7 +63,7 @@ repairRoomRefusal d room =
 abbrev pub repairRefusal : Damaged → RepairRoom → ℕ
 repairRefusal d room = orElse (damagedRefusal d) (orElse (repairedPairsRefusal d (room .work)) (repairRoomRefusal d room))
 
--- what repair answers, as a number and values (R285): the left entry and how many warnings there are (R165), or the number
+-- what the passes answer, as a number and values (R285): the left entry and how many warnings there are (R165), or the number
 abbrev pub validatedReply : Validated → Reply
 validatedReply (Fixed left n) = replyOf 0 (left ∷ pos n ∷ [])
 validatedReply (Refused n) = record { number = n; values = [] }
@@ -72,7 +73,7 @@ abbrev pub roomFor : List ℤ → List ℕ → List ℤ → List ℕ → RepairR
 roomFor fixed through warnings work =
     record { instructions = length fixed; passthrough = length through; warnings = length warnings; work = length work }
 
--- THE contract of validate_and_fix: the answer, and every list, taken or refused (R255, R252)
+-- the whole repair, in one go: the answer, and every list, taken or refused (R255, R252)
 pub record Repairs (d : Damaged) (fixed : List ℤ) (through : List ℕ) (warnings : List ℤ) (work : List ℕ) (r : Validated)
     (fixed′ : List ℤ) (through′ : List ℕ) (warnings′ : List ℤ) (work′ : List ℕ) : Type 0 where
   pub answer : validatedReply r ≡

@@ -1,6 +1,6 @@
 // Repair, after `validate_and_fix` of ligkern/lang.rs (lines 691 to 818): what is warned of and the font repaired
-// (specs/), what is proved of them (proofs/), and the types that the passes of repair answer each other with. Crate
-// `repair` repairs.
+// (specs/), what is proved of them (proofs/), and the types that the parts of repair answer with. Crate `repair_ask`
+// tells the warnings, and crate `repair_commit` repairs.
 
 // What is wrong with a step: its skip passes the end; it is a redirect to be warned of; its right character neither
 // exists nor is the boundary character; its kern index is past the list; the character that it inserts does not exist;
@@ -20,8 +20,15 @@ pub struct Entered {
     pub warnings: usize,
 }
 
-// What repair answers: the repaired left entry and how many warnings there are, or the number of its refusal.
+// What the passes of repair answer: the repaired left entry and how many warnings there are, or the number of their
+// refusal.
 pub enum Validated {
     Fixed(i32, usize),
+    Refused(u32),
+}
+
+// What committing answers: the repaired left entry, or the number of its refusal.
+pub enum Committed {
+    Fixed(i32),
     Refused(u32),
 }

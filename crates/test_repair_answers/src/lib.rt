@@ -1,10 +1,13 @@
-// A font repaired, and the answer of the port to the request X of tools/oracle. A request has at most 16,384 numbers,
-// so a program at most 4,096 instructions; there is room for 4,096 warnings, and for 1,024 pairs with a rule.
+// A font repaired, and the answers of the port to the requests X and Y of tools/oracle: X asks for the warnings, and
+// commits with them; Y commits with the list that it has. A request has at most 16,384 numbers, so a program at most
+// 4,096 instructions; there is room for 4,096 warnings, and for 1,024 pairs with a rule.
 ghost use mathlib.Core.Path.{_≡_};
 ghost use lib.ListN.{length};
 ghost use Rattle.test_requests.specs.Answers.{CountWithin};
 use lang::Written;
-use repairs::Validated;
+use repair_ask::ask_repair;
+use repair_commit::commit_repair;
+use repairs::Committed;
 use test_requests::answer::fitting;
 use test_requests::answer::put_count;
 use test_requests::answer::put_list;
@@ -70,19 +73,45 @@ fn existing_of(numbers: &[i32]) -> [u64; 4] {
     ]
 }
 
-// Repairs a font.
-fn repair_font(
+// The warnings of a font, and how many they are.
+fn ask_font(
+    font: &[i32],
+    replacement: i32,
+    existing: &[u64; 4],
+    marks: &[u8],
+    warnings: &mut [i32],
+) -> Written {
+    let instructions = instructions_of(font);
+    let mut work = rows();
+    ask_repair(
+        instructions,
+        kerns_of(font),
+        entries_of(font),
+        number_at(font, from_end(font, 2)),
+        number_at(font, from_end(font, 1)),
+        replacement,
+        existing,
+        front(marks, instructions.len() / 4),
+        warnings,
+        &mut work,
+    )
+}
+
+// Repairs a font, if these are its warnings.
+fn commit_font(
+    handed: &[i32],
     font: &[i32],
     replacement: i32,
     existing: &[u64; 4],
     marks: &[u8],
     fixed: &mut [i32],
     through: &mut [u8],
-    warnings: &mut [i32],
-) -> Validated {
+) -> Committed {
     let instructions = instructions_of(font);
+    let mut found = records();
     let mut work = rows();
-    repair::validate_and_fix(
+    commit_repair(
+        handed,
         instructions,
         kerns_of(font),
         entries_of(font),
@@ -93,73 +122,109 @@ fn repair_font(
         front(marks, instructions.len() / 4),
         fixed,
         through,
-        warnings,
+        &mut found,
         &mut work,
     )
 }
 
-// The warnings, the instructions, the left entry and the passthrough list.
+// The instructions, the left entry and the passthrough list.
 fn put_repaired(
     out: &mut [i32],
-    warnings: &[i32],
+    at: usize,
     instructions: &[i32],
     left: u32,
     through: &[u8],
 ) -> usize {
-    let a = put_count(out, 0, warnings.len() / 4);
-    let b = put_list(out, a, warnings);
-    let c = put_count(out, b, instructions.len() / 4);
-    let d = put_list(out, c, instructions);
-    let e = put_one(out, d, left);
-    put_set(out, e, through)
+    let a = put_count(out, at, instructions.len() / 4);
+    let b = put_list(out, a, instructions);
+    let c = put_one(out, b, left);
+    put_set(out, c, through)
 }
 
-// What repair answered, and what it wrote for a program of so many numbers.
-fn put_validated(
+// What committing answered, and what it wrote for a program of so many numbers.
+fn put_committed(
     out: &mut [i32],
-    answer: Validated,
+    at: usize,
+    answer: Committed,
     n: usize,
     fixed: &[i32],
     through: &[u8],
-    warnings: &[i32],
 ) -> Written {
     match answer {
-        Validated::Fixed(left, count) => {
-            let listed = part(warnings, 0, count % 4294967296 * 4);
+        Committed::Fixed(left) => {
             let left_word = words::word_of(left);
-            let program = part(fixed, 0, n);
-            Written::Count(put_repaired(out, listed, program, left_word, through))
+            Written::Count(put_repaired(out, at, part(fixed, 0, n), left_word, through))
         }
-        Validated::Refused(number) => Written::Refused(number),
+        Committed::Refused(number) => Written::Refused(number),
     }
 }
 
-// X smallest e0 .. e7 PASSTHROUGH FONT
-fn repaired(numbers: &[i32], out: &mut [i32]) -> Written {
+// smallest e0 .. e7 PASSTHROUGH FONT: the font's warnings.
+fn asked(numbers: &[i32], warnings: &mut [i32]) -> Written {
+    let font = rest(numbers, after(numbers, 9, 1));
+    let existing = existing_of(numbers);
+    let mut marks = places();
+    mark(items(numbers, 9, 1), &mut marks);
+    ask_font(font, number_at(numbers, 0), &existing, &marks, warnings)
+}
+
+// The same: the font repaired, from place `at` of the answer on.
+fn committed(handed: &[i32], numbers: &[i32], out: &mut [i32], at: usize) -> Written {
     let font = rest(numbers, after(numbers, 9, 1));
     let existing = existing_of(numbers);
     let mut marks = places();
     mark(items(numbers, 9, 1), &mut marks);
     let mut fixed = records();
     let mut through = places();
-    let mut warnings = records();
-    let answer = repair_font(
+    let answer = commit_font(
+        handed,
         font,
         number_at(numbers, 0),
         &existing,
         &marks,
         &mut fixed,
         &mut through,
-        &mut warnings,
     );
     let n = instructions_of(font).len();
-    put_validated(out, answer, n, &fixed, &through, &warnings)
+    put_committed(out, at, answer, n, &fixed, &through)
+}
+
+// X smallest e0 .. e7 PASSTHROUGH FONT
+fn repaired(numbers: &[i32], out: &mut [i32]) -> Written {
+    let mut warnings = records();
+    match asked(numbers, &mut warnings) {
+        Written::Refused(number) => Written::Refused(number),
+        Written::Count(count) => {
+            let listed = part(&warnings, 0, count % 4294967296 * 4);
+            let a = put_count(out, 0, listed.len() / 4);
+            let b = put_list(out, a, listed);
+            committed(listed, numbers, out, b)
+        }
+    }
+}
+
+// Y LIST smallest e0 .. e7 PASSTHROUGH FONT
+fn handed_over(numbers: &[i32], out: &mut [i32]) -> Written {
+    committed(
+        items(numbers, 0, 1),
+        rest(numbers, after(numbers, 0, 1)),
+        out,
+        0,
+    )
+}
+
+// By the letter.
+fn answer_by(letter: u8, numbers: &[i32], out: &mut [i32]) -> Written {
+    if letter == b'Y' {
+        return handed_over(numbers, out);
+    }
+    repaired(numbers, out)
 }
 
 // The numbers of the answer to a request, or the number of its refusal: 15 where a list is too short.
-pub fn answer(numbers: &[i32], out: &mut [i32]) -> Written
+pub fn answer(letter: u8, numbers: &[i32], out: &mut [i32]) -> Written
     ensures { λ r. ⌜ CountWithin r (length (now (out .exit))) ⌝ }
 {
-    let answer = repaired(numbers, out);
+    let answer = answer_by(letter, numbers, out);
     fitting(answer, out.len())
 }

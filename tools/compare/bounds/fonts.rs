@@ -166,33 +166,48 @@ fn kerns_written(font: &Font, counts: &mut Counts) -> Tried {
 fn repaired(font: &Font, damage: &Damage, counts: &mut Counts) -> Tried {
     let count = font.instructions.len();
     let rules = reading::read(&mended(font, damage)).rules.len();
-    let call = |i: &[List], o: &[List]| unsafe {
-        ligkern_validate_and_fix(
+    let sources = || vec![instructions(font), kerns(font), entries(font), passed(&damage.passthrough, count)];
+    let ask = |i: &[List], o: &[List]| unsafe {
+        ligkern_ask_repair(
             i[0].pointer(), i[0].length, i[1].pointer(), i[1].length, i[2].pointer(), i[2].length, font.boundary,
             font.left_entry, damage.smallest, damage.existing[0], damage.existing[1], damage.existing[2],
             damage.existing[3], i[3].pointer(), i[3].length, o[0].pointer(), o[0].length, o[1].pointer(),
-            o[1].length, o[2].pointer(), o[2].length, o[3].pointer(), o[3].length, o[4].pointer(), o[4].length,
-            o[5].pointer(), o[5].length,
+            o[1].length, o[2].pointer(), o[2].length,
         )
     };
-    let sources = || vec![instructions(font), kerns(font), entries(font), passed(&damage.passthrough, count)];
-    let sinks = |warnings: usize| {
-        vec![
-            sink(4, 4 * count, 15),
-            sink(1, count, 15),
-            sink(4, 4 * warnings, 15),
-            sink(4, 16 * rules, 12),
-            sink(4, 1, 15),
-            values(1),
-        ]
-    };
+    let sinks = |warnings: usize| vec![sink(4, 4 * warnings, 15), sink(4, 16 * rules, 12), values(1)];
     let warnings = learned(|room| {
         let lists: Vec<List> = sources().iter().map(|s| List::new(&s.content)).collect();
         let outs: Vec<List> = sinks(room).iter().map(|s| List::new(&Content::filled(s.width, s.length))).collect();
-        (call(&lists, &outs), outs[5].content().count(0))
+        (ask(&lists, &outs), outs[2].content().count(0))
     });
-    let name = "ligkern_validate_and_fix";
-    Call { name, refusals: &[], sources: sources(), sinks: sinks(warnings), call: &call }.try_all(counts).map(|_| ())
+    let name = "ligkern_ask_repair";
+    let asked = Call { name, refusals: &[], sources: sources(), sinks: sinks(warnings), call: &ask }.try_all(counts)?;
+    let told = asked.expect("asking is taken")[0].clone();
+    committed(font, damage, rules, source(told, Some(25)), counts)
+}
+
+/// With what asking told; one number less is 25.
+fn committed(font: &Font, damage: &Damage, rules: usize, handed: Source, counts: &mut Counts) -> Tried {
+    let count = font.instructions.len();
+    let commit = |i: &[List], o: &[List]| unsafe {
+        ligkern_commit_repair(
+            i[0].pointer(), i[0].length, i[1].pointer(), i[1].length, i[2].pointer(), i[2].length, i[3].pointer(),
+            i[3].length, font.boundary, font.left_entry, damage.smallest, damage.existing[0], damage.existing[1],
+            damage.existing[2], damage.existing[3], i[4].pointer(), i[4].length, o[0].pointer(), o[0].length,
+            o[1].pointer(), o[1].length, o[2].pointer(), o[2].length, o[3].pointer(), o[3].length, o[4].pointer(),
+            o[4].length,
+        )
+    };
+    let sinks = vec![
+        sink(4, 4 * count, 15),
+        sink(1, count, 15),
+        sink(4, handed.content.length(), 15),
+        sink(4, 16 * rules, 12),
+        sink(4, 1, 15),
+    ];
+    let sources = vec![handed, instructions(font), kerns(font), entries(font), passed(&damage.passthrough, count)];
+    Call { name: "ligkern_commit_repair", refusals: &[], sources, sinks, call: &commit }.try_all(counts).map(|_| ())
 }
 
 /// For a self-test: an op table that is said to be one longer than it is.

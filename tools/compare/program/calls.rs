@@ -210,7 +210,33 @@ extern "C" {
         values_length: usize,
     ) -> u32;
 
-    pub fn ligkern_validate_and_fix(
+    pub fn ligkern_ask_repair(
+        instructions: *const i32,
+        instructions_length: usize,
+        kerns: *const i32,
+        kerns_length: usize,
+        entries: *const i32,
+        entries_length: usize,
+        boundary: i32,
+        left_entry: i32,
+        replacement: i32,
+        from_0: u64,
+        from_64: u64,
+        from_128: u64,
+        from_192: u64,
+        passthrough: *const u8,
+        passthrough_length: usize,
+        warnings: *mut i32,
+        warnings_length: usize,
+        work: *mut u32,
+        work_length: usize,
+        values: *mut u64,
+        values_length: usize,
+    ) -> u32;
+
+    pub fn ligkern_commit_repair(
+        warnings: *const i32,
+        warnings_length: usize,
         instructions: *const i32,
         instructions_length: usize,
         kerns: *const i32,
@@ -230,13 +256,11 @@ extern "C" {
         fixed_length: usize,
         through: *mut u8,
         through_length: usize,
-        warnings: *mut i32,
-        warnings_length: usize,
+        found: *mut i32,
+        found_length: usize,
         work: *mut u32,
         work_length: usize,
         left: *mut i32,
         left_length: usize,
-        values: *mut u64,
-        values_length: usize,
     ) -> u32;
 }

@@ -189,7 +189,7 @@ fn repair(
     }
     let published = asked::validate_and_fix(font, damage, tally);
     tally.warned(&published);
-    let given = lent.validate_and_fix(damage, [published.count(0), reading.rules.len()]);
+    let given = lent.repair(damage, [published.count(0), reading.rules.len()]);
     Some((published, given))
 }
 
@@ -242,7 +242,7 @@ pub fn ask_refused(ask: &Ask, font: &Font, due: u32, spare: usize, tally: &mut T
         Ask::Pack => lent.pack_entrypoints(8),
         Ask::PackKerns => lent.pack_kerns(),
         Ask::UnpackKerns => lent.unpack_kerns(8),
-        Ask::Repair(damage) => lent.validate_and_fix(damage, [8, 8]),
+        Ask::Repair(damage) => lent.repair(damage, [8, 8]),
         _ => lent.program_is_seven_bit_safe(),
     };
     tally.class(tally::OUT_OF_RANGE);

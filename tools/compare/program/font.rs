@@ -63,7 +63,7 @@ pub const CALLS: [&str; 16] = [
     "ligkern_pack_entrypoints",
     "ligkern_pack_kerns",
     "ligkern_unpack_kerns",
-    "ligkern_validate_and_fix",
+    "ligkern_ask_repair, ligkern_commit_repair",
     "ligkern_fill_index, ligkern_set_word_indexed",
     "ligkern_to_scaled",
 ];

@@ -348,18 +348,60 @@ impl Lent {
         Ok(numbers)
     }
 
-    /// Lent so many warnings and, in the work buffer, so many pairs of room.
-    pub fn validate_and_fix(&mut self, damage: &Damage, room: [usize; 2]) -> Given {
+    /// The warnings, lent so many and, in the work buffer, so many pairs of room.
+    fn ask_repair(&mut self, damage: &Damage, room: [usize; 2]) -> Result<Vec<i32>, Stop> {
+        let (count, spare) = (self.count(), self.spare);
+        let mut passthrough = bytes(&damage.passthrough, count);
+        let mut warnings = Output::<i32>::new("warnings", 4 * room[0] + spare);
+        let mut work = Output::<u32>::new("work", 16 * room[1] + spare);
+        let mut values = values(spare, 1);
+        let number = unsafe {
+            ligkern_ask_repair(
+                self.instructions.pointer(),
+                self.instructions.length(),
+                self.kerns.pointer(),
+                self.kerns.length(),
+                self.entries.pointer(),
+                self.entries.length(),
+                self.boundary,
+                self.left_entry,
+                damage.smallest,
+                damage.existing[0],
+                damage.existing[1],
+                damage.existing[2],
+                damage.existing[3],
+                passthrough.pointer(),
+                passthrough.length(),
+                warnings.pointer(),
+                warnings.length(),
+                work.pointer(),
+                work.length(),
+                values.pointer(),
+                values.length(),
+            )
+        };
+        self.unchanged()?;
+        passthrough.unchanged("passthrough")?;
+        work.zeros()?;
+        taken(number, &[&warnings, &values])?;
+        let given = values.taken(1)?[0];
+        Ok(warnings.taken(4 * given as usize)?.to_vec())
+    }
+
+    /// The left entry, the instructions and the passthrough, with these warnings handed over.
+    fn commit_repair(&mut self, handed: &[i32], damage: &Damage, pairs: usize) -> Given {
         let (length, count, spare) = (self.instructions.length(), self.count(), self.spare);
+        let mut warnings = Input::new(handed.to_vec());
         let mut passthrough = bytes(&damage.passthrough, count);
         let mut fixed = Output::<i32>::new("fixed", length + spare);
         let mut through = Output::<u8>::new("through", count + spare);
-        let mut warnings = Output::<i32>::new("warnings", 4 * room[0] + spare);
-        let mut work = Output::<u32>::new("work", 16 * room[1] + spare);
+        let mut found = Output::<i32>::new("found", handed.len() + spare);
+        let mut work = Output::<u32>::new("work", 16 * pairs + spare);
         let mut left = Output::<i32>::new("left", 1 + spare);
-        let mut values = values(spare, 1);
         let number = unsafe {
-            ligkern_validate_and_fix(
+            ligkern_commit_repair(
+                warnings.pointer(),
+                warnings.length(),
                 self.instructions.pointer(),
                 self.instructions.length(),
                 self.kerns.pointer(),
@@ -379,25 +421,56 @@ impl Lent {
                 fixed.length(),
                 through.pointer(),
                 through.length(),
-                warnings.pointer(),
-                warnings.length(),
+                found.pointer(),
+                found.length(),
                 work.pointer(),
                 work.length(),
                 left.pointer(),
                 left.length(),
-                values.pointer(),
-                values.length(),
             )
         };
         self.unchanged()?;
+        warnings.unchanged("warnings")?;
         passthrough.unchanged("passthrough")?;
         work.zeros()?;
-        taken(number, &[&fixed, &through, &warnings, &left, &values])?;
-        let given = values.taken(1)?[0];
-        let mut numbers = vec![given as i64, left.taken(1)?[0] as i64];
-        put(&mut numbers, warnings.taken(4 * given as usize)?);
+        found.zeros()?;
+        taken(number, &[&fixed, &through, &left])?;
+        let mut numbers = vec![left.taken(1)?[0] as i64];
         put(&mut numbers, fixed.taken(length)?);
         put(&mut numbers, through.taken(count)?);
+        Ok(numbers)
+    }
+
+    /// A list that is not what was asked for is refused with this number.
+    fn not_committed(&mut self, handed: &[i32], damage: &Damage, pairs: usize, due: u32) -> Result<(), Stop> {
+        match self.commit_repair(handed, damage, pairs) {
+            Err(Stop::Number(number)) if number == due => Ok(()),
+            Err(Stop::Fault(fault)) => Err(Stop::Fault(fault)),
+            _ => Err(Stop::Fault(format!("{due} is due of committing with {handed:?}"))),
+        }
+    }
+
+    /// Asks, and commits with what was told; lent so many warnings and, in the work buffer, so many pairs of room. A list
+    /// that is changed in one number, or one warning longer, is 25; where asking is refused, committing is so too.
+    pub fn repair(&mut self, damage: &Damage, room: [usize; 2]) -> Given {
+        let warnings = match self.ask_repair(damage, room) {
+            Err(Stop::Number(number)) if number != 15 => {
+                self.not_committed(&[], damage, room[1], number)?;
+                return Err(Stop::Number(number));
+            }
+            asked => asked?,
+        };
+        let mut other = warnings.clone();
+        if let Some(number) = other.get_mut(warnings.len() * 5 / 7) {
+            *number = number.wrapping_add(1);
+            self.not_committed(&other, damage, room[1], 25)?;
+        }
+        other = [&warnings[..], &[0; 4]].concat();
+        self.not_committed(&other, damage, room[1], 25)?;
+        let repaired = self.commit_repair(&warnings, damage, room[1])?;
+        let mut numbers = vec![warnings.len() as i64 / 4, repaired[0]];
+        put(&mut numbers, &warnings);
+        numbers.extend(&repaired[1..]);
         Ok(numbers)
     }
 }

@@ -1,2 +1,0 @@
--- Laws: Repairing, what repair tells from what its function answers.
-pub mod Repairing

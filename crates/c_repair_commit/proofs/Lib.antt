@@ -1,0 +1,2 @@
+-- Laws: Telling, what a committed repair tells from what its function answers.
+pub mod Telling

@@ -1,0 +1,2 @@
+-- The laws of what asking answers and leaves: Asking.
+pub mod Asking

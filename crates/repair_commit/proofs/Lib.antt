@@ -1,0 +1,2 @@
+-- What committing answers and leaves, by its parts: Committing.
+pub mod Committing
