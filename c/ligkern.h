@@ -87,9 +87,11 @@
          a left entry past its list; or an entry for a character that the file has not; or the file would have more than 32,767 words
      19  a size, asked for or made by magnifying, is not 1 to 134,217,727, a magnification is not 1 to 32,768, or both are asked for. 15 comes before it
      20  a letter of the word, or the override, is none: a surrogate, or above 1,114,111. 15 of a list of fixed size comes before it, that of the items after it
+     21  a chip's command is unknown
+     22  a chip's command comes out of turn, an add meets a full word, or a begin meets a count of 4,294,967,295
      25  the warnings handed over are not those that asking tells of the font as it is lent: ask again
    Zeros stand after what is written, and a refusal leaves zeros in every list that the call writes. A step alone leaves the rest of its state list as it is,
-   and a refused step all of it.
+   and a refused step all of it; so do a chip's commands with its block and its list.
 
    LISTS
 
@@ -138,6 +140,9 @@
 
 /* How many numbers an index has. */
 #define LIGKERN_INDEX 1285
+
+/* How many numbers a chip has. */
+#define LIGKERN_CHIP 83
 
 /* How many words of four bytes a font file has at most. */
 #define LIGKERN_MOST_WORDS 32767
@@ -202,6 +207,24 @@ uint32_t ligkern_begin(const int32_t *pairs, size_t pairs_length, const int32_t 
 uint32_t ligkern_step(const int32_t *pairs, size_t pairs_length, const int32_t *ops, size_t ops_length, int32_t boundary, const uint32_t *word,
                       size_t word_length, bool disable_left_boundary, int32_t right_boundary_override, uint64_t *state, size_t state_length, int32_t *item,
                       size_t item_length);
+
+/* ---- the caption chip */
+
+/* One command of a chip that is driven through a block of 16 bytes. A chip is LIGKERN_CHIP numbers, all zeros before its first command; lend the list that
+   the last call left, with one table and boundary character. Words are set with the left boundary and no override. The block's bytes (R392 to R395):
+      0        read: the command. 1 begin a word, 2 add the letter in byte 1, 3 end the word, 4 take the item that is shown
+      1        read: the letter to add
+      2        written: the status. 1 item ready, 2 word open, 4 interrupt
+      3        read: the mask. A set bit 0 or 1 keeps the status bit 0 or 1 from setting the interrupt
+      4 to 7   written: how many words were ended, highest byte first
+      8 to 15  written: the item's kind, left flag, right flag and original's length, then its value, highest byte first, a kern below zero in two's
+               complement; zeros where there is none
+   Bytes past 16 stay. An item is shown from the end of its word until it is taken, the next one after it. A word has at most 64 letters; begin is taken when
+   no word is open and every item was taken, and checks the table whole. A refused command changes neither block nor chip.
+   The list: 1 if a word is open, its length, seven of the item as ligkern_step writes it, with a value below zero as 32 bits, nine of the state, 64 letters,
+   of which those past the length are not read, and the words ended. 4, 7, 15, 21, 22. */
+uint32_t ligkern_chip(const int32_t *pairs, size_t pairs_length, const int32_t *ops, size_t ops_length, int32_t boundary, uint8_t *block, size_t block_length,
+                      uint64_t *chip, size_t chip_length);
 
 /* ---- questions about a table */
 

@@ -46,7 +46,7 @@ fn consumes_number(consumes: Consumes) -> u64
 }
 
 // 1 where a flag is set.
-fn bit(flag: bool) -> u64
+pub fn bit(flag: bool) -> u64
     ensures { λ r. ⌜ r ≡ flagBit flag ⌝ }
 {
     if flag { 1 } else { 0 }
@@ -101,7 +101,7 @@ fn consumes_of(n: u64) -> Consumes
     }
 }
 
-fn flag_of(n: u64) -> bool
+pub fn flag_of(n: u64) -> bool
     ensures { λ r. ⌜ r ≡ flagOf n ⌝ }
 {
     match n {
@@ -111,7 +111,7 @@ fn flag_of(n: u64) -> bool
 }
 
 // Whether the first nine numbers of a list are a state.
-fn is_state(list: &[u64]) -> bool
+pub fn is_state(list: &[u64]) -> bool
     ensures { λ r. ⌜ r ≡ isState (now (list .entry)) ⌝ }
 {
     if list.len() < 9 {

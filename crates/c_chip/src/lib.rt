@@ -1,0 +1,28 @@
+// One command of the caption chip for a host in C (R214): the block in bytes, and the chip in a list of 83 numbers.
+ghost use Rattle.c_chip.specs.Chip83.{TellsChip};
+use c_chips::reading::chip_in;
+use c_chips::writing::put_chip;
+use chip::command;
+
+// One command: 0, with the block and the chip after it; or the number of its refusal, with both as they were. Numbers
+// that are no chip's are 7.
+#[no_mangle]
+pub extern "C" fn ligkern_chip(
+    pairs: &[i32],
+    ops: &[i32],
+    boundary: i32,
+    block: &mut [u8],
+    chip: &mut [u64],
+) -> u32
+    ensures { λ r. ⌜ TellsChip (now (pairs .entry)) (now (ops .entry)) boundary (now (block .entry))
+        (now (chip .entry)) r (now (block .exit)) (now (chip .exit)) ⌝ }
+{
+    let from = chip_in(chip);
+    let done = command(pairs, ops, boundary, block, from);
+    if done.number != 0 {
+        return done.number;
+    }
+    let after = done.chip;
+    put_chip(chip, after);
+    0
+}

@@ -1,0 +1,2 @@
+-- Laws of crate chip: Laws (a command whole, refused or taken).
+pub mod Laws

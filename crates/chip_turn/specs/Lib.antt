@@ -1,0 +1,2 @@
+-- A chip after a command: Turns, over chips/specs/Commands.
+pub mod Turns
