@@ -1,6 +1,7 @@
 /* setter FONT LETTERS CALL HOW N: one call of the setter's library on the numbers of FONT (tools/bench/font) and the first LETTERS letters of its word.
 
-   CALL  compile; begin; index (fill_index); word (set_word); indexed (set_word_indexed, on the index of the table); step (steps on a fresh state to the end, the end among them).
+   CALL  compile; begin; index (fill_index); word (set_word); indexed (set_word_indexed, on the index of the table); step (steps on a fresh state to the end, the end among them);
+         chip_begin, chip_add, chip_end, chip_take (one command of the caption chip: on a fresh chip; the first letter; the end of a word of LETTERS letters; the first item taken).
    HOW   answer: writes the table, the ops, the loops and the items that the call leaves, and N is not looked at; count, time: see meter.h.
 
    What is lent: room for 512 pairs, or 4,096, or 65,792, whichever is enough first, for four ops a pair, 64 loops and three items a letter. */
@@ -18,6 +19,8 @@ static uint32_t *word, *work, said;
 static size_t letters, pair_room;
 static uint64_t counts[3], count, state[9], fresh[9], index_of[LIGKERN_INDEX], steps;
 static int32_t item[7];
+static uint64_t chip[83], chip_before[83];
+static uint8_t block[16];
 
 static long next_number(char **at) {
     char *end;
@@ -85,6 +88,33 @@ static void step_to_end(void) {
     } while (said == 0 && item[0] == 1);
 }
 
+/* One command of the chip. */
+static void command(uint8_t number, uint8_t letter) {
+    block[0] = number;
+    block[1] = letter;
+    said = ligkern_chip(pairs.at, 6 * counts[0], ops.at, 2 * counts[1], boundary, block, sizeof block, chip, 83);
+}
+
+static void chip_begin(void) { command(1, 0); }
+static void chip_add(void) { command(2, (uint8_t)word[0]); }
+static void chip_end(void) { command(3, 0); }
+static void chip_take(void) { command(4, 0); }
+static void chip_again(void) { memcpy(chip, chip_before, sizeof chip); }
+
+/* The chip before the command that is measured. */
+static void (*chip_call(const char *call))(void) {
+    if (strcmp(call, "chip_begin")) {
+        chip_begin();
+        if (!strcmp(call, "chip_end") || !strcmp(call, "chip_take")) {
+            for (size_t i = 0; i < letters && i < 64; i++) command(2, (uint8_t)word[i]);
+        }
+        if (!strcmp(call, "chip_take")) chip_end();
+    }
+    if (said) die("a command of the chip was refused");
+    memcpy(chip_before, chip, sizeof chip);
+    return !strcmp(call, "chip_begin") ? chip_begin : !strcmp(call, "chip_add") ? chip_add : !strcmp(call, "chip_end") ? chip_end : chip_take;
+}
+
 static void nothing(void) {}
 static void start_again(void) { memcpy(state, fresh, sizeof state); }
 
@@ -150,6 +180,10 @@ int main(int argc, char **argv) {
         else if (!strcmp(call, "index")) meter(how, n, nothing, fill_index);
         else if (!strcmp(call, "indexed")) meter(how, n, nothing, set_word_indexed);
         else if (stepped) meter(how, n, start_again, step_to_end);
+        else if (!strncmp(call, "chip_", 5)) {
+            void (*measured_call)(void) = chip_call(call);
+            meter(how, n, chip_again, measured_call);
+        }
         else die("no such call");
     }
     if (said) die("refused");
