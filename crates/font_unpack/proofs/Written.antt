@@ -119,7 +119,8 @@ module _ (s es : List ℤ) (left : ℤ) where
   pub kept-answer : standsPacked s es left ≡ false → unpackedFontReply Kept ≡ replyOf 0 (unpackedFontValues s es left)
   kept-answer t = rw t
 
-  pub own-answer : {front n : ℕ} {z : ℤ} → standsPacked s es left ≡ true → front ≡ partFront s es left → n ≡ ownPartCount s es left → z ≡ leftMovedBack left front →
+  pub own-answer : {front n : ℕ} {z : ℤ} → standsPacked s es left ≡ true → front ≡ partFront s es left → n ≡ ownPartCount s es left →
+      z ≡ leftMovedBack left front →
       unpackedFontReply (Own front n z) ≡ replyOf 0 (unpackedFontValues s es left)
   own-answer {front} {n} {z} t f g e =
       let f′ : front ≡ ownStart s left = f ∙ ap (λ (b : Bool). cond b (ownStart s left) 0) t in

@@ -88,7 +88,8 @@ module _ (es : List ℤ) (front : ℕ) where
           (length-entered es (length es / 2)) (length-entered (movedEntries es front) (length es / 2)) last (entered-back (length es / 2) (omega arith)))
 
       -- the entry of every left
-      pub left-back : (x : Left) → Back front (leftEntry (entriesTable es left) x) (leftEntry (entriesTable (movedEntries es front) (leftMovedBack left front)) x)
+      pub left-back : (x : Left) →
+          Back front (leftEntry (entriesTable es left) x) (leftEntry (entriesTable (movedEntries es front) (leftMovedBack left front)) x)
       unfolding Same
       left-back bnd = table-back 256 (omega arith)
       left-back (chr c) = by (ltb c 256) refl

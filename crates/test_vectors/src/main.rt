@@ -4,8 +4,8 @@
 // tells from the Rust's own panic. One line about a font has no answer of the Rust's: a pair of 2^102 ops, which the
 // Rust would write out one by one and the port refuses at once with 14. Behind it come the requests about font files,
 // F and G, whose answers are those of tools/files, then those of which a chain reaches a redirect: there the Rust was
-// asked on the chains without their redirects. Last come the requests Y, whose lists of warnings the Rust does not take:
-// they are answered by what it warns of and repairs.
+// asked on the chains without their redirects. Then come words with letters beyond the font, and last the requests Y,
+// whose lists of warnings the Rust does not take: they are answered by what it warns of and repairs.
 ghost use mathlib.Core.Path.{_≡_};
 ghost use lib.ListN.{length};
 use lang::Written;
