@@ -3,6 +3,7 @@ ghost use mathlib.Core.Path.{_≡_};
 ghost use Rattle.captions.specs.Replies.{begunReply};
 ghost use Rattle.lang.specs.Checks.{orElse};
 ghost use Rattle.captions.specs.Begin.{lettersRefusal, overrideRefusal, beginRefusal, freshState, beginReply};
+ghost use Rattle.captions.specs.Form.{tableRefusal};
 ghost use Rattle.captions.specs.Begin as begun;
 use crate::edges::edges_refusal;
 use crate::edges::override_refusal;
@@ -55,7 +56,18 @@ fn codes_refusal(word: &[u32], options: RunOptions) -> u32
     override_refusal(options.right_boundary_override)
 }
 
-// 4, 6, 7 or 20, the lowest that holds.
+// 7, or else this number.
+fn late_refusal(pairs: &[i32], ops: &[i32], codes: u32) -> u32
+    ensures { λ r. ⌜ r ≡ orElse (tableRefusal (now (pairs .entry)) (now (ops .entry))) codes ⌝ }
+{
+    let table = table_refusal(pairs, ops);
+    if table != 0 {
+        return table;
+    }
+    codes
+}
+
+// 4, 6, 7 or 20, the lowest that holds. The word is asked first, so that nothing of it is kept while the table is read.
 fn begin_refusal(
     pairs: &[i32],
     ops: &[i32],
@@ -74,11 +86,11 @@ fn begin_refusal(
     if long != 0 {
         return long;
     }
-    let table = table_refusal(pairs, ops);
-    if table != 0 {
-        return table;
+    let codes = codes_refusal(word, options);
+    if codes != 0 {
+        return late_refusal(pairs, ops, codes);
     }
-    codes_refusal(word, options)
+    table_refusal(pairs, ops)
 }
 
 // No ops, no letters given and no pending ligature.

@@ -49,13 +49,16 @@ opPasses left kind value =
 
 -- ---- a pair
 
--- left, right, last code and last flag, by their bits
-abbrev pub codesForm : ℕ → ℕ → ℕ → ℕ → Bool
-codesForm left right code flag =
-    both (absentOr 255 (numberOf left))
-    (both (leb right 255)
+-- right, last code and last flag, by their bits
+abbrev pub codesForm : ℕ → ℕ → ℕ → Bool
+codesForm right code flag =
+    both (leb right 255)
     (both (leb code 255)
-    (both (leb flag 1) (cond (eqb flag 1) true (eqb code right)))))
+    (both (leb flag 1) (cond (eqb flag 1) true (eqb code right))))
+
+-- a left in range, by its bits, and its ops
+abbrev pub LeftPasses : List ℤ → ℕ → Bool → ℕ → ℕ → Bool → Type 0
+LeftPasses ops left f i end r = (code : ℕ) → r ≡ both (absentOr 255 (numberOf left)) (opsPass ops (leftBy left) (item f code) i (end - i))
 
 -- pair k is of the form but for the order, if the ops of the pair before it end at op at; and its ops fit
 abbrev pub pairPasses : List ℤ → List ℤ → ℕ → ℕ → Bool

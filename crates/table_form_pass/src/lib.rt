@@ -13,14 +13,10 @@ use words::word_of;
 
 mod pair_ops;
 
-// Left and right in range, the last with a code and a flag, and an unflagged last equal to the right; all by their 32
-// bits.
-fn codes_form(left: u32, right: u32, code: u32, flag: u32) -> bool
-    ensures { λ r. ⌜ r ≡ codesForm left right code flag ⌝ }
+// The right in range, the last with a code and a flag, and an unflagged last equal to the right; all by their 32 bits.
+fn codes_form(right: u32, code: u32, flag: u32) -> bool
+    ensures { λ r. ⌜ r ≡ codesForm right code flag ⌝ }
 {
-    if 256 < left_place(left) {
-        return false;
-    }
     if 255 < right {
         return false;
     }
@@ -48,7 +44,7 @@ fn pair_passes(pairs: &[i32], ops: &[i32], p: usize, at: usize) -> bool
 {
     let left = word_of(pairs[p]);
     let flag = word_of(pairs[p + 3]);
-    if !codes_form(left, word_of(pairs[p + 1]), word_of(pairs[p + 2]), flag) {
+    if !codes_form(word_of(pairs[p + 1]), word_of(pairs[p + 2]), flag) {
         return false;
     }
     if word_of(pairs[p + 4]) as usize != at {

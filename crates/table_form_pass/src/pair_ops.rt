@@ -4,7 +4,8 @@ ghost use mathlib.Core.Path.{_≡_};
 ghost use Prim.Native.Nat.{_≤_};
 ghost use lib.Dec.{eqb};
 ghost use Rattle.captions.specs.Tables.{opCount};
-ghost use Rattle.table_form_pass.specs.Parts.{leftBy, opPasses, OpsPass, LaterPass};
+ghost use Rattle.table_form_pass.specs.Parts.{leftBy, opPasses, OpsPass, LaterPass, LeftPasses};
+use table_find::left_place;
 use words::word_of;
 
 // An op is a kern, a ligature, or the left as it stands, which is a character.
@@ -56,10 +57,11 @@ fn all_pass(ops: &[i32], left: u32, flag: u32, start: usize, end: usize) -> bool
     left == 4294967295 || flag == 1
 }
 
-// The same. Most are the left as it stands and a kern, so these come first, without a loop.
+// The same, and the left is in range. Most are the left as it stands and a kern, so these come first, without a loop: an
+// op that is the left tests it.
 pub(crate) fn ops_pass(ops: &[i32], left: u32, flag: u32, start: usize, end: usize) -> bool
     requires { ⌜ (start ≤ end) × (end ≤ opCount (now ops)) ⌝ }
-    ensures { λ r. ⌜ OpsPass (now (ops .entry)) (leftBy left) (eqb flag 1) start end r ⌝ }
+    ensures { λ r. ⌜ LeftPasses (now (ops .entry)) left (eqb flag 1) start end r ⌝ }
 {
     if end - start == 2 {
         if word_of(ops[2 * start]) == 0 {
@@ -67,6 +69,9 @@ pub(crate) fn ops_pass(ops: &[i32], left: u32, flag: u32, start: usize, end: usi
                 return op_passes(left, 0, word_of(ops[2 * start + 1]));
             }
         }
+    }
+    if 256 < left_place(left) {
+        return false;
     }
     all_pass(ops, left, flag, start, end)
 }

@@ -106,7 +106,7 @@ returns : tie.Need-returns
 returns c =
     let r = c .before .before in
     let a = r .before .before .before .before .before .before .before .before .args in
-    pair-codes (now (a .pairs)) (now (a .ops)) (a .p / 6) (a .at) (left r) (right r) (code r) (flag r)
+    pair-codes (now (a .pairs)) (now (a .ops)) (a .p / 6) (a .at) (right r) (code r) (flag r)
     (sym (c .before .codes-form .ensures) ∙ not-true _ (c .if1 .taken))
 
 add-word-of-4 : tie.Need-add-word-of-4
@@ -129,7 +129,7 @@ returns-2 c =
     let d = c .before .before .before in
     let r = d .before .before in
     let a = r .before .before .before .before .before .before .before .before .args in
-    pair-gap (now (a .pairs)) (now (a .ops)) (a .p / 6) (a .at) (left r) (right r) (code r) (flag r)
+    pair-gap (now (a .pairs)) (now (a .ops)) (a .p / 6) (a .at) (right r) (code r) (flag r)
     (sym (d .before .codes-form .ensures) ∙ not-false _ (d .if1 .left)) (first (c .before)) (c .if2 .taken)
 
 add-word-of-5 : tie.Need-add-word-of-5
@@ -156,7 +156,7 @@ returns-3 c =
     let d = g .before .before .before in
     let r = d .before .before in
     let a = r .before .before .before .before .before .before .before .before .args in
-    pair-over (now (a .pairs)) (now (a .ops)) (a .p / 6) (a .at) (left r) (right r) (code r) (flag r)
+    pair-over (now (a .pairs)) (now (a .ops)) (a .p / 6) (a .at) (right r) (code r) (flag r)
     (sym (d .before .codes-form .ensures) ∙ not-false _ (d .if1 .left)) (first (g .before)) (g .if2 .left) (count (c .before)) (c .if3 .taken)
 
 ops-pass-requires : tie.Need-ops-pass-requires
@@ -169,9 +169,9 @@ returns-4 c =
     let d = g .before .before .before in
     let r = d .before .before in
     let a = r .before .before .before .before .before .before .before .before .args in
-    pair-ops (now (a .pairs)) (now (a .ops)) (a .p / 6) (a .at) (left r) (right r) (code r) (flag r)
-    (sym (d .before .codes-form .ensures) ∙ not-false _ (d .if1 .left)) (first (g .before)) (g .if2 .left) (count (e .before)) (e .if3 .left)
-    (c .ops-pass .ensures)
+    pair-ops (now (a .pairs)) (now (a .ops)) (a .p / 6) (a .at) (right r) (code r) (flag r)
+    (sym (d .before .codes-form .ensures) ∙ not-false _ (d .if1 .left)) (first (g .before)) (g .if2 .left) (count (e .before)) (left r)
+    (e .if3 .left) (c .ops-pass .ensures)
 
 pub pair-passes-spec : {M : Type 1} → statement M
 pair-passes-spec =

@@ -8,6 +8,7 @@ use Rattle.lang.proofs.Records.{word-passed}
 use Rattle.reading.specs.Items.{item}
 use Rattle.captions.specs.Tables.{opKind, opValue}
 use Rattle.table_form_pass.proofs.PairOps.{pass-two}
+use Rattle.table_form_pass.proofs.PairReads.{left-refused, left-taken, left-op}
 use borrow.Author.Needs.{needs}
 use Rattle.table_form_pass.proofs.pair_ops.ops_pass.Statement.{statement}
 use Rattle.table_form_pass.proofs.pair_ops.ops_pass.Tie as tie
@@ -72,18 +73,33 @@ returns c =
     let s = now (a .args .ops) in
     let i = a .args .start in
     λ code.
+    left-op (a .args .left) (a .fits .left .fits) (v .word-of3 .result) (c .op-passes .ensures) (
     c .op-passes .ensures
     ∙ pass-two s i (a .args .end) (d .if1 .taken)
     (word-passed {x = opKind s i} (record { sfits = k .before .word-of-arg .given }) (k .word-of .ensures))
     (word-passed {x = opValue s i} (record { sfits = v .before .word-of-arg3 .given }) (v .word-of3 .ensures))
     (word-passed {x = opKind s (i + 1)} (record { sfits = n .before .word-of-arg2 .given }) (n .word-of2 .ensures))
-    (e .if2 .taken) (f .if3 .taken) (item (eqb (a .args .flag) 1) code) (a .args .left) (a .fits .left .fits)
+    (e .if2 .taken) (f .if3 .taken) (item (eqb (a .args .flag) 1) code) (a .args .left) (a .fits .left .fits))
+
+left-place-requires : tie.Need-left-place-requires
+left-place-requires c κs = search needs
+
+returns-2 : tie.Need-returns-2
+returns-2 c =
+    let b = c .before .before .before in
+    let a = b .args in
+    left-refused (a .left) (b .fits .left .fits) (now (a .ops)) (eqb (a .flag) 1) (a .start) (a .end) (c .before .left-place .ensures) (c .if4 .taken)
 
 all-pass-requires : tie.Need-all-pass-requires
 all-pass-requires c κs = search needs
 
-returns-2 : tie.Need-returns-2
-returns-2 c = search needs
+returns-3 : tie.Need-returns-3
+returns-3 c =
+    let l = c .before in
+    let b = l .before .before .before in
+    let a = b .args in
+    left-taken (a .left) (b .fits .left .fits) (now (a .ops)) (eqb (a .flag) 1) (a .start) (a .end) (l .before .left-place .ensures) (l .if4 .left)
+    (c .all-pass .ensures)
 
 pub ops-pass-spec : {M : Type 1} → statement M
 ops-pass-spec =
@@ -106,5 +122,7 @@ ops-pass-spec =
     word-of-requires-3
     op-passes-requires
     returns
+    left-place-requires
+    returns-2
     all-pass-requires
-    returns-2)
+    returns-3)
