@@ -1,6 +1,6 @@
-/* An example of a host that compiles a font once and sets captions one after the other, with c/ligkern.h. The font is that of examples/ordinary.txt with a
-   house ligature more. 'f' and 'i' become the ligature 200, a kern stands between 'f' and '!', and a 'b' that begins a word becomes the ligature 201 with the
-   left boundary. Its entries are not packed, and it needs no repair.
+/* An example of a host that compiles a font once, checks its table once, and sets captions one after the other by an index, with c/ligkern.h. The font is that
+   of examples/ordinary.txt with a house ligature more. 'f' and 'i' become the ligature 200, a kern stands between 'f' and '!', and a 'b' that begins a word
+   becomes the ligature 201 with the left boundary. Its entries are not packed, and it needs no repair.
 
    captions < LINES     each line is a word, its bytes the characters; writes its items, one a line, and an empty line after them. Last comes 'f!', in the
                         font magnified by 1,200 thousandths.
@@ -27,12 +27,13 @@ static const int32_t boundary = -1, left_entry = 2, design_size = 10485760;
 
 static int32_t pairs[6 * PAIRS], ops[2 * OPS], loops[2 * LOOPS];
 static uint32_t work[16 * PAIRS];
-static uint64_t counts[3];
+static uint64_t counts[3], index_of[LIGKERN_INDEX];
 
 /* Room for eight items a letter, which is more than this font gives. A host with other fonts works it out, or lends more after a 15 (c/ligkern.h, LISTS). */
 static int32_t items[6 * 8 * LETTERS];
 
-/* Compiles the font, by a magnification in thousandths; 0 is its design size. Returns 0 where it is taken and every pair of it ends. */
+/* Compiles the font, by a magnification in thousandths; 0 is its design size. Then checks the table and fills its index, once for all words. Returns 0 where
+   it is taken and every pair of it ends. */
 static int compile(int32_t magnification)
 {
     uint32_t number = ligkern_compile(instructions, LENGTH(instructions), kerns, LENGTH(kerns), entries, LENGTH(entries), boundary, left_entry, design_size,
@@ -45,6 +46,14 @@ static int compile(int32_t magnification)
     fprintf(stderr, "%" PRIu64 " pairs, %" PRIu64 " ops, %" PRIu64 " loops\n", counts[0], counts[1], counts[2]);
     if (counts[2] != 0) {
         fprintf(stderr, "the pair %" PRId32 ", %" PRId32 " never ends\n", loops[0], loops[1]);
+        return 2;
+    }
+    number = ligkern_check_table(pairs, 6 * counts[0], ops, 2 * counts[1]);
+    if (number == 0) {
+        number = ligkern_fill_index(pairs, 6 * counts[0], index_of, LENGTH(index_of));
+    }
+    if (number != 0) {
+        fprintf(stderr, "the table is refused: %" PRIu32 "\n", number);
         return 2;
     }
     return 0;
@@ -71,7 +80,8 @@ static int set(const char *word, size_t n)
     for (size_t i = 0; i < n; i++) {
         letters[i] = (unsigned char)word[i];
     }
-    uint32_t number = ligkern_set_word(pairs, 6 * counts[0], ops, 2 * counts[1], boundary, letters, n, false, -1, items, LENGTH(items), count, LENGTH(count));
+    uint32_t number = ligkern_set_checked_word_indexed(index_of, LENGTH(index_of), pairs, 6 * counts[0], ops, 2 * counts[1], boundary, letters, n, false, -1,
+                                                       items, LENGTH(items), count, LENGTH(count));
     if (number != 0) {
         fprintf(stderr, "'%.*s' is refused: %" PRIu32 "\n", (int)n, word, number);
         return 2;

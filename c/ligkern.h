@@ -12,7 +12,11 @@
    4. Compile the repaired instructions with the unpacked entries and the repaired left entry: ligkern_compile.
    5. Look at the third of the counts. A FONT WITH LOOPS IS NOT TO GO ON AIR: have it put right. The setter does not hang on it, but sets a pair
       that never ends as if it had no rule.
-   6. Set words: ligkern_set_word, or quicker by an index; or item by item, with ligkern_begin and ligkern_step.
+   6. Set words, by the call that fits the host:
+      one caption, or a table that may have been written to since: ligkern_set_word, which checks the whole table at each call;
+      captions over one table: ligkern_check_table once, then ligkern_set_checked_word, which costs by its letters;
+      the same and 10 KiB for an index: ligkern_fill_index once, then ligkern_set_checked_word_indexed, the quickest;
+      item by item: ligkern_begin, then ligkern_step, or ligkern_step_indexed by an index.
    A font whose entries are not packed, and which needs no repair, begins with 4. Another program is put into a font file, with unpacked entries, by
    ligkern_replace_lig_kern_program.
 
@@ -177,6 +181,17 @@ uint32_t ligkern_set_word(const int32_t *pairs, size_t pairs_length, const int32
                           size_t word_length, bool disable_left_boundary, int32_t right_boundary_override, int32_t *items, size_t items_length,
                           uint64_t *count, size_t count_length);
 
+/* The form of a table: 0, or 7 where ligkern_begin would find it wrong. Check a table once that was lent to no call but reading ones since: what ligkern_compile
+   wrote is taken (R411). 7. */
+uint32_t ligkern_check_table(const int32_t *pairs, size_t pairs_length, const int32_t *ops, size_t ops_length);
+
+/* Sets a word whole over a table that was checked. On a table that ligkern_check_table takes it answers and writes what ligkern_set_word does, and does not
+   read the whole table for it (R413, R415). Any other table is safe too: a step checks what it reads, and a 7 is returned where it meets what it cannot take.
+   4, 6 and 20 come first, so that 20 comes before such a 7. 4, 6, 20, 7, 15; 15 of the count comes before 20. */
+uint32_t ligkern_set_checked_word(const int32_t *pairs, size_t pairs_length, const int32_t *ops, size_t ops_length, int32_t boundary, const uint32_t *word,
+                                  size_t word_length, bool disable_left_boundary, int32_t right_boundary_override, int32_t *items, size_t items_length,
+                                  uint64_t *count, size_t count_length);
+
 /* The index of a table, LIGKERN_INDEX numbers, by which a pair is found with a bit test and a count of ones. Fill it once for a table, and again when the
    table changes. It looks at the lefts and the rights of the pairs alone. 7, 15. */
 uint32_t ligkern_fill_index(const int32_t *pairs, size_t pairs_length, uint64_t *index, size_t index_length);
@@ -193,6 +208,12 @@ uint32_t ligkern_set_word_indexed(const uint64_t *index, size_t index_length, co
                                   int32_t boundary, const uint32_t *word, size_t word_length, bool disable_left_boundary, int32_t right_boundary_override,
                                   int32_t *items, size_t items_length, uint64_t *count, size_t count_length);
 
+/* The same over a table that was checked (R414): what ligkern_set_word_indexed does by the same index, on a table that ligkern_check_table takes. On any other
+   table it is as safe as ligkern_set_checked_word. 4, 6, 20, 7, 15; 15 of the count comes before 20. */
+uint32_t ligkern_set_checked_word_indexed(const uint64_t *index, size_t index_length, const int32_t *pairs, size_t pairs_length, const int32_t *ops,
+                                          size_t ops_length, int32_t boundary, const uint32_t *word, size_t word_length, bool disable_left_boundary,
+                                          int32_t right_boundary_override, int32_t *items, size_t items_length, uint64_t *count, size_t count_length);
+
 /* A fresh run over a word: nine numbers of state. The table is checked whole. A list shorter than nine is 15. 4, 6, 7, 15, 20. */
 uint32_t ligkern_begin(const int32_t *pairs, size_t pairs_length, const int32_t *ops, size_t ops_length, int32_t boundary, const uint32_t *word,
                        size_t word_length, bool disable_left_boundary, int32_t right_boundary_override, uint64_t *state, size_t state_length);
@@ -207,6 +228,12 @@ uint32_t ligkern_begin(const int32_t *pairs, size_t pairs_length, const int32_t 
 uint32_t ligkern_step(const int32_t *pairs, size_t pairs_length, const int32_t *ops, size_t ops_length, int32_t boundary, const uint32_t *word,
                       size_t word_length, bool disable_left_boundary, int32_t right_boundary_override, uint64_t *state, size_t state_length, int32_t *item,
                       size_t item_length);
+
+/* One step of a run by an index (R416). By the one that ligkern_fill_index wrote for these pairs it does what ligkern_step does, from every state. Any other
+   index is taken too, as by ligkern_set_word_indexed: where it says a wrong place the step is 7. 4, 6, 7, 15, 20. */
+uint32_t ligkern_step_indexed(const uint64_t *index, size_t index_length, const int32_t *pairs, size_t pairs_length, const int32_t *ops, size_t ops_length,
+                              int32_t boundary, const uint32_t *word, size_t word_length, bool disable_left_boundary, int32_t right_boundary_override,
+                              uint64_t *state, size_t state_length, int32_t *item, size_t item_length);
 
 /* ---- the caption chip */
 

@@ -21,27 +21,34 @@ use Rattle.captions.specs.Tables.{pairCount}
 use Rattle.captions.specs.Steps.{refused, stepOf}
 use Rattle.step_quick.specs.Quick.{plainCode, nextLetter, hasLetter, isQuick, quickLeft, foundPlace, isReady, givenPlain, givenFirst, quickStep}
 use Rattle.step_quick.proofs.Theorems.{left-quick, quick-is, quick-steps}
-use Rattle.word_items.specs.ItemLists.{Small}
+use Rattle.word_items.specs.ItemLists.{isItem, Small}
 use Rattle.word_items.proofs.Laws.{no}
 use Rattle.c_states.specs.States.{stateRead, orOutside, PutsState}
-use Rattle.c_steps.specs.Step.{stepIn, itemNumbers, isCharItem, StepsRun}
-use Rattle.c_steps.proofs.Stepping.{from-is, given-small, steps-taken}
+use Rattle.c_steps.specs.Step.{stepIn, itemNumbers, isCharItem, StepsBy, StepsRun}
+use Rattle.c_steps.proofs.Stepping.{from-is, given-long, given-small, steps-taken}
 
--- ---- a character as it stands
+-- ---- an item
 
-char-number : (a : Answer) → isCharItem a ≡ true → answerReply a .number ≡ 0
-char-number (Char c p) h = refl
-char-number (Ligature c p n a b) h = no h
-char-number (Kern k) h = no h
-char-number End h = no h
-char-number (Refused n) h = no h
+item-number : (a : Answer) → isItem a ≡ true → answerReply a .number ≡ 0
+item-number (Char c p) h = refl
+item-number (Ligature c p n a b) h = refl
+item-number (Kern k) h = refl
+item-number End h = no h
+item-number (Refused n) h = no h
 
-char-seven : (a : Answer) → isCharItem a ≡ true → length (itemNumbers a) ≡ 7
-char-seven (Char c p) h = refl
-char-seven (Ligature c p n a b) h = no h
-char-seven (Kern k) h = no h
-char-seven End h = no h
-char-seven (Refused n) h = no h
+item-seven : (a : Answer) → isItem a ≡ true → length (itemNumbers a) ≡ 7
+item-seven (Char c p) h = refl
+item-seven (Ligature c p n a b) h = refl
+item-seven (Kern k) h = refl
+item-seven End h = no h
+item-seven (Refused n) h = no h
+
+char-item : (a : Answer) → isCharItem a ≡ true → isItem a ≡ true
+char-item (Char c p) h = refl
+char-item (Ligature c p n a b) h = refl
+char-item (Kern k) h = refl
+char-item End h = no h
+char-item (Refused n) h = no h
 
 -- what was there does not matter where all of it is written
 all-set : (xs l m : List ℤ) → length l ≡ length xs → length m ≡ length xs → sets l 0 xs ≡ sets m 0 xs
@@ -49,6 +56,17 @@ all-set xs l m p q =
     sets-front xs l (omega (arith, p))
     ∙ ap (λ (t : List ℤ). xs ++ t) (drop-of-length-le l {i = length xs} (omega (arith, p)) ∙ sym (drop-of-length-le m {i = length xs} (omega (arith, q))))
     ∙ sym (sets-front xs m (omega (arith, q)))
+
+-- told into seven places, and the state moved on: by whatever step gives the item
+pub told-at-once : (state : List ℕ) (item : List ℤ) (given t : Step) → t ≡ given → isItem (t .answer) ≡ true →
+    (answerReply (given .answer) .number ≡ 0 → 9 ≤ length state) → length item ≡ 7 → (item′ : List ℤ) → item′ ≡ sets item 0 (itemNumbers (t .answer)) →
+    (r : ℕ) (state′ : List ℕ) → PutsState (t .state) state r state′ → StepsBy given state item r state′ item′
+told-at-once state item given t e i long h item′ told r state′ put =
+    let zeros = replicate (length item) (pos 0) in
+    let s = item-seven (t .answer) i in
+    let z : length zeros ≡ length item = length-replicate (length item) (pos 0) in
+    steps-taken state item zeros refl given t e (answerReply (t .answer) .number) refl (item-number (t .answer) i) long (omega (arith, z, h)) item′
+    (told ∙ all-set (itemNumbers (t .answer)) item zeros (omega (arith, h, s)) (omega (arith, z, h, s))) r state′ put
 
 module _ (pairs ops : List ℤ) (boundary : ℤ) (word : List ℕ) (options : RunOptions) (state : List ℕ) {from : State} (read : from ≡ orOutside (stateRead state))
     {l y k : ℕ}
@@ -78,19 +96,12 @@ module _ (pairs ops : List ℤ) (boundary : ℤ) (word : List ℕ) (options : Ru
       ∙ by-place (ltb k (pairCount pairs))
 
   module _ (item : List ℤ) where
-    abbrev zeros : List ℤ
-    zeros = replicate (length item) (pos 0)
-
     -- what tell_character asks
     pub told-asks : length item ≡ 7 → Small (t .answer) × (7 ≤ length item) × (isCharItem (t .answer) ≡ true)
-    told-asks h = (given-small pairs ops boundary word options state item zeros refl t given-step, omega (arith, h), given-char)
+    told-asks h = (given-small pairs ops boundary word options state t given-step, omega (arith, h), given-char)
 
-    -- told into seven places, and the state moved on
     pub steps-told : length item ≡ 7 → (item′ : List ℤ) → item′ ≡ sets item 0 (itemNumbers (t .answer)) → (r : ℕ) (state′ : List ℕ) →
         PutsState (t .state) state r state′ → StepsRun pairs ops boundary word options state item r state′ item′
-    steps-told h item′ told r state′ put =
-        let s = char-seven (t .answer) given-char in
-        let z : length zeros ≡ length item = length-replicate (length item) (pos 0) in
-        steps-taken pairs ops boundary word options state item zeros refl t given-step (answerReply (t .answer) .number) refl
-        (char-number (t .answer) given-char) (omega (arith, z, h)) item′
-        (told ∙ all-set (itemNumbers (t .answer)) item zeros (omega (arith, h, s)) (omega (arith, z, h, s))) r state′ put
+    steps-told =
+        told-at-once state item (stepIn pairs ops boundary word options state) t given-step (char-item (t .answer) given-char)
+        (given-long pairs ops boundary word options state)

@@ -6,7 +6,7 @@ ghost use lib.ListN.{length};
 ghost use lib.Seq.{sets};
 ghost use Rattle.captions.specs.Replies.{answerReply};
 ghost use Rattle.word_items.specs.ItemLists.{Small};
-ghost use Rattle.c_steps.specs.Step.{itemNumbers, isCharItem};
+ghost use Rattle.c_steps.specs.Step.{itemNumbers, isCharItem, toldItem};
 use captions::Answer;
 use word_items::is_item;
 use word_items::put_item;
@@ -14,7 +14,7 @@ use word_plain_letters::put_six;
 use words::i32s::put_word;
 
 // The number of a refusal, else 0.
-pub(crate) fn refusal_of(answer: Answer) -> u32
+pub fn refusal_of(answer: Answer) -> u32
     ensures { λ r. ⌜ r ≡ answerReply answer .number ⌝ }
 {
     match answer {
@@ -26,10 +26,9 @@ pub(crate) fn refusal_of(answer: Answer) -> u32
     }
 }
 
-// 1 and the numbers of an item at the front; the end and a refusal have none.
-pub(crate) fn tell(item: &mut [i32], answer: Answer)
-    requires { ⌜ Small answer × (7 ≤ length (now item)) ⌝ }
-    ensures { λ _. ⌜ now (item .exit) ≡ sets (now (item .entry)) 0 (itemNumbers answer) ⌝ }
+// 1 and the numbers of an item at the front, if there is room for them; the end and a refusal have none.
+pub fn tell(item: &mut [i32], answer: Answer)
+    ensures { λ _. ⌜ now (item .exit) ≡ toldItem (now (item .entry)) answer ⌝ }
 {
     if is_item(answer) {
         put_word(item, 0, 1);

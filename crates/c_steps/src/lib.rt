@@ -21,7 +21,7 @@ use step_quick_op::quick_step;
 use words::i32s::zero_i32;
 use words::u32s::u32_at;
 
-mod items;
+pub mod items;
 
 // One step from whatever state stands in the list, into an item list of any length.
 fn any_step(

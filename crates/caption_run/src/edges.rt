@@ -19,7 +19,7 @@ fn low_refusal(over: i32) -> u32
 }
 
 // 4: the boundary character outside -1 to 255, or the override below -1.
-pub(crate) fn edges_refusal(boundary: i32, options: RunOptions) -> u32
+pub fn edges_refusal(boundary: i32, options: RunOptions) -> u32
     ensures { λ r. ⌜ r ≡ edgesRefusal boundary options ⌝ }
 {
     let edge = absent_refusal(255, boundary);
@@ -30,7 +30,7 @@ pub(crate) fn edges_refusal(boundary: i32, options: RunOptions) -> u32
 }
 
 // 20: an override that is no letter; below 0 it is none.
-pub(crate) fn override_refusal(over: i32) -> u32
+pub fn override_refusal(over: i32) -> u32
     ensures { λ r. ⌜ r ≡ overrideRefusal over ⌝ }
 {
     let w = word_of(over);
@@ -41,7 +41,7 @@ pub(crate) fn override_refusal(over: i32) -> u32
 }
 
 // 6: a word over 65,535.
-pub(crate) fn word_refusal(word: &[u32]) -> u32
+pub fn word_refusal(word: &[u32]) -> u32
     ensures { λ r. ⌜ r ≡ wordRefusal (now (word .entry)) ⌝ }
 {
     if word.len() <= 65535 { 0 } else { 6 }

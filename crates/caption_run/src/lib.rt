@@ -4,5 +4,5 @@
 //   steps  `step`, over crate step_turns
 //   edges  what goes with a word besides its letters
 pub mod begin;
-mod edges;
+pub mod edges;
 pub mod steps;

@@ -102,3 +102,9 @@ lookedUp index pairs l r =
 abbrev pub lookedAt : Option ℕ → Looked
 lookedAt none = Missing
 lookedAt (some k) = At k
+
+-- what a look-up answers, as a place among n pairs: n where there is no pair, and more where the index is wrong
+abbrev pub lookedPlace : ℕ → Looked → ℕ
+lookedPlace n Missing = n
+lookedPlace n (At k) = k
+lookedPlace n Wrong = suc n

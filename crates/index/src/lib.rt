@@ -7,6 +7,7 @@ ghost use lib.Dec.{eqb};
 ghost use lib.ListN.{getD};
 ghost use Rattle.captions.specs.Tables.{pairCount, keyBy, keyAt};
 ghost use Rattle.index.specs.Index.{hasBit, onesFrom, onesBelow, lookedUp};
+ghost use Rattle.index.specs.Index.{lookedPlace};
 use table_find::left_place;
 
 // What an index says of a left and a right: they have no pair; the pair's place; or a place at which it does not stand.
@@ -91,5 +92,19 @@ pub fn look_up(index: &[u64], pairs: &[i32], left: u32, right: u32) -> Looked
         Looked::At(k)
     } else {
         Looked::Wrong
+    }
+}
+
+// The place of the pair of a left and a right, by the index; the number of pairs where there is none, and one more
+// where the index is wrong.
+pub fn place_by(index: &[u64], pairs: &[i32], left: u32, right: u32) -> usize
+    ensures { λ r. ⌜ r ≡ lookedPlace (pairCount (now (pairs .entry)))
+        (lookedUp (now (index .entry)) (now (pairs .entry)) left right) ⌝ }
+{
+    let n = pairs.len() / 6;
+    match look_up(index, pairs, left, right) {
+        Looked::Missing => n,
+        Looked::At(k) => k,
+        Looked::Wrong => n + 1,
     }
 }

@@ -1,2 +1,2 @@
--- Letters given as they stand, by an index: NoBit.
-pub mod NoBit
+-- Letters given by an index: IndexedLetters.
+pub mod IndexedLetters

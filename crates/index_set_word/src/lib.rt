@@ -1,14 +1,17 @@
 // A word set whole by an index over its table: what `set_word` of crate word_set does, with the steps of crate
-// index_step. Letters that have no pair with the character left of them are set by crate index_plain_letters.
+// index_step. Letters that have no pair with the character left of them, and kern pairs, are set by crate
+// index_plain_letters.
 ghost use mathlib.Core.Path.{_≡_};
 ghost use Prim.Native.Nat.{_/_};
 ghost use lib.IntN.{pos};
 ghost use lib.ListN.{length, replicate};
+ghost use Rattle.captions.specs.Begin.{freshState};
 ghost use Rattle.word_set.specs.Setting.{itemsBy};
 ghost use Rattle.word_set.specs.Writing.{Tells};
 ghost use Rattle.index_step.specs.Indexed.{indexedStepOf};
 ghost use Rattle.index_set_word.specs.Whole.{indexedReply};
 use caption_run::begin::begin;
+use caption_run::begin::fresh_state;
 use captions::Answer;
 use captions::Begun;
 use captions::RunOptions;
@@ -42,7 +45,7 @@ fn set_from(
     let mut s = state;
     let mut k = 0;
     loop {
-        let letters = set_letters(index, ops, boundary, word, options, s, items, k);
+        let letters = set_letters(index, pairs, ops, boundary, word, options, s, items, k);
         let at = letters.state;
         let count = k + letters.count;
         let stepped = step_indexed(index, pairs, ops, boundary, word, options, at);
@@ -57,6 +60,28 @@ fn set_from(
         s = stepped.state;
         k = count + 1;
     }
+}
+
+// The items that a fresh run gives by the index over a table that is taken as it stands, which begin would check: what
+// `set_word_indexed` gives where begin refuses nothing.
+pub fn set_fresh_indexed(
+    index: &[u64],
+    pairs: &[i32],
+    ops: &[i32],
+    boundary: i32,
+    word: &[u32],
+    options: RunOptions,
+    items: &mut [i32],
+) -> Written
+    ensures { λ r. ⌜ Tells
+        (itemsBy
+        (indexedStepOf (now (index .entry)) (now (pairs .entry)) (now (ops .entry)) boundary
+        (now (word .entry)) options) (length (now (items .entry)) / 6)
+        (freshState (now (word .entry)) options)) (now (items .entry)) r (now (items .exit)) ⌝ }
+{
+    zero_i32(items);
+    let fresh = fresh_state(word, options);
+    set_from(index, pairs, ops, boundary, word, options, fresh, items)
 }
 
 // The items of a word up to its end, six numbers each as a T line has them, with zeros after them. Answers how many

@@ -102,7 +102,7 @@ module _ (ops : List ℤ) (boundary : ℤ) (word : List ℕ) (options : RunOptio
       (both-right (leb (s .given) (s .read)) _ (both-right (leb (s .read) (length word)) _ (d .inside))))))
 
   -- an i32 counts the ops
-  placed-few : Calm ops boundary word options s → leb (opCount ops) 2147483647 ≡ true
+  pub placed-few : Calm ops boundary word options s → leb (opCount ops) 2147483647 ≡ true
   placed-few d =
       both-left (leb (opCount ops) 2147483647) _
       (both-left (opsPlaced ops s) (nextFits (s .«next_left»))

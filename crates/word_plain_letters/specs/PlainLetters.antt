@@ -1,62 +1,103 @@
--- Letters given as they stand, one after the other, each an item of six numbers: how many they are, the state after them, and what is
--- written. Over any word and list, and over any test of a left and a letter, as that they have no pair: `alone`. A left is its place in
--- the order of pairs, one more than its code.
+-- Letters that a loop of their own gives, each written as its items of six numbers: one that has no pair with the character left of it lets
+-- that stand, and a kern pair (R417) gives its character and its kern. Over any word, table and list, and over any step and any look-up of
+-- pairs. A left is its place in the order of pairs, one more than its code.
 use mathlib.Core.Path.{_≡_}
-use mathlib.Core.Bool.{Bool, false, cond}
-use mathlib.Core.List.{List, [], _∷_, _++_}
-use Prim.Native.Nat.{ℕ, zero, suc, _+_, _-_, _*_, _/_, _%_, _^_, _≤_, min}
+use mathlib.Core.Bool.{Bool, true, false, cond}
+use mathlib.Core.List.{List, [], _∷_}
+use Prim.Native.Nat.{ℕ, suc, _+_, _-_, _*_, _/_, _%_, _^_, _<_, _≤_}
 use lib.IntN.{ℤ}
-use lib.Dec.{ltb, leb, eqb}
-use lib.ListN.{length}
+use lib.Dec.{leb, eqb}
+use lib.ListN.{length, getD}
 use lib.Seq.{sets}
-use Rattle.words.specs.Words.{numberOf}
-use Rattle.lang.specs.Every.{both}
+use Rattle.words.specs.Words.{wordOf, numberOf}
 use Rattle.captions.specs.declared.RunOptions.{RunOptions}
 use Rattle.captions.specs.declared.NextLeft.the-variants as next
 use Rattle.captions.specs.declared.Consumes.the-variants as consumes
 use Rattle.captions.specs.declared.State.{State}
-use Rattle.captions.specs.Tables.{pairCount}
-use Rattle.step_quick.specs.Quick.{plainCode, nextLetter, isQuick, foundPlace, givenPlain}
-use Rattle.word_plain_letters.specs.declared.LettersEnd.{LettersEnd}
+use Rattle.captions.specs.declared.Answer.{Answer}
+use Rattle.captions.specs.declared.Answer.the-variants.{Char, Ligature, Kern, End, Refused}
+use Rattle.captions.specs.declared.Step.{Step}
+use Rattle.captions.specs.Replies.{answerReply}
+use Rattle.captions.specs.Tables.{pairCount, opValue, firstOp, lastCode}
+use Rattle.step_quick.specs.Quick.{plainCode, nextLetter, isQuick, foundPlace}
+use Rattle.word_plain_letters.specs.declared.LettersGiven.{LettersGiven}
+use Rattle.step_quick_pair.specs.KernPairs.{isKernPair}
 
 -- six numbers at a place; nothing where there is no room for them
 abbrev pub sixAt : List ℤ → ℕ → List ℤ → List ℤ
 sixAt items at vs = cond (leb (at + 6) (length items)) (sets items at vs) items
 
--- how many of the first n indices pass a test, up to the first that does not
-unfoldable pub leading : ℕ → (ℕ → Bool) → ℕ
-leading zero p = 0
-leading (suc n) p = cond (eqb (leading n p) n) (cond (p n) (suc n) n) (leading n p)
-
--- ---- one letter
-
 -- the left's place in the order of pairs, where it is a character
 abbrev pub plainLeft : State → ℕ
 plainLeft s = suc (plainCode (s .«next_left»))
 
--- the letter right of the next left is in range, and they pass the test
-abbrev pub isFree : (ℕ → ℕ → Bool) → List ℕ → State → Bool
-isFree alone word s = both (leb (nextLetter word s) 255) (alone (plainLeft s) (nextLetter word s))
+-- ---- the items that steps give
 
--- the six numbers of the next left as it stands
-abbrev pub letterItem : State → List ℤ
-letterItem s =
-    numberOf 0 ∷ numberOf (plainCode (s .«next_left»)) ∷ numberOf (s .given) ∷ numberOf 1 ∷ numberOf 0 ∷ numberOf 0 ∷ []
+-- a character or a kern
+abbrev pub isGiven : Answer → Bool
+isGiven (Char c start) = true
+isGiven (Ligature c start n left right) = false
+isGiven (Kern k) = true
+isGiven End = false
+isGiven (Refused n) = false
+
+-- From a state on, m steps one after the other, each of which gives a character or a kern: the state that they lead to, and the list, in
+-- which their numbers stand from item k on. How many steps is free.
+pub data GivesItems (step : State → Step) (s : State) (items : List ℤ) (k : ℕ) : State → ℕ → List ℤ → Type 0 where
+  nothing : GivesItems step s items k s 0 items
+  more : {u : State} {m : ℕ} {d : List ℤ} → GivesItems step s items k u m d → isGiven (step u .answer) ≡ true → k + m < length d / 6 →
+      GivesItems step s items k (step u .state) (suc m) (sets d (6 * (k + m)) (answerReply (step u .answer) .values))
+
+-- ---- one item
+
+-- the six numbers of a character as it stands
+abbrev pub letterItem : ℕ → ℕ → List ℤ
+letterItem code start = numberOf 0 ∷ numberOf code ∷ numberOf start ∷ numberOf 1 ∷ numberOf 0 ∷ numberOf 0 ∷ []
+
+-- those of a kern
+abbrev pub kernSix : ℤ → List ℤ
+kernSix value = numberOf 2 ∷ value ∷ numberOf 0 ∷ numberOf 0 ∷ numberOf 0 ∷ numberOf 0 ∷ []
+
+-- What is written of a kern pair, by its place: its character and then its kern; of any other entry, and where there is no room, nothing.
+-- The contract of give_pair: the op after them, or 0; the code that is then next; and the list.
+pub data GivesPair (pairs ops : List ℤ) (place start : ℕ) (items : List ℤ) (at : ℕ) : ℕ → ℕ → List ℤ → Type 0 where
+  stops : GivesPair pairs ops place start items at 0 0 items
+  kerns : isKernPair pairs ops place ≡ true → at + 12 ≤ length items →
+      GivesPair pairs ops place start items at (suc (suc (firstOp pairs place))) (lastCode pairs place)
+      (sets (sets items at (letterItem (wordOf (opValue ops (firstOp pairs place))) start)) (at + 6) (kernSix (opValue ops (suc (firstOp pairs place)))))
+
+-- ---- letters that stand
+
+-- what a loop over at most n letters from number `read` on asks: so many letters, starts of 16 bits, room for so many items, and a left
+pub record MayStand (word : List ℕ) (read given left n : ℕ) (items : List ℤ) (k : ℕ) : Type 0 where
+  pub letters : read + n ≤ length word
+  pub starts : given + n ≤ 65535
+  pub room : k + n ≤ length items / 6
+  pub some : 0 < left
+  pub small : left ≤ 256
+
+-- Letters in range one after the other, each of which has no pair with the left of it by a look-up, so that the left is given as it stands:
+-- the left that is then next, how many they are, and the list, in which their numbers stand from item k on.
+pub data Stand (place : ℕ → ℕ → ℕ) (none : ℕ) (word : List ℕ) (read given left : ℕ) (items : List ℤ) (k : ℕ) : ℕ → ℕ → List ℤ → Type 0 where
+  none-stand : Stand place none word read given left items k left 0 items
+  one-stands : {l n : ℕ} {d : List ℤ} → Stand place none word read given left items k l n d → read + n < length word →
+      getD word (read + n) 0 ≤ 255 → place l (getD word (read + n) 0) ≡ none → k + n < length d / 6 →
+      Stand place none word read given left items k (suc (getD word (read + n) 0)) (suc n) (sets d (6 * (k + n)) (letterItem (l - 1) (given + n)))
+
+-- a pair, if there is one, is that of a left and a letter, which is there and in range
+abbrev pub PairStops : List ℤ → List ℕ → ℕ → ℕ → ℕ → Type 0
+PairStops pairs word at left k =
+    k < pairCount pairs → (at < length word) × (getD word at 0 ≤ 255) × (k ≡ foundPlace pairs left (getD word at 0))
 
 -- ---- letters one after the other
 
--- the state once n letters more are given as they stand
-unfoldable pub plainState : List ℕ → State → ℕ → State
-plainState word s zero = s
-plainState word s (suc n) = givenPlain word (plainState word s n) .state
-
--- .. by the code that is then next; its numbers of letters are of 64 bits
-abbrev pub lettersMoved : State → ℕ → ℕ → State
-lettersMoved s code n =
+-- the state once n letters more are given, by the code that is then next and the op after the last; its numbers of letters are of 64 bits
+abbrev pub lettersMoved : State → ℕ → ℕ → ℕ → State
+lettersMoved s code o n =
     cond (eqb n 0) s
     (record {
       «next_left» = next.Char code;
-      op = s .op;
+      op = o;
       ops = 0;
       read = (s .read + n) % 2 ^ 64;
       given = (s .given + n) % 2 ^ 64;
@@ -65,63 +106,12 @@ lettersMoved s code n =
       «consumes_left» = consumes.Nothing;
     })
 
--- their items
-unfoldable pub letterItems : List ℕ → State → ℕ → List ℤ
-letterItems word s zero = []
-letterItems word s (suc n) = letterItems word s n ++ letterItem (plainState word s n)
+-- where i letters end, of which m items were given: the left that is then next, and the pair that stopped them
+abbrev pub lettersEnd : State → ℕ → ℕ → ℕ → ℕ → ℕ → LettersGiven
+lettersEnd s l o i m k = record { state = lettersMoved s (l - 1) o i; count = m; pair = k }
 
--- how many of at most n letters are free
-abbrev pub freeLetters : (ℕ → ℕ → Bool) → List ℕ → State → ℕ → ℕ
-freeLetters alone word s n = leading n (λ i. isFree alone word (plainState word s i))
-
--- ---- at most n of them, into a list that has k items
-
--- what a loop over them asks: a left that is a character, so many letters, and room for so many items
-pub record MayGive (word : List ℕ) (s : State) (n : ℕ) (items : List ℤ) (k left : ℕ) : Type 0 where
-  pub is : left ≡ plainLeft s
-  pub small : left ≤ 256
-  pub letters : s .read + n ≤ length word
-  pub starts : s .given + n ≤ 65535
-  pub room : n ≤ length items / 6 - k
-
--- what it leaves: how many were free and are given, the left that is then next, and the list
-pub record GivesFree (alone : ℕ → ℕ → Bool) (word : List ℕ) (s : State) (n : ℕ) (items : List ℤ) (k left count : ℕ) (items′ : List ℤ) :
-    Type 0 where
-  pub many : count ≡ freeLetters alone word s n
-  pub next : left ≡ plainLeft (plainState word s count)
-  pub list : items′ ≡ sets items (6 * k) (letterItems word s count)
-
--- as many as the list has room for and the word has letters
-abbrev pub mostLetters : List ℕ → State → List ℤ → ℕ → ℕ
-mostLetters word s items k = min (length items / 6 - k) (length word - s .read)
-
--- the contract of give_letters, and of set_letters of crate index_plain_letters, each by its test: how many letters a quick state gives,
--- and none does another; the state after them, and the list
-pub record GivesLetters (alone : ℕ → ℕ → Bool) (ops : List ℤ) (boundary : ℤ) (word : List ℕ) (options : RunOptions) (s : State)
-    (items : List ℤ) (k : ℕ) (s′ : State) (count : ℕ) (items′ : List ℤ) : Type 0 where
-  pub many : count ≡ cond (isQuick ops boundary word options s) (freeLetters alone word s (mostLetters word s items k)) 0
-  pub state : s′ ≡ plainState word s count
-  pub list : items′ ≡ sets items (6 * k) (letterItems word s count)
-
--- ---- by bisection
-
--- a left and a letter have no entry
-abbrev pub noPair : List ℤ → ℕ → ℕ → Bool
-noPair pairs left letter = leb (pairCount pairs) (foundPlace pairs left letter)
-
--- the pair of the next left and the letter right of it; the number of pairs where there is none, or the letter is out of range
-abbrev pub nextPlace : List ℤ → List ℕ → State → ℕ
-nextPlace pairs word s = cond (leb (nextLetter word s) 255) (foundPlace pairs (plainLeft s) (nextLetter word s)) (pairCount pairs)
-
--- the pair that stops m letters, of at most n
-abbrev pub stopPlace : List ℤ → List ℕ → State → ℕ → ℕ → ℕ
-stopPlace pairs word s n m = cond (ltb m n) (nextPlace pairs word (plainState word s m)) (pairCount pairs)
-
--- .. of those that a quick state gives
-abbrev pub stopPair : List ℤ → List ℤ → ℤ → List ℕ → RunOptions → State → List ℤ → ℕ → ℕ → ℕ
-stopPair pairs ops boundary word options s items k m =
-    cond (isQuick ops boundary word options s) (stopPlace pairs word s (mostLetters word s items k) m) (pairCount pairs)
-
--- where letters end: the left that is then next, how many were given, and the pair that stopped them
-abbrev pub lettersEnd : ℕ → ℕ → ℕ → LettersEnd
-lettersEnd left n pair = record { left = left; count = n; pair = pair }
+-- pair k, if there is one, is the one that the next step looks up, and a letter is then looked up
+abbrev pub NextPair : List ℤ → List ℤ → ℤ → List ℕ → RunOptions → State → ℕ → Type 0
+NextPair pairs ops boundary word options s k =
+    k < pairCount pairs →
+    (isQuick ops boundary word options s ≡ true) × (k ≡ foundPlace pairs (plainLeft s) (nextLetter word s))

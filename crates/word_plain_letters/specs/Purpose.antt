@@ -1,45 +1,30 @@
--- What letters given as they stand are for: each is the step of the run from where the letters before it lead, and where a pair ends
--- them, that is the pair which the next step looks up. Proved in proofs/Theorems.
+-- What letters given by a loop are for: they are steps, by any step that keeps these laws; and so the run's own, by bisection. Proved in
+-- proofs/Theorems.
 use mathlib.Core.Path.{_≡_}
-use mathlib.Core.Bool.{Bool, true}
+use mathlib.Core.Bool.{true}
 use mathlib.Core.List.{List}
-use Prim.Native.Nat.{ℕ, _+_, _<_, _≤_}
+use Prim.Native.Nat.{ℕ, _<_}
 use lib.IntN.{ℤ}
-use lib.ListN.{length}
 use Rattle.captions.specs.declared.RunOptions.{RunOptions}
 use Rattle.captions.specs.declared.State.{State}
 use Rattle.captions.specs.declared.Step.{Step}
 use Rattle.captions.specs.Tables.{pairCount}
 use Rattle.captions.specs.Steps.{stepOf}
-use Rattle.step_quick.specs.Quick.{nextLetter, isQuick, foundPlace, givenPlain}
-use Rattle.word_plain_letters.specs.PlainLetters.{plainLeft, plainState, freeLetters, noPair, stopPlace}
+use Rattle.step_quick.specs.Quick.{nextLetter, isQuick, isKern, foundPlace, isEntered, givenPlain, givenFirst, givenKern}
+use Rattle.word_plain_letters.specs.PlainLetters.{plainLeft}
 
--- a step gives the left of a quick state as it stands wherever that and its letter pass a test
-abbrev pub GivesPlain : (ℕ → ℕ → Bool) → List ℤ → ℤ → List ℕ → RunOptions → (State → Step) → Type 0
-GivesPlain alone ops boundary word options step =
-    (s : State) → isQuick ops boundary word options s ≡ true → alone (plainLeft s) (nextLetter word s) ≡ true → step s ≡ givenPlain word s
+-- A step that goes by a look-up of the places of pairs: a quick state gives its left as it stands where there is no pair, and the first op
+-- of the entry where that can be read and begins with a character; and a last kern is given at once.
+pub record StepsQuickly (place : ℕ → ℕ → ℕ) (pairs ops : List ℤ) (boundary : ℤ) (word : List ℕ) (options : RunOptions) (step : State → Step) :
+    Type 0 where
+  pub plain : (s : State) → isQuick ops boundary word options s ≡ true → place (plainLeft s) (nextLetter word s) ≡ pairCount pairs →
+      step s ≡ givenPlain word s
+  pub first : (s : State) (k : ℕ) → isQuick ops boundary word options s ≡ true → place (plainLeft s) (nextLetter word s) ≡ k →
+      k < pairCount pairs → isEntered pairs ops k ≡ true → step s ≡ givenFirst pairs ops k s
+  pub kern : (s : State) → isKern ops boundary word options s ≡ true → step s ≡ givenKern ops s
 
--- each letter is such a step
-abbrev pub LettersAreSteps : Type 0
-LettersAreSteps =
-    (alone : ℕ → ℕ → Bool) (ops : List ℤ) (boundary : ℤ) (word : List ℕ) (options : RunOptions) (step : State → Step) →
-    GivesPlain alone ops boundary word options step → (s : State) (n i : ℕ) →
-    isQuick ops boundary word options s ≡ true → s .read + n ≤ length word → i < freeLetters alone word s n →
-    step (plainState word s i) ≡ givenPlain word (plainState word s i)
-
--- .. and so of the run's own, where there is no entry
-abbrev pub StepGivesPlain : Type 0
-StepGivesPlain =
+-- the run's own step, by bisection
+abbrev pub StepGoesQuickly : Type 0
+StepGoesQuickly =
     (pairs ops : List ℤ) (boundary : ℤ) (word : List ℕ) (options : RunOptions) →
-    GivesPlain (noPair pairs) ops boundary word options (stepOf pairs ops boundary word options)
-
--- where letters end at a pair, the state is quick, and that is the pair which the next step looks up
-abbrev pub LettersStop : Type 0
-LettersStop =
-    (pairs ops : List ℤ) (boundary : ℤ) (word : List ℕ) (options : RunOptions) (s : State) (n : ℕ) →
-    isQuick ops boundary word options s ≡ true → s .read + n ≤ length word →
-    stopPlace pairs word s n (freeLetters (noPair pairs) word s n) < pairCount pairs →
-    (isQuick ops boundary word options (plainState word s (freeLetters (noPair pairs) word s n)) ≡ true)
-    × (stopPlace pairs word s n (freeLetters (noPair pairs) word s n)
-    ≡ foundPlace pairs (plainLeft (plainState word s (freeLetters (noPair pairs) word s n)))
-    (nextLetter word (plainState word s (freeLetters (noPair pairs) word s n))))
+    StepsQuickly (foundPlace pairs) pairs ops boundary word options (stepOf pairs ops boundary word options)

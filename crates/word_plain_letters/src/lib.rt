@@ -1,34 +1,46 @@
-// Letters that have no pair with the character left of them, which a quick state gives as they stand, one after the
-// other, each written as an item of six numbers: what a run of a word does most often. After the loop over what
-// `run_with_options` of ligkern/mod.rs returns. Each function is the definition of the same name in
-// specs/PlainLetters.antt.
+// Letters that a loop of their own gives, each written as its items of six numbers: what a run of a word does most
+// often. A letter that has no pair with the character left of it lets that stand, and a kern pair (crate
+// step_quick_pair) gives its character and its kern. After the loop over what `run_with_options` of ligkern/mod.rs
+// returns. Each function is as specs/PlainLetters.antt says.
 ghost use mathlib.Core.Path.{_≡_};
 ghost use mathlib.Core.List.{[], _∷_};
 ghost use Prim.Native.Nat.{_+_, _<_, _≤_};
 ghost use lib.ListN.{length, set};
 ghost use lib.Seq.{sets};
 ghost use Rattle.words.specs.Words.{numberOf};
-ghost use Rattle.word_plain_letters.specs.PlainLetters.{sixAt, lettersMoved, MayGive, GivesFree, GivesLetters};
-ghost use Rattle.word_plain_letters.specs.PlainLetters.{noPair, stopPlace, stopPair, lettersEnd};
+ghost use Rattle.captions.specs.Steps.{stepOf};
+ghost use Rattle.captions.specs.Tables.{pairCount};
+ghost use Rattle.step_quick.specs.Quick.{foundPlace};
+ghost use Rattle.word_plain_letters.specs.PlainLetters.{sixAt, lettersMoved, lettersEnd, MayStand, Stand};
+ghost use Rattle.word_plain_letters.specs.PlainLetters.{PairStops, GivesPair, GivesItems, NextPair};
 use captions::Consumes;
 use captions::NextLeft;
 use captions::RunOptions;
 use captions::State;
 use step_quick::left::quick_left;
 use step_quick_find::found_place;
+use step_quick_pair::kern_op;
+use words::i32s::word_at;
 use words::number_of;
 use words::sizes::minus;
 use words::sizes::smaller;
 
-// Where letters end: the left that is next (one more than its code), how many letters were given, and the pair that
-// stopped them; the number of pairs where none did.
-pub struct LettersEnd {
-    pub left: u32,
-    pub count: usize,
-    pub pair: usize,
+// What is given of a kern pair: the op after its two items, and the code that is then next; 0 where nothing is.
+pub struct PairGiven {
+    pub op: usize,
+    pub next: u32,
 }
 
-// The same, with the state that is left.
+// Where letters that stand end: the left that is next (one more than its code), how many were given, and the pair that
+// stopped them; the number of pairs where none did.
+struct PlainEnd {
+    left: u32,
+    count: usize,
+    pair: usize,
+}
+
+// The state after letters, how many items were given, and the pair that stopped them; the number of pairs where none
+// did.
 pub struct LettersGiven {
     pub state: State,
     pub count: usize,
@@ -92,9 +104,9 @@ pub fn put_six(
     write_six(items, at, kind, value, start, count, left, right);
 }
 
-// The state once n letters more are given, by the code that is then next.
-pub fn letters_moved(s: State, code: u32, n: usize) -> State
-    ensures { λ r. ⌜ r ≡ lettersMoved s code n ⌝ }
+// The state once n letters more are given, by the code that is then next and the op after the last.
+pub fn letters_moved(s: State, code: u32, op: usize, n: usize) -> State
+    ensures { λ r. ⌜ r ≡ lettersMoved s code op n ⌝ }
 {
     if n == 0 {
         return s;
@@ -103,7 +115,7 @@ pub fn letters_moved(s: State, code: u32, n: usize) -> State
     let given = std::num::wrapping_add_usize(s.given, n);
     State {
         next_left: NextLeft::Char(code),
-        op: s.op,
+        op: op,
         ops: 0,
         read: read,
         given: given,
@@ -113,53 +125,96 @@ pub fn letters_moved(s: State, code: u32, n: usize) -> State
     }
 }
 
-// Where n letters end.
-fn letters_end(left: u32, n: usize, pair: usize) -> LettersEnd
-    ensures { λ r. ⌜ r ≡ lettersEnd left n pair ⌝ }
+// The character and the kern of the kern pair at a place, written from number `at` on; nothing of any other entry, and
+// where there is no room.
+pub fn give_pair(
+    pairs: &[i32],
+    ops: &[i32],
+    place: usize,
+    start: u32,
+    items: &mut [i32],
+    at: usize,
+) -> PairGiven
+    ensures { λ r. ⌜ GivesPair (now (pairs .entry)) (now (ops .entry)) place start (now (items .entry)) at (r .op)
+        (r .next) (now (items .exit)) ⌝ }
 {
-    LettersEnd {
-        left: left,
-        count: n,
-        pair: pair,
+    let q = kern_op(pairs, ops, place);
+    if q == 0 {
+        return PairGiven { op: 0, next: 0 };
+    }
+    if minus(items.len(), at) < 12 {
+        return PairGiven { op: 0, next: 0 };
+    }
+    write_six(items, at, 0, word_at(ops, 2 * (q - 1) + 1), start, 1, 0, 0);
+    write_six(items, at + 6, 2, word_at(ops, 2 * q + 1), 0, 0, 0, 0);
+    PairGiven {
+        op: q + 1,
+        next: word_at(pairs, 6 * place + 2),
     }
 }
 
-// At most n letters that are free are given, from item k on.
-fn give(
+// At most n letters from number `read` on that have no pair with the left of them are given as they stand, from item k
+// on. The loop keeps so little that it stays in registers.
+fn give_plain(
     pairs: &[i32],
     word: &[u32],
     left: u32,
-    s: State,
+    read: usize,
+    given: usize,
     items: &mut [i32],
     k: usize,
     n: usize,
-) -> LettersEnd
-    requires { ⌜ MayGive (now word) s n (now items) k left ⌝ }
-    ensures { λ r. ⌜ GivesFree (noPair (now (pairs .entry))) (now (word .entry)) s n (now (items .entry)) k
-        (r .left) (r .count) (now (items .exit))
-        × (r .pair ≡ stopPlace (now (pairs .entry)) (now (word .entry)) s n (r .count)) ⌝ }
+) -> PlainEnd
+    requires { ⌜ MayStand (now word) read given left n (now items) k ⌝ }
+    ensures { λ r. ⌜ Stand (foundPlace (now (pairs .entry))) (pairCount (now (pairs .entry))) (now (word .entry)) read
+        given left (now (items .entry)) k (r .left) (r .count) (now (items .exit))
+        × PairStops (now (pairs .entry)) (now (word .entry)) (read + r .count) (r .left) (r .pair) ⌝ }
 {
     let none = pairs.len() / 6;
     let mut l = left;
     let mut i = 0;
     while i < n {
-        let at = s.read + i;
-        let y = word[at];
+        let y = word[read + i];
         if 255 < y {
-            return letters_end(l, i, none);
+            return PlainEnd {
+                left: l,
+                count: i,
+                pair: none,
+            };
         }
         let p = found_place(pairs, l, y);
-        if p < none {
-            return letters_end(l, i, p);
+        if p != none {
+            return PlainEnd {
+                left: l,
+                count: i,
+                pair: p,
+            };
         }
-        write_six(items, 6 * (k + i), 0, l - 1, (s.given + i) as u32, 1, 0, 0);
+        write_six(items, 6 * (k + i), 0, l - 1, (given + i) as u32, 1, 0, 0);
         l = y + 1;
         i += 1;
     }
-    letters_end(l, i, none)
+    PlainEnd {
+        left: l,
+        count: i,
+        pair: none,
+    }
 }
 
-// The letters that a quick state gives as they stand, written from item k on.
+// Where letters end: i of them were given as m items, and the left is next.
+fn letters_end(s: State, left: u32, op: usize, i: usize, m: usize, pair: usize) -> LettersGiven
+    requires { ⌜ 0 < left ⌝ }
+    ensures { λ r. ⌜ r ≡ lettersEnd s left op i m pair ⌝ }
+{
+    let state = letters_moved(s, left - 1, op, i);
+    LettersGiven {
+        state: state,
+        count: m,
+        pair: pair,
+    }
+}
+
+// The letters that a quick state gives as they stand or as kern pairs, written from item k on; none of another state.
 pub fn give_letters(
     pairs: &[i32],
     ops: &[i32],
@@ -170,25 +225,64 @@ pub fn give_letters(
     items: &mut [i32],
     k: usize,
 ) -> LettersGiven
-    ensures { λ r. ⌜ GivesLetters (noPair (now (pairs .entry))) (now (ops .entry)) boundary (now (word .entry))
-        options s (now (items .entry)) k (r .state) (r .count) (now (items .exit))
-        × (r .pair ≡ stopPair (now (pairs .entry)) (now (ops .entry)) boundary (now (word .entry)) options s
-        (now (items .entry)) k (r .count)) ⌝ }
+    ensures { λ r. ⌜ GivesItems
+        (stepOf (now (pairs .entry)) (now (ops .entry)) boundary (now (word .entry)) options) s
+        (now (items .entry)) k (r .state) (r .count) (now (items .exit))
+        × NextPair (now (pairs .entry)) (now (ops .entry)) boundary (now (word .entry)) options (r .state)
+        (r .pair) ⌝ }
 {
-    let left = quick_left(ops, boundary, word, options, s);
+    let none = pairs.len() / 6;
+    let mut left = quick_left(ops, boundary, word, options, s);
     if left == 0 {
         return LettersGiven {
             state: s,
             count: 0,
-            pair: pairs.len() / 6,
+            pair: none,
         };
     }
-    let n = smaller(minus(items.len() / 6, k), minus(word.len(), s.read));
-    let end = give(pairs, word, left, s, items, k, n);
-    let state = letters_moved(s, end.left - 1, end.count);
-    LettersGiven {
-        state: state,
-        count: end.count,
-        pair: end.pair,
+    if items.len() / 6 < k {
+        return LettersGiven {
+            state: s,
+            count: 0,
+            pair: none,
+        };
     }
+    let mut op = s.op;
+    let mut i = 0;
+    let mut m = 0;
+    let n = minus(word.len(), s.read);
+    while i < n {
+        let most = smaller(items.len() / 6 - (k + m), n - i);
+        let plain = give_plain(
+            pairs,
+            word,
+            left,
+            s.read + i,
+            s.given + i,
+            items,
+            k + m,
+            most,
+        );
+        let j = i + plain.count;
+        let c = m + plain.count;
+        if none <= plain.pair {
+            return letters_end(s, plain.left, op, j, c, none);
+        }
+        let kern = give_pair(
+            pairs,
+            ops,
+            plain.pair,
+            (s.given + j) as u32,
+            items,
+            6 * (k + c),
+        );
+        if kern.op == 0 {
+            return letters_end(s, plain.left, op, j, c, plain.pair);
+        }
+        left = kern.next + 1;
+        op = kern.op;
+        m = c + 2;
+        i = j + 1;
+    }
+    letters_end(s, left, op, i, m, none)
 }

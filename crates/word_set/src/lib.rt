@@ -7,7 +7,8 @@ ghost use lib.IntN.{pos};
 ghost use Rattle.captions.specs.Begin.{freshState};
 ghost use Rattle.captions.specs.Steps.{stepOf};
 ghost use Rattle.word_set.specs.Setting.{itemsFrom, Sets};
-ghost use Rattle.word_set.specs.Writing.{NextPair, Tells};
+ghost use Rattle.word_set.specs.Writing.{Tells};
+ghost use Rattle.word_plain_letters.specs.PlainLetters.{NextPair};
 use caption_run::begin::begin;
 use caption_run::begin::fresh_state;
 use caption_run::steps::kern_step;
@@ -49,8 +50,8 @@ fn next_step(
     quick_step(pairs, ops, word, pair, s)
 }
 
-// The items from a state on, in a list of zeros: letters as they stand, and then the step that is next, again and
-// again.
+// The items from a state on, in a list of zeros: letters as they stand and kern pairs, and then the step that is next,
+// again and again.
 fn set_from(
     pairs: &[i32],
     ops: &[i32],

@@ -1,6 +1,7 @@
 /* setter FONT LETTERS CALL HOW N: one call of the setter's library on the numbers of FONT (tools/bench/font) and the first LETTERS letters of its word.
 
    CALL  compile; begin; index (fill_index); word (set_word); indexed (set_word_indexed, on the index of the table); step (steps on a fresh state to the end, the end among them);
+         check (check_table); checked, checked_indexed (set_checked_word, set_checked_word_indexed); step_indexed (as step, by the index);
          chip_begin, chip_add, chip_end, chip_take (one command of the caption chip: on a fresh chip; the first letter; the end of a word of LETTERS letters; the first item taken).
    HOW   answer: writes the table, the ops, the loops and the items that the call leaves, and N is not looked at; count, time: see meter.h.
 
@@ -80,6 +81,26 @@ static void set_word_indexed(void) {
     said = ligkern_set_word_indexed(index_of, LIGKERN_INDEX, pairs.at, 6 * counts[0], ops.at, 2 * counts[1], boundary, word, letters, false, -1, items.at, items.n, &count, 1);
 }
 
+static void check_table(void) {
+    said = ligkern_check_table(pairs.at, 6 * counts[0], ops.at, 2 * counts[1]);
+}
+
+static void set_checked_word(void) {
+    said = ligkern_set_checked_word(pairs.at, 6 * counts[0], ops.at, 2 * counts[1], boundary, word, letters, false, -1, items.at, items.n, &count, 1);
+}
+
+static void set_checked_word_indexed(void) {
+    said = ligkern_set_checked_word_indexed(index_of, LIGKERN_INDEX, pairs.at, 6 * counts[0], ops.at, 2 * counts[1], boundary, word, letters, false, -1, items.at, items.n, &count, 1);
+}
+
+static void step_indexed_to_end(void) {
+    steps = 0;
+    do {
+        said = ligkern_step_indexed(index_of, LIGKERN_INDEX, pairs.at, 6 * counts[0], ops.at, 2 * counts[1], boundary, word, letters, false, -1, state, 9, item, 7);
+        steps++;
+    } while (said == 0 && item[0] == 1);
+}
+
 static void step_to_end(void) {
     steps = 0;
     do {
@@ -141,9 +162,10 @@ static void put(const char *name, const int32_t *at, uint64_t n, int each) {
 }
 
 /* The items of steps, as set_word would write them. */
-static void collect_steps(void) {
+static void collect_steps(int by_index) {
     for (count = 0;; count++) {
-        said = ligkern_step(pairs.at, 6 * counts[0], ops.at, 2 * counts[1], boundary, word, letters, false, -1, state, 9, item, 7);
+        said = by_index ? ligkern_step_indexed(index_of, LIGKERN_INDEX, pairs.at, 6 * counts[0], ops.at, 2 * counts[1], boundary, word, letters, false, -1, state, 9, item, 7)
+                        : ligkern_step(pairs.at, 6 * counts[0], ops.at, 2 * counts[1], boundary, word, letters, false, -1, state, 9, item, 7);
         if (said || item[0] == 0) return;
         if (6 * count + 6 > items.n) die("the room for items is too small");
         memcpy(items.at + 6 * count, item + 1, 6 * sizeof *item);
@@ -165,8 +187,10 @@ int main(int argc, char **argv) {
     const char *call = argv[3], *how = argv[4];
     int stepped = !strcmp(call, "step");
     if (!strcmp(how, "answer")) {
-        if (stepped) collect_steps();
+        if (stepped || !strcmp(call, "step_indexed")) collect_steps(!stepped);
         else if (!strcmp(call, "indexed")) set_word_indexed();
+        else if (!strcmp(call, "checked")) set_checked_word();
+        else if (!strcmp(call, "checked_indexed")) set_checked_word_indexed();
         else set_word();
         put("pairs", pairs.at, counts[0], 6);
         put("ops", ops.at, counts[1], 2);
@@ -179,6 +203,10 @@ int main(int argc, char **argv) {
         else if (!strcmp(call, "word")) meter(how, n, nothing, set_word);
         else if (!strcmp(call, "index")) meter(how, n, nothing, fill_index);
         else if (!strcmp(call, "indexed")) meter(how, n, nothing, set_word_indexed);
+        else if (!strcmp(call, "check")) meter(how, n, nothing, check_table);
+        else if (!strcmp(call, "checked")) meter(how, n, nothing, set_checked_word);
+        else if (!strcmp(call, "checked_indexed")) meter(how, n, nothing, set_checked_word_indexed);
+        else if (!strcmp(call, "step_indexed")) meter(how, n, start_again, step_indexed_to_end);
         else if (stepped) meter(how, n, start_again, step_to_end);
         else if (!strncmp(call, "chip_", 5)) {
             void (*measured_call)(void) = chip_call(call);

@@ -7,7 +7,7 @@ use Rattle.lang.specs.Checks.{lower}
 use Rattle.captions.specs.Steps.{stepOf}
 use Rattle.c_states.specs.States.{stateRead}
 use Rattle.c_steps.specs.Step.{stepIn}
-use Rattle.c_steps.proofs.Stepping.{from-is, given-small, steps-refused, steps-short, steps-taken}
+use Rattle.c_steps.proofs.Stepping.{told-sets, from-is, given-long, given-small, steps-refused, steps-short, steps-taken}
 use borrow.Author.Needs.{needs}
 use Rattle.c_steps.proofs.any_step.Statement.{statement}
 use Rattle.c_steps.proofs.any_step.Tie as tie
@@ -54,8 +54,9 @@ returns c =
     let z = g .before .before .before .before .zero-i32 in
     let a = g .before .before .before .before .before .before .before .before .args in
     let n = i .before .refusal-of in
-    steps-refused (a .pairs .now) (a .ops .now) (a .boundary) (a .word .now) (a .options) (a .state .now) (a .item .now) (z .last .0) (z .ensures)
-    (g .kern-step .result) (stepped g) (n .result) (n .ensures) (i .if1 .taken) (c .lower-of .result)
+    steps-refused (a .state .now) (a .item .now) (z .last .0) (z .ensures)
+    (stepIn (a .pairs .now) (a .ops .now) (a .boundary) (a .word .now) (a .options) (a .state .now)) (g .kern-step .result) (stepped g) (n .result)
+    (n .ensures) (i .if1 .taken) (c .lower-of .result)
     (c .lower-of .ensures ∙ ap (lower (n .result)) (m .room-refusal .ensures))
 
 same-length-3 : tie.Need-same-length-3
@@ -70,18 +71,12 @@ returns-2 c =
     let z = g .before .before .before .before .zero-i32 in
     let a = g .before .before .before .before .before .before .before .before .args in
     let n = c .before .before .refusal-of in
-    steps-short (a .pairs .now) (a .ops .now) (a .boundary) (a .word .now) (a .options) (a .state .now) (a .item .now) (z .last .0) (z .ensures)
-    (g .kern-step .result) (stepped g) (n .result) (n .ensures) (c .before .if1 .left) (omega (arith, c .if2 .taken))
+    steps-short (a .state .now) (a .item .now) (z .last .0) (z .ensures)
+    (stepIn (a .pairs .now) (a .ops .now) (a .boundary) (a .word .now) (a .options) (a .state .now)) (g .kern-step .result) (stepped g) (n .result)
+    (n .ensures) (c .before .if1 .left) (omega (arith, c .if2 .taken))
 
 tell-requires : tie.Need-tell-requires
-tell-requires c κs =
-    let g = c .before .before .before .before in
-    let z = g .before .before .before .before .zero-i32 in
-    let a = g .before .before .before .before .before .before .before .before .args in (
-      given-small (a .pairs .now) (a .ops .now) (a .boundary) (a .word .now) (a .options) (a .state .now) (a .item .now) (z .last .0) (z .ensures)
-          (g .kern-step .result) (stepped g),
-      omega (arith, c .before .if2 .left),
-    )
+tell-requires c κs = search needs
 
 put-state-requires : tie.Need-put-state-requires
 put-state-requires c κs = search needs
@@ -101,8 +96,13 @@ returns-3 c =
     let a = g .before .before .before .before .before .before .before .before .args in
     let n = u .before .before .refusal-of in
     let p = c .before .before .put-state in
-    steps-taken (a .pairs .now) (a .ops .now) (a .boundary) (a .word .now) (a .options) (a .state .now) (a .item .now) (z .last .0) (z .ensures)
-    (g .kern-step .result) (stepped g) (n .result) (n .ensures) (u .before .if1 .left) (u .if2 .left) (i .tell .last .0) (i .tell .ensures) (p .result)
+    steps-taken (a .state .now) (a .item .now) (z .last .0) (z .ensures)
+    (stepIn (a .pairs .now) (a .ops .now) (a .boundary) (a .word .now) (a .options) (a .state .now)) (g .kern-step .result) (stepped g) (n .result)
+    (n .ensures) (u .before .if1 .left)
+    (given-long (a .pairs .now) (a .ops .now) (a .boundary) (a .word .now) (a .options) (a .state .now)) (u .if2 .left) (i .tell .last .0)
+    (told-sets (z .last .0) (i .tell .last .0) (g .kern-step .result .answer)
+    (given-small (a .pairs .now) (a .ops .now) (a .boundary) (a .word .now) (a .options) (a .state .now) (g .kern-step .result) (stepped g)) (u .if2 .left)
+    (i .tell .ensures)) (p .result)
     (p .last .0) (p .ensures)
 
 pub any-step-spec : {M : Type 1} → statement M

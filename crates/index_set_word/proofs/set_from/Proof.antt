@@ -15,11 +15,9 @@ use Rattle.word_items.proofs.Laws.{item-there}
 use Rattle.word_set.specs.Setting.{itemsBy}
 use Rattle.word_set.specs.Writing.{Tells}
 use Rattle.word_set.proofs.Standing.{Standing, standing-none, standing-more, standing-full, standing-stop}
-use Rattle.word_set.proofs.PlainLetters.{standing-letters}
+use Rattle.word_set.proofs.ItemsGiven.{standing-items}
 use Rattle.index_step.specs.Indexed.{indexedStepOf}
 use Rattle.index_step.proofs.Laws.{answered-is}
-use Rattle.index_plain_letters.specs.NoBit.{noBit}
-use Rattle.index_plain_letters.proofs.Theorems.{index-gives-plain}
 use Rattle.index_set_word.proofs.Small.{indexed-small}
 use borrow.Author.Needs.{needs}
 use Rattle.index_set_word.proofs.set_from.Statement.{statement}
@@ -32,20 +30,18 @@ Inv-loop index pairs ops boundary word options items₀ s₀ k₀ items s k =
 abbrev μ-loop : tie.MeasureT-loop
 μ-loop index pairs ops boundary word options items₀ s₀ k₀ items s k = length items₀ / 6 - k
 
--- where the run stands after the letters that have no pair
+-- where the run stands after the letters
 stands : (g : tie.After-set-letters Inv-loop μ-loop) → let l = g .before .before in let a = l .before .before .before .args in
     Standing (indexedStepOf (a .index .now) (a .pairs .now) (a .ops .now) (numberOf (wordOf (a .boundary))) (a .word .now) (a .options)) (a .state)
-    (a .items .now) (g .set-letters .last .1 .1 .1 .1 .1 .1 .0) (g .set-letters .result .state) (l .loop .k + g .set-letters .result .count)
+    (a .items .now) (g .set-letters .last .1 .1 .1 .1 .1 .1 .1 .0) (g .set-letters .result .state) (l .loop .k + g .set-letters .result .count)
 stands g =
     let l = g .before .before in
     let a = l .before .before .before .args in
-    standing-letters (noBit (a .index .now)) (a .ops .now) (numberOf (wordOf (a .boundary))) (a .word .now) (a .options)
-    (indexedStepOf (a .index .now) (a .pairs .now) (a .ops .now) (numberOf (wordOf (a .boundary))) (a .word .now) (a .options))
-    (index-gives-plain (a .index .now) (a .pairs .now) (a .ops .now) (numberOf (wordOf (a .boundary))) (a .word .now) (a .options)) (a .state) (a .items .now)
-    (l .loop .items) (l .loop .s) (l .loop .k) (l .loop .inv) (g .set-letters .ensures)
+    standing-items (indexedStepOf (a .index .now) (a .pairs .now) (a .ops .now) (numberOf (wordOf (a .boundary))) (a .word .now) (a .options)) (a .state)
+    (a .items .now) (l .loop .items) (l .loop .s) (l .loop .k) (l .loop .inv) (g .set-letters .ensures)
 
 held : (g : tie.After-set-letters Inv-loop μ-loop) →
-    length (g .set-letters .last .1 .1 .1 .1 .1 .1 .0) ≡ length (g .before .before .before .before .before .args .items .now)
+    length (g .set-letters .last .1 .1 .1 .1 .1 .1 .1 .0) ≡ length (g .before .before .before .before .before .args .items .now)
 held g = appending-length (g .before .before .before .before .before .args .items .now) (stands g .stored)
 
 -- the step that is next
@@ -104,7 +100,8 @@ returns c =
     (itemsBy (indexedStepOf (a .index .now) (a .pairs .now) (a .ops .now) z (a .word .now) (a .options)) (length (a .items .now) / 6) (a .state))
     (a .items .now) (y .result) (y .last .0)) (number-word (a .boundary) (st .fits .boundary))
     (standing-stop (indexedStepOf (a .index .now) (a .pairs .now) (a .ops .now) (numberOf (wordOf (a .boundary))) (a .word .now) (a .options)) (a .state)
-    (a .items .now) (x .last .1 .1 .1 .1 .1 .1 .0) (x .result .state) (l .loop .k + x .result .count) (stands g) (t .step-indexed .result) (step-is t) (small t)
+    (a .items .now) (x .last .1 .1 .1 .1 .1 .1 .1 .0) (x .result .state) (l .loop .k + x .result .count) (stands g) (t .step-indexed .result) (step-is t)
+    (small t)
     (sym (c .before .before .before .before .is-item .ensures) ∙ not-true _ (c .before .before .before .if1 .taken)) (y .result) (y .last .0) (y .ensures)
     (st .pre))
 
@@ -127,7 +124,7 @@ returns-2 c =
     (itemsBy (indexedStepOf (a .index .now) (a .pairs .now) (a .ops .now) z (a .word .now) (a .options)) (length (a .items .now) / 6) (a .state))
     (a .items .now) (y .result) (y .last .0)) (number-word (a .boundary) (st .fits .boundary))
     (standing-full (indexedStepOf (a .index .now) (a .pairs .now) (a .ops .now) (numberOf (wordOf (a .boundary))) (a .word .now) (a .options)) (a .state)
-    (a .items .now) (x .last .1 .1 .1 .1 .1 .1 .0) (x .result .state) (l .loop .k + x .result .count) (stands g) (t .step-indexed .result) (step-is t)
+    (a .items .now) (x .last .1 .1 .1 .1 .1 .1 .1 .0) (x .result .state) (l .loop .k + x .result .count) (stands g) (t .step-indexed .result) (step-is t)
     (sym (c .before .before .before .before .before .is-item .ensures) ∙ not-false _ (c .before .before .before .before .if1 .left))
     (c .before .before .before .if2 .taken) (y .result) (y .last .0) (y .ensures))
 
@@ -161,7 +158,7 @@ loop-again c =
     let st = l .before .before .before in
     let a = st .args in
     let y = c .before .before .put-item in
-    let d = x .last .1 .1 .1 .1 .1 .1 .0 in
+    let d = x .last .1 .1 .1 .1 .1 .1 .1 .0 in
     let k = l .loop .k + x .result .count in
     let fits : 6 * k + 6 ≤ length d = omega (arith, c .before .before .before .before .if2 .left) in
     standing-more (indexedStepOf (a .index .now) (a .pairs .now) (a .ops .now) (numberOf (wordOf (a .boundary))) (a .word .now) (a .options)) (a .state)

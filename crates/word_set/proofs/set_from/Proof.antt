@@ -10,14 +10,12 @@ use Rattle.words.specs.Words.{wordOf, numberOf}
 use Rattle.words.proofs.Bits.{number-word}
 use Rattle.words.proofs.Lists.{appending-length}
 use Rattle.captions.specs.Steps.{stepOf}
-use Rattle.word_plain_letters.specs.PlainLetters.{noPair}
-use Rattle.word_plain_letters.proofs.Theorems.{step-gives-plain}
 use Rattle.word_items.proofs.Laws.{item-there}
 use Rattle.word_set.specs.Setting.{itemsFrom}
 use Rattle.word_set.specs.Writing.{Tells}
 use Rattle.word_set.proofs.Standing.{Standing, standing-none, standing-more, standing-full, standing-stop}
-use Rattle.word_set.proofs.PlainLetters.{standing-letters}
-use Rattle.word_set.proofs.Laws.{item-small, next-pair}
+use Rattle.word_set.proofs.ItemsGiven.{standing-items}
+use Rattle.word_set.proofs.Laws.{item-small}
 use Rattle.word_set.proofs.set_from.Statement.{statement}
 use Rattle.word_set.proofs.set_from.Tie as tie
 
@@ -34,10 +32,8 @@ letters : (g : tie.After-give-letters Inv-loop μ-loop) → let l = g .before .b
 letters g =
     let l = g .before .before in
     let a = g .before .before .before .before .args in
-    standing-letters (noPair (a .pairs .now)) (a .ops .now) (numberOf (wordOf (a .boundary))) (a .word .now) (a .options)
-    (stepOf (a .pairs .now) (a .ops .now) (numberOf (wordOf (a .boundary))) (a .word .now) (a .options))
-    (step-gives-plain (a .pairs .now) (a .ops .now) (numberOf (wordOf (a .boundary))) (a .word .now) (a .options)) (a .state) (a .items .now) (l .loop .items)
-    (l .loop .s) (l .loop .k) (l .loop .inv) (g .give-letters .ensures .0)
+    standing-items (stepOf (a .pairs .now) (a .ops .now) (numberOf (wordOf (a .boundary))) (a .word .now) (a .options)) (a .state) (a .items .now)
+    (l .loop .items) (l .loop .s) (l .loop .k) (l .loop .inv) (g .give-letters .ensures .0)
 
 kept : (g : tie.After-give-letters Inv-loop μ-loop) →
     length (g .give-letters .last .1 .1 .1 .1 .1 .1 .0) ≡ length (g .before .before .before .before .args .items .now)
@@ -55,13 +51,7 @@ add-k : tie.Need-add-k Inv-loop μ-loop
 add-k c = let b = c .before .before .before .before .before .before .before .good in omega (arith, letters (c .before .before .before) .few)
 
 next-step-requires : tie.Need-next-step-requires Inv-loop μ-loop
-next-step-requires c κs =
-    let g = c .before .before .before in
-    let l = c .before .before .before .before .before in
-    let s = c .before .before .before .before .before .before .before in
-    let a = s .args in
-    next-pair (a .pairs .now) (a .ops .now) (numberOf (wordOf (a .boundary))) (a .word .now) (a .options) (l .loop .s) (l .loop .items) (l .loop .k)
-    (g .give-letters .result .pair) (g .give-letters .ensures .0) (g .give-letters .ensures .1)
+next-step-requires c κs = c .before .before .before .give-letters .ensures .1
 
 is-item-requires : tie.Need-is-item-requires Inv-loop μ-loop
 is-item-requires c κs = tt

@@ -1,8 +1,11 @@
 -- `c_steps::items::tell` meets its contract, by whether the answer is an item.
 -- Assumes nothing.
-use mathlib.Core.Path.{sym, _∙_}
-use Rattle.word_items.proofs.Laws.{item-there}
-use Rattle.c_steps.proofs.Stepping.{stored-told, none-told}
+use mathlib.Core.Path.{sym, ap, _∙_}
+use mathlib.Core.Bool.{Bool, cond}
+use mathlib.Core.List.{List}
+use lib.IntN.{ℤ, pos}
+use lib.ListN.{set}
+use Rattle.word_items.specs.ItemLists.{itemAt}
 use borrow.Author.Needs.{needs}
 use Rattle.c_steps.proofs.items.tell.Statement.{statement}
 use Rattle.c_steps.proofs.items.tell.Tie as tie
@@ -24,14 +27,16 @@ returns c =
     let p = c .before .put-item in
     let w = c .before .before .before .before .put-word in
     let i = c .before .before .before .before .before .before .before in
-    let s = i .before in
-    let a = s .args in
-    stored-told (a .item .now) (w .last .0) (p .last .0) (a .answer) (sym (i .is-item .ensures) ∙ c .before .before .before .before .before .before .if1 .taken)
-    (s .pre .1) (w .ensures)
-    (λ r. item-there (w .last .0) (p .last .0) 1 (a .answer) r (s .pre .0) (p .ensures))
+    let a = i .before .args in
+    p .ensures ∙ ap (λ (d : List ℤ). itemAt d 1 (a .answer)) (w .ensures)
+    ∙ sym (ap (λ (b : Bool). cond b (itemAt (set (a .item .now) 0 (pos 1)) 1 (a .answer)) (a .item .now))
+    (sym (i .is-item .ensures) ∙ c .before .before .before .before .before .before .if1 .taken))
 
 returns-2 : tie.Need-returns-2
-returns-2 c = let i = c .before in none-told (i .before .args .item .now) (i .before .args .answer) (sym (i .is-item .ensures) ∙ c .if1 .left)
+returns-2 c =
+    let i = c .before in
+    let a = i .before .args in
+    sym (ap (λ (b : Bool). cond b (itemAt (set (a .item .now) 0 (pos 1)) 1 (a .answer)) (a .item .now)) (sym (i .is-item .ensures) ∙ c .if1 .left))
 
 pub tell-spec : {M : Type 1} → statement M
 tell-spec =

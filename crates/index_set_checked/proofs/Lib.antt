@@ -1,0 +1,2 @@
+-- Theorems: what specs/Purpose states.
+pub mod Theorems

@@ -1,0 +1,3 @@
+-- Laws: the tests of the code, and what a kern pair is. Theorems: what specs/Purpose states.
+pub mod Laws
+pub mod Theorems
