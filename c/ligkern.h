@@ -92,8 +92,9 @@
      19  a size, asked for or made by magnifying, is not 1 to 134,217,727, a magnification is not 1 to 32,768, or both are asked for. 15 comes before it
      20  a letter of the word, or the override, is none: a surrogate, or above 1,114,111. 15 of a list of fixed size comes before it, that of the items after it
      21  a chip's command is unknown
-     22  a chip's command comes out of turn, an add meets a full word, or a begin meets a count of 4,294,967,295
+     22  a chip's command comes out of turn, an add meets a full word, or a begin meets its caller's count at 4,294,967,295
      25  the warnings handed over are not those that asking tells of the font as it is lent: ask again
+     26  a chip's begin has a caller above 7
    Zeros stand after what is written, and a refusal leaves zeros in every list that the call writes. A step alone leaves the rest of its state list as it is,
    and a refused step all of it; so do a chip's commands with its block and its list.
 
@@ -146,7 +147,7 @@
 #define LIGKERN_INDEX 1285
 
 /* How many numbers a chip has. */
-#define LIGKERN_CHIP 83
+#define LIGKERN_CHIP 91
 
 /* How many words of four bytes a font file has at most. */
 #define LIGKERN_MOST_WORDS 32767
@@ -238,18 +239,19 @@ uint32_t ligkern_step_indexed(const uint64_t *index, size_t index_length, const 
 /* ---- the caption chip */
 
 /* One command of a chip that is driven through a block of 16 bytes. A chip is LIGKERN_CHIP numbers, all zeros before its first command; lend the list that
-   the last call left, with one table and boundary character. Words are set with the left boundary and no override. The block's bytes (R392 to R395):
+   the last call left, with one table and boundary character. Words are set with the left boundary and no override. The block's bytes (R392 to R395, R421, R422):
       0        read: the command. 1 begin a word, 2 add the letter in byte 1, 3 end the word, 4 take the item that is shown
-      1        read: the letter to add
+      1        read: at begin its caller, 0 to 7; at add the letter
       2        written: the status. 1 item ready, 2 word open, 4 interrupt
       3        read: the mask. A set bit 0 or 1 keeps the status bit 0 or 1 from setting the interrupt
-      4 to 7   written: how many words were ended, highest byte first
+      4 to 7   written: how many words the caller of the last begin ended, highest byte first
       8 to 15  written: the item's kind, left flag, right flag and original's length, then its value, highest byte first, a kern below zero in two's
                complement; zeros where there is none
    Bytes past 16 stay. An item is shown from the end of its word until it is taken, the next one after it. A word has at most 64 letters; begin is taken when
    no word is open and every item was taken, and checks the table whole. A refused command changes neither block nor chip.
    The list: 1 if a word is open, its length, seven of the item as ligkern_step writes it, with a value below zero as 32 bits, nine of the state, 64 letters,
-   of which those past the length are not read, and the words ended. 4, 7, 15, 21, 22. */
+   of which those past the length are not read, the words that each caller ended (82 caller 0's, 83 caller 1's, up to 89 caller 7's), and at 90 the caller of
+   the last begin. 4, 7, 15, 21, 22, 26. */
 uint32_t ligkern_chip(const int32_t *pairs, size_t pairs_length, const int32_t *ops, size_t ops_length, int32_t boundary, uint8_t *block, size_t block_length,
                       uint64_t *chip, size_t chip_length);
 

@@ -15,7 +15,7 @@ use Rattle.chips.specs.declared.Chip.{Chip}
 use Rattle.chips.specs.declared.Commanded.{Commanded}
 use Rattle.chips.specs.Commands.{chipAfter, turnRefusal, commandRefusal, commandedBy, Commands}
 use Rattle.c_chips.specs.ChipLists.{chipNumbers, isChip, chipAt, noChip, chipRead, chipPut}
-use Rattle.c_chip.specs.Chip83.{chipNumber, chipMoved, TellsChip}
+use Rattle.c_chip.specs.Chip91.{chipNumber, chipMoved, TellsChip}
 
 number-by : (n : ℕ) (after chip : Chip) → commandedBy n after chip .number ≡ n
 number-by zero after chip = refl
@@ -39,8 +39,8 @@ module _ (pairs ops : List ℤ) (boundary : ℤ) (block ns : List ℕ) {r : Comm
       by (suc n) q = refl
 
   -- what is taken is a chip, which has its numbers
-  long-by : (b : Bool) → isChip ns ≡ b → commandRefusal pairs ops boundary block (cond b (chipAt ns) noChip) ≡ 0 → 83 ≤ length ns
-  long-by true e z = leb-true 83 (length ns) (both-left (leb 83 (length ns)) _ e)
+  long-by : (b : Bool) → isChip ns ≡ b → commandRefusal pairs ops boundary block (cond b (chipAt ns) noChip) ≡ 0 → 91 ≤ length ns
+  long-by true e z = leb-true 91 (length ns) (both-left (leb 91 (length ns)) _ e)
   long-by false e z = absurd (some-by (absentRefusal 255 boundary) (cond (leb 16 (length block)) (turnRefusal pairs ops boundary block noChip) 15) z)
 
   pub taken-told : {ns′ : List ℕ} → r .number ≡ 0 → ns′ ≡ chipPut ns (r .chip) → TellsChip pairs ops boundary block ns 0 block′ ns′
@@ -48,10 +48,10 @@ module _ (pairs ops : List ℤ) (boundary : ℤ) (block ns : List ℕ) {r : Comm
       let n : chipNumber pairs ops boundary block ns ≡ 0 = sym number ∙ z in
       let e : r .chip ≡ chipAfter pairs ops boundary block (chipRead ns) = c .chip-after
       ∙ ap (λ (m : ℕ). commandedBy m (chipAfter pairs ops boundary block (chipRead ns)) (chipRead ns) .chip) n in
-      let l : leb 83 (length ns) ≡ true = le-leb 83 (length ns) (long-by (isChip ns) refl n) in
+      let l : leb 91 (length ns) ≡ true = le-leb 91 (length ns) (long-by (isChip ns) refl n) in
       record {
         number = sym n;
         shown = c .block-after;
-        moved = p ∙ ap (λ (b : Bool). cond b (chipNumbers (r .chip) ++ drop 83 ns) ns) l ∙ ap (λ (x : Chip). chipNumbers x ++ drop 83 ns) e
+        moved = p ∙ ap (λ (b : Bool). cond b (chipNumbers (r .chip) ++ drop 91 ns) ns) l ∙ ap (λ (x : Chip). chipNumbers x ++ drop 91 ns) e
             ∙ ap (λ (m : ℕ). chipMoved m ns (chipAfter pairs ops boundary block (chipRead ns))) (sym n);
       }

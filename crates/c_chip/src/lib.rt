@@ -1,7 +1,7 @@
-// One command of the caption chip for a host in C (R214): the block in bytes, and the chip in a list of 83 numbers.
-ghost use Rattle.c_chip.specs.Chip83.{TellsChip};
-use c_chips::reading::chip_in;
-use c_chips::writing::put_chip;
+// One command of the caption chip for a host in C (R214): the block in bytes, and the chip in a list of 91 numbers.
+ghost use Rattle.c_chip.specs.Chip91.{TellsChip};
+use c_chip_read::chip_in;
+use c_chip_write::put_chip;
 use chip::command;
 
 // One command: 0, with the block and the chip after it; or the number of its refusal, with both as they were. Numbers

@@ -1,2 +1,2 @@
--- Laws of crate c_chips: Laws (numbers read one by one, letters, and a list that was written).
+-- Laws of crate c_chips: Laws (a part of a list).
 pub mod Laws

@@ -1,6 +1,6 @@
--- A chip as 83 numbers of a list (R400): whether a word is open, its length, 7 of the item as `ligkern_step` tells it with its value as 32
--- bits, 9 of the state (c_states/specs/States), 64 letters, and the words ended. And back: the numbers that are a chip's. All zeros are a
--- fresh one.
+-- A chip as 91 numbers of a list (R400, R426): whether a word is open, its length, 7 of the item as `ligkern_step` tells it with its value as 32
+-- bits, 9 of the state (c_states/specs/States), 64 letters, the words that each of the eight callers ended, and the caller of the last begin. And
+-- back: the numbers that are a chip's. All zeros are a fresh one.
 use mathlib.Core.Bool.{Bool, cond}
 use mathlib.Core.List.{List, [], _∷_, _++_}
 use Prim.Native.Nat.{ℕ, zero, suc, _+_, _-_}
@@ -26,7 +26,8 @@ shownNumbers (Refused n) = replicate 7 0
 
 abbrev pub chipNumbers : Chip → List ℕ
 chipNumbers chip =
-    (flagBit (chip .opened) ∷ chip .length ∷ shownNumbers (chip .item)) ++ numbersOf (chip .state) ++ chip .letters ++ (chip .words ∷ [])
+    (flagBit (chip .opened) ∷ chip .length ∷ shownNumbers (chip .item)) ++ numbersOf (chip .state) ++ chip .letters ++ chip .counts
+    ++ (chip .caller ∷ [])
 
 -- ---- back
 
@@ -46,14 +47,18 @@ isShown ns = both (leb (getD ns 2 0) 1) (both (leb (getD ns 3 0) 2) (both (is32B
 abbrev pub areLetters : List ℕ → Bool
 areLetters ns = both (leb (getD ns 1 0) 64) (every (getD ns 1 0) (λ i. isWord (getD (drop 18 ns) i 0)))
 
--- 83 numbers that are a chip's
+-- the eight counts, and the caller
+abbrev pub areCounts : List ℕ → Bool
+areCounts ns = both (every 8 (λ i. isWord (getD (drop 82 ns) i 0))) (is32Bits ns 90)
+
+-- 91 numbers that are a chip's
 abbrev pub isChip : List ℕ → Bool
 isChip ns =
-    both (leb 83 (length ns))
+    both (leb 91 (length ns))
     (both (leb (getD ns 0 0) 1)
     (both (isShown ns)
     (both (isState (drop 9 ns))
-    (both (areLetters ns) (is32Bits ns 82)))))
+    (both (areLetters ns) (areCounts ns)))))
 
 -- an item by its kind, 0 a character, 1 a ligature, any other a kern, and the other numbers
 abbrev pub shownBy : ℕ → ℕ → ℕ → ℕ → Bool → Bool → Answer
@@ -69,14 +74,15 @@ shownAt ns = cond (flagOf (getD ns 2 0)) (shownBy (getD ns 3 0) (getD ns 4 0) (g
 abbrev pub lettersAt : ℕ → List ℕ → List ℕ
 lettersAt n ns = take n (drop 18 ns) ++ replicate (64 - n) 0
 
--- the chip that 83 numbers are
+-- the chip that 91 numbers are
 abbrev pub chipAt : List ℕ → Chip
 chipAt ns =
     record {
       opened = flagOf (getD ns 0 0);
       length = getD ns 1 0;
       letters = lettersAt (getD ns 1 0) ns;
-      words = getD ns 82 0;
+      counts = take 8 (drop 82 ns);
+      caller = getD ns 90 0;
       item = shownAt ns;
       state = stateAt (drop 9 ns);
     }
@@ -88,7 +94,8 @@ noChip =
       opened = freshChip .opened;
       length = 65;
       letters = freshChip .letters;
-      words = freshChip .words;
+      counts = freshChip .counts;
+      caller = freshChip .caller;
       item = freshChip .item;
       state = freshChip .state;
     }
@@ -101,4 +108,4 @@ chipRead ns = cond (isChip ns) (chipAt ns) noChip
 
 -- its numbers, and what stands after them; a list without room for them stays as it was
 abbrev pub chipPut : List ℕ → Chip → List ℕ
-chipPut ns chip = cond (leb 83 (length ns)) (chipNumbers chip ++ drop 83 ns) ns
+chipPut ns chip = cond (leb 91 (length ns)) (chipNumbers chip ++ drop 91 ns) ns

@@ -1,2 +1,2 @@
--- A chip as a list of 83 numbers: ChipLists.
+-- A chip as a list of 91 numbers: ChipLists.
 pub mod ChipLists

@@ -1,5 +1,2 @@
-// A chip in a list of 83 numbers, for a host in C. `chip_in` reads it, and `put_chip` puts it there.
-//   reading  the numbers that are a chip's
-//   writing  a chip's numbers
-pub mod reading;
-pub mod writing;
+// A chip in a list of 91 numbers, for a host in C: definitions (specs/) and a law (proofs/Laws) alone. Crate
+// `c_chip_read` reads it, and `c_chip_write` puts it there.

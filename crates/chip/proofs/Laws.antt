@@ -11,7 +11,7 @@ use lib.ListN.{length}
 use Rattle.lang.specs.Checks.{orElse, absentRefusal}
 use Rattle.chips.specs.declared.Chip.{Chip}
 use Rattle.chips.specs.declared.Commanded.{Commanded}
-use Rattle.chips.specs.Blocks.{shownBlock}
+use Rattle.chips.specs.Blocks.{callerCount, shownBlock}
 use Rattle.chips.specs.Commands.{chipRefusal, chipAfter, turnRefusal, commandRefusal, commandedBy, commandOf, blockBy, Commands}
 use Rattle.chip_block.specs.Showing.{chipShowing, shownWhere}
 
@@ -48,7 +48,8 @@ module _ (pairs ops : List ℤ) (boundary : ℤ) (block : List ℕ) (chip : Chip
       by (suc n) q = refl
 
   -- taken, and shown
-  pub taken-told : {block′ : List ℕ} → r .number ≡ 0 → block′ ≡ shownWhere block (chipShowing (r .chip .opened) (r .chip .words) (r .chip .item)) →
+  pub taken-told : {block′ : List ℕ} → r .number ≡ 0 →
+      block′ ≡ shownWhere block (chipShowing (r .chip .opened) (callerCount (r .chip .caller) (r .chip)) (r .chip .item)) →
       Commands pairs ops boundary block chip r block′
   taken-told {block′} z f =
       let n : refusal ≡ 0 = sym number ∙ z in

@@ -6,6 +6,7 @@ use captions::Answer;
 use captions::Consumes;
 use captions::NextLeft;
 use captions::State;
+use chip_block::count_of;
 use chip_block::show;
 use chip_turn::commanded;
 use chips::Chip;
@@ -20,7 +21,8 @@ pub fn fresh() -> Chip
         opened: false,
         length: 0,
         letters: [0u32; 64],
-        words: 0,
+        counts: [0u32; 8],
+        caller: 0,
         item: Answer::End,
         state: State {
             next_left: NextLeft::Boundary,
@@ -56,6 +58,7 @@ pub fn command(pairs: &[i32], ops: &[i32], boundary: i32, block: &mut [u8], chip
     }
     let after = done.chip;
     let item = after.item;
-    show(block, after.opened, after.words, item);
+    let caller = after.caller as usize;
+    show(block, after.opened, count_of(after, caller), item);
     done
 }

@@ -1,4 +1,4 @@
--- The interrupt by its tests, and a block in which the status, the words ended and the item were stored.
+-- The interrupt by its tests, and a block in which the status, the count and the item were stored.
 -- Assumes nothing.
 use mathlib.Core.Path.{_≡_, refl, ap, _∙_}
 use mathlib.Core.Bool.{Bool, true, false, not}

@@ -1,6 +1,6 @@
 -- The contract of `show`: the block that shows a chip, of which it reads only what is shown. A block under 16 bytes is left as it is.
 use mathlib.Core.Bool.{Bool, true, cond, not}
-use mathlib.Core.List.{List, []}
+use mathlib.Core.List.{List, [], _∷_}
 use Prim.Native.Nat.{ℕ, _+_, _/_, _%_}
 use lib.Dec.{leb, eqb}
 use lib.ListN.{length}
@@ -11,10 +11,10 @@ use Rattle.captions.specs.Begin.{fresh}
 use Rattle.chips.specs.declared.Chip.{Chip}
 use Rattle.chips.specs.Blocks.{weighed, shownBlock}
 
--- a chip that shows this: whether a word is open, how many were ended, and the item
+-- a chip that shows this: whether a word is open, how many its caller ended, and the item
 abbrev pub chipShowing : Bool → ℕ → Answer → Chip
-chipShowing opened words item =
-    record { opened = opened; length = 0; letters = []; words = words; item = item; state = fresh next.Boundary 0 }
+chipShowing opened count item =
+    record { opened = opened; length = 0; letters = []; counts = count ∷ []; caller = 0; item = item; state = fresh next.Boundary 0 }
 
 -- the block that shows a chip, where it has 16 bytes
 abbrev pub shownWhere : List ℕ → Chip → List ℕ

@@ -1,5 +1,5 @@
-// The bytes of a chip's block that a taken command writes: the status, the words ended, and the item that is shown. The
-// mask and the rest are left as they are.
+// The bytes of a chip's block that a taken command writes: the status, the words that the caller ended, and the item
+// that is shown. The mask and the rest are left as they are.
 ghost use mathlib.Core.Path.{_≡_};
 ghost use mathlib.Core.List.{[], _∷_};
 ghost use mathlib.Core.Bool.{not};
@@ -7,9 +7,11 @@ ghost use Prim.Native.Nat.{_+_, _≤_};
 ghost use lib.ListN.{length};
 ghost use lib.Seq.{sets};
 ghost use Rattle.captions.specs.Replies.{isEnd};
-ghost use Rattle.chips.specs.Blocks.{weighed, highFirst, itemBytes};
+ghost use Rattle.chips.specs.Blocks.{weighed, callerCount, highFirst, itemBytes};
 ghost use Rattle.chip_block.specs.Showing.{chipShowing, shownWhere, interruptBy, statusBy};
 use captions::Answer;
+use chips::Chip;
+use words::u32s::u32_at;
 use words::word_of;
 
 // A flag's weight where it is set, else 0.
@@ -17,6 +19,14 @@ fn weight(flag: bool, n: u8) -> u8
     ensures { λ r. ⌜ r ≡ weighed flag n ⌝ }
 {
     if flag { n } else { 0 }
+}
+
+// How many words a caller ended; one above 7 has none.
+pub fn count_of(chip: Chip, caller: usize) -> u32
+    ensures { λ r. ⌜ r ≡ callerCount caller chip ⌝ }
+{
+    let counts = chip.counts;
+    u32_at(&counts, caller)
 }
 
 // An item is ready.
@@ -110,15 +120,15 @@ fn show_item(block: &mut [u8], item: Answer)
     }
 }
 
-// The block shows whether a word is open, how many were ended, and the item. One under 16 bytes is left as it is.
-pub fn show(block: &mut [u8], opened: bool, words: u32, item: Answer)
-    ensures { λ _. ⌜ now (block .exit) ≡ shownWhere (now (block .entry)) (chipShowing opened words item) ⌝ }
+// The block shows whether a word is open, how many its caller ended, and the item. One under 16 bytes is left as it is.
+pub fn show(block: &mut [u8], opened: bool, count: u32, item: Answer)
+    ensures { λ _. ⌜ now (block .exit) ≡ shownWhere (now (block .entry)) (chipShowing opened count item) ⌝ }
 {
     if block.len() < 16 {
         return;
     }
     let ready = is_ready(item);
     block[2] = status(block[3], ready, opened);
-    put_number(block, 4, words);
+    put_number(block, 4, count);
     show_item(block, item);
 }

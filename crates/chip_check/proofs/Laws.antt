@@ -1,9 +1,9 @@
--- The letters of a chip's word, one by one and or-ed together.
+-- The letters of a chip's word, and numbers or-ed together.
 -- Assumes nothing.
 use mathlib.Core.Path.{_≡_, refl, sym, ap, _∙_}
 use mathlib.Core.Bool.{Bool, true, false}
 use mathlib.Core.List.{List, [], _∷_, map}
-use Prim.Native.Nat.{ℕ, suc, _+_}
+use Prim.Native.Nat.{ℕ, suc, _+_, _^_, _<_}
 use native.Mathlib.Omega.{arith}
 use lib.Bits.{bitOr, and-le-l, and-le-r, or-lt, or-add-and}
 use lib.Dec.{leb}
@@ -22,19 +22,21 @@ array-long n l e = sym (go l) ∙ e
     go [] = refl
     go (x ∷ xs) = ap suc (go xs)
 
--- ---- letters or-ed together
+-- ---- numbers or-ed together: m is all of the low k bits
 
--- 255 is all of the low eight bits
-or-by : (a b : ℕ) (t u : Bool) → leb a 255 ≡ t → leb b 255 ≡ u → leb (bitOr a b) 255 ≡ both t u
-or-by a b true true p q =
-    le-leb (bitOr a b) 255 (omega (arith, or-lt 8 a b (omega (arith, leb-true a 255 p)) (omega (arith, leb-true b 255 q))))
-or-by a b true false p q = lt-leb (bitOr a b) 255 (omega (arith, leb-false b 255 q, or-add-and a b, and-le-l a b))
-or-by a b false u p q = lt-leb (bitOr a b) 255 (omega (arith, leb-false a 255 p, or-add-and a b, and-le-r a b))
+module _ (k m : ℕ) (low : 2 ^ k ≡ suc m) where
+  within : (a : ℕ) → leb a m ≡ true → a < 2 ^ k
+  within a p = omega (arith, low, leb-true a m p)
 
--- one letter more
-pub letters-more : (word : List ℕ) (i all : ℕ) → leb all 255 ≡ every i (λ j. leb (getD word j 0) 255) →
-    leb (bitOr all (getD word i 0)) 255 ≡ every (i + 1) (λ j. leb (getD word j 0) 255)
-letters-more word i all e =
-    or-by all (getD word i 0) (leb all 255) (leb (getD word i 0) 255) refl refl
-    ∙ ap (λ (t : Bool). both t (leb (getD word i 0) 255)) e
-    ∙ sym (every-step i (λ j. leb (getD word j 0) 255))
+  or-by : (a b : ℕ) (t u : Bool) → leb a m ≡ t → leb b m ≡ u → leb (bitOr a b) m ≡ both t u
+  or-by a b true true p q = le-leb (bitOr a b) m (omega (arith, low, or-lt k a b (within a p) (within b q)))
+  or-by a b true false p q = lt-leb (bitOr a b) m (omega (arith, leb-false b m q, or-add-and a b, and-le-l a b))
+  or-by a b false u p q = lt-leb (bitOr a b) m (omega (arith, leb-false a m p, or-add-and a b, and-le-r a b))
+
+  -- one number more
+  pub or-more : (word : List ℕ) (i all : ℕ) → leb all m ≡ every i (λ j. leb (getD word j 0) m) →
+      leb (bitOr all (getD word i 0)) m ≡ every (i + 1) (λ j. leb (getD word j 0) m)
+  or-more word i all e =
+      or-by all (getD word i 0) (leb all m) (leb (getD word i 0) m) refl refl
+      ∙ ap (λ (t : Bool). both t (leb (getD word i 0) m)) e
+      ∙ sym (every-step i (λ j. leb (getD word j 0) m))

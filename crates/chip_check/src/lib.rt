@@ -8,6 +8,7 @@ ghost use Rattle.lang.specs.Checks.{orElse, absentRefusal};
 ghost use Rattle.lang.specs.Answers.{roomRefusal};
 ghost use Rattle.chips.specs.Commands.{itemStands, openStands, chipRefusal};
 use captions::Answer;
+use chip_block::count_of;
 use chip_block::is_ready;
 use chips::Chip;
 use program_checks::absent_refusal;
@@ -38,7 +39,7 @@ fn item_stands(item: Answer) -> bool
     }
 }
 
-// An open word has no item ready, and can be counted.
+// An open word has no item ready, and can be counted for its caller.
 fn open_stands(chip: Chip) -> bool
     ensures { λ r. ⌜ r ≡ openStands chip ⌝ }
 {
@@ -47,7 +48,8 @@ fn open_stands(chip: Chip) -> bool
         if is_ready(item) {
             return false;
         }
-        return chip.words < 4294967295;
+        let caller = chip.caller as usize;
+        return count_of(chip, caller) < 4294967295;
     }
     true
 }
@@ -66,6 +68,10 @@ fn chip_refusal(chip: Chip) -> u32
     }
     let item = chip.item;
     if !item_stands(item) {
+        return 7;
+    }
+    let caller = chip.caller;
+    if 7 < caller {
         return 7;
     }
     if open_stands(chip) { 0 } else { 7 }

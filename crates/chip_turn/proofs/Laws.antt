@@ -1,57 +1,32 @@
--- A chip that stands, by its tests; and what is commanded, by its refusal.
+-- What is commanded, by a step, and whole.
 -- Assumes nothing.
 use mathlib.Core.Path.{_≡_, refl, ap, _∙_}
 use mathlib.Core.Bool.{Bool, true, false, cond}
-use mathlib.Core.List.{List, []}
+use mathlib.Core.List.{List}
 use Prim.Native.Nat.{ℕ, zero, suc}
 use native.Mathlib.Omega.{arith}
 use lib.Dec.{leb, ltb}
 use lib.IntN.{ℤ}
-use lib.ListN.{length, getD}
-use Rattle.lang.specs.Checks.{orElse, absentRefusal, isLetter}
+use lib.ListN.{length}
+use Rattle.lang.specs.Checks.{orElse, absentRefusal}
 use Rattle.lang.specs.Answers.{roomRefusal}
-use Rattle.lang.proofs.Every.{every-none}
-use Rattle.lang.proofs.Refusals.{second-none}
-use Rattle.captions.specs.declared.State.{State}
-use Rattle.captions.specs.declared.Begun.{Begun}
-use Rattle.captions.specs.declared.Begun.the-variants.{Run, Refused}
-use Rattle.captions.specs.Form.{tableRefusal}
-use Rattle.captions.specs.Begin.{beginRefusal, freshState, begunBy, beginOf, plainOptions}
 use Rattle.chips.specs.declared.Chip.{Chip}
 use Rattle.chips.specs.declared.Commanded.{Commanded}
 use Rattle.captions.specs.declared.Step.{Step}
 use Rattle.chips.specs.Commands.{chipRefusal, chipStep, chipStepped, answerNumber, mayAdd, inTurn, chipAfter, turnRefusal, commandedBy}
+use Rattle.chip_begin.proofs.Laws.{refused-by}
 use Rattle.chip_turn.specs.Turns.{turnedOf, commandedOf}
 
 -- ---- what is commanded
 
-module _ (after chip : Chip) {m : ℕ} where
-  pub refused-by : {r : ℕ} → r ≡ m → (r ≡ 0 → ⊥) → _≡_ {A = Commanded} (record { number = r; chip = chip }) (commandedBy m after chip)
-  refused-by {r} e h = by m e
-    where
-      by : (n : ℕ) → r ≡ n → _≡_ {A = Commanded} (record { number = r; chip = chip }) (commandedBy n after chip)
-      by zero q = absurd (h q)
-      by (suc n) q = rw q
-
-  pub taken-by : m ≡ 0 → _≡_ {A = Commanded} (record { number = 0; chip = after }) (commandedBy m after chip)
-  taken-by z = rw z
-
--- a command in turn, and one out of turn
-pub in-turn : {t : Bool} (n : ℕ) (after chip : Chip) → t ≡ true → commandedBy n after chip ≡ commandedBy (inTurn t n) after chip
-in-turn n after chip e = rw e
-
-pub out-of-turn : {t : Bool} (n : ℕ) (after chip : Chip) → t ≡ false →
-    _≡_ {A = Commanded} (record { number = 22; chip = chip }) (commandedBy (inTurn t n) after chip)
-out-of-turn n after chip e = rw e
-
 -- by a step
-abbrev pub steppedBy : Chip → ℕ → Step → Commanded
-steppedBy chip words given = commandedBy (answerNumber (given .answer)) (chipStepped words given chip) chip
+abbrev pub steppedBy : Chip → List ℕ → Step → Commanded
+steppedBy chip counts given = commandedBy (answerNumber (given .answer)) (chipStepped counts given chip) chip
 
 -- end and take
-abbrev pub turnAt : List ℤ → List ℤ → Chip → Bool → ℕ → ℤ → Commanded
-turnAt pairs ops chip turn words boundary =
-    commandedBy (inTurn turn (answerNumber (chipStep pairs ops boundary chip .answer))) (chipStepped words (chipStep pairs ops boundary chip) chip) chip
+abbrev pub turnAt : List ℤ → List ℤ → Chip → Bool → List ℕ → ℤ → Commanded
+turnAt pairs ops chip turn counts boundary =
+    commandedBy (inTurn turn (answerNumber (chipStep pairs ops boundary chip .answer))) (chipStepped counts (chipStep pairs ops boundary chip) chip) chip
 
 -- add: its word is full, or none is open
 pub word-full : (chip : Chip) → chip .opened ≡ true → ltb (chip .length) 64 ≡ false → mayAdd chip ≡ false
@@ -59,25 +34,6 @@ word-full chip e h = rw (e, h)
 
 pub none-open : (chip : Chip) → chip .opened ≡ false → mayAdd chip ≡ false
 none-open chip e = rw e
-
--- ---- begin over no letters
-
-module _ (pairs ops : List ℤ) (boundary : ℤ) (h : absentRefusal 255 boundary ≡ 0) where
-  none-refusal : beginRefusal pairs ops boundary [] plainOptions ≡ tableRefusal pairs ops
-  none-refusal = rw (h, every-none (λ i. isLetter (getD [] i 0))) (second-none (tableRefusal pairs ops))
-
-  pub begins : {r : Begun} → r ≡ beginOf pairs ops boundary [] plainOptions → r ≡ begunBy (tableRefusal pairs ops) (freshState [] plainOptions)
-  begins e = e ∙ ap (λ (n : ℕ). begunBy n (freshState [] plainOptions)) none-refusal
-
--- a run: nothing is refused
-pub run-by : (t : ℕ) (s s′ : State) → Run s ≡ begunBy t s′ → (t ≡ 0) × (s ≡ s′)
-run-by zero s s′ e = (refl, cc)
-run-by (suc t) s s′ e = absurd (let z : _≡_ {A = ℕ} 0 1 = cc in omega arith)
-
--- a refusal: that of the table
-pub refused-in : (t n : ℕ) (s′ : State) → Refused n ≡ begunBy t s′ → (n ≡ t) × (n ≡ 0 → ⊥)
-refused-in zero n s′ e = absurd (let z : _≡_ {A = ℕ} 0 1 = cc in omega arith)
-refused-in (suc t) n s′ e = let q : n ≡ suc t = cc in (q, λ z. omega (arith, q, z))
 
 -- ---- a command whole
 

@@ -1,22 +1,19 @@
 // A chip after a command, or the number of its refusal and the chip as it was. The block is not looked at here: of it
-// come its length, the command and the letter.
+// come its length, the command and byte 1, the letter of add and the caller of begin.
 ghost use mathlib.Core.Path.{_≡_};
+ghost use mathlib.Core.Bool.{true};
 ghost use mathlib.Core.List.{[], _∷_};
-ghost use Prim.Native.Nat.{suc, _≤_};
-ghost use Rattle.lang.specs.Checks.{orElse, absentRefusal};
-ghost use Rattle.captions.specs.Form.{tableRefusal};
-ghost use Rattle.captions.specs.Begin.{freshState, begunBy, plainOptions};
+ghost use Prim.Native.Nat.{_≤_};
+ghost use Rattle.lang.specs.Checks.{absentRefusal};
 ghost use Rattle.chips.specs.Blocks.{itemReady};
-ghost use Rattle.chips.specs.Commands.{answerNumber, mayBegin, mayAdd, inTurn, chipStep, chipBegun, chipAdded};
+ghost use Rattle.chips.specs.Commands.{answerNumber, mayAdd, inTurn, chipStep, countedWord, chipAdded};
 ghost use Rattle.chips.specs.Commands.{chipStepped, chipRefusal, commandedBy};
 ghost use Rattle.chip_turn.specs.Turns.{turnedOf, commandedOf};
-use caption_run::begin::begin;
 use caption_run::steps::step;
 use captions::Answer;
-use captions::Begun;
 use captions::RunOptions;
-use captions::State;
 use captions::Step;
+use chip_begin::begin_word;
 use chip_block::is_ready;
 use chip_check::early_refusal;
 use chips::Chip;
@@ -32,70 +29,6 @@ fn answer_number(answer: Answer) -> u32
         Answer::Kern(_) => 0,
         Answer::End => 0,
         Answer::Refused(n) => n,
-    }
-}
-
-// No word is open, every item was taken, and one more word can be counted.
-fn may_begin(chip: Chip) -> bool
-    ensures { λ r. ⌜ r ≡ mayBegin chip ⌝ }
-{
-    if chip.opened {
-        return false;
-    }
-    let shown = chip.item;
-    if is_ready(shown) {
-        return false;
-    }
-    chip.words < 4294967295
-}
-
-// A fresh run over no letters, or 7 of the table.
-fn begin_run(pairs: &[i32], ops: &[i32], boundary: i32) -> Begun
-    requires { ⌜ absentRefusal 255 boundary ≡ 0 ⌝ }
-    ensures { λ r. ⌜ r ≡ begunBy (tableRefusal (now (pairs .entry)) (now (ops .entry)))
-        (freshState [] plainOptions) ⌝ }
-{
-    let options = RunOptions {
-        disable_left_boundary: false,
-        right_boundary_override: -1,
-    };
-    let letters = [0u32; 1];
-    begin(pairs, ops, boundary, &letters[..0], options)
-}
-
-// An empty word is open, with this run; 22 where begin is out of turn.
-fn open_word(chip: Chip, state: State) -> Commanded
-    requires { ⌜ state ≡ freshState [] plainOptions ⌝ }
-    ensures { λ r. ⌜ r ≡ commandedBy (inTurn (mayBegin chip) 0) (chipBegun chip) chip ⌝ }
-{
-    if !may_begin(chip) {
-        return Commanded {
-            number: 22,
-            chip: chip,
-        };
-    }
-    let mut after = chip;
-    after.opened = true;
-    after.length = 0;
-    after.state = state;
-    Commanded {
-        number: 0,
-        chip: after,
-    }
-}
-
-// Begin: the table is looked at first, and then whether it is begin's turn.
-fn begin_word(pairs: &[i32], ops: &[i32], boundary: i32, chip: Chip) -> Commanded
-    requires { ⌜ absentRefusal 255 boundary ≡ 0 ⌝ }
-    ensures { λ r. ⌜ r ≡ commandedBy (orElse (tableRefusal (now (pairs .entry)) (now (ops .entry)))
-        (inTurn (mayBegin chip) 0)) (chipBegun chip) chip ⌝ }
-{
-    match begin_run(pairs, ops, boundary) {
-        Begun::Refused(n) => Commanded {
-            number: n,
-            chip: chip,
-        },
-        Begun::Run(state) => open_word(chip, state),
     }
 }
 
@@ -136,9 +69,9 @@ fn chip_step(pairs: &[i32], ops: &[i32], boundary: i32, chip: Chip) -> Step
     step(pairs, ops, boundary, &letters[..length], options, state)
 }
 
-// The answer of a step is shown, so many words are ended, and none is open; or what the step refused.
-fn show_step(words: u32, given: Step, chip: Chip) -> Commanded
-    ensures { λ r. ⌜ r ≡ commandedBy (answerNumber (given .answer)) (chipStepped words given chip) chip ⌝ }
+// The answer of a step is shown, with these counts, and no word is open; or what the step refused.
+fn show_step(counts: [u32; 8], given: Step, chip: Chip) -> Commanded
+    ensures { λ r. ⌜ r ≡ commandedBy (answerNumber (given .answer)) (chipStepped counts given chip) chip ⌝ }
 {
     let item = given.answer;
     let number = answer_number(item);
@@ -154,7 +87,8 @@ fn show_step(words: u32, given: Step, chip: Chip) -> Commanded
         opened: false,
         length: chip.length,
         letters: letters,
-        words: words,
+        counts: counts,
+        caller: chip.caller,
         item: item,
         state: state,
     };
@@ -164,17 +98,28 @@ fn show_step(words: u32, given: Step, chip: Chip) -> Commanded
     }
 }
 
-// End: the word is counted, and its first item shown.
+// The counts with one word more of the chip's caller.
+fn counted_word(chip: Chip) -> [u32; 8]
+    requires { ⌜ (chipRefusal chip ≡ 0) × (chip .opened ≡ true) ⌝ }
+    ensures { λ r. ⌜ r ≡ countedWord chip ⌝ }
+{
+    let mut counts = chip.counts;
+    let caller = chip.caller as usize;
+    counts[caller] = counts[caller] + 1;
+    counts
+}
+
+// End: the word is counted for its caller, and its first item shown.
 fn end_word(pairs: &[i32], ops: &[i32], boundary: i32, chip: Chip) -> Commanded
     requires { ⌜ chipRefusal chip ≡ 0 ⌝ }
     ensures { λ r. ⌜ r ≡ commandedBy
         (inTurn (chip .opened) (answerNumber (chipStep (now (pairs .entry)) (now (ops .entry)) boundary chip .answer)))
-        (chipStepped (suc (chip .words)) (chipStep (now (pairs .entry)) (now (ops .entry)) boundary chip) chip)
+        (chipStepped (countedWord chip) (chipStep (now (pairs .entry)) (now (ops .entry)) boundary chip) chip)
         chip ⌝ }
 {
     if chip.opened {
         let given = chip_step(pairs, ops, boundary, chip);
-        return show_step(chip.words + 1, given, chip);
+        return show_step(counted_word(chip), given, chip);
     }
     Commanded {
         number: 22,
@@ -188,12 +133,13 @@ fn take_item(pairs: &[i32], ops: &[i32], boundary: i32, chip: Chip) -> Commanded
     ensures { λ r. ⌜ r ≡ commandedBy
         (inTurn (itemReady chip)
         (answerNumber (chipStep (now (pairs .entry)) (now (ops .entry)) boundary chip .answer)))
-        (chipStepped (chip .words) (chipStep (now (pairs .entry)) (now (ops .entry)) boundary chip) chip) chip ⌝ }
+        (chipStepped (chip .counts) (chipStep (now (pairs .entry)) (now (ops .entry)) boundary chip) chip) chip ⌝ }
 {
     let item = chip.item;
     if is_ready(item) {
         let given = chip_step(pairs, ops, boundary, chip);
-        return show_step(chip.words, given, chip);
+        let counts = chip.counts;
+        return show_step(counts, given, chip);
     }
     Commanded {
         number: 22,
@@ -215,7 +161,7 @@ fn turned(
         chip ⌝ }
 {
     match command {
-        1 => begin_word(pairs, ops, boundary, chip),
+        1 => begin_word(pairs, ops, boundary, letter, chip),
         2 => add_letter(letter, chip),
         3 => end_word(pairs, ops, boundary, chip),
         4 => take_item(pairs, ops, boundary, chip),

@@ -12,7 +12,7 @@ use Rattle.captions.specs.declared.Answer.{Answer}
 use Rattle.captions.specs.declared.Answer.the-variants.{Char, Ligature, Kern, End, Refused}
 use Rattle.captions.specs.Replies.{isEnd}
 use Rattle.chips.specs.declared.Chip.{Chip}
-use Rattle.chips.specs.Blocks.{blockByte, statusByte, highFirst, itemBytes, shownBlock}
+use Rattle.chips.specs.Blocks.{blockByte, statusByte, callerCount, highFirst, itemBytes, shownBlock}
 use Rattle.chips.specs.Commands.{itemStands}
 
 pub item-eight : (a : Answer) → length (itemBytes a) ≡ 8
@@ -28,13 +28,22 @@ shown-item [] chip h = absurd (omega (arith, h))
 shown-item (a ∷ []) chip h = absurd (omega (arith, h))
 shown-item (a ∷ b ∷ r) chip h = take-at (itemBytes (chip .item)) (drop 16 (a ∷ b ∷ r)) 8 (item-eight (chip .item))
 
--- bytes 2 to 15 are the status, the mask, the words ended and the item
+-- bytes 4 to 7 are the count of the chip's caller
+pub shown-count : (block : List ℕ) (chip : Chip) → 16 ≤ length block → take 4 (drop 4 (shownBlock block chip)) ≡ highFirst (callerCount (chip .caller) chip)
+shown-count [] chip h = absurd (omega (arith, h))
+shown-count (a ∷ []) chip h = absurd (omega (arith, h))
+shown-count (a ∷ b ∷ r) chip h = refl
+
+-- bytes 2 to 15 are the status, the mask, the count and the item
 pub shown-rest : (block : List ℕ) (chip : Chip) → 16 ≤ length block →
-    take 14 (drop 2 (shownBlock block chip)) ≡ (statusByte block chip ∷ blockByte block 3 ∷ highFirst (chip .words)) ++ itemBytes (chip .item)
+    take 14 (drop 2 (shownBlock block chip))
+    ≡ (statusByte block chip ∷ blockByte block 3 ∷ highFirst (callerCount (chip .caller) chip)) ++ itemBytes (chip .item)
 shown-rest [] chip h = absurd (omega (arith, h))
 shown-rest (a ∷ []) chip h = absurd (omega (arith, h))
 shown-rest (a ∷ b ∷ r) chip h =
-    take-at ((statusByte (a ∷ b ∷ r) chip ∷ blockByte (a ∷ b ∷ r) 3 ∷ highFirst (chip .words)) ++ itemBytes (chip .item)) (drop 16 (a ∷ b ∷ r)) 14
+    take-at
+    ((statusByte (a ∷ b ∷ r) chip ∷ blockByte (a ∷ b ∷ r) 3 ∷ highFirst (callerCount (chip .caller) chip)) ++ itemBytes (chip .item))
+    (drop 16 (a ∷ b ∷ r)) 14
     (omega (arith, item-eight (chip .item)))
 
 no : {A : Type 0} → _≡_ {A = Bool} true false → A

@@ -5,9 +5,11 @@
 --   Turns     what is known of a command that is taken
 --   Blocks    the bytes that are shown
 --   Traces    commands one after the other
+--   Callers   calls by several callers
 pub mod Steps
 pub mod Runs
 pub mod Turns
 pub mod Blocks
 pub mod Traces
+pub mod Callers
 pub mod Theorems

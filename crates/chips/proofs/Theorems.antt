@@ -18,13 +18,16 @@ use Rattle.captions.specs.Begin.{plainOptions}
 use Rattle.captions.specs.Replies.{isEnd}
 use Rattle.chips.specs.declared.Chip.{Chip}
 use Rattle.chips.specs.declared.Commanded.{Commanded}
-use Rattle.chips.specs.Blocks.{itemReady, statusByte, highFirst, itemBytes}
+use Rattle.chips.specs.Blocks.{blockCaller, itemReady, statusByte, callerCount, highFirst, itemBytes}
 use Rattle.chips.specs.Commands.{chipWord, itemStands, chipRefusal, chipStep, chipAfter, answerNumber, inTurn, turnRefusal, commandedBy}
+use Rattle.chips.specs.Callers.{freshCalls}
 use Rattle.chips.specs.Purpose.{freshTrace, traceOf, ChipItems, NoneLeftAtBegin, ShownIsNext, NoneRefusedInTurn, AnsweredAlike, ReadyOrOpen}
+use Rattle.chips.specs.Purpose.{CountIsOwnWords, SameWordsSameCount, BeginMayWait, SameWords, CountShown, OthersStay}
 use Rattle.chips.proofs.Steps.{step-fits, stands}
 use Rattle.chips.proofs.Turns.{few-letters, item-stands, none-ready, all-taken, word-open, Turn, begins, adds, ends, takes, taken, turn-of}
 use Rattle.chips.proofs.Blocks.{shown-rest, zeros-none}
 use Rattle.chips.proofs.Traces.{fresh-stands, all-commands, end-taken, take-taken, all-legal, all-shown}
+use Rattle.chips.proofs.Callers.{fresh-own, all-calls, other-stays, same-ended}
 
 -- THE theorem
 pub chip-items : ChipItems
@@ -36,7 +39,7 @@ pub none-left-at-begin : NoneLeftAtBegin
 none-left-at-begin pairs ops boundary block chip e z = by (turn-of pairs ops boundary block chip (taken pairs ops boundary block chip z .turn))
   where
     by : Turn pairs ops boundary block chip → itemReady chip ≡ false
-    by (begins f t m) = all-taken chip m
+    by (begins f t m l) = all-taken (blockCaller block) chip m
     by (adds f m) = absurd (omega (arith, e, f))
     by (ends f o n) = absurd (omega (arith, e, f))
     by (takes f r n) = absurd (omega (arith, e, f))
@@ -77,7 +80,7 @@ answerBy pairs ops boundary chip long c l =
     (chipAfter pairs ops boundary (c ∷ l ∷ []) chip) chip
 
 abbrev shownBy : Chip → ℕ → List ℕ
-shownBy chip mask = (statusByte (0 ∷ 0 ∷ 0 ∷ mask ∷ []) chip ∷ mask ∷ highFirst (chip .words)) ++ itemBytes (chip .item)
+shownBy chip mask = (statusByte (0 ∷ 0 ∷ 0 ∷ mask ∷ []) chip ∷ mask ∷ highFirst (callerCount (chip .caller) chip)) ++ itemBytes (chip .item)
 
 pub answered-alike : AnsweredAlike
 answered-alike pairs ops boundary chip a b la lb e f g = (
@@ -104,7 +107,7 @@ module _ (pairs ops : List ℤ) (boundary : ℤ) (block : List ℕ) (chip : Chip
       (both (itemReady (chipAfter pairs ops boundary block chip)) (chipAfter pairs ops boundary block chip .opened) ≡ false)
       × ((itemBytes (chipAfter pairs ops boundary block chip .item) ≡ replicate 8 0)
       ↔ (itemReady (chipAfter pairs ops boundary block chip) ≡ false))
-  ready-by (begins e t m) = rw e (rw (all-taken chip m), zeros-none (chip .item) (item-stands chip l))
+  ready-by (begins e t m h) = rw e (rw (all-taken (blockCaller block) chip m), zeros-none (chip .item) (item-stands chip l))
   ready-by (adds e m) = rw e (rw (none-ready chip l (word-open chip m)), zeros-none (chip .item) (item-stands chip l))
   ready-by (ends e o n) = rw e (closed, zeros-none answer (step-stands n))
   ready-by (takes e f n) = rw e (closed, zeros-none answer (step-stands n))
@@ -113,3 +116,24 @@ pub ready-or-open : ReadyOrOpen
 ready-or-open pairs ops boundary block chip z =
     let k = taken pairs ops boundary block chip z in
     ready-by pairs ops boundary block chip (k .legal) (turn-of pairs ops boundary block chip (k .turn))
+
+-- ---- whose words
+
+pub count-is-own-words : CountIsOwnWords
+count-is-own-words calls c = let o = all-calls calls freshCalls fresh-own in (o .counts .counted c, o .counts .fits c)
+
+pub same-words-same-count : SameWordsSameCount
+same-words-same-count calls others c e = count-is-own-words calls c .0 ∙ ap length e ∙ sym (count-is-own-words others c .0)
+
+pub begin-may-wait : BeginMayWait
+unfolding Rattle.lang.specs.Every.every
+begin-may-wait = (refl, refl)
+
+pub same-words : SameWords
+same-words pairs ops boundary blocks = same-ended pairs ops boundary blocks freshCalls [] (replicate 8 0)
+
+pub count-shown : CountShown
+count-shown calls = all-calls calls freshCalls fresh-own .shows
+
+pub others-stay : OthersStay
+others-stay pairs ops boundary block chip c h = other-stays pairs ops boundary block chip c h

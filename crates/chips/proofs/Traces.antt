@@ -11,7 +11,7 @@ use lib.Dec.{leb}
 use lib.IntN.{ℤ}
 use lib.ListN.{length, getD, set, length-set, length-take}
 use lib.Seq.{length-take-le, take-suc-set, getD-set-same, getD-set-other}
-use borrow.Author.Tests.{le-leb, lt-ltb}
+use borrow.Author.Tests.{le-leb}
 use Rattle.lang.specs.Every.{both, every}
 use Rattle.lang.specs.Checks.{unless, absentRefusal}
 use Rattle.lang.proofs.Every.{every-none, every-all, every-at}
@@ -21,14 +21,15 @@ use Rattle.captions.specs.Form.{tableRefusal}
 use Rattle.captions.specs.Replies.{isEnd}
 use Rattle.captions.specs.Begin.{freshState, plainOptions}
 use Rattle.chips.specs.declared.Chip.{Chip}
-use Rattle.chips.specs.Blocks.{blockByte, blockLetter, itemReady, itemBytes}
-use Rattle.chips.specs.Commands.{freshChip, chipWord, chipRefusal, chipBegun, chipAdded, chipStep, chipStepped, chipAfter}
+use Rattle.chips.specs.Blocks.{blockByte, blockCaller, blockLetter, itemReady, itemBytes}
+use Rattle.chips.specs.Commands.{freshChip, chipWord, chipRefusal, chipBegun, chipAdded, chipStep, countedWord, chipStepped, chipAfter}
 use Rattle.chips.specs.Commands.{answerNumber, mayBegin, mayAdd, commandRefusal, commandedBy, commandOf}
 use Rattle.chips.specs.Purpose.{Trace, traceBy, traceFrom, RunGives, WordGives, WordsGive, Untaken}
 use Rattle.chips.specs.Purpose.WordsGive.{no-words, one-more}
 use Rattle.chips.proofs.Steps.{step-fits, stands}
 use Rattle.chips.proofs.Runs.{Worded, word-gives, last-answer, item-answer, is-item, others, item-ready, item-number}
-use Rattle.chips.proofs.Turns.{few-letters, low-letters, item-stands, none-ready, can-count, every-taken, all-taken, may-count, word-open, word-room}
+use Rattle.chips.proofs.Turns.{few-letters, low-letters, item-stands, low-caller, none-ready, may-end, every-taken, all-taken, may-count}
+use Rattle.chips.proofs.Turns.{word-open, word-room}
 use Rattle.chips.proofs.Turns.{Taken, Turn, begins, adds, ends, takes, taken, turn-of}
 use Rattle.chips.proofs.Blocks.{shown-item}
 
@@ -73,10 +74,10 @@ module _ (pairs ops : List ℤ) (boundary : ℤ) where
   none-untaken chip (i ∷ us) u f = no (u .0) f
 
   -- a step of a run that gives these items shows the first, and leaves the others
-  shows : (chip : Chip) (words : ℕ) (us : List Answer) → RunGives pairs ops boundary (chipWord chip) (chip .state) us →
-      Untaken pairs ops boundary (chipStepped words (chipStep pairs ops boundary chip) chip) us
-  shows chip words [] g = ap (λ (a : Answer). not (isEnd a)) (last-answer pairs ops boundary (chipWord chip) g)
-  shows chip words (i ∷ us) g =
+  shows : (chip : Chip) (counts : List ℕ) (us : List Answer) → RunGives pairs ops boundary (chipWord chip) (chip .state) us →
+      Untaken pairs ops boundary (chipStepped counts (chipStep pairs ops boundary chip) chip) us
+  shows chip counts [] g = ap (λ (a : Answer). not (isEnd a)) (last-answer pairs ops boundary (chipWord chip) g)
+  shows chip counts (i ∷ us) g =
       let w = chipWord chip in
       let e = item-answer pairs ops boundary w g in (
         ap (λ (a : Answer). not (isEnd a)) e ∙ ap not (item-ready i (is-item pairs ops boundary w g)),
@@ -100,9 +101,9 @@ module _ (pairs ops : List ℤ) (boundary : ℤ) where
 
     -- ---- begin and add
 
-    begun : tableRefusal pairs ops ≡ 0 → mayBegin chip ≡ true → Standing (chipBegun chip) [] ended passed
-    begun t m =
-        let f = all-taken chip m in
+    begun : (caller : ℕ) → tableRefusal pairs ops ≡ 0 → mayBegin caller chip ≡ true → Standing (chipBegun caller chip) [] ended passed
+    begun caller t m =
+        let f = all-taken caller chip m in
         record {
           items = s .items;
           of-words = s .of-words;
@@ -152,14 +153,14 @@ module _ (pairs ops : List ℤ) (boundary : ℤ) where
       pub end-taken : answerNumber (chipStep pairs ops boundary chip .answer) ≡ 0
       end-taken = not-refused chip (worded .items) run
 
-      ended-word : Standing (chipStepped (suc (chip .words)) (chipStep pairs ops boundary chip) chip) word (ended ++ (word ∷ [])) passed
+      ended-word : Standing (chipStepped (countedWord chip) (chipStep pairs ops boundary chip) chip) word (ended ++ (word ∷ [])) passed
       ended-word =
           record {
             items = s .items ++ worded .items;
             of-words = one-more (s .of-words) word (worded .items)
                 (subst (λ (w : List ℕ). WordGives pairs ops boundary w (worded .items)) (sym (s .same-word o)) (worded .whole));
             untaken = worded .items;
-            to-take = shows chip (suc (chip .words)) (worded .items) run;
+            to-take = shows chip (countedWord chip) (worded .items) run;
             joined = ap (λ (p : List Answer). p ++ worded .items) (all-passed (none-ready chip l o));
             letters-long = s .letters-long;
             length-few = s .length-few;
@@ -170,14 +171,14 @@ module _ (pairs ops : List ℤ) (boundary : ℤ) where
 
     -- an item that is ready is the first that is untaken
     took-by : (us : List Answer) → Untaken pairs ops boundary chip us → passed ++ us ≡ s .items → itemReady chip ≡ true →
-        Standing (chipStepped (chip .words) (chipStep pairs ops boundary chip) chip) word ended (passed ++ (chip .item ∷ []))
+        Standing (chipStepped (chip .counts) (chipStep pairs ops boundary chip) chip) word ended (passed ++ (chip .item ∷ []))
     took-by [] u j f = no f u
     took-by (i ∷ us) u j f =
         record {
           items = s .items;
           of-words = s .of-words;
           untaken = us;
-          to-take = shows chip (chip .words) us (u .2);
+          to-take = shows chip (chip .counts) us (u .2);
           joined = append-assoc passed (chip .item ∷ []) us ∙ ap (λ (a : Answer). passed ++ (a ∷ us)) (u .1) ∙ j;
           letters-long = s .letters-long;
           length-few = s .length-few;
@@ -187,7 +188,7 @@ module _ (pairs ops : List ℤ) (boundary : ℤ) where
         }
 
     took : itemReady chip ≡ true →
-        Standing (chipStepped (chip .words) (chipStep pairs ops boundary chip) chip) word ended (passed ++ (chip .item ∷ []))
+        Standing (chipStepped (chip .counts) (chipStep pairs ops boundary chip) chip) word ended (passed ++ (chip .item ∷ []))
     took f = took-by (s .untaken) (s .to-take) (s .joined) f
 
     take-by : (us : List Answer) → Untaken pairs ops boundary chip us → itemReady chip ≡ true → answerNumber (chipStep pairs ops boundary chip .answer) ≡ 0
@@ -207,7 +208,7 @@ module _ (pairs ops : List ℤ) (boundary : ℤ) where
     after = chipAfter pairs ops boundary block (t .chip)
 
     turned : Stands t → Taken pairs ops boundary block (t .chip) → Turn pairs ops boundary block (t .chip) → Stands (traceBy 0 block after t)
-    turned s k (begins e f m) = rw e (begun s f m)
+    turned s k (begins e f m l) = rw e (begun s (blockCaller block) f m)
     turned s k (adds e m) = rw e (added s (blockLetter block) (k .legal) m)
     turned s k (ends e o z) = rw e (ended-word s (k .edge) (k .legal) o)
     turned s k (takes e f z) = rw e (took s f)
@@ -231,9 +232,15 @@ module _ (pairs ops : List ℤ) (boundary : ℤ) where
 
   -- ---- a chip that stands, by bytes
 
-  begun-legal : (chip : Chip) → chipRefusal chip ≡ 0 → mayBegin chip ≡ true → chipRefusal (chipBegun chip) ≡ 0
-  begun-legal chip l m =
-      rw (every-none (λ i. leb (getD (chip .letters) i 0) 255), item-stands chip l, all-taken chip m, may-count chip m)
+  begun-legal : (caller : ℕ) (chip : Chip) → chipRefusal chip ≡ 0 → mayBegin caller chip ≡ true → caller ≤ 7 → chipRefusal (chipBegun caller chip) ≡ 0
+  begun-legal caller chip l m h =
+      rw (
+        every-none (λ i. leb (getD (chip .letters) i 0) 255),
+        item-stands chip l,
+        le-leb caller 7 h,
+        all-taken caller chip m,
+        may-count caller chip m,
+      )
 
   added-low : (n letter : ℕ) (letters : List ℕ) → n < length letters → letter < 256 → every n (λ i. leb (getD letters i 0) 255) ≡ true →
       every (suc n) (λ i. leb (getD (set letters n letter) i 0) 255) ≡ true
@@ -253,29 +260,30 @@ module _ (pairs ops : List ℤ) (boundary : ℤ) where
         le-leb (suc (chip .length)) 64 (word-room chip m),
         low,
         item-stands chip l,
+        le-leb (chip .caller) 7 (low-caller chip l),
         o,
         none-ready chip l o,
-        lt-ltb (chip .words) 4294967295 (can-count chip l o),
+        may-end chip l o,
       )
 
-  stepped-legal : (words : ℕ) (chip : Chip) → chipRefusal chip ≡ 0 → answerNumber (chipStep pairs ops boundary chip .answer) ≡ 0 →
-      chipRefusal (chipStepped words (chipStep pairs ops boundary chip) chip) ≡ 0
-  stepped-legal words chip l z =
+  stepped-legal : (counts : List ℕ) (chip : Chip) → chipRefusal chip ≡ 0 → answerNumber (chipStep pairs ops boundary chip .answer) ≡ 0 →
+      chipRefusal (chipStepped counts (chipStep pairs ops boundary chip) chip) ≡ 0
+  stepped-legal counts chip l z =
       let few : length (chipWord chip) ≤ 64 = omega (arith, length-take (chip .length) (chip .letters), few-letters chip l) in
       ap (unless 7)
-      (four (le-leb (chip .length) 64 (few-letters chip l)) (low-letters chip l)
-      (stands (step-fits pairs ops boundary (chipWord chip) plainOptions (chip .state)) few z) refl)
+      (five (le-leb (chip .length) 64 (few-letters chip l)) (low-letters chip l)
+      (stands (step-fits pairs ops boundary (chipWord chip) plainOptions (chip .state)) few z) (le-leb (chip .caller) 7 (low-caller chip l)) refl)
     where
-      four : {a b c d : Bool} → a ≡ true → b ≡ true → c ≡ true → d ≡ true → both a (both b (both c d)) ≡ true
-      four p q r t = rw (p, q, r, t)
+      five : {a b c d e : Bool} → a ≡ true → b ≡ true → c ≡ true → d ≡ true → e ≡ true → both a (both b (both c (both d e))) ≡ true
+      five p q r t u = rw (p, q, r, t, u)
 
   module _ (block : List ℕ) (bytes : (j : ℕ) → blockByte block j < 256) (t : Trace) (s : Stands t) where
     turned-legal : Taken pairs ops boundary block (t .chip) → Turn pairs ops boundary block (t .chip) →
         chipRefusal (chipAfter pairs ops boundary block (t .chip)) ≡ 0
-    turned-legal k (begins e f m) = rw e (begun-legal (t .chip) (k .legal) m)
+    turned-legal k (begins e f m h) = rw e (begun-legal (blockCaller block) (t .chip) (k .legal) m h)
     turned-legal k (adds e m) = rw e (added-legal (blockLetter block) (t .chip) (bytes 1) (s .letters-long) (k .legal) m)
-    turned-legal k (ends e o z) = rw e (stepped-legal (suc (t .chip .words)) (t .chip) (k .legal) z)
-    turned-legal k (takes e f z) = rw e (stepped-legal (t .chip .words) (t .chip) (k .legal) z)
+    turned-legal k (ends e o z) = rw e (stepped-legal (countedWord (t .chip)) (t .chip) (k .legal) z)
+    turned-legal k (takes e f z) = rw e (stepped-legal (t .chip .counts) (t .chip) (k .legal) z)
 
     by-legal : (n : ℕ) → commandRefusal pairs ops boundary block (t .chip) ≡ n → chipRefusal (t .chip) ≡ 0 →
         chipRefusal (commandedBy n (after block t) (t .chip) .chip) ≡ 0

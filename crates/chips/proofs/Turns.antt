@@ -16,15 +16,17 @@ use Rattle.lang.proofs.Every.{both-left, both-right, every-ext}
 use Rattle.lang.proofs.Refusals.{unless-none, orElse-none}
 use Rattle.captions.specs.Form.{tableRefusal}
 use Rattle.chips.specs.declared.Chip.{Chip}
-use Rattle.chips.specs.Blocks.{blockCommand, itemReady}
+use Rattle.chips.specs.Blocks.{blockCommand, blockCaller, itemReady, callerCount}
 use Rattle.chips.specs.Commands.{
   itemStands,
+  canCount,
   openStands,
   chipRefusal,
   chipStep,
   answerNumber,
   mayBegin,
   mayAdd,
+  callerRefusal,
   inTurn,
   turnRefusal,
   commandRefusal,
@@ -36,8 +38,11 @@ module _ (chip : Chip) (h : chipRefusal chip ≡ 0) where
   abbrev low : Bool
   low = every (chip .length) (λ i. leb (getD (chip .letters) i 0) 255)
 
-  all : both (leb (chip .length) 64) (both low (both (itemStands (chip .item)) (openStands chip))) ≡ true
-  all = unless-none 6 (both (leb (chip .length) 64) (both low (both (itemStands (chip .item)) (openStands chip)))) h
+  abbrev late : Bool
+  late = both (leb (chip .caller) 7) (openStands chip)
+
+  all : both (leb (chip .length) 64) (both low (both (itemStands (chip .item)) late)) ≡ true
+  all = unless-none 6 (both (leb (chip .length) 64) (both low (both (itemStands (chip .item)) late))) h
 
   pub few-letters : chip .length ≤ 64
   few-letters = leb-true (chip .length) 64 (both-left (leb (chip .length) 64) _ all)
@@ -48,19 +53,28 @@ module _ (chip : Chip) (h : chipRefusal chip ≡ 0) where
   pub item-stands : itemStands (chip .item) ≡ true
   item-stands = both-left (itemStands (chip .item)) _ (both-right low _ (both-right (leb (chip .length) 64) _ all))
 
+  lates : late ≡ true
+  lates = both-right (itemStands (chip .item)) late (both-right low _ (both-right (leb (chip .length) 64) _ all))
+
+  pub low-caller : chip .caller ≤ 7
+  low-caller = leb-true (chip .caller) 7 (both-left (leb (chip .caller) 7) _ lates)
+
   opens : openStands chip ≡ true
-  opens = both-right (itemStands (chip .item)) (openStands chip) (both-right low _ (both-right (leb (chip .length) 64) _ all))
+  opens = both-right (leb (chip .caller) 7) (openStands chip) lates
 
   -- while a word is open no item is ready, and one more word can be counted
   module _ (o : chip .opened ≡ true) where
-    open-both : both (not (itemReady chip)) (ltb (chip .words) 4294967295) ≡ true
+    open-both : both (not (itemReady chip)) (canCount (chip .caller) chip) ≡ true
     open-both = rw o at opens
 
     pub none-ready : itemReady chip ≡ false
     none-ready = not-true (itemReady chip) (both-left (not (itemReady chip)) _ open-both)
 
-    pub can-count : chip .words < 4294967295
-    can-count = ltb-true (chip .words) 4294967295 (both-right (not (itemReady chip)) (ltb (chip .words) 4294967295) open-both)
+    pub may-end : canCount (chip .caller) chip ≡ true
+    may-end = both-right (not (itemReady chip)) (canCount (chip .caller) chip) open-both
+
+    pub can-count : callerCount (chip .caller) chip < 4294967295
+    can-count = ltb-true (callerCount (chip .caller) chip) 4294967295 may-end
 
 -- what every element of the first part of a list passes: no others are looked at
 pub every-taken : (p : ℕ → Bool) (n : ℕ) (l : List ℕ) → n ≤ length l →
@@ -71,15 +85,15 @@ every-taken p n l h =
 
 -- ---- whose turn it is
 
-module _ (chip : Chip) (h : mayBegin chip ≡ true) where
-  rest : both (not (itemReady chip)) (ltb (chip .words) 4294967295) ≡ true
+module _ (caller : ℕ) (chip : Chip) (h : mayBegin caller chip ≡ true) where
+  rest : both (not (itemReady chip)) (canCount caller chip) ≡ true
   rest = both-right (not (chip .opened)) _ h
 
   pub all-taken : itemReady chip ≡ false
   all-taken = not-true (itemReady chip) (both-left (not (itemReady chip)) _ rest)
 
-  pub may-count : ltb (chip .words) 4294967295 ≡ true
-  may-count = both-right (not (itemReady chip)) (ltb (chip .words) 4294967295) rest
+  pub may-count : canCount caller chip ≡ true
+  may-count = both-right (not (itemReady chip)) (canCount caller chip) rest
 
 module _ (chip : Chip) (h : mayAdd chip ≡ true) where
   pub word-open : chip .opened ≡ true
@@ -102,7 +116,8 @@ room-by false n e = absurd (omega arith)
 
 -- the command, and what it found
 pub data Turn (pairs ops : List ℤ) (boundary : ℤ) (block : List ℕ) (chip : Chip) : Type 0 where
-  begins : blockCommand block ≡ 1 → tableRefusal pairs ops ≡ 0 → mayBegin chip ≡ true → Turn pairs ops boundary block chip
+  begins : blockCommand block ≡ 1 → tableRefusal pairs ops ≡ 0 → mayBegin (blockCaller block) chip ≡ true → blockCaller block ≤ 7 →
+      Turn pairs ops boundary block chip
   adds : blockCommand block ≡ 2 → mayAdd chip ≡ true → Turn pairs ops boundary block chip
   ends : blockCommand block ≡ 3 → chip .opened ≡ true → answerNumber (chipStep pairs ops boundary chip .answer) ≡ 0 → Turn pairs ops boundary block chip
   takes : blockCommand block ≡ 4 → itemReady chip ≡ true → answerNumber (chipStep pairs ops boundary chip .answer) ≡ 0 → Turn pairs ops boundary block chip
@@ -126,11 +141,13 @@ module _ (pairs ops : List ℤ) (boundary : ℤ) (block : List ℕ) (chip : Chip
   number = answerNumber (chipStep pairs ops boundary chip .answer)
 
   by : (a b c d : Bool) → eqb x 1 ≡ a → eqb x 2 ≡ b → eqb x 3 ≡ c → eqb x 4 ≡ d →
-      cond a (orElse (tableRefusal pairs ops) (inTurn (mayBegin chip) 0))
+      cond a (orElse (tableRefusal pairs ops) (inTurn (mayBegin (blockCaller block) chip) (callerRefusal (blockCaller block))))
       (cond b (inTurn (mayAdd chip) 0) (cond c (inTurn (chip .opened) number) (cond d (inTurn (itemReady chip) number) 21))) ≡ 0 →
       Turn pairs ops boundary block chip
   by true b c d p q r s e =
-      let o = orElse-none (tableRefusal pairs ops) _ e in begins (eqb-true x 1 p) (o .0) (turn-none (mayBegin chip) 0 (o .1) .0)
+      let o = orElse-none (tableRefusal pairs ops) _ e in
+      let m = turn-none (mayBegin (blockCaller block) chip) (callerRefusal (blockCaller block)) (o .1) in
+      begins (eqb-true x 1 p) (o .0) (m .0) (leb-true (blockCaller block) 7 (unless-none 25 (leb (blockCaller block) 7) (m .1)))
   by false true c d p q r s e = adds (eqb-true x 2 q) (turn-none (mayAdd chip) 0 e .0)
   by false false true d p q r s e = let o = turn-none (chip .opened) number e in ends (eqb-true x 3 r) (o .0) (o .1)
   by false false false true p q r s e = let o = turn-none (itemReady chip) number e in takes (eqb-true x 4 s) (o .0) (o .1)

@@ -1,5 +1,5 @@
--- The block (R392 to R395). Bytes 0, 1 and 3 are only read: the command, its letter, the mask. A taken command writes byte 2, the status,
--- 4 to 7, the words ended, and 8 to 15, the item that is shown. Bytes past 16 stay.
+-- The block (R392 to R395, R422). Bytes 0, 1 and 3 are only read: the command, its letter or caller, the mask. A taken command writes byte 2, the
+-- status, 4 to 7, the words that the caller of the last begin ended, and 8 to 15, the item that is shown. Bytes past 16 stay.
 use mathlib.Core.Bool.{Bool, true, false, cond, not}
 use mathlib.Core.List.{List, [], _∷_, _++_}
 use Prim.Native.Nat.{ℕ, zero, suc, _+_, _/_, _%_}
@@ -21,6 +21,10 @@ blockByte block i = getD block i 0
 -- the command: 1 begin, 2 add, 3 end word, 4 take
 abbrev pub blockCommand : List ℕ → ℕ
 blockCommand block = blockByte block 0
+
+-- the caller of begin, 0 to 7
+abbrev pub blockCaller : List ℕ → ℕ
+blockCaller block = blockByte block 1
 
 -- the letter of add
 abbrev pub blockLetter : List ℕ → ℕ
@@ -50,7 +54,11 @@ interrupts block chip = cond (both (itemReady chip) (not (masks block 0))) true 
 abbrev pub statusByte : List ℕ → Chip → ℕ
 statusByte block chip = weighed (itemReady chip) 1 + weighed (chip .opened) 2 + weighed (interrupts block chip) 4
 
--- ---- what is shown (R394, R395)
+-- ---- what is shown (R394, R395, R422)
+
+-- how many words a caller ended; one above 7 has none
+abbrev pub callerCount : ℕ → Chip → ℕ
+callerCount caller chip = getD (chip .counts) caller 0
 
 -- the four bytes of a number of 32 bits, the highest first
 abbrev pub highFirst : ℕ → List ℕ
@@ -67,4 +75,4 @@ itemBytes (Refused n) = replicate 8 0
 -- THE block that shows a chip, by the mask that the block has
 abbrev pub shownBlock : List ℕ → Chip → List ℕ
 shownBlock block chip =
-    take 2 block ++ (statusByte block chip ∷ blockByte block 3 ∷ highFirst (chip .words)) ++ itemBytes (chip .item) ++ drop 16 block
+    take 2 block ++ (statusByte block chip ∷ blockByte block 3 ∷ highFirst (callerCount (chip .caller) chip)) ++ itemBytes (chip .item) ++ drop 16 block

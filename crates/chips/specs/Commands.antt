@@ -1,4 +1,4 @@
--- The commands (R396 to R399): the chip after each, its refusals, and the contract of `command`. Words are set with the left boundary and
+-- The commands (R396 to R399, R421 to R423): the chip after each, its refusals, and the contract of `command`. Words are set with the left boundary and
 -- no override.
 use mathlib.Core.Path.{_≡_}
 use mathlib.Core.Bool.{Bool, true, false, cond, not}
@@ -18,13 +18,22 @@ use Rattle.captions.specs.Begin.{fresh, freshState, plainOptions}
 use Rattle.captions.specs.Steps.{stepOf}
 use Rattle.chips.specs.declared.Chip.{Chip}
 use Rattle.chips.specs.declared.Commanded.{Commanded}
-use Rattle.chips.specs.Blocks.{blockCommand, blockLetter, itemReady, shownBlock}
+use Rattle.chips.specs.Blocks.{blockCommand, blockCaller, blockLetter, itemReady, callerCount, shownBlock}
 
 -- ---- a chip
 
--- a fresh chip: no word, no item, none ended, and the state of nine zeros
+-- a fresh chip: no word, no item, none ended by any caller, and the state of nine zeros
 abbrev pub freshChip : Chip
-freshChip = record { opened = false; length = 0; letters = replicate 64 0; words = 0; item = End; state = fresh next.Boundary 0 }
+freshChip =
+    record {
+      opened = false;
+      length = 0;
+      letters = replicate 64 0;
+      counts = replicate 8 0;
+      caller = 0;
+      item = End;
+      state = fresh next.Boundary 0;
+    }
 
 -- its word: the letters that were added
 abbrev pub chipWord : Chip → List ℕ
@@ -38,27 +47,33 @@ itemStands (Kern k) = true
 itemStands End = true
 itemStands (Refused n) = false
 
--- a word that is open has no item ready, and the count of words has room for it
-abbrev pub openStands : Chip → Bool
-openStands chip = cond (chip .opened) (both (not (itemReady chip)) (ltb (chip .words) 4294967295)) true
+-- the count of a caller has room for one more word
+abbrev pub canCount : ℕ → Chip → Bool
+canCount caller chip = ltb (callerCount caller chip) 4294967295
 
--- 7 (R397): a chip that no command leaves. Its run is looked at where a step is made
+-- a word that is open has no item ready, and its caller's count has room for it
+abbrev pub openStands : Chip → Bool
+openStands chip = cond (chip .opened) (both (not (itemReady chip)) (canCount (chip .caller) chip)) true
+
+-- 7 (R397, R423): a chip that no command leaves. Its run is looked at where a step is made
 abbrev pub chipRefusal : Chip → ℕ
 chipRefusal chip =
     unless 7
     (both (leb (chip .length) 64)
-    (both (every (chip .length) (λ i. leb (getD (chip .letters) i 0) 255)) (both (itemStands (chip .item)) (openStands chip))))
+    (both (every (chip .length) (λ i. leb (getD (chip .letters) i 0) 255))
+    (both (itemStands (chip .item)) (both (leb (chip .caller) 7) (openStands chip)))))
 
--- ---- the chip after each command (R396)
+-- ---- the chip after each command (R396, R421)
 
--- begin opens an empty word, with a fresh run
-abbrev pub chipBegun : Chip → Chip
-chipBegun chip =
+-- begin opens an empty word of a caller, with a fresh run
+abbrev pub chipBegun : ℕ → Chip → Chip
+chipBegun caller chip =
     record {
       opened = true;
       length = 0;
       letters = chip .letters;
-      words = chip .words;
+      counts = chip .counts;
+      caller = caller;
       item = chip .item;
       state = freshState [] plainOptions;
     }
@@ -70,7 +85,8 @@ chipAdded letter chip =
       opened = chip .opened;
       length = suc (chip .length);
       letters = set (chip .letters) (chip .length) letter;
-      words = chip .words;
+      counts = chip .counts;
+      caller = chip .caller;
       item = chip .item;
       state = chip .state;
     }
@@ -79,14 +95,19 @@ chipAdded letter chip =
 abbrev pub chipStep : List ℤ → List ℤ → ℤ → Chip → Step
 chipStep pairs ops boundary chip = stepOf pairs ops boundary (chipWord chip) plainOptions (chip .state)
 
--- the chip with the answer of a step, so many words ended, and no word open
-abbrev pub chipStepped : ℕ → Step → Chip → Chip
-chipStepped words step chip =
+-- the counts with one word more, of the chip's caller and of no other
+abbrev pub countedWord : Chip → List ℕ
+countedWord chip = set (chip .counts) (chip .caller) (suc (callerCount (chip .caller) chip))
+
+-- the chip with the answer of a step, these counts, and no word open
+abbrev pub chipStepped : List ℕ → Step → Chip → Chip
+chipStepped counts step chip =
     record {
       opened = false;
       length = chip .length;
       letters = chip .letters;
-      words = words;
+      counts = counts;
+      caller = chip .caller;
       item = step .answer;
       state = step .state;
     }
@@ -94,12 +115,12 @@ chipStepped words step chip =
 -- by the command: end counts the word; take passes the item
 abbrev pub chipAfter : List ℤ → List ℤ → ℤ → List ℕ → Chip → Chip
 chipAfter pairs ops boundary block chip =
-    cond (eqb (blockCommand block) 1) (chipBegun chip)
+    cond (eqb (blockCommand block) 1) (chipBegun (blockCaller block) chip)
     (cond (eqb (blockCommand block) 2) (chipAdded (blockLetter block) chip)
-    (cond (eqb (blockCommand block) 3) (chipStepped (suc (chip .words)) (chipStep pairs ops boundary chip) chip)
-    (chipStepped (chip .words) (chipStep pairs ops boundary chip) chip)))
+    (cond (eqb (blockCommand block) 3) (chipStepped (countedWord chip) (chipStep pairs ops boundary chip) chip)
+    (chipStepped (chip .counts) (chipStep pairs ops boundary chip) chip)))
 
--- ---- refusals (R397 to R399)
+-- ---- refusals (R397 to R399, R423)
 
 -- what a step refuses: nothing but where it answers a refusal
 abbrev pub answerNumber : Answer → ℕ
@@ -109,27 +130,31 @@ answerNumber (Kern k) = 0
 answerNumber End = 0
 answerNumber (Refused n) = n
 
--- begin is in turn: no word is open, every item was taken, and one more word can be counted
-abbrev pub mayBegin : Chip → Bool
-mayBegin chip = both (not (chip .opened)) (both (not (itemReady chip)) (ltb (chip .words) 4294967295))
+-- begin is in turn: no word is open, every item was taken, and one more word of its caller can be counted
+abbrev pub mayBegin : ℕ → Chip → Bool
+mayBegin caller chip = both (not (chip .opened)) (both (not (itemReady chip)) (canCount caller chip))
+
+-- 26 (R423): a caller above 7
+abbrev pub callerRefusal : ℕ → ℕ
+callerRefusal caller = unless 26 (leb caller 7)
 
 -- add is in turn: a word is open that is not full
 abbrev pub mayAdd : Chip → Bool
 mayAdd chip = both (chip .opened) (ltb (chip .length) 64)
 
--- 22 for a command out of turn; of one in turn what its step refuses
+-- 22 for a command out of turn; of one in turn what its caller or its step refuses
 abbrev pub inTurn : Bool → ℕ → ℕ
 inTurn turn n = cond turn n 22
 
--- by the command: of begin also 7 for a table that is not of the form; 21 for an unknown one
+-- by the command: of begin also 7 for a table that is not of the form, and 26 after 22; 21 for an unknown one
 abbrev pub turnRefusal : List ℤ → List ℤ → ℤ → List ℕ → Chip → ℕ
 turnRefusal pairs ops boundary block chip =
-    cond (eqb (blockCommand block) 1) (orElse (tableRefusal pairs ops) (inTurn (mayBegin chip) 0))
+    cond (eqb (blockCommand block) 1) (orElse (tableRefusal pairs ops) (inTurn (mayBegin (blockCaller block) chip) (callerRefusal (blockCaller block))))
     (cond (eqb (blockCommand block) 2) (inTurn (mayAdd chip) 0)
     (cond (eqb (blockCommand block) 3) (inTurn (chip .opened) (answerNumber (chipStep pairs ops boundary chip .answer)))
     (cond (eqb (blockCommand block) 4) (inTurn (itemReady chip) (answerNumber (chipStep pairs ops boundary chip .answer))) 21)))
 
--- 4, 7, 15, 21 or 22, the lowest that holds; a block under 16 bytes has no command
+-- 4, 7, 15, 21, 22 or 26, the lowest that holds; a block under 16 bytes has no command
 abbrev pub commandRefusal : List ℤ → List ℤ → ℤ → List ℕ → Chip → ℕ
 commandRefusal pairs ops boundary block chip =
     orElse (absentRefusal 255 boundary)

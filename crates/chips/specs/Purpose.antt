@@ -2,10 +2,10 @@
 -- that are taken are those of the words that were ended. Proved: proofs/Theorems. No contract cites this.
 use mathlib.Core.Path.{_≡_}
 use mathlib.Core.Bool.{Bool, true, false, cond}
-use mathlib.Core.List.{List, [], _∷_, _++_}
+use mathlib.Core.List.{List, [], _∷_, _++_, map}
 use mathlib.Core.Logic.{_↔_}
 use Prim.Native.Nat.{ℕ, zero, suc, _<_, _≤_}
-use lib.IntN.{ℤ}
+use lib.IntN.{ℤ, pos}
 use lib.Dec.{eqb}
 use lib.ListN.{length, getD, take, drop, replicate}
 use Rattle.lang.specs.Every.{both, every}
@@ -18,8 +18,9 @@ use Rattle.captions.specs.Form.{tableRefusal}
 use Rattle.captions.specs.Begin.{beginOf, plainOptions}
 use Rattle.captions.specs.Runs.{answers}
 use Rattle.chips.specs.declared.Chip.{Chip}
-use Rattle.chips.specs.Blocks.{blockByte, blockCommand, blockLetter, itemReady, itemBytes, shownBlock}
+use Rattle.chips.specs.Blocks.{blockByte, blockCommand, itemReady, callerCount, highFirst, itemBytes, shownBlock}
 use Rattle.chips.specs.Commands.{freshChip, chipWord, commandRefusal, chipAfter, commandOf}
+use Rattle.chips.specs.Callers.{ChipCall, EndedWord, wordAfter, callsOf, callsOn, wordsBy}
 
 -- ---- commands one after the other
 
@@ -36,12 +37,7 @@ pub record Trace : Type 0 where
 abbrev pub freshTrace : Trace
 freshTrace = record { chip = freshChip; word = []; ended = []; passed = []; shown = replicate 8 0 }
 
--- read off a taken command: begin empties the word, add lengthens it
-abbrev pub wordAfter : List ℕ → List ℕ → List ℕ
-wordAfter block word =
-    cond (eqb (blockCommand block) 1) [] (cond (eqb (blockCommand block) 2) (word ++ (blockLetter block ∷ [])) word)
-
--- end ends the word
+-- read off a taken command: end ends the word
 abbrev pub endedAfter : List ℕ → List ℕ → List (List ℕ) → List (List ℕ)
 endedAfter block word words = cond (eqb (blockCommand block) 3) (words ++ (word ∷ [])) words
 
@@ -168,3 +164,47 @@ ReadyOrOpen =
     (both (itemReady (chipAfter pairs ops boundary block chip)) (chipAfter pairs ops boundary block chip .opened) ≡ false)
     × ((itemBytes (chipAfter pairs ops boundary block chip .item) ≡ replicate 8 0)
     ↔ (itemReady (chipAfter pairs ops boundary block chip) ≡ false))
+
+-- ---- whose words
+
+-- A caller's count is its own words, after any calls, each with whatever block, table and boundary character: as many as it ended, read off the
+-- taken commands. And it never wraps.
+abbrev pub CountIsOwnWords : Type 0
+CountIsOwnWords =
+    (calls : List ChipCall) (c : ℕ) →
+    (callerCount c (callsOf calls .chip) ≡ length (wordsBy c (callsOf calls .ended))) × (callerCount c (callsOf calls .chip) ≤ 4294967295)
+
+-- So two lists of calls, on other tables, with any words of other callers and any refused commands between, that agree on the words that c ended
+-- agree on the count of c.
+--
+-- Whether a begin is TAKEN may depend on others. The smallest example: caller 3 begins, and caller 5's begin is 22 while that word is open; without
+-- caller 3 it is taken (`BeginMayWait`).
+abbrev pub SameWordsSameCount : Type 0
+SameWordsSameCount =
+    (calls others : List ChipCall) (c : ℕ) → wordsBy c (callsOf calls .ended) ≡ wordsBy c (callsOf others .ended) →
+    callerCount c (callsOf calls .chip) ≡ callerCount c (callsOf others .chip)
+
+-- a begin of a caller, on a table without pairs
+abbrev beginOfCaller : ℕ → List ℕ
+beginOfCaller c = 1 ∷ c ∷ replicate 14 0
+
+abbrev pub BeginMayWait : Type 0
+BeginMayWait =
+    (commandRefusal [] [] (pos 0) (beginOfCaller 5) freshChip ≡ 0)
+    × (commandRefusal [] [] (pos 0) (beginOfCaller 5) (commandOf [] [] (pos 0) (beginOfCaller 3) freshChip .chip) ≡ 22)
+
+-- On one table these words are those of THE theorem, each with its caller.
+abbrev pub SameWords : Type 0
+SameWords =
+    (pairs ops : List ℤ) (boundary : ℤ) (blocks : List (List ℕ)) →
+    map (λ (w : EndedWord). w .letters) (callsOf (callsOn pairs ops boundary blocks) .ended) ≡ traceOf pairs ops boundary blocks .ended
+
+-- What is shown: bytes 4 to 7, as the last taken command wrote them, are the count of the caller of the last begin taken.
+abbrev pub CountShown : Type 0
+CountShown = (calls : List ChipCall) → callsOf calls .shown ≡ highFirst (callerCount (callsOf calls .caller) (callsOf calls .chip))
+
+-- No call, taken or refused, moves a count other than that of the chip's caller.
+abbrev pub OthersStay : Type 0
+OthersStay =
+    (pairs ops : List ℤ) (boundary : ℤ) (block : List ℕ) (chip : Chip) (c : ℕ) → (c ≡ chip .caller → ⊥) →
+    callerCount c (commandOf pairs ops boundary block chip .chip) ≡ callerCount c chip

@@ -7,8 +7,9 @@ pub struct Chip {
     pub opened: bool,
     pub length: usize,
     pub letters: [u32; 64],
-    // how many words were ended
-    pub words: u32,
+    // how many words each caller ended, and the caller of the last begin
+    pub counts: [u32; 8],
+    pub caller: u32,
     // the item that is shown; the end where there is none
     pub item: captions::Answer,
     // the run over the last word

@@ -1,12 +1,14 @@
 // Drives the caption chip through lists of commands, each on a table of its own, and writes what every command answers
-// and leaves in the block; and before each what `step` gives from the chip's state. What is due was made by tools/chip,
-// from the rules and not from this program, and the gate compares.
+// and leaves in the block; and before each what `step` gives from the chip's state. A line of K has callers, whose
+// words the program counts itself. What is due was made by tools/chip, from the rules and not from this program, and
+// the gate compares.
 ghost use mathlib.Core.Path.{_≡_};
 ghost use lib.ListN.{length};
 use test_requests::read::line_end;
 use test_requests::read::numbers_of;
 use test_requests::request::front;
 use test_requests::request::part;
+use words::u8s::u8_at;
 
 mod scenario;
 
@@ -20,6 +22,10 @@ fn room() -> [u8; 262144]
 fn answer(line: &[u8]) {
     let mut numbers = [0i32; 16384];
     let n = numbers_of(line, &mut numbers);
+    if u8_at(line, 0) == b'K' {
+        scenario::answer_callers(part(&numbers, 0, n));
+        return;
+    }
     scenario::answer(part(&numbers, 0, n));
 }
 

@@ -1,129 +1,79 @@
 // Commands on one table, each handed the chip that the last one returned.
-use caption_run::steps::step;
-use captions::Answer;
-use captions::RunOptions;
-use chip::command;
 use chip::fresh;
-use chip_block::show;
 use chips::Chip;
-use lang::Written;
-use test_requests::answer::put_one;
+use test_chip_turns::turn;
+use test_chip_turns::words_by_caller::Counted;
+use test_chip_turns::words_by_caller::count_on;
 use test_requests::request::after;
-use test_requests::request::front;
 use test_requests::request::items;
 use test_requests::request::number_at;
 use test_requests::request::rest;
-use test_requests::write::put_line;
 use words::i32s::word_at;
-use words::u8s::put_u8;
-use words::u8s::u8_at;
 
-// A number, and the bytes of a block.
-fn put_block(out: &mut [i32], number: u32, block: &[u8]) -> usize {
-    let mut at = put_one(out, 0, number);
-    let mut i = 0;
-    while i < block.len() {
-        at = put_one(out, at, u8_at(block, i) as u32);
-        i += 1;
-    }
-    at
+// A chip that has ended so many words of each caller.
+fn chip_of(counts: [u32; 8]) -> Chip {
+    let mut chip = fresh();
+    chip.counts = counts;
+    chip
 }
 
-fn print(letter: u8, number: u32, block: &[u8]) {
-    let mut out = [0i32; 32];
-    let mut line = [0u8; 256];
-    let n = put_block(&mut out, number, block);
-    let k = put_line(&mut line, letter, Written::Count(n), &out);
-    io::write_all(libc::STDOUT_FILENO, front(&line, k));
-}
-
-// What the host writes into byte i before a command, of which `four` has the command, its letter, the mask, and what
-// takes the place of every other byte below 16, if it is below 256.
-fn host_byte(four: &[i32], i: usize, old: u8) -> u8 {
-    let place = match i {
-        0 => 0,
-        1 => 1,
-        3 => 2,
-        _ => 3,
-    };
-    let w = word_at(four, place);
-    if w < 256 { w as u8 } else { old }
-}
-
-fn put_command(block: &mut [u8], four: &[i32]) {
-    let mut i = 0;
-    while i < 16 {
-        put_u8(block, i, host_byte(four, i, u8_at(block, i)));
-        i += 1;
-    }
-}
-
-// The letters of a word, of which there are no more than are lent.
-fn letters(word: &[u32], n: usize) -> &[u32] {
-    if word.len() < n {
-        return word;
-    }
-    &word[..n]
-}
-
-// What `step` gives from a chip's state.
-fn given(pairs: &[i32], ops: &[i32], boundary: i32, chip: Chip) -> Answer {
-    let all = chip.letters;
-    let n = chip.length;
-    let state = chip.state;
-    let options = RunOptions {
-        disable_left_boundary: false,
-        right_boundary_override: -1,
-    };
-    let one = step(pairs, ops, boundary, letters(&all, n), options, state);
-    one.answer
-}
-
-// An item shown in a block of its own.
-fn show_beside(answer: Answer) {
-    let mut block = [0u8; 16];
-    show(&mut block, false, 0, answer);
-    print(b'S', 0, &block);
-}
-
-// One command, after what a step would give.
-fn turn(
+// The commands one after the other; of callers, what the program counts is written too.
+fn turns(
     pairs: &[i32],
     ops: &[i32],
     boundary: i32,
-    four: &[i32],
+    commands: &[i32],
+    counts: [u32; 8],
+    callers: bool,
     block: &mut [u8],
-    chip: Chip,
-) -> Chip {
-    show_beside(given(pairs, ops, boundary, chip));
-    put_command(block, four);
-    let done = command(pairs, ops, boundary, block, chip);
-    print(b'B', done.number, block);
-    done.chip
-}
-
-// The commands one after the other.
-fn turns(pairs: &[i32], ops: &[i32], boundary: i32, commands: &[i32], block: &mut [u8]) {
-    let mut chip = fresh();
+) {
+    let mut chip = chip_of(counts);
+    let mut counted = Counted {
+        caller: 0,
+        counts: counts,
+    };
     let mut i = 0;
     while i < commands.len() / 4 {
-        let next = turn(pairs, ops, boundary, rest(commands, 4 * i), block, chip);
+        let done = turn(pairs, ops, boundary, rest(commands, 4 * i), block, chip);
+        let next = done.chip;
         chip = next;
+        let more = count_on(callers, done.number, block, counted);
+        counted = more;
         i += 1;
     }
 }
 
 // The boundary character, the pairs, the ops, and the commands. A table without pairs has a block of 15 bytes.
-pub(crate) fn answer(numbers: &[i32]) {
+fn answer_from(numbers: &[i32], counts: [u32; 8], callers: bool) {
     let boundary = number_at(numbers, 0);
     let pairs = items(numbers, 1, 6);
     let ops = items(numbers, after(numbers, 1, 6), 2);
     let commands = rest(numbers, after(numbers, after(numbers, 1, 6), 2));
     if pairs.len() == 0 {
         let mut short = [170u8; 15];
-        turns(pairs, ops, boundary, commands, &mut short);
+        turns(pairs, ops, boundary, commands, counts, callers, &mut short);
         return;
     }
     let mut block = [170u8; 18];
-    turns(pairs, ops, boundary, commands, &mut block);
+    turns(pairs, ops, boundary, commands, counts, callers, &mut block);
+}
+
+// From a fresh chip.
+pub(crate) fn answer(numbers: &[i32]) {
+    answer_from(numbers, [0u32; 8], false);
+}
+
+// From a chip with the counts that stand first.
+pub(crate) fn answer_callers(numbers: &[i32]) {
+    let counts = [
+        word_at(numbers, 0),
+        word_at(numbers, 1),
+        word_at(numbers, 2),
+        word_at(numbers, 3),
+        word_at(numbers, 4),
+        word_at(numbers, 5),
+        word_at(numbers, 6),
+        word_at(numbers, 7),
+    ];
+    answer_from(rest(numbers, 8), counts, true);
 }

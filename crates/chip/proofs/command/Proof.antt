@@ -1,10 +1,12 @@
 -- `chip::command` meets its contract: what was commanded is refused, or taken and shown.
 -- Assumes nothing.
-use mathlib.Core.Path.{_≡_, _∙_}
+use mathlib.Core.Path.{_≡_, ap, _∙_}
 use mathlib.Core.List.{[], _∷_}
+use Prim.Native.Nat.{ℕ}
 use lib.ListN.{length}
 use Rattle.words.proofs.Bits.{number-word}
 use Rattle.chips.specs.Commands.{commandOf}
+use Rattle.chip_block.specs.Showing.{chipShowing, shownWhere}
 use Rattle.chip_turn.specs.Turns.{commandedOf}
 use Rattle.chip.proofs.Laws.{refused-told, taken-told}
 use borrow.Author.Needs.{needs}
@@ -41,6 +43,12 @@ returns c =
     let a = d .before .before .before .before .before .before .args in
     refused-told (a .pairs .now) (a .ops .now) (a .boundary) (a .block .now) (a .chip) (done d) (c .if1 .taken)
 
+cast-caller : tie.Need-cast-caller
+cast-caller c = search needs
+
+count-of-requires : tie.Need-count-of-requires
+count-of-requires c κs = search needs
+
 show-requires : tie.Need-show-requires
 show-requires c κs = search needs
 
@@ -50,10 +58,13 @@ same-length-2 c = search needs
 returns-2 : tie.Need-returns-2
 returns-2 c =
     let w = c .before .before in
-    let n = w .before .before .before in
+    let k = w .before in
+    let n = k .before .before .before .before in
     let d = n .before .before in
     let a = d .before .before .before .before .before .before .args in
-    taken-told (a .pairs .now) (a .ops .now) (a .boundary) (a .block .now) (a .chip) (done d) (n .if1 .left) (w .show .ensures)
+    let x = d .commanded .result .chip in
+    taken-told (a .pairs .now) (a .ops .now) (a .boundary) (a .block .now) (a .chip) (done d) (n .if1 .left)
+    (w .show .ensures ∙ ap (λ (m : ℕ). shownWhere (a .block .now) (chipShowing (x .opened) m (x .item))) (k .count-of .ensures))
 
 pub command-spec : {M : Type 1} → statement M
 command-spec =
@@ -64,6 +75,8 @@ command-spec =
     commanded-requires
     same-length
     returns
+    cast-caller
+    count-of-requires
     show-requires
     same-length-2
     returns-2)

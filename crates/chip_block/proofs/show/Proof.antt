@@ -1,4 +1,4 @@
--- `chip_block::show` meets its contract: a short block stays; into any other the status, the words ended and the item are stored.
+-- `chip_block::show` meets its contract: a short block stays; into any other the status, the count and the item are stored.
 -- Assumes nothing.
 use mathlib.Core.Path.{_≡_, ap, _∙_}
 use native.Mathlib.Omega.{arith}
@@ -45,7 +45,7 @@ same-length c =
     let p = i .before .before .before .before in
     let s = p .before .before in
     let a = s .before .before .before .before .before .args in
-    kept-length (a .block .now) (p .put-number .last .0) (i .show-item .last .0) (s .status .result) (highFirst (a .words)) (itemBytes (a .item))
+    kept-length (a .block .now) (p .put-number .last .0) (i .show-item .last .0) (s .status .result) (highFirst (a .count)) (itemBytes (a .item))
     (p .put-number .ensures) (i .show-item .ensures)
 
 returns-2 : tie.Need-returns-2
@@ -57,7 +57,7 @@ returns-2 c =
     let a = r .before .before .before .args in
     rw (le-leb 16 (length (a .block .now)) (r .before .if1 .left))
     (i .show-item .ensures ∙ rw (p .put-number .ensures, s .status .ensures, r .is-ready .ensures)
-    (stored (a .block .now) (statusByte (a .block .now) (chipShowing (a .opened) (a .words) (a .item))) (a .words) (itemBytes (a .item))
+    (stored (a .block .now) (statusByte (a .block .now) (chipShowing (a .opened) (a .count) (a .item))) (a .count) (itemBytes (a .item))
     (r .before .if1 .left) (item-eight (a .item))))
 
 pub show-spec : {M : Type 1} → statement M

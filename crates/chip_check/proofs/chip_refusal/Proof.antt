@@ -63,33 +63,52 @@ returns-3 c =
       sym (t .item-stands .ensures) ∙ not-true _ (c .if3 .taken),
     )
 
-open-stands-requires : tie.Need-open-stands-requires
-open-stands-requires c κs = search needs
-
 returns-4 : tie.Need-returns-4
 returns-4 c =
-    let o = c .before in
-    let t = o .before .before in
+    let t = c .before .before in
     let l = t .before .before in
     let i = l .before .before .before in
+    let x = i .before .args .chip in
     rw (
-      le-leb (i .before .args .chip .length) 64 (i .if1 .left),
+      le-leb (x .length) 64 (i .if1 .left),
       tested l ∙ not-false _ (t .before .if2 .left),
-      sym (t .item-stands .ensures) ∙ not-false _ (o .before .if3 .left),
-      sym (o .open-stands .ensures) ∙ c .if4 .taken,
+      sym (t .item-stands .ensures) ∙ not-false _ (c .before .if3 .left),
+      lt-leb (x .caller) 7 (c .if4 .taken),
     )
+
+open-stands-requires : tie.Need-open-stands-requires
+open-stands-requires c κs = search needs
 
 returns-5 : tie.Need-returns-5
 returns-5 c =
     let o = c .before in
-    let t = o .before .before in
+    let k = o .before in
+    let t = k .before .before in
     let l = t .before .before in
     let i = l .before .before .before in
+    let x = i .before .args .chip in
     rw (
-      le-leb (i .before .args .chip .length) 64 (i .if1 .left),
+      le-leb (x .length) 64 (i .if1 .left),
       tested l ∙ not-false _ (t .before .if2 .left),
-      sym (t .item-stands .ensures) ∙ not-false _ (o .before .if3 .left),
-      sym (o .open-stands .ensures) ∙ c .if4 .left,
+      sym (t .item-stands .ensures) ∙ not-false _ (k .before .if3 .left),
+      le-leb (x .caller) 7 (k .if4 .left),
+      sym (o .open-stands .ensures) ∙ c .if5 .taken,
+    )
+
+returns-6 : tie.Need-returns-6
+returns-6 c =
+    let o = c .before in
+    let k = o .before in
+    let t = k .before .before in
+    let l = t .before .before in
+    let i = l .before .before .before in
+    let x = i .before .args .chip in
+    rw (
+      le-leb (x .length) 64 (i .if1 .left),
+      tested l ∙ not-false _ (t .before .if2 .left),
+      sym (t .item-stands .ensures) ∙ not-false _ (k .before .if3 .left),
+      le-leb (x .caller) 7 (k .if4 .left),
+      sym (o .open-stands .ensures) ∙ c .if5 .left,
     )
 
 pub chip-refusal-spec : {M : Type 1} → statement M
@@ -103,6 +122,7 @@ chip-refusal-spec =
     returns-2
     item-stands-requires
     returns-3
-    open-stands-requires
     returns-4
-    returns-5)
+    open-stands-requires
+    returns-5
+    returns-6)

@@ -9,7 +9,7 @@ use lib.ListN.{length, getD}
 use denote.Ref.{now}
 use Rattle.lang.specs.Every.{every}
 use Rattle.lang.proofs.Every.{every-none}
-use Rattle.chip_check.proofs.Laws.{letters-more}
+use Rattle.chip_check.proofs.Laws.{or-more}
 use Rattle.chip_check.proofs.letters_stand.Statement.{statement}
 use Rattle.chip_check.proofs.letters_stand.Tie as tie
 
@@ -37,7 +37,7 @@ loop-less c = omega arith
 loop-again : tie.Need-loop-again Inv-loop μ-loop
 loop-again c =
     let l = c .before .before in
-    (omega arith, letters-more (now (l .before .args .word)) (l .loop .i) (l .loop .all) (l .loop .inv .1))
+    (omega arith, or-more 8 255 (λ _. 256) (now (l .before .args .word)) (l .loop .i) (l .loop .all) (l .loop .inv .1))
 
 returns : tie.Need-returns Inv-loop μ-loop
 returns c =

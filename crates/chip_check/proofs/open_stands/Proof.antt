@@ -10,11 +10,22 @@ is-ready-requires c κs = search needs
 returns : tie.Need-returns
 returns c = search needs
 
+cast-caller : tie.Need-cast-caller
+cast-caller c = search needs
+
+count-of-requires : tie.Need-count-of-requires
+count-of-requires c κs = search needs
+
 returns-2 : tie.Need-returns-2
-returns-2 c = let r = c .before .before in rw (r .before .if1 .taken, ← r .is-ready .ensures, c .before .if2 .left)
+returns-2 c =
+    let e = c .before .before in
+    let r = e .before in
+    rw (r .before .if1 .taken, ← r .is-ready .ensures, e .if2 .left, ← c .count-of .ensures)
 
 returns-3 : tie.Need-returns-3
 returns-3 c = search needs
 
 pub open-stands-spec : {M : Type 1} → statement M
-open-stands-spec = tie.close (tie.spec is-ready-requires returns returns-2 returns-3)
+open-stands-spec =
+    tie.close
+    (tie.spec is-ready-requires returns cast-caller count-of-requires returns-2 returns-3)

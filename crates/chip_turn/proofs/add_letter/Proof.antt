@@ -10,7 +10,8 @@ use borrow.Author.Tests.{ltb-true}
 use Rattle.chips.specs.declared.Chip.{Chip}
 use Rattle.chips.specs.declared.Commanded.{Commanded}
 use Rattle.chips.specs.Commands.{mayAdd, inTurn, chipAdded}
-use Rattle.chip_turn.proofs.Laws.{taken-by, out-of-turn, word-full, none-open}
+use Rattle.chip_begin.proofs.Laws.{taken-by, out-of-turn}
+use Rattle.chip_turn.proofs.Laws.{word-full, none-open}
 use borrow.Author.Needs.{needs}
 use Rattle.chip_turn.proofs.add_letter.Statement.{statement}
 use Rattle.chip_turn.proofs.add_letter.Tie as tie
@@ -24,7 +25,8 @@ added letter chip n =
         opened = chip .opened;
         length = n;
         letters = set (chip .letters) (chip .length) letter;
-        words = chip .words;
+        counts = chip .counts;
+        caller = chip .caller;
         item = chip .item;
         state = chip .state;
       };

@@ -2,7 +2,7 @@
 -- Assumes nothing.
 use mathlib.Core.Path.{sym, _∙_}
 use Rattle.chips.specs.Commands.{chipStepped}
-use Rattle.chip_turn.proofs.Laws.{refused-by, taken-by}
+use Rattle.chip_begin.proofs.Laws.{refused-by, taken-by}
 use borrow.Author.Needs.{needs}
 use Rattle.chip_turn.proofs.show_step.Statement.{statement}
 use Rattle.chip_turn.proofs.show_step.Tie as tie
@@ -14,14 +14,14 @@ returns : tie.Need-returns
 returns c =
     let n = c .before in
     let a = n .before .args in
-    refused-by (chipStepped (a .words) (a .given) (a .chip)) (a .chip) (n .answer-number .ensures) (c .if1 .taken)
+    refused-by (chipStepped (a .counts) (a .given) (a .chip)) (a .chip) (n .answer-number .ensures) (c .if1 .taken)
 
 returns-2 : tie.Need-returns-2
 returns-2 c =
     let i = c .before .before in
     let n = i .before in
     let a = n .before .args in
-    taken-by (chipStepped (a .words) (a .given) (a .chip)) (a .chip) (sym (n .answer-number .ensures) ∙ i .if1 .left)
+    taken-by (chipStepped (a .counts) (a .given) (a .chip)) (a .chip) (sym (n .answer-number .ensures) ∙ i .if1 .left)
 
 pub show-step-spec : {M : Type 1} → statement M
 show-step-spec = tie.close (tie.spec answer-number-requires returns returns-2)

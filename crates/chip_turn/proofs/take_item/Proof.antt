@@ -4,7 +4,8 @@ use mathlib.Core.Path.{sym, ap, _∙_}
 use Rattle.words.proofs.Bits.{number-word}
 use Rattle.chips.specs.Commands.{chipStep}
 use Rattle.chips.proofs.Turns.{few-letters}
-use Rattle.chip_turn.proofs.Laws.{steppedBy, in-turn, out-of-turn}
+use Rattle.chip_begin.proofs.Laws.{in-turn, out-of-turn}
+use Rattle.chip_turn.proofs.Laws.{steppedBy}
 use borrow.Author.Needs.{needs}
 use Rattle.chip_turn.proofs.take_item.Statement.{statement}
 use Rattle.chip_turn.proofs.take_item.Tie as tie
@@ -20,14 +21,14 @@ show-step-requires c κs = search needs
 
 returns : tie.Need-returns
 returns c =
-    let t = c .before in
+    let t = c .before .before in
     let i = t .before in
     let r = i .before in
     let s = r .before in
     let a = s .args in
     c .show-step .ensures
-    ∙ ap (steppedBy (a .chip) (a .chip .words)) (t .chip-step .ensures)
-    ∙ (λ j. steppedBy (a .chip) (a .chip .words) (chipStep (a .pairs .now) (a .ops .now) (number-word (a .boundary) (s .fits .boundary) j) (a .chip)))
+    ∙ ap (steppedBy (a .chip) (a .chip .counts)) (t .chip-step .ensures)
+    ∙ (λ j. steppedBy (a .chip) (a .chip .counts) (chipStep (a .pairs .now) (a .ops .now) (number-word (a .boundary) (s .fits .boundary) j) (a .chip)))
     ∙ in-turn _ _ (a .chip) (sym (r .is-ready .ensures) ∙ i .if1 .taken)
 
 returns-2 : tie.Need-returns-2

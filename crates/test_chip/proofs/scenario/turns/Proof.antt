@@ -2,19 +2,20 @@
 -- Assumes nothing.
 use mathlib.Core.Path.{_≡_}
 use Prim.Native.Nat.{_-_, _/_}
+use native.Mathlib.Omega.{arith}
 use lib.ListN.{length}
 use borrow.Author.Needs.{needs}
 use Rattle.test_chip.proofs.scenario.turns.Statement.{statement}
 use Rattle.test_chip.proofs.scenario.turns.Tie as tie
 
 abbrev Inv-loop : tie.InvT-loop
-Inv-loop pairs ops boundary commands block₀ chip₀ i₀ block chip i = length block ≡ length block₀
+Inv-loop pairs ops boundary commands callers block₀ chip₀ counted₀ i₀ block chip counted i = length block ≡ length block₀
 
 abbrev μ-loop : tie.MeasureT-loop
-μ-loop pairs ops boundary commands block₀ chip₀ i₀ block chip i = length commands / 4 - i
+μ-loop pairs ops boundary commands callers block₀ chip₀ counted₀ i₀ block chip counted i = length commands / 4 - i
 
-fresh-requires : tie.Need-fresh-requires Inv-loop μ-loop
-fresh-requires c κs = search needs
+chip-of-requires : tie.Need-chip-of-requires Inv-loop μ-loop
+chip-of-requires c κs = search needs
 
 loop-holds : tie.Need-loop-holds Inv-loop μ-loop
 loop-holds c = search needs
@@ -28,8 +29,11 @@ rest-requires c κs = search needs
 turn-requires : tie.Need-turn-requires Inv-loop μ-loop
 turn-requires c κs = search needs
 
+count-on-requires : tie.Need-count-on-requires Inv-loop μ-loop
+count-on-requires c κs = search needs
+
 add-i : tie.Need-add-i Inv-loop μ-loop
-add-i c = search needs
+add-i c = let l = c .before .before .before .before .before .before .before .before in omega (arith, l .loop-test .taken)
 
 loop-less : tie.Need-loop-less Inv-loop μ-loop
 loop-less c = search needs
@@ -49,11 +53,12 @@ turns-spec =
     (tie.spec
     Inv-loop
     μ-loop
-    fresh-requires
+    chip-of-requires
     loop-holds
     mul-rest
     rest-requires
     turn-requires
+    count-on-requires
     add-i
     loop-less
     loop-again
