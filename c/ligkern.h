@@ -18,7 +18,8 @@
       the same and 10 KiB for an index: ligkern_fill_index once, then ligkern_set_checked_word_indexed, the quickest;
       item by item: ligkern_begin, then ligkern_step, or ligkern_step_indexed by an index.
    A font whose entries are not packed, and which needs no repair, begins with 4. Another program is put into a font file, with unpacked entries, by
-   ligkern_replace_lig_kern_program.
+   ligkern_replace_lig_kern_program. As a property list, for people to read and change, it is written by ligkern_display.
+   ligkern_replace_lig_kern_program. A property list, written by people or by TFtoPL, is read by ligkern_from_pl_source_code: its entries are not packed.
 
    WHAT GOES IN
 
@@ -93,6 +94,10 @@
      20  a letter of the word, or the override, is none: a surrogate, or above 1,114,111. 15 of a list of fixed size comes before it, that of the items after it
      21  a chip's command is unknown
      22  a chip's command comes out of turn, an add meets a full word, or a begin meets its caller's count at 4,294,967,295
+     24  a font can't be written as a property list: it has a redirect, an op byte that is none of the eight, a next above 127 or past the last
+         instruction, a kern of -2,147,483,648, or a kern index, an entry or a left entry past its list. 15 of values comes before it, that of the text after it
+     23  a text is no property list of BOUNDARYCHAR and LIGTABLE, a LABEL or SKIP leads past the last step, or PLtoTF reports an error reading it.
+         15 of edges or counts comes before it, 1 and 15 of instructions or entries only hold of a text that is read
      25  the warnings handed over are not those that asking tells of the font as it is lent: ask again
      26  a chip's begin has a caller above 7
    Zeros stand after what is written, and a refusal leaves zeros in every list that the call writes. A step alone leaves the rest of its state list as it is,
@@ -114,6 +119,7 @@
                Each letter, and the word's end, brings the ops of one pair, or one item; one ligature may follow at the end.
                Or lend fewer, and after 15 twice as many
      warnings  4 * (1 + e + 4 * i + LIGKERN_MOST_PAIRS) for e entries and i instructions. found: as many as are handed over
+     of a property list: 48 bytes for each instruction, 18 for each entry, and 60
      of a font file: 4 * LIGKERN_MOST_WORDS for its instructions, LIGKERN_MOST_WORDS for its kerns, 512 for its entries, and 4 * LIGKERN_MOST_WORDS bytes
                for a new one
 
@@ -360,6 +366,24 @@ uint32_t ligkern_deserialize(const uint8_t *file, size_t file_length, int32_t *i
 uint32_t ligkern_replace_lig_kern_program(const uint8_t *old, size_t old_length, const int32_t *instructions, size_t instructions_length,
                                           const int32_t *kerns, size_t kerns_length, const int32_t *entries, size_t entries_length, int32_t boundary,
                                           int32_t left_entry, uint8_t *out, size_t out_length, uint64_t *values, size_t values_length);
+
+/* ---- property lists (PL) */
+
+/* Writes a font as TFtoPL does: the list BOUNDARYCHAR where there is a boundary character, and LIGTABLE where there are instructions, reached or not. Takes
+   unpacked entries. Characters are in octal, and a kern has as few decimals as PLtoTF reads back to it. text: bytes, a line feed after each line and no
+   zero among them. values: how many bytes. 15 of values comes before 24, and 15 of text after it. 1 to 4, 15, 24. */
+uint32_t ligkern_display(const int32_t *instructions, size_t instructions_length, const int32_t *kerns, size_t kerns_length, const int32_t *entries,
+                         size_t entries_length, int32_t boundary, int32_t left_entry, uint8_t *text, size_t text_length, uint64_t *values,
+                         size_t values_length);
+
+/* ---- property lists (PL) */
+
+/* Reads the lists BOUNDARYCHAR and LIGTABLE as PLtoTF does; the text may have comments, and nothing else. Entries are unpacked, by ascending character; a kern
+   is its value. A last step without STOP or SKIP ends its chain. edges: boundary character, left entry, -1 absent. counts: instructions, entries. 15 of edges
+   and counts comes before 23, 15 of instructions and entries after it. As many numbers as the text has bytes are always enough for the instructions, and 512
+   for the entries. 1, 15, 23. */
+uint32_t ligkern_from_pl_source_code(const uint8_t *text, size_t text_length, int32_t *instructions, size_t instructions_length, int32_t *entries,
+                                     size_t entries_length, int32_t *edges, size_t edges_length, uint64_t *counts, size_t counts_length);
 
 #ifdef __cplusplus
 }

@@ -65,7 +65,7 @@ module _ (edges : List ℤ) (counts : List ℕ) {y : List ℤ} {z : List ℕ} {f
 -- ---- the contract
 
 -- a list by a number that refuses, or of values that are the same
-listed-alike : {A : Type 0} (o : A) (k n : ℕ) {xs ys : List A} → (n ≡ 0 → xs ≡ ys) → listOf n o k xs ≡ listOf n o k ys
+pub listed-alike : {A : Type 0} (o : A) (k n : ℕ) {xs ys : List A} → (n ≡ 0 → xs ≡ ys) → listOf n o k xs ≡ listOf n o k ys
 listed-alike {A} o k zero e = ap (λ (l : List A). listOf 0 o k l) (e refl)
 listed-alike o k (suc n) e = refl
 

@@ -21,12 +21,12 @@ lower-same zero = refl
 lower-same (suc n) = sym (lower-less (suc n) (suc n) (λ z. omega (arith, z)) (λ z. omega (arith, z)) (omega arith))
 
 -- 15 that is told where nothing else refuses is the same 15
-told-lower : (m n room : ℕ) → lower (roomRefusal 1 room) (toldNumber (replyOf m (pos n ∷ [])) room) ≡ lower (roomRefusal 1 room) m
+pub told-lower : (m n room : ℕ) → lower (roomRefusal 1 room) (toldNumber (replyOf m (pos n ∷ [])) room) ≡ lower (roomRefusal 1 room) m
 told-lower zero n room = lower-same (roomRefusal 1 room) ∙ lower-first (roomRefusal 1 room) 0 refl
 told-lower (suc m) n room = refl
 
 -- what was told by the one number is what the lower of the two tells
-told-values : (m n room r : ℕ) {d : List ℕ} → r ≡ lower (roomRefusal 1 room) m →
+pub told-values : (m n room r : ℕ) {d : List ℕ} → r ≡ lower (roomRefusal 1 room) m →
     d ≡ listOf (toldNumber (replyOf m (pos n ∷ [])) room) 0 room (map natural (replyOf m (pos n ∷ []) .values)) → d ≡ listOf r 0 room (n ∷ [])
 told-values zero n room r e d =
     d ∙ ap (λ (j : ℕ). listOf j 0 room (n ∷ [])) (lower-first (roomRefusal 1 room) 0 refl ∙ sym e)

@@ -1,0 +1,2 @@
+-- The laws of indentation, byte by byte.
+pub mod Laws

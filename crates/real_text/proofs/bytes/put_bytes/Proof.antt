@@ -1,0 +1,69 @@
+-- `real_text::bytes::put_bytes` meets its contract: what is put is the text so far.
+-- Assumes nothing.
+use Prim.Native.Nat.{_-_, _≤_}
+use native.Mathlib.Omega.{arith}
+use lib.ListN.{length, take}
+use Rattle.property_lists.specs.Putting.{PutsCounted}
+use Rattle.property_lists.proofs.Putting.{counted-none, counted-next, counted-all, counted-long}
+use borrow.Author.Needs.{needs}
+use Rattle.real_text.proofs.bytes.put_bytes.Statement.{statement}
+use Rattle.real_text.proofs.bytes.put_bytes.Tie as tie
+
+abbrev Inv-loop : tie.InvT-loop
+Inv-loop out₀ at text next₀ i₀ out next i = (i ≤ length text) × PutsCounted out₀ at (take i text) next out
+
+abbrev μ-loop : tie.MeasureT-loop
+μ-loop out₀ at text next₀ i₀ out next i = length text - i
+
+add-smaller : tie.Need-add-smaller Inv-loop μ-loop
+add-smaller c = search needs
+
+smaller-requires : tie.Need-smaller-requires Inv-loop μ-loop
+smaller-requires c κs = search needs
+
+loop-holds : tie.Need-loop-holds Inv-loop μ-loop
+loop-holds c = let a = c .before .before .before .args in (omega arith, counted-none (a .out .now) (a .at) (c .smaller .ensures))
+
+shared-slice-read-put-byte : tie.Need-shared-slice-read-put-byte Inv-loop μ-loop
+shared-slice-read-put-byte c = search needs
+
+put-byte-requires : tie.Need-put-byte-requires Inv-loop μ-loop
+put-byte-requires c κs = search needs
+
+add-i : tie.Need-add-i Inv-loop μ-loop
+add-i c = search needs
+
+loop-less : tie.Need-loop-less Inv-loop μ-loop
+loop-less c = search needs
+
+loop-again : tie.Need-loop-again Inv-loop μ-loop
+loop-again c =
+    let l = c .before .before .before .before .before .before in
+    let a = l .before .before .before .before .args in
+    (omega arith, counted-next (a .text .now) (l .loop .i) (omega arith) (l .loop .inv .1) (c .before .before .put-byte .ensures))
+
+same-length : tie.Need-same-length Inv-loop μ-loop
+same-length c = counted-long (c .before .loop .inv .1)
+
+returns : tie.Need-returns Inv-loop μ-loop
+returns c =
+    let l = c .before in
+    let a = l .before .before .before .before .args in
+    counted-all (a .text .now) (l .loop .i) (omega arith) (l .loop .inv .1)
+
+pub put-bytes-spec : {M : Type 1} → statement M
+put-bytes-spec =
+    tie.close
+    (tie.spec
+    Inv-loop
+    μ-loop
+    add-smaller
+    smaller-requires
+    loop-holds
+    shared-slice-read-put-byte
+    put-byte-requires
+    add-i
+    loop-less
+    loop-again
+    same-length
+    returns)
