@@ -100,6 +100,7 @@
          15 of edges or counts comes before it, 1 and 15 of instructions or entries only hold of a text that is read
      25  the warnings handed over are not those that asking tells of the font as it is lent: ask again
      26  a chip's begin has a caller above 7
+     27  a short word has more than four letters, or one outside the set. 15 of its letters and values comes before it
    Zeros stand after what is written, and a refusal leaves zeros in every list that the call writes. A step alone leaves the rest of its state list as it is,
    and a refused step all of it; so do a chip's commands with its block and its list.
 
@@ -260,6 +261,20 @@ uint32_t ligkern_step_indexed(const uint64_t *index, size_t index_length, const 
    the last begin. 4, 7, 15, 21, 22, 26. */
 uint32_t ligkern_chip(const int32_t *pairs, size_t pairs_length, const int32_t *ops, size_t ops_length, int32_t boundary, uint8_t *block, size_t block_length,
                       uint64_t *chip, size_t chip_length);
+
+/* ---- every short word */
+
+/* The word after a word of at most four letters of a set, in `next`, four numbers, and its items as ligkern_set_word writes them, with the left boundary and
+   no override. The set is 256 bits, those of the characters from 0, 64, 128 and 192 on, lowest first. Start with the empty word, and hand over the next word,
+   next[0] to next[values[1] - 1], again and again: each other word of the set comes exactly once, shorter first and then by codes, and then the end.
+   values: 1, or at the end 0; the next word's length; how many items. Handed the empty word it checks the table whole, as ligkern_begin does; handed any
+   other, as much of it as the steps read. 4, 7, 15, 27. */
+uint32_t ligkern_next_word(uint64_t from_0, uint64_t from_64, uint64_t from_128, uint64_t from_192, const int32_t *pairs, size_t pairs_length,
+                           const int32_t *ops, size_t ops_length, int32_t boundary, const uint32_t *word, size_t word_length, uint32_t *next,
+                           size_t next_length, int32_t *items, size_t items_length, uint64_t *values, size_t values_length);
+
+/* values: how many letters a set has, and how many words of at most four of them there are, the empty word too. 15. */
+uint32_t ligkern_count_words(uint64_t from_0, uint64_t from_64, uint64_t from_128, uint64_t from_192, uint64_t *values, size_t values_length);
 
 /* ---- questions about a table */
 
