@@ -7,6 +7,7 @@
 --   FontBegins  a font that compiling accepts: demand 3 holds of its lists, and begin is not refused
 --   LinesBack  lines that are written are read back; a text of lines ends in a line feed
 --   TextLaws  what is known of a text that is read
+--   Saying  a text that was read, from what was answered and left in the lists
 --   WordRead  the meter of loops, and the items of a word
 --   Fitting  lists of i32
 --   Reported  a reply, read back, gives the lists that it was written from
@@ -20,6 +21,7 @@ pub mod ReadBack
 pub mod FontBegins
 pub mod LinesBack
 pub mod TextLaws
+pub mod Saying
 pub mod WordRead
 pub mod Fitting
 pub mod Reported

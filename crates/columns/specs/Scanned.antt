@@ -14,7 +14,7 @@ use Rattle.columns.specs.declared.TextHeads.{TextHeads}
 use Rattle.columns.specs.declared.TextRead.{TextRead}
 use Rattle.columns.specs.declared.TextRead.the-variants as text
 use Rattle.columns.specs.Numbers.{readField}
-use Rattle.columns.specs.Texts.{Text, opened, readText, orAbsent}
+use Rattle.columns.specs.Texts.{Text, opened, readText, orAbsent, sharedText}
 
 -- ---- a field
 
@@ -44,6 +44,11 @@ abbrev pub lengthOfWord : Option (List ℤ) → ℤ
 lengthOfWord none = negsuc 0
 lengthOfWord (some zs) = pos (length zs)
 
+-- how many letters that is: none where there is no word
+abbrev pub lettersIn : ℤ → ℕ
+lettersIn (pos n) = n
+lettersIn (negsuc n) = 0
+
 -- the seven numbers of the heads: D, R and L, how many numbers I, K and E lines have, and the word's length; -1 for what is absent
 abbrev pub headNumbers : TextHeads → List ℤ
 headNumbers h =
@@ -70,11 +75,25 @@ textHeads t =
     t .design ∷ orAbsent (t .boundary) ∷ orAbsent (t .left)
     ∷ pos (length (t .instructions)) ∷ pos (length (t .kerns)) ∷ pos (length (t .entries)) ∷ lengthOfWord (t .word) ∷ []
 
--- THE contract of read_text: the heads, or 16; and the lists, as long as they were, with zeros after them, or zeros
-pub record ReadsText (bytes : List ℕ) (r : TextRead) (instructions′ kerns′ entries′ : List ℤ) (word′ : List ℕ) : Type 0 where
-  pub answer : textReadReply r ≡ replyOf (textRefusal (readText bytes)) (textHeads (saidBy (readText bytes)))
-  pub long : (length instructions′ ≡ 2048) × (length kerns′ ≡ 512) × (length entries′ ≡ 5040) × (length word′ ≡ 64)
-  pub instructions : instructions′ ≡ listOf (textRefusal (readText bytes)) (pos 0) 2048 (saidBy (readText bytes) .instructions)
-  pub kerns : kerns′ ≡ listOf (textRefusal (readText bytes)) (pos 0) 512 (saidBy (readText bytes) .kerns)
-  pub entries : entries′ ≡ listOf (textRefusal (readText bytes)) (pos 0) 5040 (saidBy (readText bytes) .entries)
-  pub word : word′ ≡ listOf (textRefusal (readText bytes)) 0 64 (map wordOf (lettersOf (saidBy (readText bytes) .word)))
+-- what reading a text answers and leaves, `room` the places for kerns: the heads, or 16; and the lists, as long as they were, with zeros
+-- after them, or zeros
+pub record ReadsTextAs (o : Option Text) (room : ℕ) (r : TextRead) (instructions′ kerns′ entries′ : List ℤ) (word′ : List ℕ) : Type 0 where
+  pub answer : textReadReply r ≡ replyOf (textRefusal o) (textHeads (saidBy o))
+  pub long : (length instructions′ ≡ 2048) × (length kerns′ ≡ room) × (length entries′ ≡ 5040) × (length word′ ≡ 64)
+  pub instructions : instructions′ ≡ listOf (textRefusal o) (pos 0) 2048 (saidBy o .instructions)
+  pub kerns : kerns′ ≡ listOf (textRefusal o) (pos 0) room (saidBy o .kerns)
+  pub entries : entries′ ≡ listOf (textRefusal o) (pos 0) 5040 (saidBy o .entries)
+  pub word : word′ ≡ listOf (textRefusal o) 0 64 (map wordOf (lettersOf (saidBy o .word)))
+
+-- THE contract of read_text: what stands in the text
+abbrev pub ReadsText : List ℕ → TextRead → List ℤ → List ℤ → List ℤ → List ℕ → Type 0
+ReadsText bytes r instructions kerns entries word = ReadsTextAs (readText bytes) 512 r instructions kerns entries word
+
+-- a text that was read, with its kern values shared
+abbrev pub sharedRead : Option Text → Option Text
+sharedRead none = none
+sharedRead (some t) = some (sharedText t)
+
+-- THE contract of read_shared: the same with its kern values shared, of which there may be one more for each instruction
+abbrev pub ReadsShared : List ℕ → TextRead → List ℤ → List ℤ → List ℤ → List ℕ → Type 0
+ReadsShared bytes r instructions kerns entries word = ReadsTextAs (sharedRead (readText bytes)) 1024 r instructions kerns entries word

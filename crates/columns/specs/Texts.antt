@@ -8,6 +8,7 @@ use lib.IntN.{ℤ, negsuc}
 use lib.Dec.{leb, eqb}
 use lib.ListN.{length}
 use Rattle.lang.specs.Every.{both}
+use Rattle.program_kerns.specs.SharedKerns.{allKerns, shareKerns}
 use Rattle.fonts.specs.Fonts.{Font, fontOf}
 use Rattle.columns.specs.Lines.{Line, linesOf, readLine}
 
@@ -128,3 +129,8 @@ orAbsent (some z) = z
 -- the font that a text says
 abbrev pub fontOfText : Text → Font
 fontOfText t = fontOf (t .instructions) (t .kerns) (t .entries) (orAbsent (t .boundary)) (orAbsent (t .left)) (t .design)
+
+-- R463: a text with its kern values shared: these, and indices past the K lines, become indices to kerns that stand once (R461, R462)
+abbrev pub sharedText : Text → Text
+sharedText t =
+    textBy (t .design) (t .boundary) (t .left) (shareKerns (t .instructions) (t .kerns)) (allKerns (t .instructions) (t .kerns)) (t .entries) (t .word)

@@ -32,14 +32,15 @@ use Rattle.word_set.proofs.Bounds.{orElse-few}
 use Rattle.word_set.proofs.Few.{items-few}
 use Rattle.columns.specs.declared.TextHeads.{TextHeads}
 use Rattle.columns.specs.declared.TextRead.the-variants as text
-use Rattle.columns.specs.Texts.{Text, readText, orAbsent, fontOfText}
-use Rattle.columns.specs.Scanned.{lettersOf, lengthOfWord, headNumbers, textRefusal, saidBy, textHeads, ReadsText}
+use Rattle.columns.specs.Texts.{Text, readText, fontOfText}
+use Rattle.columns.specs.Scanned.{lengthOfWord}
 use Rattle.columns.specs.Replying.{replyBytes, replyRefusal}
 use Rattle.columns.specs.Ligcols.{columnRoom, columnItems, columnBytes, columnNumber, wordOfText, numberOfText, bytesOfText, lengthOr}
 use Rattle.columns.specs.Ligcols.{signsRefusal, orLower, wordNumber, AnswersText}
 use Rattle.text_font_reply.specs.Answering.{AnswersBytes}
-use Rattle.text_answer.specs.Letters.{lettersIn}
-use Rattle.text_font_reply.proofs.Laws.{front, room-known, count-known, refused-known}
+use Rattle.columns.specs.Scanned.{lettersIn}
+use Rattle.text_font_reply.proofs.Laws.{count-known, refused-known}
+use Rattle.columns.proofs.Saying.{Said}
 
 pub answers-as : {m m′ : ℕ} {bytes bytes′ reply reply′ : List ℕ} {r : Written} → m ≡ m′ → bytes ≡ bytes′ → AnswersBytes m bytes reply r reply′ →
     AnswersBytes m′ bytes′ reply r reply′
@@ -54,90 +55,17 @@ letters-word {z} {w} h l = sym (ap lettersIn (read-pos h l))
 pub letters-none : {z : ℤ} {w : ℕ} → Word z w → 2147483648 ≤ w → 0 ≡ lettersIn z
 letters-none {z} {w} h l = sym (ap lettersIn (read-neg h l))
 
--- ---- a text that is not read
-
-not-read-by : (o : Option Text) → replyOf 16 [] ≡ replyOf (textRefusal o) (textHeads (saidBy o)) → o ≡ none
-not-read-by none e = refl
-not-read-by (some t) e = absurd (let z : _≡_ {A = ℕ} 16 0 = ap (λ (r : Reply). r .number) e in omega arith)
-
-pub not-read : {bytes : List ℕ} {is ks es : List ℤ} {ws : List ℕ} → ReadsText bytes text.Unreadable is ks es ws → readText bytes ≡ none
-not-read {bytes} h = not-read-by (readText bytes) (h .answer)
-
 -- ---- a text that is read
 
-pub record Said (bytes : List ℕ) (h : TextHeads) (is ks es : List ℤ) (ws : List ℕ) : Type 0 where
-  pub said : Text
-  pub read : readText bytes ≡ some said
-  pub design : h .design ≡ said .design
-  pub boundary : h .boundary ≡ orAbsent (said .boundary)
-  pub left : h .left ≡ orAbsent (said .left)
-  pub letters : h .letters ≡ lengthOfWord (said .word)
-  pub instructions : take (h .instructions) is ≡ said .instructions
-  pub kerns : take (h .kerns) ks ≡ said .kerns
-  pub entries : take (h .entries) es ≡ said .entries
-  pub word : take (lettersIn (h .letters)) ws ≡ map wordOf (lettersOf (said .word))
-  pub few-instructions : h .instructions ≤ 2048
-  pub few-kerns : h .kerns ≤ 512
-  pub few-entries : h .entries ≤ 5040
-  pub few-letters : lettersIn (h .letters) ≤ 64
-
-letters-long : (w : Option (List ℤ)) → length (map wordOf (lettersOf w)) ≡ lettersIn (lengthOfWord w)
-letters-long none = refl
-letters-long (some zs) = mapped zs
-  where
-    mapped : (xs : List ℤ) → length (map wordOf xs) ≡ length xs
-    mapped [] = refl
-    mapped (x ∷ xs) = ap suc (mapped xs)
-
-module _ {bytes : List ℕ} {h : TextHeads} {is ks es : List ℤ} {ws : List ℕ} (a : ReadsText bytes (text.Text h) is ks es ws) where
-  said-by : (o : Option Text) → readText bytes ≡ o → Said bytes h is ks es ws
-  said-by none e =
-      absurd
-      (let z : _≡_ {A = ℕ} 0 16 = ap (λ (r : Reply). r .number) (a .answer ∙ ap (λ (o : Option Text). replyOf (textRefusal o) (textHeads (saidBy o))) e) in
-      omega arith)
-  said-by (some t) e =
-      let v : headNumbers h ≡ textHeads t = ap (λ (r : Reply). r .values)
-      (a .answer ∙ ap (λ (o : Option Text). replyOf (textRefusal o) (textHeads (saidBy o))) e) in
-      let i : h .instructions ≡ length (t .instructions) = cc in
-      let k : h .kerns ≡ length (t .kerns) = cc in
-      let n : h .entries ≡ length (t .entries) = cc in
-      let w : h .letters ≡ lengthOfWord (t .word) = cc in
-      let pi : is ≡ listOf 0 (pos 0) 2048 (t .instructions) = a .instructions
-      ∙ ap (λ (o : Option Text). listOf (textRefusal o) (pos 0) 2048 (saidBy o .instructions)) e in
-      let pk : ks ≡ listOf 0 (pos 0) 512 (t .kerns) = a .kerns ∙ ap (λ (o : Option Text). listOf (textRefusal o) (pos 0) 512 (saidBy o .kerns)) e in
-      let pe : es ≡ listOf 0 (pos 0) 5040 (t .entries) = a .entries ∙ ap (λ (o : Option Text). listOf (textRefusal o) (pos 0) 5040 (saidBy o .entries)) e in
-      let pw : ws ≡ listOf 0 0 64 (map wordOf (lettersOf (t .word))) = a .word
-      ∙ ap (λ (o : Option Text). listOf (textRefusal o) 0 64 (map wordOf (lettersOf (saidBy o .word)))) e in
-      let nw : length (map wordOf (lettersOf (t .word))) ≡ lettersIn (h .letters) = letters-long (t .word) ∙ ap lettersIn (sym w) in
-      record {
-        said = t;
-        read = e;
-        design = cc;
-        boundary = cc;
-        left = cc;
-        letters = w;
-        instructions = front (pos 0) 0 2048 (h .instructions) (t .instructions) is pi refl (sym i);
-        kerns = front (pos 0) 0 512 (h .kerns) (t .kerns) ks pk refl (sym k);
-        entries = front (pos 0) 0 5040 (h .entries) (t .entries) es pe refl (sym n);
-        word = front 0 0 64 (lettersIn (h .letters)) (map wordOf (lettersOf (t .word))) ws pw refl nw;
-        few-instructions = omega (arith, i, room-known (pos 0) 0 2048 (t .instructions) is pi refl (a .long .0));
-        few-kerns = omega (arith, k, room-known (pos 0) 0 512 (t .kerns) ks pk refl (a .long .1));
-        few-entries = omega (arith, n, room-known (pos 0) 0 5040 (t .entries) es pe refl (a .long .2));
-        few-letters = omega (arith, nw, room-known 0 0 64 (map wordOf (lettersOf (t .word))) ws pw refl (a .long .3));
-      }
-
-  pub text-said : Said bytes h is ks es ws
-  text-said = said-by (readText bytes) refl
-
 -- the answer for what was said is that for the text
-pub said-answer : {bytes : List ℕ} {h : TextHeads} {is ks es : List ℤ} {ws : List ℕ} (s : Said bytes h is ks es ws) {reply reply′ : List ℕ} {r : Written} →
+pub said-answer : (bytes : List ℕ) {h : TextHeads} {is ks es : List ℤ} {ws : List ℕ} (s : Said (readText bytes) 512 h is ks es ws) {reply reply′ : List ℕ} {r : Written} →
     AnswersBytes
     (columnNumber (fontOf (take (h .instructions) is) (take (h .kerns) ks) (take (h .entries) es) (h .boundary) (h .left) (h .design)) (h .letters)
     (take (lettersIn (h .letters)) ws) (length reply))
     (columnBytes (fontOf (take (h .instructions) is) (take (h .kerns) ks) (take (h .entries) es) (h .boundary) (h .left) (h .design)) (h .letters)
     (take (lettersIn (h .letters)) ws)) reply r reply′ →
     AnswersBytes (numberOfText (readText bytes) (length reply)) (bytesOfText (readText bytes)) reply r reply′
-said-answer s {reply} a =
+said-answer bytes s {reply} a =
     answers-as
     ((λ i. columnNumber (fontOf (s .instructions i) (s .kerns i) (s .entries i) (s .boundary i) (s .left i) (s .design i)) (s .letters i) (s .word i)
     (length reply)) ∙ ap (λ (o : Option Text). numberOfText o (length reply)) (sym (s .read)))

@@ -5,7 +5,7 @@ ghost use lib.ListN.{length};
 ghost use Rattle.columns.specs.Ligcols.{numberOfText, bytesOfText, AnswersText};
 ghost use Rattle.columns.specs.Texts.{readText};
 ghost use Rattle.text_font_reply.specs.Answering.{AnswersBytes};
-ghost use Rattle.text_answer.specs.Letters.{lettersIn};
+ghost use Rattle.columns.specs.Scanned.{lettersIn};
 use columns::TextRead;
 use lang::Written;
 use text_font_reply::answer_font;

@@ -24,6 +24,7 @@ use Rattle.lang.proofs.Refusals.{first-is, second-is, second-none, orElse-none,
 use Rattle.fonts.specs.Fonts.{Font}
 use Rattle.fonts.specs.declared.Compiled.the-variants as compiled
 use Rattle.fonts.specs.Compiled.{roomOf, roomIn, loopsOfFont, totalOps, fontTable, tablePairs, fontOps, fontLoops, compileRefusal, sizedRefusal, Compiles}
+use Rattle.columns.proofs.Saying.{front, room-known}
 use Rattle.columns.proofs.FontBegins.{lists-of}
 use Rattle.captions.specs.declared.State.{State}
 use Rattle.captions.specs.declared.Answer.{Answer}
@@ -88,19 +89,6 @@ number-known (suc n) k v vs e = let z : k ≡ suc n = ap (λ (r : Reply). r .num
 
 pub refused-known : (n k m : ℕ) → writtenReply (written.Refused k) ≡ replyOf n (pos m ∷ []) → (k ≡ n) × (0 < k)
 refused-known n k m e = number-known n k (pos m) [] e
-
--- the front of a list that was padded
-pub front : {A : Type 0} (o : A) (n m k : ℕ) (xs ys : List A) → ys ≡ listOf n o m xs → n ≡ 0 → length xs ≡ k → take k ys ≡ xs
-front o zero m k xs ys e z l = rw e (take-at xs (replicate (m - length xs) o) k l)
-front o (suc n) m k xs ys e z l = absurd (omega (arith, z))
-
--- .. which has room for it, where it is as long as it was
-pub room-known : {A : Type 0} (o : A) (n m : ℕ) (xs ys : List A) → ys ≡ listOf n o m xs → n ≡ 0 → length ys ≡ m → length xs ≤ m
-room-known o zero m xs ys e z l =
-    let t : length ys ≡ length xs + (m - length xs) = ap length e ∙ length-append xs (replicate (m - length xs) o)
-    ∙ ap (λ (j : ℕ). length xs + j) (length-replicate (m - length xs) o) in
-    omega (arith, t, l)
-room-known o (suc n) m xs ys e z l = absurd (omega (arith, z))
 
 -- ---- a table with its items
 

@@ -14,9 +14,10 @@ use Rattle.columns.specs.declared.TextRead.the-variants as text
 use Rattle.columns.specs.Texts.{Text, readText}
 use Rattle.columns.specs.Scanned.{ReadsText}
 use Rattle.columns.specs.Ligcols.{columnNumber, columnBytes, numberOfText}
-use Rattle.text_answer.specs.Letters.{lettersIn}
+use Rattle.columns.specs.Scanned.{lettersIn}
 use Rattle.text_font_reply.proofs.Laws.{refused, refused-as}
-use Rattle.text_answer.proofs.TextLaws.{answers-as, not-read, Said, text-said, said-answer}
+use Rattle.text_answer.proofs.TextLaws.{answers-as, said-answer}
+use Rattle.columns.proofs.Saying.{not-read, Said, text-said}
 use Rattle.text_answer.proofs.answer.Statement.{statement}
 use Rattle.text_answer.proofs.answer.Tie as tie
 
@@ -33,7 +34,7 @@ read-as t r e =
 
 -- what the text says
 said : (v : tie.After-heads) → let t = v .before .before in
-    Said (start t .args .text .now) (v .heads .given .0 .0) (t .read-text .last .1 .0) (t .read-text .last .1 .1 .0) (t .read-text .last .1 .1 .1 .0)
+    Said (readText (start t .args .text .now)) 512 (v .heads .given .0 .0) (t .read-text .last .1 .0) (t .read-text .last .1 .1 .0) (t .read-text .last .1 .1 .1 .0)
     (t .read-text .last .1 .1 .1 .1 .0)
 said v =
     let t = v .before .before in
@@ -155,7 +156,7 @@ returns-2 c =
     let e = number-word (h .left) (record { sfits = k .struct-told .given .1 .1 .0 .1 }) in
     let n = number-word (h .letters) (record { sfits = k .struct-told .given .1 .1 .1 .1 .1 .1 .0 .1 }) in
     let q = counted l in
-    said-answer w
+    said-answer (s .args .text .now) w
     (answers-as (λ i. columnNumber (fontOf (take (h .instructions) is) (take (h .kerns) ks) (take (h .entries) es) (b i) (e i) (d i)) (n i) (take (q i) ws) m)
     (λ i. columnBytes (fontOf (take (h .instructions) is) (take (h .kerns) ks) (take (h .entries) es) (b i) (e i) (d i)) (n i) (take (q i) ws))
     (x .ensures))
