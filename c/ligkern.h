@@ -102,7 +102,7 @@
      26  a chip's begin has a caller above 7
      27  a short word has more than four letters, or one outside the set. 15 of its letters and values comes before it
    Zeros stand after what is written, and a refusal leaves zeros in every list that the call writes. A step alone leaves the rest of its state list as it is,
-   and a refused step all of it; so do a chip's commands with its block and its list.
+   and a refused step all of it; so do a chip's commands with its block and its list, and the calls that take a run.
 
    LISTS
 
@@ -155,6 +155,9 @@
 
 /* How many numbers a chip has. */
 #define LIGKERN_CHIP 91
+
+/* How many numbers a run has that knows its font. */
+#define LIGKERN_FONT_RUN 12
 
 /* How many words of four bytes a font file has at most. */
 #define LIGKERN_MOST_WORDS 32767
@@ -275,6 +278,32 @@ uint32_t ligkern_next_word(uint64_t from_0, uint64_t from_64, uint64_t from_128,
 
 /* values: how many letters a set has, and how many words of at most four of them there are, the empty word too. 15. */
 uint32_t ligkern_count_words(uint64_t from_0, uint64_t from_64, uint64_t from_128, uint64_t from_192, uint64_t *values, size_t values_length);
+
+/* ---- change of font during a caption */
+
+/* The host numbers its fonts as it likes. A run is LIGKERN_FONT_RUN numbers: the nine of a state, the number of the font in force, 1 where another is asked
+   for, and that one's number, which is not read where the flag is 0, and is written 0. All zeros are a run in font 0 before its first word; for another font
+   put its number into run[9]. Lend the list that the last call left. Numbers that are no run's are 7: fewer than twelve, a flag over 1, a font over 32 bits,
+   nine numbers that are no state. A refusal leaves the run as it was, with what it asks for.
+
+   Asks for the font of this number: its table and its boundary character. Both are checked. It stands in place of what was asked for before. 4, 7. */
+uint32_t ligkern_ask_font(uint32_t number, const int32_t *pairs, size_t pairs_length, const int32_t *ops, size_t ops_length, int32_t boundary, uint64_t *run,
+                          size_t run_length);
+
+/* Starts a word, as ligkern_begin does: in the font asked for, which is then in force; else in the one in force. Lend both, that in force first; where one is
+   asked for, neither table nor boundary character of the one in force is read, else neither of the second. A word that was not at its end is over.
+   4, 6, 7, 20. */
+uint32_t ligkern_start_word(const int32_t *pairs, size_t pairs_length, const int32_t *ops, size_t ops_length, int32_t boundary, const int32_t *asked_pairs,
+                            size_t asked_pairs_length, const int32_t *asked_ops, size_t asked_ops_length, int32_t asked_boundary, const uint32_t *word,
+                            size_t word_length, bool disable_left_boundary, int32_t right_boundary_override, uint64_t *run, size_t run_length);
+
+/* One step, as ligkern_step makes it, in the font in force; lend the word and the options that the word was started with. Where a font is asked for, the step
+   goes on in it from the first state at which no op and no ligature is pending and the next left has no pair with what follows; run[10] is then 0. Originals
+   still point into the whole word. With nothing asked for the second font is not read; else both boundary characters are checked. 4, 6, 7, 15, 20. */
+uint32_t ligkern_font_step(const int32_t *pairs, size_t pairs_length, const int32_t *ops, size_t ops_length, int32_t boundary, const int32_t *asked_pairs,
+                           size_t asked_pairs_length, const int32_t *asked_ops, size_t asked_ops_length, int32_t asked_boundary, const uint32_t *word,
+                           size_t word_length, bool disable_left_boundary, int32_t right_boundary_override, uint64_t *run, size_t run_length, int32_t *item,
+                           size_t item_length);
 
 /* ---- questions about a table */
 

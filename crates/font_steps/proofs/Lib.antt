@@ -1,0 +1,2 @@
+-- Laws of crate font_steps: Laws (a step with a request waiting, by the first free state).
+pub mod Laws
