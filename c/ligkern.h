@@ -101,6 +101,7 @@
      25  the warnings handed over are not those that asking tells of the font as it is lent: ask again
      26  a chip's begin has a caller above 7
      27  a short word has more than four letters, or one outside the set. 15 of its letters and values comes before it
+     28  it is asked which instruction altered a word, of a font that has a loop
    Zeros stand after what is written, and a refusal leaves zeros in every list that the call writes. A step alone leaves the rest of its state list as it is,
    and a refused step all of it; so do a chip's commands with its block and its list, and the calls that take a run.
 
@@ -304,6 +305,18 @@ uint32_t ligkern_font_step(const int32_t *pairs, size_t pairs_length, const int3
                            size_t asked_pairs_length, const int32_t *asked_ops, size_t asked_ops_length, int32_t asked_boundary, const uint32_t *word,
                            size_t word_length, bool disable_left_boundary, int32_t right_boundary_override, uint64_t *run, size_t run_length, int32_t *item,
                            size_t item_length);
+
+/* Which instruction did that? The lowest instruction whose removal alone alters the items of a word, originals and flags included, or brings a loop. A removed
+   instruction matches no character and keeps its next. values: 1 and the instruction's index, or 0 and 0 where no single removal alters anything. The six lists from
+   pairs to work are work, and left zero: a table for the font, one for a removal (the smaller of each kind counts), edited, which takes as many numbers as there are
+   instruction numbers, and compile's work. 1 to 6, 12 to 15, 19, 20, and 28 where the font has a loop; 13 or 14 of a removal, met before the answer. 15 of edited or of
+   values comes before 19. */
+uint32_t ligkern_blamed_instruction(const int32_t *instructions, size_t instructions_length, const int32_t *kerns, size_t kerns_length, const int32_t *entries,
+                                    size_t entries_length, int32_t boundary, int32_t left_entry, int32_t design_size, int32_t size, int32_t magnification,
+                                    const uint32_t *word, size_t word_length, bool disable_left_boundary, int32_t right_boundary_override, int32_t *pairs,
+                                    size_t pairs_length, int32_t *ops, size_t ops_length, int32_t *pairs_without, size_t pairs_without_length, int32_t *ops_without,
+                                    size_t ops_without_length, int32_t *edited, size_t edited_length, uint32_t *work, size_t work_length, uint64_t *values,
+                                    size_t values_length);
 
 /* ---- questions about a table */
 

@@ -1,0 +1,2 @@
+-- What is proved of the refusals: Replies (the number of begin's answer).
+pub mod Replies

@@ -1,0 +1,2 @@
+-- What is proved of the call: Laws (what is told of an answer).
+pub mod Laws

@@ -1,0 +1,1 @@
+// What a removal brings: definitions and theorems alone (specs/Purpose).
