@@ -39,7 +39,7 @@ not-refuses k none a h e = let z : _≡_ {A = ℕ} 0 1 = cc in omega arith
 not-refuses k (some o) a h e = let z : _≡_ {A = ℕ} 0 1 = cc in omega arith
 
 -- .. so a step that follows the plain run is not refused
-follows-taken : {ops : List ℤ} {word : List ℕ} {t : Step} {a : plainly.PlainAnswer} → Follows ops word t a → (k : ℕ) → t .answer ≡ Refused k → ⊥
+pub follows-taken : {ops : List ℤ} {word : List ℕ} {t : Step} {a : plainly.PlainAnswer} → Follows ops word t a → (k : ℕ) → t .answer ≡ Refused k → ⊥
 follows-taken {t = t} {a = a} f k e = not-refuses k (a .gives) (t .answer) (f .answers) e
 
 -- only the end is shown as the end
@@ -73,7 +73,7 @@ module _ (pairs ops : List ℤ) (boundary : ℤ) (word : List ℕ) (options : Ru
   stays-after (suc n) s e = rw e (stays-after n s e)
 
 module _ (pairs ops : List ℤ) (table : tableForm pairs ops ≡ true) (boundary : ℤ) (word : List ℕ) (options : RunOptions) (fit : Fit boundary word options) where
-  step-keeps : (s : State) → Sound ops word s (opsOf ops word s) → Lettered ops word s (opsOf ops word s) →
+  pub step-keeps : (s : State) → Sound ops word s (opsOf ops word s) → Lettered ops word s (opsOf ops word s) →
       Keeps ops word (s .given) (stepOf pairs ops boundary word options s)
   step-keeps s h l =
       rw (step-turns pairs ops table boundary word options fit s h)
@@ -105,7 +105,7 @@ module _ (pairs ops : List ℤ) (table : tableForm pairs ops ≡ true) (boundary
 
   -- ---- a fresh state
 
-  fresh-by : (cs : List ℕ) → word ≡ cs → (d : Bool) →
+  pub fresh-by : (cs : List ℕ) → word ≡ cs → (d : Bool) →
       Lettered ops word (cond d (withoutBoundary cs) (fresh next.Boundary 0)) (opsOf ops word (cond d (withoutBoundary cs) (fresh next.Boundary 0)))
   unfolding opsFrom plainsAre
   fresh-by cs e false = record { own = tt; plains = refl }

@@ -38,30 +38,30 @@ use Rattle.captions.proofs.Lettered.{keeps-letter, keeps-pending, keeps
 -- ---- lefts that are looked up
 
 -- a pair that is found for a letter has it as its right
-found-right : (pairs ops : List ℤ) (left y k : ℕ) → y ≤ 255 → find pairs (keyBy left y) ≡ some k → Formed pairs ops left k →
+pub found-right : (pairs ops : List ℤ) (left y k : ℕ) → y ≤ 255 → find pairs (keyBy left y) ≡ some k → Formed pairs ops left k →
     wordOf (number pairs k 1) ≡ y
 found-right pairs ops left y k small e f = omega (arith, find-inside pairs (keyBy left y) k e .1, f .right)
 
-form-last : (l : Left) (r : ℕ) (q : Res) → formed l r q ≡ true → lastForm r (q .last) ≡ true
+pub form-last : (l : Left) (r : ℕ) (q : Res) → formed l r q ≡ true → lastForm r (q .last) ≡ true
 form-last l r q h = if-left (lastForm r (q .last)) (opsForm l (q .outs) (q .last)) h
 
 -- the letter that was read
-own-next : (word : List ℕ) (r y : ℕ) → getD word r 0 ≡ y → Own word (suc r) (next.Char y)
+pub own-next : (word : List ℕ) (r y : ℕ) → getD word r 0 ≡ y → Own word (suc r) (next.Char y)
 own-next word r y e = let d : suc r - 1 ≡ r = omega arith in rw d e
 
 -- what is next after an entry with a letter y of the word: y itself, or a ligature
-own-letter : (word : List ℕ) (r y : ℕ) (f : Bool) (c : ℕ) → getD word r 0 ≡ y → lastForm y (item f c) ≡ true →
+pub own-letter : (word : List ℕ) (r y : ℕ) (f : Bool) (c : ℕ) → getD word r 0 ≡ y → lastForm y (item f c) ≡ true →
     Own word (suc r) (afterRight true (item f c))
 own-letter word r y true c e h = tt
 own-letter word r y false c e h = own-next word r c (e ∙ sym (eqb-true c y h))
 
 -- .. and after the right item
-own-end : (word : List ℕ) (r : ℕ) (f : Bool) (c : ℕ) → r ≡ length word → Own word r (afterRight false (item f c))
+pub own-end : (word : List ℕ) (r : ℕ) (f : Bool) (c : ℕ) → r ≡ length word → Own word r (afterRight false (item f c))
 own-end word r true c e = e
 own-end word r false c e = e
 
 -- a left character is the letter that is given next
-abbrev Stands : List ℕ → ℕ → NextLeft → Type 0
+abbrev pub Stands : List ℕ → ℕ → NextLeft → Type 0
 Stands word g next.Boundary = Unit {0}
 Stands word g (next.Char c) = getD word g 0 ≡ c
 Stands word g (next.Lig c) = Unit {0}
@@ -81,7 +81,7 @@ module _ (pairs ops : List ℤ) (table : tableForm pairs ops ≡ true) (word : L
   look = turn pairs ops right word
 
   -- an entry's state has its letters
-  entered-lettered : {x : NextLeft} {p : ℕ} → Lefts x p → (letter : Bool) (o m r g k : ℕ) (b : Bool) (c : Consumes) → Formed pairs ops (leftPlaceOf x) k →
+  pub entered-lettered : {x : NextLeft} {p : ℕ} → Lefts x p → (letter : Bool) (o m r g k : ℕ) (b : Bool) (c : Consumes) → Formed pairs ops (leftPlaceOf x) k →
       Own word (readOn letter r) (afterRight letter (item (lastFlag pairs k) (lastCode pairs k))) → Stands word g x →
       Lettered ops word (enteredAt pairs x letter (state x o m r g p b c) k) (opsFrom ops (firstOp pairs k) (countOf pairs k))
   entered-lettered {x} {p} s letter o m r g k b c f e h =

@@ -153,7 +153,7 @@ module _ (f : Font) (few : opCount (fontOps f) ≤ 2147483647) (fits : absentOr 
       (d .1, r, read-run (d .1) r)
 
 -- loops, by the length of the list
-none-listed : {A : Type 0} (xs : List A) → length xs ≡ 0 → xs ≡ []
+pub none-listed : {A : Type 0} (xs : List A) → length xs ≡ 0 → xs ≡ []
 none-listed [] e = refl
 none-listed (x ∷ xs) e = absurd (omega (arith, e))
 
@@ -186,13 +186,13 @@ demand-by f l few fits e =
     }
 
 -- a font that compile accepted, and the lists that it wrote
-record Accepted (f : Font) (p o l : ℕ) (pairs ops loops : List ℤ) : Type 0 where
-  few : opCount (fontOps f) ≤ 2147483647
-  boundary : absentOr 255 (f .boundary) ≡ true
-  counted : l ≡ length (loopsOfFont f)
-  lists : Lists f p o l pairs ops loops
+pub record Accepted (f : Font) (p o l : ℕ) (pairs ops loops : List ℤ) : Type 0 where
+  pub few : opCount (fontOps f) ≤ 2147483647
+  pub boundary : absentOr 255 (f .boundary) ≡ true
+  pub counted : l ≡ length (loopsOfFont f)
+  pub lists : Lists f p o l pairs ops loops
 
-compiled : (f : Font) (size : ℕ) (pairs ops loops : List ℤ) (work : List ℕ) (p o l : ℕ) (pairs′ ops′ loops′ : List ℤ) (work′ : List ℕ) →
+pub compiled : (f : Font) (size : ℕ) (pairs ops loops : List ℤ) (work : List ℕ) (p o l : ℕ) (pairs′ ops′ loops′ : List ℤ) (work′ : List ℕ) →
     Compiles f size pairs ops loops work (Tables p o l) pairs′ ops′ loops′ work′ → Accepted f p o l pairs′ ops′ loops′
 compiled f size pairs ops loops work p o l pairs′ ops′ loops′ work′ c =
     let room = roomIn pairs ops loops work in

@@ -40,22 +40,22 @@ twos (more x y a h k m) = simp length-append (omega (arith, twos a))
 
 module _ (es : List ℤ) (x y : ℤ) where
   module _ (i : ℕ) (h : i < length es / 2) where
-    char-before : charAt (es ++ (x ∷ y ∷ [])) i ≡ charAt es i
+    pub char-before : charAt (es ++ (x ∷ y ∷ [])) i ≡ charAt es i
     char-before = List·getD-append es (x ∷ y ∷ []) (pos 0) (2 * i) (omega arith)
 
-    entry-before : entryAt (es ++ (x ∷ y ∷ [])) i ≡ entryAt es i
+    pub entry-before : entryAt (es ++ (x ∷ y ∷ [])) i ≡ entryAt es i
     entry-before = List·getD-append es (x ∷ y ∷ []) (pos 0) (2 * i + 1) (omega arith)
 
   module _ (e : length es % 2 ≡ 0) where
-    char-last : charAt (es ++ (x ∷ y ∷ [])) (length es / 2) ≡ x
+    pub char-last : charAt (es ++ (x ∷ y ∷ [])) (length es / 2) ≡ x
     char-last = getD-at es x (y ∷ []) (pos 0) (2 * (length es / 2)) (omega arith)
 
-    entry-last : entryAt (es ++ (x ∷ y ∷ [])) (length es / 2) ≡ y
+    pub entry-last : entryAt (es ++ (x ∷ y ∷ [])) (length es / 2) ≡ y
     entry-last =
         ap (λ (k : ℕ). getD (es ++ (x ∷ y ∷ [])) k (pos 0)) (let k : 2 * (length es / 2) + 1 ≡ length es + 1 = omega arith in k)
         ∙ getD-append-add es (x ∷ y ∷ []) 1 (pos 0)
 
-    one-more : length (es ++ (x ∷ y ∷ [])) / 2 ≡ suc (length es / 2)
+    pub one-more : length (es ++ (x ∷ y ∷ [])) / 2 ≡ suc (length es / 2)
     one-more = simp length-append (omega arith)
 
 -- ---- what stands at a place
@@ -154,7 +154,7 @@ module _ (s : List ℤ) where
       rw (unpacked-before es x y k (omega arith), char-before es x y k (omega arith), entry-before es x y k (omega arith))
 
   -- and with it
-  unpacked-last : (es : List ℤ) (x : ℤ) (y : ℕ) → length es % 2 ≡ 0 →
+  pub unpacked-last : (es : List ℤ) (x : ℤ) (y : ℕ) → length es % 2 ≡ 0 →
       unpackedBelow s (es ++ (x ∷ pos y ∷ [])) (length (es ++ (x ∷ pos y ∷ [])) / 2)
       ≡ unpackedBelow s es (length es / 2) ++ cond (leads s y) (x ∷ pos (standsFor s y) ∷ []) []
   unfolding unpackedBelow

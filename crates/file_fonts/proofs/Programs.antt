@@ -57,7 +57,7 @@ module _ (file : List ℕ) (w : ℕ) where
   number-by n i k (inr h) l f =
       List·getD-append (commandsFrom file w n) (commandNumbers file (w + n)) (pos 0) (4 * i + k) (omega (arith, length-commands file w n)) ∙ f h
 
-  number-at : (n i k : ℕ) → i < n → k < 4 → getD (commandsFrom file w n) (4 * i + k) (pos 0) ≡ getD (commandNumbers file (w + i)) k (pos 0)
+  pub number-at : (n i k : ℕ) → i < n → k < 4 → getD (commandsFrom file w n) (4 * i + k) (pos 0) ≡ getD (commandNumbers file (w + i)) k (pos 0)
   unfolding commandsFrom
   number-at zero i k h l = absurd (omega arith)
   number-at (suc n) i k h l = number-by n i k (eq-or-lt-of-le (le-of-suc-le-suc h)) l (λ g. number-at n i k g l)

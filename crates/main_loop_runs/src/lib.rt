@@ -1,0 +1,1 @@
+// This crate holds definitions (specs/) and theorems (proofs/) alone.
