@@ -266,20 +266,6 @@ uint32_t ligkern_step_indexed(const uint64_t *index, size_t index_length, const 
 uint32_t ligkern_chip(const int32_t *pairs, size_t pairs_length, const int32_t *ops, size_t ops_length, int32_t boundary, uint8_t *block, size_t block_length,
                       uint64_t *chip, size_t chip_length);
 
-/* ---- every short word */
-
-/* The word after a word of at most four letters of a set, in `next`, four numbers, and its items as ligkern_set_word writes them, with the left boundary and
-   no override. The set is 256 bits, those of the characters from 0, 64, 128 and 192 on, lowest first. Start with the empty word, and hand over the next word,
-   next[0] to next[values[1] - 1], again and again: each other word of the set comes exactly once, shorter first and then by codes, and then the end.
-   values: 1, or at the end 0; the next word's length; how many items. Handed the empty word it checks the table whole, as ligkern_begin does; handed any
-   other, as much of it as the steps read. 4, 7, 15, 27. */
-uint32_t ligkern_next_word(uint64_t from_0, uint64_t from_64, uint64_t from_128, uint64_t from_192, const int32_t *pairs, size_t pairs_length,
-                           const int32_t *ops, size_t ops_length, int32_t boundary, const uint32_t *word, size_t word_length, uint32_t *next,
-                           size_t next_length, int32_t *items, size_t items_length, uint64_t *values, size_t values_length);
-
-/* values: how many letters a set has, and how many words of at most four of them there are, the empty word too. 15. */
-uint32_t ligkern_count_words(uint64_t from_0, uint64_t from_64, uint64_t from_128, uint64_t from_192, uint64_t *values, size_t values_length);
-
 /* ---- change of font during a caption */
 
 /* The host numbers its fonts as it likes. A run is LIGKERN_FONT_RUN numbers: the nine of a state, the number of the font in force, 1 where another is asked
@@ -305,6 +291,20 @@ uint32_t ligkern_font_step(const int32_t *pairs, size_t pairs_length, const int3
                            size_t asked_pairs_length, const int32_t *asked_ops, size_t asked_ops_length, int32_t asked_boundary, const uint32_t *word,
                            size_t word_length, bool disable_left_boundary, int32_t right_boundary_override, uint64_t *run, size_t run_length, int32_t *item,
                            size_t item_length);
+
+/* ---- every short word */
+
+/* The word after a word of at most four letters of a set, in `next`, four numbers, and its items as ligkern_set_word writes them, with the left boundary and
+   no override. The set is 256 bits, those of the characters from 0, 64, 128 and 192 on, lowest first. Start with the empty word, and hand over the next word,
+   next[0] to next[values[1] - 1], again and again: each other word of the set comes exactly once, shorter first and then by codes, and then the end.
+   values: 1, or at the end 0; the next word's length; how many items. Handed the empty word it checks the table whole, as ligkern_begin does; handed any
+   other, as much of it as the steps read. 4, 7, 15, 27. */
+uint32_t ligkern_next_word(uint64_t from_0, uint64_t from_64, uint64_t from_128, uint64_t from_192, const int32_t *pairs, size_t pairs_length,
+                           const int32_t *ops, size_t ops_length, int32_t boundary, const uint32_t *word, size_t word_length, uint32_t *next,
+                           size_t next_length, int32_t *items, size_t items_length, uint64_t *values, size_t values_length);
+
+/* values: how many letters a set has, and how many words of at most four of them there are, the empty word too. 15. */
+uint32_t ligkern_count_words(uint64_t from_0, uint64_t from_64, uint64_t from_128, uint64_t from_192, uint64_t *values, size_t values_length);
 
 /* Which instruction did that? The lowest instruction whose removal alone alters the items of a word, originals and flags included, or brings a loop. A removed
    instruction matches no character and keeps its next. values: 1 and the instruction's index, or 0 and 0 where no single removal alters anything. The six lists from
@@ -432,8 +432,6 @@ uint32_t ligkern_replace_lig_kern_program(const uint8_t *old, size_t old_length,
 uint32_t ligkern_display(const int32_t *instructions, size_t instructions_length, const int32_t *kerns, size_t kerns_length, const int32_t *entries,
                          size_t entries_length, int32_t boundary, int32_t left_entry, uint8_t *text, size_t text_length, uint64_t *values,
                          size_t values_length);
-
-/* ---- property lists (PL) */
 
 /* Reads the lists BOUNDARYCHAR and LIGTABLE as PLtoTF does; the text may have comments, and nothing else. Entries are unpacked, by ascending character; a kern
    is its value. A last step without STOP or SKIP ends its chain. edges: boundary character, left entry, -1 absent. counts: instructions, entries. 15 of edges

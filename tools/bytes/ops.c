@@ -9,5 +9,5 @@ int main(int argc, char **argv) {
     int32_t pairs[6], ops[8], loops[2];
     uint32_t work[16];
     uint64_t counts[3];
-    return (int)ligkern_compile(instructions, 4, NULL, 0, entries, 2, -1, -1, 10485760, pairs, 6, ops, 8, loops, 2, work, 16, counts, 3);
+    return (int)ligkern_compile(instructions, 4, NULL, 0, entries, 2, -1, -1, 10485760, 0, 0, pairs, 6, ops, 8, loops, 2, work, 16, counts, 3);
 }

@@ -2,7 +2,9 @@
 
    CALL  compile; begin; index (fill_index); word (set_word); indexed (set_word_indexed, on the index of the table); step (steps on a fresh state to the end, the end among them);
          check (check_table); checked, checked_indexed (set_checked_word, set_checked_word_indexed); step_indexed (as step, by the index);
-         chip_begin, chip_add, chip_end, chip_take (one command of the caption chip: on a fresh chip; the first letter; the end of a word of LETTERS letters; the first item taken).
+         chip_begin, chip_add, chip_end, chip_take (one command of the caption chip: on a fresh chip; the first letter; the end of a word of LETTERS letters; the first item taken);
+         chip_add_last (the last letter of a word of LETTERS letters); chip_end_step, chip_take_step (the step of chip_end and of chip_take as one call of ligkern_step).
+         short (every short word of 12 letters with its items, by next_word), short_word (set_word on the same words), short_40 (every short word of 40 letters, on no table).
    HOW   answer: writes the table, the ops, the loops and the items that the call leaves, and N is not looked at; count, time: see meter.h.
 
    What is lent: room for 512 pairs, or 4,096, or 65,792, whichever is enough first, for four ops a pair, 64 loops and three items a letter. */
@@ -20,7 +22,7 @@ static uint32_t *word, *work, said;
 static size_t letters, pair_room;
 static uint64_t counts[3], count, state[9], fresh[9], index_of[LIGKERN_INDEX], steps;
 static int32_t item[7];
-static uint64_t chip[83], chip_before[83];
+static uint64_t chip[LIGKERN_CHIP], chip_before[LIGKERN_CHIP];
 static uint8_t block[16];
 
 static long next_number(char **at) {
@@ -113,27 +115,75 @@ static void step_to_end(void) {
 static void command(uint8_t number, uint8_t letter) {
     block[0] = number;
     block[1] = letter;
-    said = ligkern_chip(pairs.at, 6 * counts[0], ops.at, 2 * counts[1], boundary, block, sizeof block, chip, 83);
+    said = ligkern_chip(pairs.at, 6 * counts[0], ops.at, 2 * counts[1], boundary, block, sizeof block, chip, LIGKERN_CHIP);
 }
 
 static void chip_begin(void) { command(1, 0); }
 static void chip_add(void) { command(2, (uint8_t)word[0]); }
 static void chip_end(void) { command(3, 0); }
 static void chip_take(void) { command(4, 0); }
+static void chip_step(void) {
+    said = ligkern_step(pairs.at, 6 * counts[0], ops.at, 2 * counts[1], boundary, word, letters, false, -1, chip + 9, 9, item, 7);
+}
 static void chip_again(void) { memcpy(chip, chip_before, sizeof chip); }
+
+/* What is measured of the chip: the command, how many letters were added before it, and whether the word was ended. */
+static const struct chip_call {
+    const char *name;
+    void (*call)(void);
+    int begun, full, ended;
+} chip_calls[] = {
+    {"chip_begin", chip_begin, 0, 0, 0},  {"chip_add", chip_add, 1, 0, 0},        {"chip_add_last", chip_add, 1, 1, 0},      {"chip_end", chip_end, 1, 2, 0},
+    {"chip_take", chip_take, 1, 2, 1},    {"chip_end_step", chip_step, 1, 2, 0}, {"chip_take_step", chip_step, 1, 2, 1},
+};
+
+/* Every short word of so many letters, from `a` on, by next_word; how many came. On no table where there are 40. */
+static uint32_t next[4], next_after[4];
+static uint64_t answered[3], listed;
+
+static void list_words(uint64_t set, size_t pairs_n, size_t ops_n) {
+    size_t length = 0;
+    for (listed = 0;; listed++) {
+        said = ligkern_next_word(0, set, 0, 0, pairs.at, pairs_n, ops.at, ops_n, boundary, next, length, next_after, 4, items.at, items.n, answered, 3);
+        if (said || !answered[0]) return;
+        memcpy(next, next_after, sizeof next);
+        length = answered[1];
+    }
+}
+
+static void short_words(void) { list_words(0xfffULL << 33, 6 * counts[0], 2 * counts[1]); }
+static void short_40(void) { list_words(0xffffffffffULL << 24, 0, 0); }
+
+/* The same words of 12 letters, each by set_word. */
+static void short_set(void) {
+    static const uint32_t first = 'a';
+    for (int n = 1; n <= 4; n++) {
+        uint32_t w[4] = {first, first, first, first};
+        for (;;) {
+            said = ligkern_set_word(pairs.at, 6 * counts[0], ops.at, 2 * counts[1], boundary, w, (size_t)n, false, -1, items.at, items.n, &count, 1);
+            if (said) return;
+            int i = n - 1;
+            while (i >= 0 && w[i] == first + 11) w[i--] = first;
+            if (i < 0) break;
+            w[i]++;
+        }
+    }
+}
 
 /* The chip before the command that is measured. */
 static void (*chip_call(const char *call))(void) {
-    if (strcmp(call, "chip_begin")) {
-        chip_begin();
-        if (!strcmp(call, "chip_end") || !strcmp(call, "chip_take")) {
-            for (size_t i = 0; i < letters && i < 64; i++) command(2, (uint8_t)word[i]);
-        }
-        if (!strcmp(call, "chip_take")) chip_end();
+    for (size_t k = 0; k < sizeof chip_calls / sizeof *chip_calls; k++) {
+        if (strcmp(call, chip_calls[k].name)) continue;
+        size_t added = chip_calls[k].full == 2 ? letters : chip_calls[k].full ? letters - 1 : 0;
+        if (chip_calls[k].begun) chip_begin();
+        for (size_t i = 0; i < added && i < 64; i++) command(2, (uint8_t)word[i]);
+        if (chip_calls[k].ended) chip_end();
+        if (said) die("a command of the chip was refused");
+        memcpy(chip_before, chip, sizeof chip);
+        return chip_calls[k].call;
     }
-    if (said) die("a command of the chip was refused");
-    memcpy(chip_before, chip, sizeof chip);
-    return !strcmp(call, "chip_begin") ? chip_begin : !strcmp(call, "chip_add") ? chip_add : !strcmp(call, "chip_end") ? chip_end : chip_take;
+    die("no such call");
+    return 0;
 }
 
 static void nothing(void) {}
@@ -207,6 +257,9 @@ int main(int argc, char **argv) {
         else if (!strcmp(call, "checked")) meter(how, n, nothing, set_checked_word);
         else if (!strcmp(call, "checked_indexed")) meter(how, n, nothing, set_checked_word_indexed);
         else if (!strcmp(call, "step_indexed")) meter(how, n, start_again, step_indexed_to_end);
+        else if (!strcmp(call, "short")) meter(how, n, nothing, short_words);
+        else if (!strcmp(call, "short_word")) meter(how, n, nothing, short_set);
+        else if (!strcmp(call, "short_40")) meter(how, n, nothing, short_40);
         else if (stepped) meter(how, n, start_again, step_to_end);
         else if (!strncmp(call, "chip_", 5)) {
             void (*measured_call)(void) = chip_call(call);

@@ -304,8 +304,11 @@ give-pair-requires : tie.Need-give-pair-requires Inv-loop μ-loop
 give-pair-requires c κs = tt
 
 letters-done-requires-3 : tie.Need-letters-done-requires-3 Inv-loop μ-loop
-letters-done-requires-3 c κs = omega (arith, plain
-    (c .before .before .before .before .before .before .before .before .before .before .before .before .before .before) .left)
+letters-done-requires-3 c κs = omega (
+  arith,
+  plain
+      (c .before .before .before .before .before .before .before .before .before .before .before .before .before .before) .left,
+)
 
 same-length-3 : tie.Need-same-length-3 Inv-loop μ-loop
 same-length-3 c = given-length (c .before .before .before .before .give-pair .ensures) ∙ stand-long
@@ -365,8 +368,13 @@ add-m : tie.Need-add-m Inv-loop μ-loop
 add-m c =
     let b = c .before .before .before .before .before .before .before .before .before .before .before .before .before .before .before .before .before
     .before .before .before .before .before .before .before .before .before .before .before .before .good in
-    omega (arith, one-more (c .before) .room, given-length (c .before .before .before .before .give-pair .ensures), stand-long
-    (c .before .before .before .before .before .before .before .before .before .before .before .before .before .before .before))
+    omega (
+      arith,
+      one-more (c .before) .room,
+      given-length (c .before .before .before .before .give-pair .ensures),
+      stand-long
+          (c .before .before .before .before .before .before .before .before .before .before .before .before .before .before .before),
+    )
 
 add-i : tie.Need-add-i Inv-loop μ-loop
 add-i c =
@@ -375,9 +383,11 @@ add-i c =
     omega (arith, there (c .before .before .before .before .before .before .before .before .before .before .before))
 
 loop-less : tie.Need-loop-less Inv-loop μ-loop
-loop-less c = omega
-    (arith, c .before .before .before .before .before .before .before .before .before .before .before .before .before .before .before .before .before
-    .before .before .before .loop-test .taken)
+loop-less c = omega (
+  arith,
+  c .before .before .before .before .before .before .before .before .before .before .before .before .before .before .before .before .before
+      .before .before .before .loop-test .taken,
+)
 
 loop-again : tie.Need-loop-again Inv-loop μ-loop
 loop-again c = further (c .before)

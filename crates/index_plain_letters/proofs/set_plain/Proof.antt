@@ -67,8 +67,13 @@ add-put-six : tie.Need-add-put-six Inv-loop μ-loop
 add-put-six c = omega (arith, inside (c .before .before .before .before .before) .2)
 
 mul-put-six : tie.Need-mul-put-six Inv-loop μ-loop
-mul-put-six c = omega (arith, inside (c .before .before .before .before .before) .2, long
-    (c .before .before .before .before .before .before), c .before .before .before .before .before .before .before .before .before .good)
+mul-put-six c = omega (
+  arith,
+  inside (c .before .before .before .before .before) .2,
+  long
+      (c .before .before .before .before .before .before),
+  c .before .before .before .before .before .before .before .before .before .good,
+)
 
 sub-put-six : tie.Need-sub-put-six Inv-loop μ-loop
 sub-put-six c = omega (arith, left (c .before .before .before .before .before .before))

@@ -333,8 +333,13 @@ add-m : tie.Need-add-m Inv-loop μ-loop
 add-m c =
     let b = c .before .before .before .before .before .before .before .before .before .before .before .before .before .before .before .before .before
     .before .before .before .before .before .before .before .good in
-    omega (arith, one-more (c .before) .room, given-length (c .before .before .before .before .give-pair .ensures), stand-long
-    (c .before .before .before .before .before .before .before .before .before .before .before .before))
+    omega (
+      arith,
+      one-more (c .before) .room,
+      given-length (c .before .before .before .before .give-pair .ensures),
+      stand-long
+          (c .before .before .before .before .before .before .before .before .before .before .before .before),
+    )
 
 add-i : tie.Need-add-i Inv-loop μ-loop
 add-i c =
@@ -343,9 +348,11 @@ add-i c =
     omega (arith, stop (c .before .before .before .before .before .before .before) .0)
 
 loop-less : tie.Need-loop-less Inv-loop μ-loop
-loop-less c = omega
-    (arith, c .before .before .before .before .before .before .before .before .before .before .before .before .before .before .before .before .before
-    .loop-test .taken)
+loop-less c = omega (
+  arith,
+  c .before .before .before .before .before .before .before .before .before .before .before .before .before .before .before .before .before
+      .loop-test .taken,
+)
 
 loop-again : tie.Need-loop-again Inv-loop μ-loop
 loop-again c = further (c .before)

@@ -59,8 +59,15 @@ same-length-2 : tie.Need-same-length-2 Inv-loop μ-loop
 same-length-2 c = long (c .before .before .before .before .before)
 
 returns-2 : tie.Need-returns-2 Inv-loop μ-loop
-returns-2 c = (c .before .before .before .before .before .loop .inv, λ h. (inside
-    (c .before .before .before .before) .0, c .before .before .if1 .left, c .before .found-place .ensures))
+returns-2 c = (
+  c .before .before .before .before .before .loop .inv,
+  λ h. (
+    inside
+        (c .before .before .before .before) .0,
+    c .before .before .if1 .left,
+    c .before .found-place .ensures,
+  ),
+)
 
 add-write-six : tie.Need-add-write-six Inv-loop μ-loop
 add-write-six c = omega (arith, inside (c .before .before .before .before .before) .2)
