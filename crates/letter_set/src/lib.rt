@@ -1,6 +1,6 @@
 // A set of characters as 256 bits, four numbers of 64 (R431), as repair's existing characters. The ones are counted for
-// how many letters there are, and trailing zeros give the next letter: no character is asked by itself. Each function is
-// total.
+// how many letters there are, and trailing zeros give the next letter: no character is asked by itself. Each function
+// is total.
 ghost use mathlib.Core.Path.{_≡_};
 ghost use Prim.Native.Nat.{suc};
 ghost use Rattle.letter_set.specs.LetterSets.{letterIn, alphabetSize, wordCount, letterFrom, letterFound};

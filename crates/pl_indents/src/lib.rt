@@ -4,7 +4,8 @@ ghost use mathlib.Core.Bool.{cond};
 ghost use mathlib.Core.Option.{some};
 ghost use Prim.Native.Nat.{_+_, _-_, _<_, _≤_};
 ghost use lib.Dec.{eqb};
-ghost use Rattle.property_lists.specs.Indents.{indentsBy, withLines, badIndent, lineStarts, insideLine, afterByte, goodIndents};
+ghost use Rattle.property_lists.specs.Indents.{indentsBy, withLines, badIndent, lineStarts, insideLine};
+ghost use Rattle.property_lists.specs.Indents.{afterByte, goodIndents};
 ghost use Rattle.property_lists.specs.Chars.{thenBy};
 ghost use Rattle.pl_indents.specs.Bounds.{CanGrow, IndentsTo};
 use property_lists::Indented;
@@ -102,8 +103,8 @@ fn inside_line(b: u8, s: Indents) -> Indented
 // Before the first character of a line.
 fn at_start(s: Indents, mode: u32, blanks: usize) -> Indented
     requires { ⌜ blanks ≤ s .blanks + 1 ⌝ }
-    ensures { λ r. ⌜ IndentsTo (some (indentsBy mode blanks (s .level) (s .good) (s .indent))) (s .blanks + 1) (s .level)
-        (s .good) r ⌝ }
+    ensures { λ r. ⌜ IndentsTo (some (indentsBy mode blanks (s .level) (s .good) (s .indent))) (s .blanks + 1)
+        (s .level) (s .good) r ⌝ }
 {
     Indented::To(Indents {
         mode: mode,

@@ -25,7 +25,8 @@ fn put_label(labels: &[i32], c: usize, n: usize, entries: &mut [i32]) -> usize
     n + 2
 }
 
-// They go to a list, ascending, and how many numbers they are is answered. What is past the list's end is counted alone.
+// They go to a list, ascending, and how many numbers they are is answered. What is past the list's end is counted
+// alone.
 pub(crate) fn put_labels(labels: &[i32], entries: &mut [i32]) -> usize
     ensures { λ r. ⌜ (now (entries .exit) ≡ overlay (labelEntries (now (labels .entry)) 256) (now (entries .entry))) ×
         (r ≡ length (labelEntries (now (labels .entry)) 256)) ⌝ }

@@ -2,7 +2,8 @@
 ghost use mathlib.Core.Path.{_≡_};
 ghost use Prim.Native.Nat.{_-_, _≤_};
 ghost use lib.ListN.{length, drop};
-ghost use Rattle.property_lists.specs.Properties.{closedBy, labelFrom, labelAt, commentFrom, kernFrom, ligatureFrom, byCode, noBytes, ofByte, ReadsProperty};
+ghost use Rattle.property_lists.specs.Properties.{closedBy, labelFrom, labelAt, commentFrom, kernFrom, ligatureFrom};
+ghost use Rattle.property_lists.specs.Properties.{byCode, noBytes, ofByte, ReadsProperty};
 ghost use Rattle.property_lists.specs.declared.Property.the-variants as property;
 use pl_chars::past_blanks;
 use pl_chars::past_comment;
@@ -28,7 +29,8 @@ fn closed_by(text: &[u8], at: usize, p: Property) -> PropertyRead
 
 // The boundary character.
 fn boundary(text: &[u8], at: usize) -> PropertyRead
-    ensures { λ r. ⌜ ReadsProperty (ofByte property.Boundary (drop at (now (text .entry)))) (now (text .entry)) at noBytes r ⌝ }
+    ensures { λ r. ⌜ ReadsProperty (ofByte property.Boundary (drop at (now (text .entry)))) (now (text .entry)) at
+        noBytes r ⌝ }
 {
     let ValueRead::Value(v, n) = byte_value(text, at) else {
         return PropertyRead::Refused;
@@ -38,7 +40,8 @@ fn boundary(text: &[u8], at: usize) -> PropertyRead
 
 // A character's label.
 fn character_label(text: &[u8], at: usize) -> PropertyRead
-    ensures { λ r. ⌜ ReadsProperty (ofByte property.Label (drop at (now (text .entry)))) (now (text .entry)) at noBytes r ⌝ }
+    ensures { λ r. ⌜ ReadsProperty (ofByte property.Label (drop at (now (text .entry)))) (now (text .entry)) at noBytes
+        r ⌝ }
 {
     let ValueRead::Value(v, n) = byte_value(text, at) else {
         return PropertyRead::Refused;
@@ -48,7 +51,8 @@ fn character_label(text: &[u8], at: usize) -> PropertyRead
 
 // A skip.
 fn skip(text: &[u8], at: usize) -> PropertyRead
-    ensures { λ r. ⌜ ReadsProperty (ofByte property.Skip (drop at (now (text .entry)))) (now (text .entry)) at noBytes r ⌝ }
+    ensures { λ r. ⌜ ReadsProperty (ofByte property.Skip (drop at (now (text .entry)))) (now (text .entry)) at noBytes
+        r ⌝ }
 {
     let ValueRead::Value(v, n) = byte_value(text, at) else {
         return PropertyRead::Refused;

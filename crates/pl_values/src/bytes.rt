@@ -2,7 +2,8 @@
 ghost use mathlib.Core.Path.{_≡_};
 ghost use Prim.Native.Nat.{_+_, _≤_};
 ghost use lib.ListN.{length, drop};
-ghost use Rattle.property_lists.specs.Values.{figureOf, byteDigits, charValue, weightOf, slopeOf, expansionOf, faceValue};
+ghost use Rattle.property_lists.specs.Values.{figureOf, byteDigits, charValue, weightOf, slopeOf, expansionOf};
+ghost use Rattle.property_lists.specs.Values.{faceValue};
 ghost use Rattle.property_lists.specs.Values.{typedByte, Scans};
 use pl_chars::is_capital;
 use pl_chars::is_figure;

@@ -1,5 +1,5 @@
-// The LIGTABLE property list of TFtoPL and PLtoTF, as text. Definitions and theorems; the functions are the crates real_text
-// and pl_*.
+// The LIGTABLE property list of TFtoPL and PLtoTF, as text. Definitions and theorems; the functions are the crates
+// real_text and pl_*.
 
 // After a part of a text: the place that follows it, or 23.
 pub enum Passed {
@@ -13,9 +13,9 @@ pub enum ValueRead {
     Refused,
 }
 
-// A property, or what else stands where one can: the parenthesis that closes LIGTABLE, and the end of the text. A label's
-// character is 256 for the boundary. A ligature has its op byte, its right and its inserted character; a kern its right
-// character and the 32 bits of its value.
+// A property, or what else stands where one can: the parenthesis that closes LIGTABLE, and the end of the text. A
+// label's character is 256 for the boundary. A ligature has its op byte, its right and its inserted character; a kern
+// its right character and the 32 bits of its value.
 pub enum Property {
     Comment,
     Boundary(u32),
@@ -35,8 +35,9 @@ pub enum PropertyRead {
     Refused,
 }
 
-// What was read so far: 0 nothing, 1 the boundary character, 2 LIGTABLE up to here, 3 all of it (`stage`); the 32 bits of
-// the boundary character; how many steps; whether STOP or SKIP may stand here; how many steps labels and SKIPs ask for.
+// What was read so far: 0 nothing, 1 the boundary character, 2 LIGTABLE up to here, 3 all of it (`stage`); the 32 bits
+// of the boundary character; how many steps; whether STOP or SKIP may stand here; how many steps labels and SKIPs ask
+// for.
 pub struct Progress {
     pub stage: u32,
     pub boundary: u32,
@@ -62,8 +63,8 @@ pub enum Indented {
     Refused,
 }
 
-// What reading a text answers: how many instructions and entries it has, its boundary character and its left entry (-1 for
-// none); or the number of its refusal.
+// What reading a text answers: how many instructions and entries it has, its boundary character and its left entry (-1
+// for none); or the number of its refusal.
 pub enum Listed {
     Font(usize, usize, i32, i32),
     Refused(u32),
