@@ -128,17 +128,21 @@
    STACK
 
    How many bytes a call takes below its caller's frame, measured by tools/stack/run. No proof speaks of this.
-     ligkern_compile                          3,304     ligkern_program_is_seven_bit_safe      328
-     ligkern_set_word                         1,177     ligkern_instructions_for_entrypoint     88
-     ligkern_fill_index                          56     ligkern_unpack_entrypoint               72
-     ligkern_set_word_indexed                 1,225     ligkern_reachable_iter              32,872
-     ligkern_begin                              304     ligkern_pack_entrypoints             1,144
-     ligkern_step                               761     ligkern_pack_kerns                      88
-     ligkern_has_replacement                     40     ligkern_unpack_kerns               131,176
-     ligkern_all_pairs_with_replacements         72     ligkern_ask_repair                 595,280
-     ligkern_table_is_seven_bit_safe            104     ligkern_commit_repair              595,312
-     ligkern_deserialize                        412     ligkern_replace_lig_kern_program 1,318,312
-     ligkern_to_scaled                           56
+     ligkern_compile                          3,304     ligkern_all_pairs_with_replacements       72
+     ligkern_set_word                         1,177     ligkern_table_is_seven_bit_safe          104
+     ligkern_check_table                         56     ligkern_program_is_seven_bit_safe        328
+     ligkern_set_checked_word                 1,065     ligkern_instructions_for_entrypoint       88
+     ligkern_fill_index                          56     ligkern_unpack_entrypoint                 72
+     ligkern_set_word_indexed                 1,289     ligkern_reachable_iter                32,872
+     ligkern_set_checked_word_indexed         1,273     ligkern_pack_entrypoints               1,144
+     ligkern_begin                              376     ligkern_pack_kerns                        88
+     ligkern_step                               745     ligkern_unpack_kerns                 131,176
+     ligkern_step_indexed                     1,769     ligkern_ask_repair                   595,280
+     ligkern_ask_font                           280     ligkern_commit_repair                595,312
+     ligkern_start_word                         472     ligkern_deserialize                      412
+     ligkern_font_step                        1,801     ligkern_replace_lig_kern_program   1,318,312
+     ligkern_has_replacement                     40     ligkern_to_scaled                         56
+   Not measured: ligkern_chip, ligkern_next_word, ligkern_count_words, ligkern_blamed_instruction, ligkern_display, ligkern_from_pl_source_code.
    Give a thread 16 KiB more, and what the host itself takes. Repair crashes in a thread of 512 KiB; 640 KiB are enough. Writing a font file takes about
    1.3 MB, for the packed program and the shared kerns: it crashes in a thread of 1 MiB, and 1,536 KiB are enough. */
 #ifndef LIGKERN_H

@@ -15,7 +15,7 @@ static int32_t instructions[4 * (INSTRUCTIONS + 1)], kerns[KERNS + 1], entries[2
 static int32_t items[6 * 4 * LETTERS], item[7], out[4 * (INSTRUCTIONS + 257)], entries_out[2 * 256], left[1], boundary, left_entry, design_size, override;
 static int32_t warnings[4 * (1 + 256 + 4 * INSTRUCTIONS + PAIRS)], found[4 * (1 + 256 + 4 * INSTRUCTIONS + PAIRS)], entry, asked_left, asked_right, replacement;
 static uint32_t word[LETTERS + 1], work[16 * PAIRS], chain[INSTRUCTIONS], number;
-static uint64_t counts[3], count[1], values[3], state[9], state_before[9], numbers[LIGKERN_INDEX], existing[4];
+static uint64_t counts[3], count[1], values[3], state[9], state_before[9], numbers[LIGKERN_INDEX], existing[4], run[LIGKERN_FONT_RUN], run_before[LIGKERN_FONT_RUN];
 static uint8_t passthrough[INSTRUCTIONS], through[INSTRUCTIONS], text[LIGCOLS_TEXT + 2], reply[LIGCOLS_REPLY];
 static uint8_t file[4 * LIGKERN_MOST_WORDS], new_file[4 * LIGKERN_MOST_WORDS];
 static int32_t edges[2], size, magnification, scaled[1];
@@ -26,7 +26,7 @@ static struct {
     size_t instructions, kerns, entries, passthrough, text, file;          /* read */
     size_t pairs, ops, word, numbers;                                      /* read: a table, a word, an index */
     size_t pair_room, op_room, loops, work, counts, items, count, values;  /* written */
-    size_t state, item, out, entries_out, through, chain, warnings, reply; /* written */
+    size_t state, run, item, out, entries_out, through, chain, warnings, reply; /* written */
     size_t edges, new_file, scaled, handed, found, left;                   /* written, but for what is handed over */
 } n;
 
@@ -42,10 +42,17 @@ CALL(ligkern_compile, PROGRAM, kerns, n.kerns, entries, n.entries, boundary, lef
      n.op_room, loops, n.loops, work, n.work, counts, n.counts)
 CALL(ligkern_to_scaled, kerns[0], design_size, size, magnification, scaled, n.scaled)
 CALL(ligkern_set_word, CAPTION, items, n.items, count, n.count)
+CALL(ligkern_check_table, TABLE)
+CALL(ligkern_set_checked_word, CAPTION, items, n.items, count, n.count)
 CALL(ligkern_fill_index, pairs, n.pairs, numbers, n.numbers)
 CALL(ligkern_set_word_indexed, numbers, n.numbers, CAPTION, items, n.items, count, n.count)
+CALL(ligkern_set_checked_word_indexed, numbers, n.numbers, CAPTION, items, n.items, count, n.count)
 CALL(ligkern_begin, CAPTION, state, n.state)
 CALL(ligkern_step, CAPTION, state, n.state, item, n.item)
+CALL(ligkern_step_indexed, numbers, n.numbers, CAPTION, state, n.state, item, n.item)
+CALL(ligkern_ask_font, 1, TABLE, boundary, run, n.run)
+CALL(ligkern_start_word, TABLE, boundary, TABLE, boundary, word, n.word, without_left, override, run, n.run)
+CALL(ligkern_font_step, TABLE, boundary, TABLE, boundary, word, n.word, without_left, override, run, n.run, item, n.item)
 CALL(ligkern_has_replacement, pairs, n.pairs, boundary, asked_left, asked_right, VALUES)
 CALL(ligkern_all_pairs_with_replacements, pairs, n.pairs, out, n.out, VALUES)
 CALL(ligkern_table_is_seven_bit_safe, TABLE, VALUES)
@@ -65,10 +72,11 @@ CALL(ligkern_replace_lig_kern_program, file, n.file, PROGRAM, kerns, n.kerns, en
 CALL(ligcols, text, n.text, reply, n.reply)
 
 enum call {
-    COMPILE, SCALE, SET, FILL, INDEXED, BEGIN, STEP,                                 /* captions */
+    COMPILE, SCALE, SET, CHECK, CHECKED, FILL, INDEXED, CHECKED_INDEXED,             /* captions */
+    BEGIN, STEP, STEP_INDEXED, ASK_FONT, START_WORD, FONT_STEP,                      /* .. step by step */
     HAS, LISTED, TABLE_SAFE,                                                         /* questions about a table */
     PROGRAM_SAFE, CHAIN, UNPACK, REACH, PACK, PACK_KERNS, UNPACK_KERNS, ASK, COMMIT, /* programs */
-    READ_FILE, WRITE_FILE, TEXT                                                      /* font files; a text */
+    READ_FILE, WRITE_FILE, TEXT, CONVERT                                             /* font files; a text */
 };
 
 /* Each with the numbers of its refusals, which are all to be met. */
@@ -84,10 +92,17 @@ static struct {
     ROW(SCALE, ligkern_to_scaled, 5, 13, 15, 19),
     ROW(SET, ligkern_set_word, 4, 6, 7, 15),
     ROW(FILL, ligkern_fill_index, 7, 15),
+    ROW(CHECK, ligkern_check_table, 7),
+    ROW(CHECKED, ligkern_set_checked_word, 4, 6, 7, 15),
     ROW(INDEXED, ligkern_set_word_indexed, 4, 6, 7, 15),
     ROW(BEGIN, ligkern_begin, 4, 6, 7, 15),
+    ROW(CHECKED_INDEXED, ligkern_set_checked_word_indexed, 4, 6, 7, 15),
     ROW(STEP, ligkern_step, 4, 6, 7, 15),
     ROW(HAS, ligkern_has_replacement, 4, 7, 15),
+    ROW(STEP_INDEXED, ligkern_step_indexed, 4, 6, 7, 15),
+    ROW(ASK_FONT, ligkern_ask_font, 4, 7),
+    ROW(START_WORD, ligkern_start_word, 4, 6, 7),
+    ROW(FONT_STEP, ligkern_font_step, 4, 6, 7, 15),
     ROW(LISTED, ligkern_all_pairs_with_replacements, 7, 15),
     ROW(TABLE_SAFE, ligkern_table_is_seven_bit_safe, 7, 15),
     ROW(PROGRAM_SAFE, ligkern_program_is_seven_bit_safe, 1, 2, 4, 15),
@@ -105,14 +120,18 @@ static struct {
 #undef ROW
 };
 
-/* A step changes the state from which it goes. */
-static void put_back(void) { memcpy(state, state_before, sizeof state); }
+/* A step changes the state, or the run, from which it goes. */
+static void put_back(void)
+{
+    memcpy(state, state_before, sizeof state);
+    memcpy(run, run_before, sizeof run);
+}
 
 /* Makes a call, and notes what it took and answered. */
 static uint32_t take(enum call c)
 {
     size_t bytes = bytes_taken(put_back, calls[c].from, calls[c].to);
-    if (c == TEXT) number = (int32_t)number < 0 ? 0 - number : 0;
+    if (c == TEXT || c == CONVERT) number = (int32_t)number < 0 ? 0 - number : 0;
     if (bytes > calls[c].most) calls[c].most = bytes;
     calls[c].met |= (uint32_t)1 << number;
     return number;
@@ -183,6 +202,7 @@ static void lend_all(void)
     n.state = 9;
     n.item = 7;
     n.out = sizeof out / sizeof *out;
+    n.run = LIGKERN_FONT_RUN;
     n.entries_out = sizeof entries_out / sizeof *entries_out;
     n.through = sizeof through;
     n.chain = sizeof chain / sizeof *chain;
@@ -301,13 +321,29 @@ static void write_text(void)
 
 /* ---- the calls on a font */
 
-static void take_steps(size_t most)
+static void take_steps(size_t most, enum call step)
 {
     memset(state_before, 0, sizeof state_before);
     if (take(BEGIN) != 0) return;
     for (size_t i = 0; i < most; i++) {
         memcpy(state_before, state, sizeof state);
-        if (take(STEP) != 0 || item[0] == 0) return;
+        if (take(step) != 0 || item[0] == 0) return;
+    }
+}
+
+/* .. of a run that knows its font, the same font asked for now and then. */
+static void keep_run(void) { memcpy(run_before, run, sizeof run); }
+
+static void take_font_steps(size_t most)
+{
+    memset(run_before, 0, sizeof run_before);
+    for (size_t i = 0; i < most; i++) {
+        if (i != 0 && below(3) == 0) {
+            take(ASK_FONT);
+            keep_run();
+        }
+        if (take(i == 0 ? START_WORD : FONT_STEP) != 0 || (i != 0 && item[0] == 0)) return;
+        keep_run();
     }
 }
 
@@ -320,7 +356,12 @@ static void take_table(void)
     take(SET);
     take(FILL);
     take(INDEXED);
-    take_steps(200);
+    take(CHECK);
+    take(CHECKED);
+    take(CHECKED_INDEXED);
+    take_steps(200, STEP);
+    take_steps(200, STEP_INDEXED);
+    take_font_steps(200);
     take(HAS);
     take(LISTED);
     take(TABLE_SAFE);
@@ -328,6 +369,7 @@ static void take_table(void)
     take(INDEXED);
 }
 
+    take(CHECKED_INDEXED);
 /* The font written into a file, and read again where it was taken. */
 static void take_file(void)
 {
@@ -364,6 +406,7 @@ static void take_font(void)
     take(TEXT);
     size = below(2) ? 0 : (int32_t)(1 + below(134217727));
     magnification = size || below(2) ? 0 : (int32_t)(1 + below(32768));
+    take(CONVERT);
     take(SCALE);
     if (take(COMPILE) == 0) take_table();
     size = magnification = 0;
@@ -488,19 +531,33 @@ static void refuse_tables(void)
     n.pairs = 6 * counts[0];
     n.ops = 2 * counts[1];
     due(FILL, 0);
-    static const enum call captions[] = {SET, INDEXED, BEGIN};
-    for (size_t i = 0; i < 3; i++) {
+    memset(run_before, 0, sizeof run_before);
+    static const enum call captions[] = {SET, INDEXED, BEGIN, START_WORD};
+    for (size_t i = 0; i < 4; i++) {
         refuse_word(captions[i]);
         refuse_table(captions[i]);
     }
-    with_length(&n.items, 0, SET, 15);
-    with_length(&n.items, 0, INDEXED, 15);
+    refuse_table(CHECK);
+    refuse_table(ASK_FONT);
+    with_number(&boundary, 256, ASK_FONT, 4);
+    static const enum call checked[] = {CHECKED, CHECKED_INDEXED};
+    for (size_t i = 0; i < 2; i++) {
+        refuse_word(checked[i]);
+        with_number(pairs + 9, 9, checked[i], 7); /* the second pair, which the word reads */
+    }
+    static const enum call listed[] = {SET, INDEXED, CHECKED, CHECKED_INDEXED};
+    for (size_t i = 0; i < 4; i++) with_length(&n.items, 0, listed[i], 15);
     with_length(&n.state, 8, BEGIN, 15);
     due(BEGIN, 0);
     memcpy(state_before, state, sizeof state);
-    refuse_word(STEP);
-    with_length(&n.state, 8, STEP, 7);
-    with_length(&n.item, 6, STEP, 15);
+    due(START_WORD, 0);
+    keep_run();
+    static const enum call steps[] = {STEP, STEP_INDEXED, FONT_STEP};
+    for (size_t i = 0; i < 3; i++) {
+        refuse_word(steps[i]);
+        with_length(steps[i] == FONT_STEP ? &n.run : &n.state, 8, steps[i], 7);
+        with_length(&n.item, 6, steps[i], 15);
+    }
     static const enum call questions[] = {HAS, LISTED, TABLE_SAFE};
     with_number(&asked_left, 256, HAS, 4);
     for (size_t i = 0; i < 3; i++) {
@@ -524,6 +581,7 @@ static void refuse_texts(void)
         due(TEXT, wanted);                                                                                                                                \
     } while (0)
     TEXT_WITH(instructions[2], 9, 2);
+        if (wanted < 12) due(CONVERT, wanted);                                                                                                            \
     TEXT_WITH(entries[0], 256, 4);
     TEXT_WITH(design_size, -1, 5);
     TEXT_WITH(kerns[0], 16777216, 13);
@@ -532,7 +590,9 @@ static void refuse_texts(void)
     with_length(&n.reply, 10, TEXT, 15);
     with_length(&n.text, n.text - 1, TEXT, 16);
     with_length(&n.text, LIGCOLS_TEXT + 1, TEXT, 16);
+    with_length(&n.reply, 10, CONVERT, 15);
     /* 513 pairs of three letters that share a chain. */
+    with_length(&n.text, n.text - 1, CONVERT, 16);
     n.entries = 0;
     n.instructions = 4 * 171;
     for (int32_t i = 0; i < 171; i++) put_instruction((size_t)i, i < 170 ? 0 : -1, i, 2, 200);

@@ -1,17 +1,15 @@
 // Which instruction did that? (R481 to R488). Each instruction of a font is removed alone, from the lowest on, until a
-// removal alters the items of a word, or brings a loop, or a number.
-//   given  the font as given: its table, its refusals, and then the removals
-// The refusals are crate `blame_numbers`, the removals `blame_search` and, one alone, `blame_removal`.
+// removal alters the items of a word, or brings a loop, or a number. The font as given, and then the removals, is crate
+// `blame_given`; the refusals are crate `blame_numbers`, the removals `blame_search` and, one alone, `blame_removal`.
 ghost use Rattle.removals.specs.Removed.{fontAt, sizeNumber};
 ghost use Rattle.removals.specs.Search.{Blames};
+use blame_given::answer_given;
 use captions::RunOptions;
 use removals::Blamed;
 use removals::FontNumbers;
 use words::i32s::zero_i32;
 use words::sizes::smaller;
 use words::u32s::zero_u32;
-
-mod given;
 
 // The lowest instruction whose removal alone alters the items of a word. The six lists are work, and left zero: a table
 // for the font as given, one for a removal, edited instructions, and compile's work. Compile's numbers, begin's, 15
@@ -39,7 +37,7 @@ pub fn blamed_instruction(
 {
     let p = smaller(pairs.len(), pairs_without.len());
     let o = smaller(ops.len(), ops_without.len());
-    let answer = given::answer_given(
+    let answer = answer_given(
         instructions,
         kerns,
         entries,

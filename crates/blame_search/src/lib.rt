@@ -9,19 +9,8 @@ use blame_removal::answer_edited;
 use captions::RunOptions;
 use removals::Blamed;
 use removals::FontNumbers;
+use repair_places::copy_numbers;
 use words::i32s::put_word;
-use words::i32s::word_at;
-
-// Numbers copied to the front of a list, as far as it goes.
-fn copy_numbers(from: &[i32], to: &mut [i32])
-    ensures { λ _. ⌜ now (to .exit) ≡ sets (now (to .entry)) 0 (now (from .entry)) ⌝ }
-{
-    let mut i = 0;
-    while i < from.len() {
-        put_word(to, i, word_at(from, i));
-        i += 1;
-    }
-}
 
 // The instructions without instruction i, which gets kind 3 and operand 0.
 fn write_without(instructions: &[i32], i: usize, edited: &mut [i32])

@@ -1,2 +1,2 @@
--- What is proved of the call: Laws (what is told of an answer).
+-- What is proved of the call: Laws.
 pub mod Laws

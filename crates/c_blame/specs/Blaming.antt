@@ -1,15 +1,12 @@
 -- Which instruction did that? for a host in C (R489): what is told of the answer (`blamedReply` of removals/specs/Search), in a list of two
 -- places: 1 and the index, or 0 and 0.
-use mathlib.Core.Path.{_≡_}
-use mathlib.Core.List.{List, map}
+use mathlib.Core.List.{List}
 use Prim.Native.Nat.{ℕ}
 use lib.IntN.{ℤ}
 use lib.ListN.{length}
-use Rattle.lang.specs.Checks.{lower}
-use Rattle.lang.specs.Answers.{Reply, roomRefusal, listOf}
 use Rattle.fonts.specs.Fonts.{Font}
 use Rattle.captions.specs.declared.RunOptions.{RunOptions}
-use Rattle.c_values.specs.Telling.{natural}
+use Rattle.c_blame_write.specs.Told.{TellsBlamed}
 use Rattle.removals.specs.declared.FontNumbers.{FontNumbers}
 use Rattle.removals.specs.Search.{blameRoom, blamedOf, blamedReply, WorkZeroed}
 
@@ -17,12 +14,6 @@ use Rattle.removals.specs.Search.{blameRoom, blamedOf, blamedReply, WorkZeroed}
 abbrev pub fontNumbersOf : ℤ → ℤ → ℤ → ℤ → ℤ → FontNumbers
 fontNumbersOf boundary left design size magnification =
     record { boundary = boundary; «left_entry» = left; «design_size» = design; size = size; magnification = magnification }
-
--- the lower of the answer's number and 15, where the list has not two places (R216): 15 is one more of the numbers before any removal, and
--- beside a 13 or 14 of a removal the lower is told; the values and zeros, or zeros alone
-pub record TellsBlamed (reply : Reply) (values : List ℕ) (r : ℕ) (values′ : List ℕ) : Type 0 where
-  pub number : r ≡ lower (reply .number) (roomRefusal 2 (length values))
-  pub told : values′ ≡ listOf r 0 (length values) (map natural (reply .values))
 
 -- THE contract of ligkern_blamed_instruction: the number, the values, and zeros in the six lists that are work; `size` is the number of the
 -- size asked for

@@ -1,2 +1,2 @@
--- Laws of crate c_chip: Laws (a command refused, and one that is taken).
+-- Laws of crate c_chip: Laws (begin, and the other commands).
 pub mod Laws

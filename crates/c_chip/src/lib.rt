@@ -1,8 +1,8 @@
 // One command of the caption chip for a host in C (R214): the block in bytes, and the chip in a list of 91 numbers.
 ghost use Rattle.c_chip.specs.Chip91.{TellsChip};
-use c_chip_read::chip_in;
-use c_chip_write::put_chip;
-use chip::command;
+use c_chip_begin::begin_in;
+use c_chip_turn::turn_in;
+use words::u8s::u8_at;
 
 // One command: 0, with the block and the chip after it; or the number of its refusal, with both as they were. Numbers
 // that are no chip's are 7.
@@ -17,12 +17,8 @@ pub extern "C" fn ligkern_chip(
     ensures { λ r. ⌜ TellsChip (now (pairs .entry)) (now (ops .entry)) boundary (now (block .entry))
         (now (chip .entry)) r (now (block .exit)) (now (chip .exit)) ⌝ }
 {
-    let from = chip_in(chip);
-    let done = command(pairs, ops, boundary, block, from);
-    if done.number != 0 {
-        return done.number;
+    if u8_at(block, 0) == 1 {
+        return begin_in(pairs, ops, boundary, block, chip);
     }
-    let after = done.chip;
-    put_chip(chip, after);
-    0
+    turn_in(pairs, ops, boundary, block, chip)
 }

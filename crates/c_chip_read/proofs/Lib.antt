@@ -1,2 +1,2 @@
--- Laws of crate c_chip_read: Laws (numbers read one by one, and letters).
+-- Laws of crate c_chip_read: Laws (what is tested of a list).
 pub mod Laws

@@ -1,19 +1,16 @@
-// A chip read from a list of 91 numbers, for a host in C: the numbers that are a chip's, and the chip that they are.
+// A chip that stands in a list of 91 numbers, for a host in C: whether some command leaves such a one, and what is
+// refused before a command is looked at. No chip is built for it.
 ghost use mathlib.Core.Path.{_≡_};
-ghost use mathlib.Core.Bool.{true};
-ghost use mathlib.Core.List.{_++_};
-ghost use Prim.Native.Nat.{_-_, _≤_};
-ghost use lib.ListN.{length, getD, replicate};
-ghost use Rattle.lang.specs.Every.{every};
-ghost use Rattle.c_chips.specs.ChipLists.{isWord, isShown, areLetters, areCounts, isChip};
-ghost use Rattle.c_chips.specs.ChipLists.{shownBy, shownAt, chipAt, chipRead};
+ghost use Prim.Native.Nat.{_≤_};
+ghost use lib.Dec.{leb};
+ghost use lib.ListN.{length, getD};
+ghost use Rattle.lang.specs.Every.{both, every};
+ghost use Rattle.chips.specs.Commands.{itemStands, openStands};
+ghost use Rattle.c_chips.specs.ChipLists.{isWord, isShown, shownAt, chipAt, chipRead, afterEarly};
+ghost use Rattle.c_chip_read.specs.Standing.{byteLetters, callersStand, listStands};
 use c_states::states::flag_of;
 use c_states::states::is_state;
-use c_states::states::state_in;
-use captions::Answer;
-use chip::fresh;
-use chips::Chip;
-use words::number_of;
+use program_checks::absent_refusal;
 
 // Every number is one of 32 bits. They are or-ed together, since 4,294,967,295 is all of the low 32.
 fn are_words(codes: &[u64]) -> bool
@@ -28,28 +25,41 @@ fn are_words(codes: &[u64]) -> bool
     all <= 4294967295
 }
 
-// The letters of a word, which no more than 64 are.
-fn are_letters(list: &[u64]) -> bool
+// Every number is a byte, in the same way.
+fn are_bytes(codes: &[u64]) -> bool
+    ensures { λ r. ⌜ r ≡ every (length (now (codes .entry))) (λ i. leb (getD (now (codes .entry)) i 0) 255) ⌝ }
+{
+    let mut all: u64 = 0;
+    let mut i = 0;
+    while i < codes.len() {
+        all = all | codes[i];
+        i += 1;
+    }
+    all <= 255
+}
+
+// The letters of a word, which no more than 64 are, are bytes.
+fn letters_stand(list: &[u64]) -> bool
     requires { ⌜ 91 ≤ length (now list) ⌝ }
-    ensures { λ r. ⌜ r ≡ areLetters (now (list .entry)) ⌝ }
+    ensures { λ r. ⌜ r ≡ byteLetters (now (list .entry)) ⌝ }
 {
     let n = list[1];
     if 64 < n {
         return false;
     }
     let end = 18 + (n as usize);
-    are_words(&list[18..end])
+    are_bytes(&list[18..end])
 }
 
-// The counts of the eight callers, and the caller.
-fn are_counts(list: &[u64]) -> bool
+// The caller, and the counts of all eight.
+fn callers_stand(list: &[u64]) -> bool
     requires { ⌜ 91 ≤ length (now list) ⌝ }
-    ensures { λ r. ⌜ r ≡ areCounts (now (list .entry)) ⌝ }
+    ensures { λ r. ⌜ r ≡ callersStand (now (list .entry)) ⌝ }
 {
-    if !are_words(&list[82..90]) {
+    if 7 < list[90] {
         return false;
     }
-    list[90] <= 4294967295
+    are_words(&list[82..90])
 }
 
 // The seven numbers of an item.
@@ -72,9 +82,53 @@ fn is_shown(list: &[u64]) -> bool
     list[8] <= 1
 }
 
-// Whether the first 91 numbers of a list are a chip's.
-fn is_chip(list: &[u64]) -> bool
-    ensures { λ r. ⌜ r ≡ isChip (now (list .entry)) ⌝ }
+// No original of more than 64 letters.
+fn item_stands(list: &[u64]) -> bool
+    requires { ⌜ 91 ≤ length (now list) ⌝ }
+    ensures { λ r. ⌜ r ≡ itemStands (shownAt (now (list .entry))) ⌝ }
+{
+    if !flag_of(list[2]) {
+        return true;
+    }
+    match list[3] {
+        1 => list[6] <= 64,
+        _ => true,
+    }
+}
+
+// An open word has no item ready, and can be counted for its caller.
+fn open_stands(list: &[u64]) -> bool
+    requires { ⌜ (91 ≤ length (now list)) × (getD (now list) 90 0 ≤ 7) ⌝ }
+    ensures { λ r. ⌜ r ≡ openStands (chipAt (now (list .entry))) ⌝ }
+{
+    if !flag_of(list[0]) {
+        return true;
+    }
+    if flag_of(list[2]) {
+        return false;
+    }
+    let caller = list[90] as usize;
+    list[82 + caller] < 4294967295
+}
+
+// The item and the open word, where the caller stands.
+fn late_stands(list: &[u64]) -> bool
+    requires { ⌜ 91 ≤ length (now list) ⌝ }
+    ensures { λ r. ⌜ r ≡ both (callersStand (now (list .entry)))
+        (both (itemStands (shownAt (now (list .entry)))) (openStands (chipAt (now (list .entry))))) ⌝ }
+{
+    if !callers_stand(list) {
+        return false;
+    }
+    if !item_stands(list) {
+        return false;
+    }
+    open_stands(list)
+}
+
+// Whether the first 91 numbers of a list are a chip's that some command leaves.
+fn stands(list: &[u64]) -> bool
+    ensures { λ r. ⌜ r ≡ listStands (now (list .entry)) ⌝ }
 {
     if list.len() < 91 {
         return false;
@@ -88,103 +142,22 @@ fn is_chip(list: &[u64]) -> bool
     if !is_state(&list[9..]) {
         return false;
     }
-    if !are_letters(list) {
+    if !letters_stand(list) {
         return false;
     }
-    are_counts(list)
+    late_stands(list)
 }
 
-// An item by its kind.
-fn shown_by(kind: u64, value: u32, start: usize, n: usize, left: bool, right: bool) -> Answer
-    ensures { λ r. ⌜ r ≡ shownBy kind value start n left right ⌝ }
+// 4, 7 of the chip that stands in a list or 15 of the block's length, the lowest that holds.
+pub fn list_refusal(boundary: i32, list: &[u64], bytes: usize) -> u32
+    ensures { λ r. ⌜ r ≡ afterEarly boundary (chipRead (now (list .entry))) bytes 0 ⌝ }
 {
-    match kind {
-        0 => Answer::Char(value, start),
-        1 => Answer::Ligature(value, start, n, left, right),
-        _ => Answer::Kern(number_of(value)),
+    let edge = absent_refusal(255, boundary);
+    if edge != 0 {
+        return edge;
     }
-}
-
-// The item that stands in a list.
-fn shown_at(list: &[u64]) -> Answer
-    requires { ⌜ (91 ≤ length (now list)) × (getD (now list) 4 0 ≤ 4294967295) ⌝ }
-    ensures { λ r. ⌜ r ≡ shownAt (now (list .entry)) ⌝ }
-{
-    if !flag_of(list[2]) {
-        return Answer::End;
+    if !stands(list) {
+        return 7;
     }
-    let left = flag_of(list[7]);
-    let right = flag_of(list[8]);
-    shown_by(
-        list[3],
-        list[4] as u32,
-        list[5] as usize,
-        list[6] as usize,
-        left,
-        right,
-    )
-}
-
-// Letters, and zeros.
-fn letters_of(codes: &[u64]) -> [u32; 64]
-    requires { ⌜ (length (now codes) ≤ 64)
-        × (every (length (now codes)) (λ i. isWord (getD (now codes) i 0)) ≡ true) ⌝ }
-    ensures { λ r. ⌜ r ≡ now (codes .entry) ++ replicate (64 - length (now (codes .entry))) 0 ⌝ }
-{
-    let mut letters = [0u32; 64];
-    let mut i = 0;
-    while i < codes.len() {
-        letters[i] = codes[i] as u32;
-        i += 1;
-    }
-    letters
-}
-
-// The counts of eight callers.
-fn counts_of(codes: &[u64]) -> [u32; 8]
-    requires { ⌜ (length (now codes) ≡ 8)
-        × (every (length (now codes)) (λ i. isWord (getD (now codes) i 0)) ≡ true) ⌝ }
-    ensures { λ r. ⌜ r ≡ now (codes .entry) ⌝ }
-{
-    let mut counts = [0u32; 8];
-    let mut i = 0;
-    while i < codes.len() {
-        counts[i] = codes[i] as u32;
-        i += 1;
-    }
-    counts
-}
-
-// The chip that 91 numbers are.
-fn chip_at(list: &[u64]) -> Chip
-    requires { ⌜ isChip (now list) ≡ true ⌝ }
-    ensures { λ r. ⌜ r ≡ chipAt (now (list .entry)) ⌝ }
-{
-    let length = list[1] as usize;
-    let end = 18 + length;
-    let letters = letters_of(&list[18..end]);
-    let counts = counts_of(&list[82..90]);
-    let item = shown_at(list);
-    let state = state_in(&list[9..]);
-    Chip {
-        opened: flag_of(list[0]),
-        length: length,
-        letters: letters,
-        counts: counts,
-        caller: list[90] as u32,
-        item: item,
-        state: state,
-    }
-}
-
-// The chip that stands in a list; where none stands there, one of 65 letters, which every command refuses.
-pub fn chip_in(list: &[u64]) -> Chip
-    ensures { λ r. ⌜ r ≡ chipRead (now (list .entry)) ⌝ }
-{
-    if is_chip(list) {
-        return chip_at(list);
-    }
-    let mut none = fresh();
-    none.length = 65;
-    none
+    if bytes < 16 { 15 } else { 0 }
 }

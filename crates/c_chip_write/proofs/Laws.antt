@@ -1,33 +1,28 @@
--- Letters that are written, and a list that was written part by part.
+-- A list that was written part by part.
 -- Assumes nothing.
 use mathlib.Core.Path.{_≡_, refl, sym, ap, _∙_}
+use mathlib.Core.Bool.{Bool, true}
 use mathlib.Core.List.{List, [], _∷_, _++_, append-assoc, append-nil}
 use Prim.Native.Nat.{ℕ, _+_, _-_, _<_, _≤_}
-use native.Mathlib.Numerals.{add-one}
 use native.Mathlib.Omega.{arith}
-use lib.ListN.{length, getD, set, take, drop, length-set, length-append, length-drop, drop-of-length-le}
-use lib.Seq.{take-all, drop-drop, sets, sets-eq, length-sets, paste, paste-suc}
+use lib.Dec.{leb}
+use lib.ListN.{length, getD, set, take, drop, replicate, length-append, length-set, length-drop, length-replicate, take-append-drop, drop-of-length-le}
+use lib.Seq.{length-take-le, take-at, drop-cons, drop-drop, drop-append-add, getD-set-other, set-getD, sets, sets-eq, length-sets}
+use borrow.Author.Tests.{leb-true}
 use borrow.Rule.Slice.PartMut.{midOf, postOf, putMid, post-is}
 use Rattle.words.proofs.Lists.{sets-append, sets-front}
+use Rattle.lang.specs.Every.{both}
 use Rattle.lang.specs.Answers.{roomRefusal}
+use Rattle.lang.proofs.Every.{both-left, both-right}
 use Rattle.lang.proofs.Refusals.{room-is}
 use Rattle.captions.specs.declared.State.{State}
 use Rattle.captions.specs.declared.Answer.{Answer}
 use Rattle.captions.specs.declared.Answer.the-variants.{Char, Ligature, Kern, End, Refused}
 use Rattle.c_states.specs.States.{flagBit, numbersOf, movedTo}
-use Rattle.chips.specs.declared.Chip.{Chip}
-use Rattle.c_chips.proofs.Laws.{part-rest}
-use Rattle.c_chips.specs.ChipLists.{shownNumbers, chipNumbers}
-
--- numbers put into a list, from a place on: one more, and all
-module _ (list words : List ℕ) (at : ℕ) {list′ : List ℕ} {i : ℕ} (e : list′ ≡ paste list at words i) (room : at + length words ≤ length list) where
-  pub words-more : i < length words → set list′ (at + i) (getD words i 0) ≡ paste list at words (i + 1)
-  words-more h = rw (e, add-one) (paste-suc list at words i 0 (omega (arith, h, room)) h)
-
-  pub words-put : i ≤ length words → length words ≤ i → list′ ≡ sets list at words
-  words-put h l =
-      let q : i ≡ length words = omega arith in
-      e ∙ rw (q, take-all (length words) words (omega arith)) (sym (sets-eq words list at room))
+use Rattle.chip_block.specs.Showing.{chipShowing, shownWhere}
+use Rattle.c_chips.specs.ChipLists.{isWord, shownNumbers, chipNumbers, chipAt, chipWith}
+use Rattle.c_chips.proofs.Laws.{part-rest, count-at}
+use Rattle.c_chip_write.specs.Changes.{canShow}
 
 -- ---- a list that was written
 
@@ -48,8 +43,9 @@ state-put l ys s h e =
     nine-put l ys (numbersOf s) refl h
     (e ∙ ap (λ (m : List ℕ). movedTo (roomRefusal 9 (length m)) m s) (part-rest 9 l) ∙ ap (λ (n : ℕ). movedTo n (drop 9 l) s) z)
 
-pub two-long : (l d : List ℕ) (a b : ℕ) (vs : List ℕ) → d ≡ sets (set (set l 0 a) 1 b) 2 vs → length d ≡ length l
-two-long l d a b vs e = ap length e ∙ length-sets (set (set l 0 a) 1 b) 2 vs ∙ length-set (set l 0 a) 1 b ∙ length-set l 0 a
+-- the list keeps its length
+pub one-long : (l d : List ℕ) (a : ℕ) (vs : List ℕ) → d ≡ sets (set l 0 a) 2 vs → length d ≡ length l
+one-long l d a vs e = ap length e ∙ length-sets (set l 0 a) 2 vs ∙ length-set l 0 a
 
 pub more-long : (l d e : List ℕ) (i : ℕ) (vs : List ℕ) → length d ≡ length l → e ≡ sets d i vs → length e ≡ length l
 more-long l d e i vs h q = ap length q ∙ length-sets d i vs ∙ h
@@ -65,31 +61,116 @@ shown-seven (Refused n) = refl
 run-on : (l xs ys : List ℕ) (i : ℕ) → length xs ≡ i → sets (sets l 0 xs) i ys ≡ sets l 0 (xs ++ ys)
 run-on l xs ys i h = let e : 0 + length xs ≡ i = omega (arith, h) in ap (λ (k : ℕ). sets (sets l 0 xs) k ys) (sym e) ∙ sym (sets-append xs ys l 0)
 
-module _ (l : List ℕ) (chip : Chip) (room : 91 ≤ length l) (long : length (chip .letters) ≡ 64) (eight : length (chip .counts) ≡ 8) where
+five : (f m t z k : List ℕ) (c : ℕ) (d : List ℕ) → ((f ++ m) ++ t) ++ z ++ (k ++ (c ∷ d)) ≡ (f ++ m ++ (t ++ z) ++ k ++ (c ∷ [])) ++ d
+five f m t z k c d = simp append-assoc
+
+-- stores at a seam
+sets-seam : (p y zs : List ℕ) (k : ℕ) → length p ≡ k → length zs ≤ length y → sets (p ++ y) k zs ≡ p ++ zs ++ drop (length zs) y
+sets-seam p y zs k e h =
+    let d : drop (k + length zs) (p ++ y) ≡ drop (length zs) y = ap (λ (m : ℕ). drop (m + length zs) (p ++ y)) (sym e) ∙ drop-append-add p y (length zs) in
+    sets-eq zs (p ++ y) k (omega (arith, length-append p y, e, h)) ∙ rw (take-at p y k e, d)
+
+-- zeros in the part up to place 82
+pub zeros-put : (l ys : List ℕ) (from : ℕ) → 91 ≤ length l → from ≤ 82 → ys ≡ replicate (length (midOf from (82 - from) l)) 0 →
+    putMid from (82 - from) l ys ≡ sets l from (replicate (82 - from) 0)
+zeros-put l ys from h f e =
+    let m : length (midOf from (82 - from) l) ≡ 82 - from = length-take-le (82 - from) (drop from l) (omega (arith, length-drop from l, h, f)) in
+    let z : length (replicate {A = ℕ} (82 - from) 0) ≡ 82 - from = length-replicate (82 - from) 0 in
+    let q : from + length (replicate {A = ℕ} (82 - from) 0) ≡ 82 = omega (arith, z, f) in
+    ap (λ (t : List ℕ). take from l ++ (ys ++ t)) (post-is from 82 l f)
+    ∙ ap (λ (t : List ℕ). take from l ++ (t ++ drop 82 l)) (e ∙ ap (λ (k : ℕ). replicate k 0) m)
+    ∙ sym (append-assoc (take from l) (replicate (82 - from) 0) (drop 82 l))
+    ∙ ap (λ (k : ℕ). take from l ++ replicate (82 - from) 0 ++ drop k l) (sym q)
+    ∙ sym (sets-eq (replicate (82 - from) 0) l from (omega (arith, q, h)))
+
+module _ (l : List ℕ) (opened : Bool) (item : Answer) (state : State) (room : 91 ≤ length l) (few : getD l 1 0 ≤ 64) where
+  abbrev n : ℕ
+  n = getD l 1 0
+
   abbrev front : List ℕ
-  front = flagBit (chip .opened) ∷ chip .length ∷ shownNumbers (chip .item)
+  front = flagBit opened ∷ n ∷ shownNumbers item
+
+  abbrev first : List ℕ
+  first = front ++ numbersOf state
+
+  abbrev zeros : List ℕ
+  zeros = replicate (64 - n) 0
 
   nine : length front ≡ 9
-  nine = omega (arith, shown-seven (chip .item))
+  nine = omega (arith, shown-seven item)
 
-  eighteen : length (front ++ numbersOf (chip .state)) ≡ 18
-  eighteen = length-append front (numbersOf (chip .state)) ∙ rw nine
+  eighteen : length first ≡ 18
+  eighteen = length-append front (numbersOf state) ∙ rw nine
 
-  most : length (front ++ numbersOf (chip .state) ++ chip .letters) ≡ 82
-  most = length-append (front ++ numbersOf (chip .state)) (chip .letters) ∙ rw (eighteen, long)
+  -- the length is stored as it was
+  length-kept : set l 0 (flagBit opened) ≡ set (set l 0 (flagBit opened)) 1 n
+  length-kept =
+      sym (ap (λ (m : ℕ). set (set l 0 (flagBit opened)) 1 m) (sym (getD-set-other l 0 1 (flagBit opened) 0 (λ e. omega (arith, e))))
+      ∙ set-getD (set l 0 (flagBit opened)) 1 0)
 
-  all : length (front ++ numbersOf (chip .state) ++ chip .letters ++ chip .counts) ≡ 90
-  all = length-append (front ++ numbersOf (chip .state) ++ chip .letters) (chip .counts) ∙ rw (most, eight)
+  pub first-put : (d₂ d₃ : List ℕ) → d₂ ≡ sets (set l 0 (flagBit opened)) 2 (shownNumbers item) → d₃ ≡ sets d₂ 9 (numbersOf state) →
+      d₃ ≡ first ++ drop 18 l
+  first-put d₂ d₃ e f =
+      f ∙ ap (λ (d : List ℕ). sets d 9 (numbersOf state)) (e ∙ ap (λ (d : List ℕ). sets d 2 (shownNumbers item)) length-kept)
+      ∙ run-on l front (numbersOf state) 9 nine ∙ sets-front first l (omega (arith, eighteen, room)) ∙ ap (λ (k : ℕ). first ++ drop k l) eighteen
 
-  pub chip-put : (d₂ d₃ d₄ d₅ : List ℕ) → d₂ ≡ sets l 0 front → d₃ ≡ sets d₂ 9 (numbersOf (chip .state)) → d₄ ≡ sets d₃ 18 (chip .letters) →
-      d₅ ≡ sets d₄ 82 (chip .counts) → set d₅ 90 (chip .caller) ≡ chipNumbers chip ++ drop 91 l
-  chip-put d₂ d₃ d₄ d₅ e f g h =
-      let n = numbersOf (chip .state) in
-      let a : d₃ ≡ sets l 0 (front ++ n) = f ∙ ap (λ (d : List ℕ). sets d 9 n) e ∙ run-on l front n 9 nine in
-      let b : d₄ ≡ sets l 0 (front ++ n ++ chip .letters) = g ∙ ap (λ (d : List ℕ). sets d 18 (chip .letters)) a
-      ∙ run-on l (front ++ n) (chip .letters) 18 eighteen in
-      let c : d₅ ≡ sets l 0 (front ++ n ++ chip .letters ++ chip .counts) = h ∙ ap (λ (d : List ℕ). sets d 82 (chip .counts)) b
-      ∙ run-on l (front ++ n ++ chip .letters) (chip .counts) 82 most in
-      let k : length (chipNumbers chip) ≡ 91 = length-append (front ++ n ++ chip .letters ++ chip .counts) (chip .caller ∷ []) ∙ rw all in
-      ap (λ (d : List ℕ). sets d 90 (chip .caller ∷ [])) c ∙ run-on l (front ++ n ++ chip .letters ++ chip .counts) (chip .caller ∷ []) 90 all
-      ∙ sets-front (chipNumbers chip) l (omega (arith, k, room)) ∙ ap (λ (m : ℕ). chipNumbers chip ++ drop m l) k
+  -- what stands behind the letters
+  rest : drop 82 l ≡ take 8 (drop 82 l) ++ (getD l 90 0 ∷ drop 91 l)
+  rest =
+      sym (take-append-drop 8 (drop 82 l))
+      ∙ ap (λ (t : List ℕ). take 8 (drop 82 l) ++ t) (drop-drop 8 82 l ∙ drop-cons l 90 0 (omega (arith, room)))
+
+  word-long : length (first ++ take n (drop 18 l)) ≡ 18 + n
+  word-long =
+      length-append first (take n (drop 18 l))
+      ∙ rw (eighteen, length-take-le n (drop 18 l) (omega (arith, length-drop 18 l, room, few)))
+
+  parted : first ++ drop 18 l ≡ (first ++ take n (drop 18 l)) ++ drop n (drop 18 l)
+  parted = ap (λ (t : List ℕ). first ++ t) (sym (take-append-drop n (drop 18 l))) ∙ sym (append-assoc first (take n (drop 18 l)) (drop n (drop 18 l)))
+
+  zeros-long : length zeros ≡ 64 - n
+  zeros-long = length-replicate (64 - n) 0
+
+  behind : drop (length zeros) (drop n (drop 18 l)) ≡ drop 82 l
+  behind =
+      drop-drop (length zeros) n (drop 18 l) ∙ drop-drop (n + length zeros) 18 l
+      ∙ ap (λ (k : ℕ). drop k l) (let q : 18 + (n + length zeros) ≡ 82 = omega (arith, zeros-long, few) in q)
+
+  joined : (first ++ take n (drop 18 l)) ++ zeros ++ (take 8 (drop 82 l) ++ (getD l 90 0 ∷ drop 91 l))
+      ≡ chipNumbers (chipWith opened item state (chipAt l)) ++ drop 91 l
+  joined = five front (numbersOf state) (take n (drop 18 l)) zeros (take 8 (drop 82 l)) (getD l 90 0) (drop 91 l)
+
+  pub changes-put : (d₂ d₃ d₄ : List ℕ) → d₂ ≡ sets (set l 0 (flagBit opened)) 2 (shownNumbers item) → d₃ ≡ sets d₂ 9 (numbersOf state) →
+      d₄ ≡ sets d₃ (18 + n) (replicate (82 - (18 + n)) 0) → d₄ ≡ chipNumbers (chipWith opened item state (chipAt l)) ++ drop 91 l
+  changes-put d₂ d₃ d₄ e f g =
+      let k : 82 - (18 + n) ≡ 64 - n = omega arith in
+      let r : length zeros ≤ length (drop n (drop 18 l)) = omega (arith, zeros-long, length-drop n (drop 18 l), length-drop 18 l, room, few) in
+      g ∙ ap (λ (m : ℕ). sets d₃ (18 + n) (replicate m 0)) k ∙ ap (λ (d : List ℕ). sets d (18 + n) zeros) (first-put d₂ d₃ e f ∙ parted)
+      ∙ sets-seam (first ++ take n (drop 18 l)) (drop n (drop 18 l)) zeros (18 + n) word-long r
+      ∙ ap (λ (t : List ℕ). (first ++ take n (drop 18 l)) ++ zeros ++ t) (behind ∙ rest) ∙ joined
+
+  -- the block that shows it
+  pub shows : (block : List ℕ) → getD l 90 0 ≤ 7 →
+      shownWhere block (chipShowing opened (getD l (82 + getD l 90 0) 0) item) ≡ shownWhere block (chipWith opened item state (chipAt l))
+  shows block c = ap (λ (m : ℕ). shownWhere block (chipShowing opened m item)) (sym (count-at l (getD l 90 0) c))
+
+-- ---- a list that can be shown
+
+module _ (ns : List ℕ) (h : canShow ns ≡ true) where
+  abbrev caller : Bool
+  caller = both (leb (getD ns 90 0) 7) (isWord (getD ns (82 + getD ns 90 0) 0))
+
+  pub can-room : 91 ≤ length ns
+  can-room = leb-true 91 (length ns) (both-left (leb 91 (length ns)) _ h)
+
+  pub can-few : getD ns 1 0 ≤ 64
+  can-few = leb-true (getD ns 1 0) 64 (both-left (leb (getD ns 1 0) 64) _ (both-right (leb 91 (length ns)) _ h))
+
+  callers : caller ≡ true
+  callers = both-right (leb (getD ns 1 0) 64) caller (both-right (leb 91 (length ns)) _ h)
+
+  pub can-caller : getD ns 90 0 ≤ 7
+  can-caller = leb-true (getD ns 90 0) 7 (both-left (leb (getD ns 90 0) 7) _ callers)
+
+  pub can-count : getD ns (82 + getD ns 90 0) 0 ≤ 4294967295
+  can-count = leb-true (getD ns (82 + getD ns 90 0) 0) 4294967295 (both-right (leb (getD ns 90 0) 7) _ callers)

@@ -1,2 +1,2 @@
--- Laws of crate c_chip_write: Laws (letters, and a list that was written part by part).
+-- Laws of crate c_chip_write: Laws (a list that was written part by part).
 pub mod Laws

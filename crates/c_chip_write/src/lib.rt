@@ -1,16 +1,19 @@
-// A chip's numbers, put into a list of 91, for a host in C.
+// What a command changes of a chip that stands in a list of 91 numbers, for a host in C: only that is written, and the
+// block that shows it.
 ghost use mathlib.Core.Path.{_≡_};
-ghost use mathlib.Core.List.{[], _∷_};
-ghost use Prim.Native.Nat.{_+_, _≤_};
-ghost use lib.ListN.{length};
+ghost use mathlib.Core.List.{[], _∷_, _++_};
+ghost use Prim.Native.Nat.{_-_, _≤_};
+ghost use lib.ListN.{length, getD, drop, replicate};
 ghost use lib.Seq.{sets};
 ghost use Rattle.c_states.specs.States.{numbersOf};
-ghost use Rattle.c_chips.specs.ChipLists.{shownNumbers, chipPut};
+ghost use Rattle.c_chips.specs.ChipLists.{shownNumbers, chipNumbers, chipAt, chipWith};
+ghost use Rattle.c_chip_write.specs.Changes.{canShow, ShowsChanges};
 use c_states::states::bit;
 use c_states::states::put_state;
 use captions::Answer;
 use captions::State;
-use chips::Chip;
+use chip_block::show;
+use words::u64s::zero_u64;
 use words::word_of;
 
 // Seven numbers from place 2 on.
@@ -61,34 +64,55 @@ fn put_run(list: &mut [u64], state: State)
     put_state(&mut list[9..], state);
 }
 
-// Numbers of 32 bits from a place on.
-fn put_words(list: &mut [u64], at: usize, words: &[u32])
-    requires { ⌜ at + length (now words) ≤ length (now list) ⌝ }
-    ensures { λ _. ⌜ now (list .exit) ≡ sets (now (list .entry)) at (now (words .entry)) ⌝ }
+// Zeros in the places of the letters, from one of them on.
+fn put_zeros(list: &mut [u64], from: usize)
+    requires { ⌜ (91 ≤ length (now list)) × (from ≤ 82) ⌝ }
+    ensures { λ _. ⌜ now (list .exit) ≡ sets (now (list .entry)) from (replicate (82 - from) 0) ⌝ }
 {
-    let mut i = 0;
-    while i < words.len() {
-        list[at + i] = words[i] as u64;
-        i += 1;
-    }
+    zero_u64(&mut list[from..82]);
 }
 
-// A chip's 91 numbers at the front of a list; nothing where it has no room for them.
-pub fn put_chip(list: &mut [u64], chip: Chip)
-    ensures { λ _. ⌜ now (list .exit) ≡ chipPut (now (list .entry)) chip ⌝ }
+// Whether a word is open, the item and the run, in the place of those that stand there; and no letters past the word.
+fn put_changes(list: &mut [u64], opened: bool, item: Answer, state: State)
+    requires { ⌜ (91 ≤ length (now list)) × (getD (now list) 1 0 ≤ 64) ⌝ }
+    ensures { λ _. ⌜ now (list .exit) ≡ chipNumbers (chipWith opened item state (chipAt (now (list .entry))))
+        ++ drop 91 (now (list .entry)) ⌝ }
+{
+    let n = list[1] as usize;
+    list[0] = bit(opened);
+    put_shown(list, item);
+    put_run(list, state);
+    put_zeros(list, 18 + n);
+}
+
+// Room for a chip, no more than 64 letters, a caller of 0 to 7, and its count of 32 bits.
+fn can_show(list: &[u64]) -> bool
+    ensures { λ r. ⌜ r ≡ canShow (now (list .entry)) ⌝ }
 {
     if list.len() < 91 {
+        return false;
+    }
+    if 64 < list[1] {
+        return false;
+    }
+    let caller = list[90];
+    if 7 < caller {
+        return false;
+    }
+    list[82 + (caller as usize)] <= 4294967295
+}
+
+// Whether a word is open, the item and the run of the chip that stands in a list become these, and the block shows it.
+// The letters of the word, the counts and the caller are not written again. A list that is no chip's stays.
+pub fn show_changes(block: &mut [u8], list: &mut [u64], opened: bool, item: Answer, state: State)
+    ensures { λ _. ⌜ ShowsChanges opened item state (now (block .entry)) (now (list .entry)) (now (block .exit))
+        (now (list .exit)) ⌝ }
+{
+    if !can_show(list) {
         return;
     }
-    list[0] = bit(chip.opened);
-    list[1] = chip.length as u64;
-    let item = chip.item;
-    put_shown(list, item);
-    let state = chip.state;
-    put_run(list, state);
-    let letters = chip.letters;
-    put_words(list, 18, &letters);
-    let counts = chip.counts;
-    put_words(list, 82, &counts);
-    list[90] = chip.caller as u64;
+    let caller = list[90] as usize;
+    let count = list[82 + caller] as u32;
+    put_changes(list, opened, item, state);
+    show(block, opened, count, item);
 }

@@ -1,2 +1,2 @@
--- Laws of crate c_chips: Laws (a part of a list).
+-- Laws of crate c_chips: Laws (parts of a list that is a chip's, and a command on it that is refused).
 pub mod Laws

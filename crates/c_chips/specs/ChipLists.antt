@@ -1,18 +1,22 @@
 -- A chip as 91 numbers of a list (R400, R426): whether a word is open, its length, 7 of the item as `ligkern_step` tells it with its value as 32
 -- bits, 9 of the state (c_states/specs/States), 64 letters, the words that each of the eight callers ended, and the caller of the last begin. And
 -- back: the numbers that are a chip's. All zeros are a fresh one.
+use mathlib.Core.Path.{_≡_}
 use mathlib.Core.Bool.{Bool, cond}
 use mathlib.Core.List.{List, [], _∷_, _++_}
 use Prim.Native.Nat.{ℕ, zero, suc, _+_, _-_}
 use lib.Dec.{leb}
+use lib.IntN.{ℤ}
 use lib.ListN.{length, getD, take, drop, replicate}
 use Rattle.words.specs.Words.{wordOf, numberOf}
 use Rattle.lang.specs.Every.{both, every}
+use Rattle.lang.specs.Checks.{orElse, absentRefusal}
+use Rattle.captions.specs.declared.State.{State}
 use Rattle.captions.specs.declared.Answer.{Answer}
 use Rattle.captions.specs.declared.Answer.the-variants.{Char, Ligature, Kern, End, Refused}
 use Rattle.c_states.specs.States.{flagBit, numbersOf, flagOf, stateAt, isState}
 use Rattle.chips.specs.declared.Chip.{Chip}
-use Rattle.chips.specs.Commands.{freshChip}
+use Rattle.chips.specs.Commands.{freshChip, chipRefusal, blockBy}
 
 -- ---- a chip's numbers
 
@@ -104,8 +108,32 @@ noChip =
 abbrev pub chipRead : List ℕ → Chip
 chipRead ns = cond (isChip ns) (chipAt ns) noChip
 
--- ---- a chip put into a list
+-- ---- a command on the chip that stands in a list
 
--- its numbers, and what stands after them; a list without room for them stays as it was
-abbrev pub chipPut : List ℕ → Chip → List ℕ
-chipPut ns chip = cond (leb 91 (length ns)) (chipNumbers chip ++ drop 91 ns) ns
+-- by the number: the chip's numbers, and what stands after them; or all as it was
+abbrev pub chipMoved : ℕ → List ℕ → Chip → List ℕ
+chipMoved zero ns chip = chipNumbers chip ++ drop 91 ns
+chipMoved (suc n) ns chip = ns
+
+-- 4, 7 and 15, which are refused before a command is looked at, and then this number
+abbrev pub afterEarly : ℤ → Chip → ℕ → ℕ → ℕ
+afterEarly boundary chip bytes n = orElse (absentRefusal 255 boundary) (orElse (chipRefusal chip) (cond (leb 16 bytes) n 15))
+
+-- what a command leaves, by its number and the chip after it: the number itself, the block, and the list
+pub record MovesChip (n : ℕ) (after : Chip) (block ns : List ℕ) (r : ℕ) (block′ ns′ : List ℕ) : Type 0 where
+  pub number : r ≡ n
+  pub shown : block′ ≡ blockBy n block after
+  pub moved : ns′ ≡ chipMoved n ns after
+
+-- a chip with these in the place of its own: whether a word is open, the item, and the run
+abbrev pub chipWith : Bool → Answer → State → Chip → Chip
+chipWith opened item state chip =
+    record {
+      opened = opened;
+      length = chip .length;
+      letters = chip .letters;
+      counts = chip .counts;
+      caller = chip .caller;
+      item = item;
+      state = state;
+    }

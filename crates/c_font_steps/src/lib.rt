@@ -1,6 +1,8 @@
 // One step of a run that may change its font, for a host in C (R214): slices and integers in, the number of a refusal
 // out (0 where it is taken). The run stands in a list of twelve numbers (crate c_font_runs). With nothing asked for the
-// step is that of `ligkern_step`, on the first nine; else it goes by `any_step`.
+// step is that of `ligkern_step`, on the first nine, and so it is where a font that is asked for is known to wait: then
+// the last three numbers stay. Every other step goes by `any_step`.
+//   held  whether a font that is asked for is known to wait
 ghost use mathlib.Core.Path.{_≡_};
 ghost use Rattle.c_states.specs.States.{optionsOf};
 ghost use Rattle.font_runs.specs.Requests.{lending};
@@ -9,6 +11,9 @@ use c_font_runs::is_run;
 use c_font_step_any::any_step;
 use c_steps::ligkern_step;
 use captions::RunOptions;
+use held::is_kept;
+
+mod held;
 
 // Twelve numbers that are a run's, with nothing asked for.
 fn is_idle(run: &[u64]) -> bool
@@ -42,37 +47,40 @@ pub extern "C" fn ligkern_font_step(
         (optionsOf «disable_left_boundary» «right_boundary_override») (now (run .entry))) (now (run .entry))
         (now (item .entry)) r (now (run .exit)) (now (item .exit)) ⌝ }
 {
-    if is_idle(run) {
-        let number = ligkern_step(
-            pairs,
-            ops,
-            boundary,
-            word,
-            disable_left_boundary,
-            right_boundary_override,
-            run,
-            item,
-        );
-        if number != 0 {
-            return number;
-        }
-        run[11] = 0;
-        return 0;
-    }
     let options = RunOptions {
         disable_left_boundary: disable_left_boundary,
         right_boundary_override: right_boundary_override,
     };
-    any_step(
+    let idle = is_idle(run);
+    if !is_kept(idle, pairs, boundary, asked_boundary, word, run) {
+        return any_step(
+            pairs,
+            ops,
+            boundary,
+            asked_pairs,
+            asked_ops,
+            asked_boundary,
+            word,
+            options,
+            run,
+            item,
+        );
+    }
+    let number = ligkern_step(
         pairs,
         ops,
         boundary,
-        asked_pairs,
-        asked_ops,
-        asked_boundary,
         word,
-        options,
+        disable_left_boundary,
+        right_boundary_override,
         run,
         item,
-    )
+    );
+    if number != 0 {
+        return number;
+    }
+    if idle {
+        run[11] = 0;
+    }
+    0
 }

@@ -8,23 +8,18 @@ use Prim.Native.Nat.{ℕ, zero, suc, _<_, _≤_}
 use native.Mathlib.Omega.{arith}
 use lib.IntN.{ℤ}
 use lib.ListN.{length}
-use lib.Dec.{ltb, eqb}
-use borrow.Author.Tests.{lt-ltb, eqb-true}
-use Rattle.words.specs.Words.{wordOf}
-use Rattle.lang.specs.Every.{both}
-use Rattle.lang.proofs.Every.{both-left, both-right}
+use lib.Dec.{ltb}
+use borrow.Author.Tests.{lt-ltb}
 use Rattle.lang.specs.Checks.{orElse}
 use Rattle.captions.specs.declared.RunOptions.{RunOptions}
 use Rattle.captions.specs.declared.State.{State}
 use Rattle.captions.specs.declared.Step.{Step}
 use Rattle.captions.specs.Replies.{answerReply}
-use Rattle.captions.specs.declared.Answer.the-variants.{Kern}
-use Rattle.captions.specs.Tables.{pairCount, opCount, opKind, opValue}
-use Rattle.captions.specs.Steps.{stepRefusal, stepOf, refused, afterOp}
-use Rattle.step_quick.specs.Quick.{plainCode, nextLetter, hasLetter, isPlain, isQuick, quickLeft, isKern, isReady, givenPlain, givenFirst, quickStep, givenKern}
-use Rattle.step_quick.proofs.Theorems.{calm-is, placed-among, left-quick, quick-is}
+use Rattle.captions.specs.Tables.{pairCount}
+use Rattle.captions.specs.Steps.{stepRefusal, stepOf, refused}
+use Rattle.step_quick.specs.Quick.{plainCode, nextLetter, hasLetter, isQuick, quickLeft, isKern, isReady, givenPlain, givenFirst, quickStep, givenKern}
+use Rattle.step_quick.proofs.Theorems.{left-quick, quick-is}
 use Rattle.word_items.specs.ItemLists.{isItem, Small}
-use Rattle.word_items.proofs.Laws.{no}
 use Rattle.index.specs.declared.Looked.{Looked}
 use Rattle.index.specs.declared.Looked.the-variants.{Missing, At, Wrong}
 use Rattle.index.specs.Index.{lookedUp, lookedPlace}
@@ -115,19 +110,3 @@ module _ (index : List ℕ) (pairs ops : List ℤ) (boundary : ℤ) (word : List
     module _ {b : Bool} (is : b ≡ isKern ops boundary word options from) (yes : b ≡ true) {t : Step} (given : t ≡ givenKern ops from) where
       pub kern-told : t ≡ indexedStepIn index pairs ops boundary word options state
       kern-told = in-list (given ∙ sym (index-goes-quickly index pairs ops boundary word options .kern from (sym is ∙ yes)))
-
-      inside : ltb (from .op) (opCount ops) ≡ true
-      inside =
-          let h = sym is ∙ yes in
-          let one : from .ops ≡ 1 = eqb-true (from .ops) 1 (both-left (eqb (from .ops) 1) _ h) in
-          let plain = both-left (isPlain ops boundary word options from) (eqb (wordOf (opKind ops (from .op))) 2)
-          (both-right (eqb (from .ops) 1) (both (isPlain ops boundary word options from) (eqb (wordOf (opKind ops (from .op))) 2)) h) in
-          lt-ltb (from .op) (opCount ops) (omega (arith, one, placed-among ops boundary word options from (calm-is ops boundary word options from plain)))
-
-      item-kern : (c : Bool) → c ≡ true →
-          isItem (cond c (record { answer = Kern (opValue ops (from .op)); state = afterOp from }) (refused 7 from) .answer) ≡ true
-      item-kern true e = refl
-      item-kern false e = no e
-
-      pub kern-item : isItem (t .answer) ≡ true
-      kern-item = ap (λ (u : Step). isItem (u .answer)) given ∙ item-kern (ltb (from .op) (opCount ops)) inside

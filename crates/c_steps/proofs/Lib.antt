@@ -1,3 +1,3 @@
--- Stepping: a step by what it answers. Told: a quick step, told at once.
+-- Stepping: a step by what it answers. Told: a quick step, or a last kern, told at once.
 pub mod Stepping
 pub mod Told

@@ -1,4 +1,4 @@
--- A quick step whose item has exactly its seven places: what is told into them is what would be told over zeros.
+-- A quick step, or a last kern, whose item has exactly its seven places: what is told into them is what would be told over zeros.
 -- Assumes nothing.
 use mathlib.Core.Path.{_≡_, refl, sym, ap, ap₂, _∙_}
 use mathlib.Core.Bool.{Bool, true, false, cond}
@@ -6,21 +6,25 @@ use mathlib.Core.List.{List, _++_}
 use Prim.Native.Nat.{ℕ, suc, _≤_}
 use native.Mathlib.Omega.{arith}
 use lib.IntN.{ℤ, pos}
-use lib.Dec.{ltb}
+use lib.Dec.{ltb, eqb}
 use lib.ListN.{length, replicate, length-replicate, drop-of-length-le}
 use lib.Seq.{sets}
-use borrow.Author.Tests.{lt-ltb}
+use borrow.Author.Tests.{lt-ltb, eqb-true}
+use Rattle.words.specs.Words.{wordOf}
 use Rattle.words.proofs.Lists.{sets-front}
+use Rattle.lang.specs.Every.{both}
+use Rattle.lang.proofs.Every.{both-left, both-right}
 use Rattle.captions.specs.declared.RunOptions.{RunOptions}
 use Rattle.captions.specs.declared.State.{State}
 use Rattle.captions.specs.declared.Answer.{Answer}
 use Rattle.captions.specs.declared.Answer.the-variants.{Char, Ligature, Kern, End, Refused}
 use Rattle.captions.specs.declared.Step.{Step}
 use Rattle.captions.specs.Replies.{answerReply}
-use Rattle.captions.specs.Tables.{pairCount}
-use Rattle.captions.specs.Steps.{refused, stepOf}
-use Rattle.step_quick.specs.Quick.{plainCode, nextLetter, hasLetter, isQuick, quickLeft, foundPlace, isReady, givenPlain, givenFirst, quickStep}
-use Rattle.step_quick.proofs.Theorems.{left-quick, quick-is, quick-steps}
+use Rattle.captions.specs.Tables.{pairCount, opCount, opKind, opValue}
+use Rattle.captions.specs.Steps.{refused, afterOp, stepOf}
+use Rattle.step_quick.specs.Quick.{plainCode, nextLetter, hasLetter, isPlain, isQuick, quickLeft, isKern, foundPlace, isReady}
+use Rattle.step_quick.specs.Quick.{givenPlain, givenFirst, quickStep, givenKern}
+use Rattle.step_quick.proofs.Theorems.{calm-is, placed-among, left-quick, quick-is, quick-steps, quick-kerns}
 use Rattle.word_items.specs.ItemLists.{isItem, Small}
 use Rattle.word_items.proofs.Laws.{no}
 use Rattle.c_states.specs.States.{stateRead, orOutside, PutsState}
@@ -67,6 +71,33 @@ told-at-once state item given t e i long h item′ told r state′ put =
     let z : length zeros ≡ length item = length-replicate (length item) (pos 0) in
     steps-taken state item zeros refl given t e (answerReply (t .answer) .number) refl (item-number (t .answer) i) long (omega (arith, z, h)) item′
     (told ∙ all-set (itemNumbers (t .answer)) item zeros (omega (arith, h, s)) (omega (arith, z, h, s))) r state′ put
+
+-- ---- a last kern
+
+module _ (ops : List ℤ) (boundary : ℤ) (word : List ℕ) (options : RunOptions) (from : State) {b : Bool} (is : b ≡ isKern ops boundary word options from)
+    (yes : b ≡ true) {t : Step} (given : t ≡ givenKern ops from) where
+  inside : ltb (from .op) (opCount ops) ≡ true
+  inside =
+      let h = sym is ∙ yes in
+      let one : from .ops ≡ 1 = eqb-true (from .ops) 1 (both-left (eqb (from .ops) 1) _ h) in
+      let plain = both-left (isPlain ops boundary word options from) (eqb (wordOf (opKind ops (from .op))) 2)
+      (both-right (eqb (from .ops) 1) (both (isPlain ops boundary word options from) (eqb (wordOf (opKind ops (from .op))) 2)) h) in
+      lt-ltb (from .op) (opCount ops) (omega (arith, one, placed-among ops boundary word options from (calm-is ops boundary word options from plain)))
+
+  item-kern : (c : Bool) → c ≡ true →
+      isItem (cond c (record { answer = Kern (opValue ops (from .op)); state = afterOp from }) (refused 7 from) .answer) ≡ true
+  item-kern true e = refl
+  item-kern false e = no e
+
+  pub kern-item : isItem (t .answer) ≡ true
+  kern-item = ap (λ (u : Step). isItem (u .answer)) given ∙ item-kern (ltb (from .op) (opCount ops)) inside
+
+  pub kern-given : (pairs : List ℤ) (state : List ℕ) → from ≡ orOutside (stateRead state) → t ≡ stepIn pairs ops boundary word options state
+  kern-given pairs state read =
+      given ∙ sym (quick-kerns pairs ops boundary word options from (sym is ∙ yes)) ∙ ap (stepOf pairs ops boundary word options) read
+      ∙ from-is pairs ops boundary word options (stateRead state)
+
+-- ---- a quick step
 
 module _ (pairs ops : List ℤ) (boundary : ℤ) (word : List ℕ) (options : RunOptions) (state : List ℕ) {from : State} (read : from ≡ orOutside (stateRead state))
     {l y k : ℕ}

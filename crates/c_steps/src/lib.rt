@@ -14,6 +14,8 @@ use items::tell;
 use items::tell_character;
 use program_checks::lower_of;
 use program_limits::room_refusal;
+use step_quick::kern::give_kern;
+use step_quick::kern::is_kern;
 use step_quick::left::quick_left;
 use step_quick_find::found_place;
 use step_quick_op::is_ready;
@@ -23,7 +25,8 @@ use words::u32s::u32_at;
 
 pub mod items;
 
-// One step from whatever state stands in the list, into an item list of any length.
+// One step from whatever state stands in the list, into an item list of any length. A last kern whose item has exactly
+// its seven places is told at once.
 fn any_step(
     pairs: &[i32],
     ops: &[i32],
@@ -36,8 +39,17 @@ fn any_step(
     ensures { λ r. ⌜ StepsRun (now (pairs .entry)) (now (ops .entry)) boundary (now (word .entry)) options
         (now (state .entry)) (now (item .entry)) r (now (state .exit)) (now (item .exit)) ⌝ }
 {
-    zero_i32(item);
     let from = state_in(state);
+    if is_kern(ops, boundary, word, options, from) {
+        if item.len() == 7 {
+            let kerned = give_kern(ops, from);
+            let kern = kerned.answer;
+            tell(item, kern);
+            let after = kerned.state;
+            return put_state(state, after);
+        }
+    }
+    zero_i32(item);
     let stepped = kern_step(pairs, ops, boundary, word, options, from);
     let answer = stepped.answer;
     let number = refusal_of(answer);

@@ -1,37 +1,14 @@
 -- The next short word and its items in lists (R439, R215): the contract of `ligkern_next_word`.
 use mathlib.Core.Path.{_≡_}
-use mathlib.Core.List.{List, [], _∷_}
+use mathlib.Core.List.{List}
 use Prim.Native.Nat.{ℕ, _/_}
 use lib.IntN.{ℤ, pos}
-use lib.ListN.{length, getD}
+use lib.ListN.{length}
 use Rattle.lang.specs.Checks.{lower}
 use Rattle.lang.specs.Answers.{Reply, listOf, roomRefusal}
-use Rattle.short_words.specs.declared.ShortWord.{ShortWord}
-use Rattle.short_words.specs.declared.NextAnswer.{NextAnswer}
-use Rattle.short_words.specs.declared.NextAnswer.the-variants.{Word, End, Refused}
 use Rattle.short_words.specs.declared.NextWord.{NextWord}
-use Rattle.short_words.specs.declared.SetNext.{SetNext}
 use Rattle.short_word_set.specs.SetNext.{setNextBy}
-
--- the number of a refusal, else 0
-abbrev pub answerRefusal : NextAnswer → ℕ
-answerRefusal Word = 0
-answerRefusal End = 0
-answerRefusal (Refused n) = n
-
--- 1 where there is a next word
-abbrev pub moreNumber : NextAnswer → ℕ
-moreNumber Word = 1
-moreNumber End = 0
-moreNumber (Refused n) = 0
-
--- the four letters of a word
-abbrev pub letterNumbers : ShortWord → List ℕ
-letterNumbers w = getD (w .letters) 0 0 ∷ getD (w .letters) 1 0 ∷ getD (w .letters) 2 0 ∷ getD (w .letters) 3 0 ∷ []
-
--- what is told of an answer: 1, or 0 at the end; the word's length; how many items
-abbrev pub nextValues : SetNext → List ℕ
-nextValues told = moreNumber (told .answer) ∷ told .word .length ∷ told .count ∷ []
+use Rattle.c_word_write.specs.NextLists.{letterNumbers, nextValues}
 
 -- set_next's number, and 15 where n places do not hold the letters, or m the values (R216): the lowest, so that 15 comes before 27
 abbrev pub nextShortNumber : Reply → ℕ → ℕ → ℕ

@@ -28,7 +28,7 @@ fn may_begin(caller: u8, chip: Chip) -> bool
 }
 
 // A fresh run over no letters, or 4 of the boundary character, or 7 of the table.
-fn begin_run(pairs: &[i32], ops: &[i32], boundary: i32) -> Begun
+pub fn begin_run(pairs: &[i32], ops: &[i32], boundary: i32) -> Begun
     ensures { λ r. ⌜ r ≡ beginOf (now (pairs .entry)) (now (ops .entry)) boundary [] plainOptions ⌝ }
 {
     let options = RunOptions {

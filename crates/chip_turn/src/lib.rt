@@ -20,7 +20,7 @@ use chips::Chip;
 use chips::Commanded;
 
 // The number of a refusal, else 0.
-fn answer_number(answer: Answer) -> u32
+pub fn answer_number(answer: Answer) -> u32
     ensures { λ r. ⌜ r ≡ answerNumber answer ⌝ }
 {
     match answer {

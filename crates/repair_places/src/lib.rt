@@ -30,7 +30,7 @@ pub fn placed(n: usize) -> usize
 }
 
 // Numbers copied to the front of a list, as far as it goes.
-fn copy_numbers(from: &[i32], to: &mut [i32])
+pub fn copy_numbers(from: &[i32], to: &mut [i32])
     ensures { λ _. ⌜ now (to .exit) ≡ sets (now (to .entry)) 0 (now (from .entry)) ⌝ }
 {
     let mut i = 0;

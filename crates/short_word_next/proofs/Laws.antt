@@ -13,7 +13,7 @@ use lib.ListN.{length, getD, take, drop, replicate, length-drop, length-replicat
 use lib.Seq.{drop-cons, drop-length, getD-take, getD-at, getD-append-add, length-take-le}
 use borrow.Author.Tests.{leb-true, le-leb, lt-leb, lt-ltb, le-ltb}
 use Rattle.lang.specs.Every.{both}
-use Rattle.lang.specs.Checks.{unless}
+use Rattle.lang.specs.Checks.{unless, orElse}
 use Rattle.lang.proofs.Every.{both-false}
 use Rattle.letter_set.specs.LetterSets.{letterIn, letterFrom, letterFound}
 use Rattle.letter_set.specs.declared.Letter.{Letter}
@@ -63,7 +63,8 @@ module _ (letters word : List ℕ) where
       0 ≡ shortRefusal letters word
   all-members i g l f h =
       let k : i ≡ length word = omega arith in
-      let e : allInSet letters word ≡ true = sym h ∙ ap (λ (j : ℕ). allInSet letters (drop j word)) k ∙ ap (allInSet letters) (drop-length word) ∙ letters-nil letters in
+      let e : allInSet letters word ≡ true =
+      sym h ∙ ap (λ (j : ℕ). allInSet letters (drop j word)) k ∙ ap (allInSet letters) (drop-length word) ∙ letters-nil letters in
       sym (ap (unless 27) (ap₂ both (le-leb (length word) 4 f) e))
 
 -- ---- the letters
@@ -142,7 +143,8 @@ module _ (letters : List ℕ) (least : ℕ) where
         nextFound (some (lettersWith word i c least (length word))) ≡ nextFound (orLonger (nextAsLong letters least word) (length word) least)
     advanced c e =
         let q = own ∙ ap (λ (o : Option ℕ). advancedTo o (length word - suc i) least) (at-is (letterFrom letters (suc (getD word i 0))) c e) in
-        sym (ap (λ (o : Option (List ℕ)). nextFound (orLonger o (length word) least)) (from-place word i (c ∷ replicate (length word - suc i) least) (omega arith) q))
+        sym (ap (λ (o : Option (List ℕ)). nextFound (orLonger o (length word) least))
+        (from-place word i (c ∷ replicate (length word - suc i) least) (omega arith) q))
 
     -- it has none
     pub passed : Nothing ≡ letterFound (letterFrom letters (suc (getD word i 0))) → nextAsLong letters least (drop i word) ≡ none
@@ -203,3 +205,12 @@ module _ (letters word : List ℕ) (r : ℕ) (e : r ≡ shortRefusal letters wor
   pub letter-is : (least : ℕ) → At least ≡ letterFound (letterFrom letters 0) →
       nextFound (orLonger (nextAsLong letters least word) (length word) least) ≡ nextWordOf letters word
   letter-is least f = taken-is (some least) (at-is (letterFrom letters 0) least f)
+
+-- ---- the boundary character first
+
+pub edge-refused : (e s r : ℕ) (o : Option (List ℕ)) → r ≡ e → (r ≡ 0 → ⊥) → noWord (Refused r) ≡ nextWordBy (orElse e s) o
+edge-refused e s zero o q h = absurd (h refl)
+edge-refused e s (suc r) o q h = ap (λ (m : ℕ). nextWordBy (orElse m s) o) q
+
+pub edge-taken : (e s r : ℕ) (o : Option (List ℕ)) → r ≡ e → r ≡ 0 → nextWordBy s o ≡ nextWordBy (orElse e s) o
+edge-taken e s r o q h = ap (λ (m : ℕ). nextWordBy (orElse m s) o) (sym h ∙ q)

@@ -3,12 +3,15 @@ ghost use mathlib.Core.Path.{_≡_};
 ghost use mathlib.Core.Option.{some};
 ghost use Prim.Native.Nat.{_<_, _≤_};
 ghost use lib.ListN.{length, getD};
-ghost use Rattle.short_words.specs.NextWords.{nextAsLong, orLonger, shortRefusal, noWord, nextFound, nextWordOf};
+ghost use Rattle.lang.specs.Checks.{orElse, absentRefusal};
+ghost use Rattle.short_words.specs.NextWords.{nextAsLong, orLonger, nextShortWord, shortRefusal};
+ghost use Rattle.short_words.specs.NextWords.{noWord, nextFound, nextWordBy, nextWordOf};
 ghost use Rattle.short_word_next.specs.Placing.{lettersWith};
 use letter_set::Letter;
 use letter_set::is_member;
 use letter_set::letter_after;
 use letter_set::letter_from;
+use program_checks::absent_refusal;
 use short_words::NextAnswer;
 use short_words::NextWord;
 use short_words::ShortWord;
@@ -112,4 +115,17 @@ pub fn next_word(letters: &[u64; 4], word: &[u32]) -> NextWord
         Letter::Nothing => no_word(NextAnswer::End),
         Letter::At(least) => next_over(letters, word, least),
     }
+}
+
+// The same, but 4 of a boundary character first.
+pub fn checked_next(letters: &[u64; 4], boundary: i32, word: &[u32]) -> NextWord
+    ensures { λ r. ⌜ r ≡ nextWordBy
+        (orElse (absentRefusal 255 boundary) (shortRefusal (now (letters .entry)) (now (word .entry))))
+        (nextShortWord (now (letters .entry)) (now (word .entry))) ⌝ }
+{
+    let edge = absent_refusal(255, boundary);
+    if edge != 0 {
+        return no_word(NextAnswer::Refused(edge));
+    }
+    next_word(letters, word)
 }

@@ -24,18 +24,9 @@ use Rattle.short_words.specs.declared.NextAnswer.the-variants.{Word, End, Refus
 use Rattle.short_words.specs.declared.NextWord.{NextWord}
 use Rattle.short_words.specs.declared.SetNext.{SetNext}
 use Rattle.short_words.specs.ShortWords.{allInSet, isShortWord}
-use Rattle.short_words.specs.NextWords.{nextShortWord, shortRefusal, shortWord, heldWord, noWord, nextFound, nextWordBy}
+use Rattle.short_words.specs.NextWords.{nextShortWord, shortRefusal, shortWord, heldWord, nextFound, nextWordBy}
 use Rattle.short_words.proofs.Theorems.{next-is-taken, holds-word}
 use Rattle.short_word_set.specs.SetNext.{nextWordItems, itemsOfNext, wordFound, notSet, setNextBy, SetsFound}
-
--- ---- the boundary character first
-
-pub edge-refused : (e s r : ℕ) (o : Option (List ℕ)) → r ≡ e → (r ≡ 0 → ⊥) → noWord (Refused r) ≡ nextWordBy (orElse e s) o
-edge-refused e s zero o q h = absurd (h refl)
-edge-refused e s (suc r) o q h = ap (λ (m : ℕ). nextWordBy (orElse m s) o) q
-
-pub edge-taken : (e s r : ℕ) (o : Option (List ℕ)) → r ≡ e → r ≡ 0 → nextWordBy s o ≡ nextWordBy (orElse e s) o
-edge-taken e s r o q h = ap (λ (m : ℕ). nextWordBy (orElse m s) o) (sym h ∙ q)
 
 -- ---- the items of a word
 
@@ -138,7 +129,8 @@ module _ (letters : List ℕ) (pairs ops : List ℤ) (boundary : ℤ) (word : Li
 
   pub next-short : (next : List ℕ) → number ≡ 0 → nextShortWord letters word ≡ some next → length next ≤ 4
   next-short next z e =
-      let s : isShortWord letters word ≡ true = unless-none 26 (isShortWord letters word) (second-none (absentRefusal 255 boundary) (shortRefusal letters word) z) in
+      let s : isShortWord letters word ≡ true =
+      unless-none 26 (isShortWord letters word) (second-none (absentRefusal 255 boundary) (shortRefusal letters word) z) in
       leb-true (length next) 4 (both-left (leb (length next) 4) (allInSet letters next) (next-is-taken letters word next s e))
 
   pub answered-short : (x : NextWord) → Answers number (nextShortWord letters word) x → x .word .length ≤ 4
@@ -161,7 +153,8 @@ module _ (letters : List ℕ) (pairs ops : List ℤ) (boundary : ℤ) (word : Li
       items′ ≡ replicate (length items) (pos 0) → SetsFound reply (nextFound (nextShortWord letters word)) items r items′
   end-set x {r} {items′} e q g z =
       let a = end-by number (nextShortWord letters word) (ap (λ (y : NextWord). y .answer) (sym e) ∙ q) in
-      let none-set : SetsFound (replyOf 0 []) (nextFound none) items r items′ = record { answer = g; list = z ∙ ap (λ (k : ℕ). replicate k (pos 0)) (sym (sub-zero (length items))) } in
+      let none-set : SetsFound (replyOf 0 []) (nextFound none) items r items′ =
+      record { answer = g; list = z ∙ ap (λ (k : ℕ). replicate k (pos 0)) (sym (sub-zero (length items))) } in
       let same : replyOf 0 [] ≡ reply =
       sym (ap₂ (λ (n : ℕ) (o : Option (List ℕ)). afterBegin n (itemsOfNext o first pairs ops boundary (length items))) (a .0) (a .1)) in
       subst (λ (o : Option (List ℕ)). SetsFound reply (nextFound o) items r items′) (sym (a .1))

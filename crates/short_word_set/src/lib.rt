@@ -3,45 +3,23 @@ ghost use mathlib.Core.Path.{_≡_};
 ghost use Prim.Native.Nat.{_≤_};
 ghost use lib.IntN.{pos};
 ghost use lib.ListN.{length, replicate};
-ghost use Rattle.lang.specs.Checks.{orElse, absentRefusal};
 ghost use Rattle.word_set.specs.Writing.{Tells};
-ghost use Rattle.short_words.specs.NextWords.{nextShortWord, shortRefusal, nextWordBy, heldWord};
+ghost use Rattle.short_words.specs.NextWords.{heldWord};
 ghost use Rattle.short_word_set.specs.SetNext.{nextWordItems, notSet, wordFound, SetsFound, SetsNext};
 use captions::RunOptions;
 use lang::Written;
-use program_checks::absent_refusal;
-use short_word_next::next_word;
+use short_word_next::checked_next;
 use short_words::NextAnswer;
-use short_words::NextWord;
 use short_words::SetNext;
 use short_words::ShortWord;
 use word_set::set_fresh;
 use word_set::set_word;
 use words::i32s::zero_i32;
 
-// The next word, or 4 of the boundary character, or 27.
-fn checked_next(letters: &[u64; 4], boundary: i32, word: &[u32]) -> NextWord
-    ensures { λ r. ⌜ r ≡ nextWordBy
-        (orElse (absentRefusal 255 boundary) (shortRefusal (now (letters .entry)) (now (word .entry))))
-        (nextShortWord (now (letters .entry)) (now (word .entry))) ⌝ }
-{
-    let edge = absent_refusal(255, boundary);
-    if edge != 0 {
-        let none = ShortWord {
-            length: 0,
-            letters: [0u32; 4],
-        };
-        return NextWord {
-            answer: NextAnswer::Refused(edge),
-            word: none,
-        };
-    }
-    next_word(letters, word)
-}
-
 // No word is answered: zeros for the items.
 fn not_set(answer: NextAnswer, items: &mut [i32]) -> SetNext
-    ensures { λ r. ⌜ (r ≡ notSet answer) × (now (items .exit) ≡ replicate (length (now (items .entry))) (pos 0)) ⌝ }
+    ensures { λ r. ⌜ (r ≡ notSet answer) ×
+        (now (items .exit) ≡ replicate (length (now (items .entry))) (pos 0)) ⌝ }
 {
     zero_i32(items);
     let none = ShortWord {

@@ -2,8 +2,8 @@
 use chip::fresh;
 use chips::Chip;
 use test_chip_turns::turn;
-use test_chip_turns::words_by_caller::Counted;
-use test_chip_turns::words_by_caller::count_on;
+use test_chip_words::Counted;
+use test_chip_words::count_on;
 use test_requests::request::after;
 use test_requests::request::items;
 use test_requests::request::number_at;

@@ -1,6 +1,7 @@
 // One command of the caption chip for test_chip: what it answers and leaves in the block is written, and before it what
 // `step` gives from the chip's state.
-//   words_by_caller  the words of each caller, counted by the program itself
+ghost use mathlib.Core.Path.{_≡_};
+ghost use Rattle.chips.specs.Commands.{commandedBy};
 use caption_run::steps::step;
 use captions::Answer;
 use captions::RunOptions;
@@ -15,8 +16,6 @@ use test_requests::write::put_line;
 use words::i32s::word_at;
 use words::u8s::put_u8;
 use words::u8s::u8_at;
-
-pub mod words_by_caller;
 
 // A number, and the bytes of a block.
 fn put_block(out: &mut [i32], number: u32, block: &[u8]) -> usize {
@@ -86,7 +85,8 @@ fn show_beside(answer: Answer) {
     print(b'S', 0, &block);
 }
 
-// One command, after what a step would give: its number, and the chip after it.
+// One command, after what a step would give: its number, and the chip after it, which is as it was where the command is
+// refused.
 pub fn turn(
     pairs: &[i32],
     ops: &[i32],
@@ -94,7 +94,9 @@ pub fn turn(
     four: &[i32],
     block: &mut [u8],
     chip: Chip,
-) -> Commanded {
+) -> Commanded
+    ensures { λ r. ⌜ r ≡ commandedBy (r .number) (r .chip) chip ⌝ }
+{
     show_beside(given(pairs, ops, boundary, chip));
     put_command(block, four);
     let done = command(pairs, ops, boundary, block, chip);

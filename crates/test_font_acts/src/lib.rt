@@ -1,6 +1,8 @@
 // What a host does on one run: four fonts (boundary character, pairs, ops), and acts of twelve numbers: 1 and a font to
 // ask for, 2 to start a word, 3 to make a step; then whether the left boundary is left out, the override, the length of
 // the word, and its letters, at most eight.
+ghost use mathlib.Core.Path.{_≡_};
+ghost use Rattle.test_font_acts.specs.Acts.{pastOf, actsOf, actCount};
 use c_font_requests::ligkern_ask_font;
 use c_font_requests::ligkern_start_word;
 use c_font_steps::ligkern_font_step;
@@ -17,7 +19,9 @@ use words::u32s::put_u32;
 use words::u64s::u64_at;
 
 // What stands after the first font.
-fn past(numbers: &[i32]) -> &[i32] {
+fn past(numbers: &[i32]) -> &[i32]
+    ensures { λ r. ⌜ now r ≡ pastOf (now (numbers .entry)) ⌝ }
+{
     rest(numbers, after(numbers, after(numbers, 1, 6), 2))
 }
 
@@ -142,15 +146,23 @@ fn act(numbers: &[i32], act: &[i32], run: &mut [u64]) {
     }
 }
 
-fn acts(numbers: &[i32], all: &[i32], run: &mut [u64]) {
+// All of them; how many there are.
+fn acts(numbers: &[i32], all: &[i32], run: &mut [u64]) -> usize
+    ensures { λ r. ⌜ r ≡ actCount (now (all .entry)) ⌝ }
+{
     let mut i = 0;
     while i < all.len() / 12 {
         act(numbers, rest(all, 12 * i), run);
         i += 1;
     }
+    all.len() / 12
 }
 
-pub fn answer(numbers: &[i32]) {
+// The acts that stand after four fonts, made on a run of zeros, each with a line of what it left. Answers how many
+// there are.
+pub fn answer(numbers: &[i32]) -> usize
+    ensures { λ r. ⌜ r ≡ actCount (actsOf (now (numbers .entry))) ⌝ }
+{
     let mut run = [0u64; 12];
-    acts(numbers, past(past(past(past(numbers)))), &mut run);
+    acts(numbers, past(past(past(past(numbers)))), &mut run)
 }

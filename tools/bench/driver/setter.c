@@ -4,6 +4,8 @@
          check (check_table); checked, checked_indexed (set_checked_word, set_checked_word_indexed); step_indexed (as step, by the index);
          chip_begin, chip_add, chip_end, chip_take (one command of the caption chip: on a fresh chip; the first letter; the end of a word of LETTERS letters; the first item taken);
          chip_add_last (the last letter of a word of LETTERS letters); chip_end_step, chip_take_step (the step of chip_end and of chip_take as one call of ligkern_step).
+         font_plain, font_idle, font_waits (steps to the end over a word in which every letter has a kern pair with the next, without the left boundary: by ligkern_step; by
+         ligkern_font_step with nothing asked for; and with a font asked for, which waits up to the last letter).
          short (every short word of 12 letters with its items, by next_word), short_word (set_word on the same words), short_40 (every short word of 40 letters, on no table).
    HOW   answer: writes the table, the ops, the loops and the items that the call leaves, and N is not looked at; count, time: see meter.h.
 
@@ -22,6 +24,7 @@ static uint32_t *word, *work, said;
 static size_t letters, pair_room;
 static uint64_t counts[3], count, state[9], fresh[9], index_of[LIGKERN_INDEX], steps;
 static int32_t item[7];
+static uint64_t run[LIGKERN_FONT_RUN], fresh_run[LIGKERN_FONT_RUN];
 static uint64_t chip[LIGKERN_CHIP], chip_before[LIGKERN_CHIP];
 static uint8_t block[16];
 
@@ -107,6 +110,58 @@ static void step_to_end(void) {
     steps = 0;
     do {
         said = ligkern_step(pairs.at, 6 * counts[0], ops.at, 2 * counts[1], boundary, word, letters, false, -1, state, 9, item, 7);
+        steps++;
+    } while (said == 0 && item[0] == 1);
+}
+
+/* A word of as many letters in which each has a kern pair with the next: its pair is a character and a kern, and its last is the right as it stands. The rights are taken in turn. */
+static int is_kern_pair(uint64_t k) {
+    const int32_t *p = pairs.at + 6 * k;
+    return p[0] >= 0 && p[3] == 0 && p[5] == 2 && ops.at[2 * p[4]] == 0 && ops.at[2 * p[4] + 2] == 2;
+}
+
+/* The letters that a kern pair leads on from, over and over: a letter is left out once every letter that it has a kern pair with is left out. */
+static void weave_word(void) {
+    static uint8_t leads[256];
+    memset(leads, 1, sizeof leads);
+    for (int changed = 1; changed;) {
+        uint8_t kept[256] = {0};
+        for (uint64_t k = 0; k < counts[0]; k++) {
+            if (is_kern_pair(k) && leads[pairs.at[6 * k + 1]]) kept[pairs.at[6 * k]] = 1;
+        }
+        changed = memcmp(kept, leads, sizeof kept) != 0;
+        memcpy(leads, kept, sizeof kept);
+    }
+    uint32_t left = 0;
+    while (left < 256 && !leads[left]) left++;
+    if (left == 256) die("no word in which every letter has a kern pair");
+    static uint64_t at[256];
+    for (size_t i = 0; i < letters; i++) {
+        word[i] = left;
+        uint64_t k = at[left];
+        do k = (k + 1) % counts[0];
+        while (pairs.at[6 * k] != (int32_t)left || !is_kern_pair(k) || !leads[pairs.at[6 * k + 1]]);
+        at[left] = k;
+        left = (uint32_t)pairs.at[6 * k + 1];
+    }
+    said = ligkern_start_word(pairs.at, 6 * counts[0], ops.at, 2 * counts[1], boundary, 0, 0, 0, 0, 0, word, letters, true, -1, fresh_run, LIGKERN_FONT_RUN);
+}
+
+static void run_again(void) { memcpy(run, fresh_run, sizeof run); }
+
+static void font_plain(void) {
+    steps = 0;
+    do {
+        said = ligkern_step(pairs.at, 6 * counts[0], ops.at, 2 * counts[1], boundary, word, letters, true, -1, run, 9, item, 7);
+        steps++;
+    } while (said == 0 && item[0] == 1);
+}
+
+static void font_steps(void) {
+    steps = 0;
+    do {
+        said = ligkern_font_step(pairs.at, 6 * counts[0], ops.at, 2 * counts[1], boundary, pairs.at, 6 * counts[0], ops.at, 2 * counts[1], boundary, word, letters, true, -1, run, LIGKERN_FONT_RUN, item,
+                                 7);
         steps++;
     } while (said == 0 && item[0] == 1);
 }

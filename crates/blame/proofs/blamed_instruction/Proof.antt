@@ -9,7 +9,7 @@ use lib.Seq.{length-take-le}
 use borrow.Author.Needs.{needs}
 use Rattle.fonts.specs.Compiled.{roomOf}
 use Rattle.removals.specs.Removed.{fontAt, sizeNumber}
-use Rattle.removals.specs.Search.{blamedOf}
+use Rattle.blame_given.specs.Given.{blamedIn}
 use Rattle.blame.proofs.blamed_instruction.Statement.{statement}
 use Rattle.blame.proofs.blamed_instruction.Tie as tie
 
@@ -52,14 +52,7 @@ slice-aggregate-answer-given-4 c =
     sym (length-take-le (m .result) (c .before .before .before .before .before .before .before .before .args .ops-without .now) (omega (arith, m .ensures)))
 
 answer-given-requires : tie.Need-answer-given-requires
-answer-given-requires c κs =
-    let p = c .before .before .before .before .before .before .before .smaller in
-    let o = c .before .before .before .before .before .before .smaller2 in
-    let a = c .before .before .before .before .before .before .before .before .before .before .args in (
-      length-take-le (p .result) (a .pairs .now) (omega (arith, p .ensures)) ∙ sym (length-take-le (p .result) (a .pairs-without .now) (omega
-          (arith, p .ensures))),
-      length-take-le (o .result) (a .ops .now) (omega (arith, o .ensures)) ∙ sym (length-take-le (o .result) (a .ops-without .now) (omega (arith, o .ensures))),
-    )
+answer-given-requires c κs = search needs
 
 zero-i32-requires : tie.Need-zero-i32-requires
 zero-i32-requires c κs = search needs
@@ -108,9 +101,11 @@ returns c =
     record {
       answer =
           g .answer-given .ensures
-          ∙ (λ j. blamedOf (fontAt (a .instructions .now) (a .kerns .now) (a .entries .now) (a .numbers))
+          ∙ (λ j. blamedIn (fontAt (a .instructions .now) (a .kerns .now) (a .entries .now) (a .numbers))
           (roomOf ((length-take-le (p .result) (a .pairs .now) (omega (arith, p .ensures)) ∙ p .ensures) j)
           ((length-take-le (o .result) (a .ops .now) (omega (arith, o .ensures)) ∙ o .ensures) j) 0 (length (a .work .now)))
+          (roomOf ((length-take-le (p .result) (a .pairs-without .now) (omega (arith, p .ensures)) ∙ p .ensures) j)
+          ((length-take-le (o .result) (a .ops-without .now) (omega (arith, o .ensures)) ∙ o .ensures) j) 0 (length (a .work .now)))
           (sizeNumber (a .numbers)) (a .word .now) (a .options) (length (a .edited .now)));
       zeroed =
           record {

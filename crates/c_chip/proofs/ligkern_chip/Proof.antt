@@ -1,35 +1,25 @@
--- `c_chip::ligkern_chip` meets its contract: the command is refused, or taken and its chip put into the list.
+-- `c_chip::ligkern_chip` meets its contract: begin, or another command.
 -- Assumes nothing.
-use mathlib.Core.Path.{subst}
+use mathlib.Core.Path.{sym, subst, _∙_}
 use lib.IntN.{ℤ}
-use Rattle.words.specs.Words.{wordOf, numberOf}
+use lib.ListN.{length}
 use Rattle.words.proofs.Bits.{number-word}
-use Rattle.chips.specs.declared.Chip.{Chip}
-use Rattle.chips.specs.Commands.{Commands}
-use Rattle.c_chips.specs.ChipLists.{chipRead}
-use Rattle.c_chip.proofs.Laws.{refused-told, taken-told}
+use Rattle.lang.specs.Checks.{orElse}
+use Rattle.captions.specs.Form.{tableRefusal}
+use Rattle.chips.specs.Blocks.{blockCaller}
+use Rattle.chips.specs.Commands.{mayBegin, callerRefusal, inTurn, chipBegun, chipAfter}
+use Rattle.c_chips.specs.ChipLists.{chipRead, afterEarly, MovesChip}
+use Rattle.c_chip_turn.specs.ListTurns.{otherRefusal}
+use Rattle.c_chip.proofs.Laws.{begin-told, turn-told}
 use borrow.Author.Needs.{needs}
 use Rattle.c_chip.proofs.ligkern_chip.Statement.{statement}
 use Rattle.c_chip.proofs.ligkern_chip.Tie as tie
 
--- the command was handed the chip that stands in the list, and the boundary character as it was lent
-commanded : (c : tie.After-command) → let a = c .before .before .before .before .before .before .args in
-    Commands (a .pairs .now) (a .ops .now) (a .boundary) (a .block .now) (chipRead (a .chip .now)) (c .command .result) (c .command .last .1 .1 .1 .0)
-commanded c =
-    let f = c .before .before in
-    let s = f .before .before .before .before in
-    let a = s .args in
-    let r = c .command .result in
-    let b = c .command .last .1 .1 .1 .0 in
-    subst (λ (z : ℤ). Commands (a .pairs .now) (a .ops .now) z (a .block .now) (chipRead (a .chip .now)) r b) (number-word (a .boundary) (s .fits .boundary))
-    (subst (λ (x : Chip). Commands (a .pairs .now) (a .ops .now) (numberOf (wordOf (a .boundary))) (a .block .now) x r b) (f .chip-in .ensures)
-    (c .command .ensures))
+u8-at-requires : tie.Need-u8-at-requires
+u8-at-requires c κs = search needs
 
-chip-in-requires : tie.Need-chip-in-requires
-chip-in-requires c κs = search needs
-
-command-requires : tie.Need-command-requires
-command-requires c κs = search needs
+begin-in-requires : tie.Need-begin-in-requires
+begin-in-requires c κs = search needs
 
 same-length : tie.Need-same-length
 same-length c = search needs
@@ -39,12 +29,21 @@ same-length-2 c = search needs
 
 returns : tie.Need-returns
 returns c =
-    let d = c .before .before .before .before in
-    let a = d .before .before .before .before .before .before .args in
-    refused-told (a .pairs .now) (a .ops .now) (a .boundary) (a .block .now) (a .chip .now) (commanded d) (c .if1 .taken)
+    let w = c .before .before .before .before in
+    let i = w .before .before .before in
+    let u = i .before in
+    let s = u .before .before .before .before in
+    let a = s .args in
+    let block = a .block .now in
+    let ns = a .chip .now in
+    begin-told (a .pairs .now) (a .ops .now) (a .boundary) block ns (sym (u .u8-at .ensures) ∙ i .if1 .taken)
+    (subst (λ (z : ℤ). MovesChip (afterEarly z (chipRead ns) (length block)
+    (orElse (tableRefusal (a .pairs .now) (a .ops .now)) (inTurn (mayBegin (blockCaller block) (chipRead ns)) (callerRefusal (blockCaller block)))))
+    (chipBegun (blockCaller block) (chipRead ns)) block ns (w .begin-in .result) (w .begin-in .last .1 .1 .1 .0) (w .begin-in .last .1 .1 .1 .1 .0))
+    (number-word (a .boundary) (s .fits .boundary)) (w .begin-in .ensures))
 
-put-chip-requires : tie.Need-put-chip-requires
-put-chip-requires c κs = search needs
+turn-in-requires : tie.Need-turn-in-requires
+turn-in-requires c κs = search needs
 
 same-length-3 : tie.Need-same-length-3
 same-length-3 c = search needs
@@ -54,22 +53,28 @@ same-length-4 c = search needs
 
 returns-2 : tie.Need-returns-2
 returns-2 c =
-    let p = c .before .before in
-    let i = p .before .before .before in
-    let d = i .before .before .before .before in
-    let a = d .before .before .before .before .before .before .args in
-    taken-told (a .pairs .now) (a .ops .now) (a .boundary) (a .block .now) (a .chip .now) (commanded d) (i .if1 .left) (p .put-chip .ensures)
+    let w = c .before .before .before .before in
+    let i = w .before .before .before in
+    let u = i .before in
+    let s = u .before .before .before .before in
+    let a = s .args in
+    let block = a .block .now in
+    let ns = a .chip .now in
+    turn-told (a .pairs .now) (a .ops .now) (a .boundary) block ns (λ e. i .if1 .left (u .u8-at .ensures ∙ e))
+    (subst (λ (z : ℤ). MovesChip (afterEarly z (chipRead ns) (length block)
+    (otherRefusal (a .pairs .now) (a .ops .now) z block (chipRead ns))) (chipAfter (a .pairs .now) (a .ops .now) z block (chipRead ns)) block ns (w .turn-in .result) (w .turn-in .last .1 .1 .1 .0) (w .turn-in .last .1 .1 .1 .1 .0))
+    (number-word (a .boundary) (s .fits .boundary)) (w .turn-in .ensures))
 
 pub ligkern-chip-spec : {M : Type 1} → statement M
 ligkern-chip-spec =
     tie.close
     (tie.spec
-    chip-in-requires
-    command-requires
+    u8-at-requires
+    begin-in-requires
     same-length
     same-length-2
     returns
-    put-chip-requires
+    turn-in-requires
     same-length-3
     same-length-4
     returns-2)

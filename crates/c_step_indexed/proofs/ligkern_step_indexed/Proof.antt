@@ -12,9 +12,9 @@ use Rattle.captions.specs.declared.Step.{Step}
 use Rattle.c_states.specs.States.{optionsOf}
 use Rattle.c_steps.specs.Step.{StepsBy}
 use Rattle.c_steps.proofs.Stepping.{told-sets}
-use Rattle.c_steps.proofs.Told.{told-at-once}
+use Rattle.c_steps.proofs.Told.{told-at-once, kern-item}
 use Rattle.c_step_indexed.specs.Indexed.{indexedStepIn}
-use Rattle.c_step_indexed.proofs.Stepping.{indexed-long, indexed-given-small, quick-told, quick-item, kern-told, kern-item}
+use Rattle.c_step_indexed.proofs.Stepping.{indexed-long, indexed-given-small, quick-told, quick-item, kern-told}
 use borrow.Author.Needs.{needs}
 use Rattle.c_step_indexed.proofs.ligkern_step_indexed.Statement.{statement}
 use Rattle.c_step_indexed.proofs.ligkern_step_indexed.Tie as tie
@@ -99,8 +99,8 @@ returns-3 c =
     let t : g .give-kern .result ≡ indexedStepIn (a .index .now) (a .pairs .now) (a .ops .now) b (a .word .now) options (a .state .now) =
     kern-told (a .index .now) (a .pairs .now) (a .ops .now) b (a .word .now) options (a .state .now) (e .state-in .ensures) (k .is-kern .ensures)
     (not-false _ (g .before .if3 .left)) (g .give-kern .ensures) in
-    let told = kern-item (a .index .now) (a .pairs .now) (a .ops .now) b (a .word .now) options (a .state .now) (e .state-in .ensures) (k .is-kern .ensures)
-    (not-false _ (g .before .if3 .left)) (g .give-kern .ensures) in
+    let told = kern-item (a .ops .now) b (a .word .now) options (e .state-in .result) (k .is-kern .ensures) (not-false _ (g .before .if3 .left))
+    (g .give-kern .ensures) in
     as-lent s
     (told-at-once (a .state .now) (a .item .now) (indexedStepIn (a .index .now) (a .pairs .now) (a .ops .now) b (a .word .now) options (a .state .now))
     (g .give-kern .result) t told (indexed-long (a .index .now) (a .pairs .now) (a .ops .now) b (a .word .now) options (a .state .now))

@@ -49,7 +49,8 @@ returns c =
     let k : suc (i - 1) ≡ i = omega (arith, f .before .before .loop-test .taken) in
     let n = ap (λ (j : ℕ). nextAsLong (a .letters .now) (a .least) (drop j (a .word .now))) k ∙ l .loop .inv .1 in
     w .ensures
-    ∙ advanced (a .letters .now) (a .least) (a .word .now) (i - 1) (omega (arith, f .before .before .loop-test .taken, l .loop .inv .0)) n (c .before .before .later .given .0 .0)
+    ∙ advanced (a .letters .now) (a .least) (a .word .now) (i - 1) (omega (arith, f .before .before .loop-test .taken, l .loop .inv .0)) n
+    (c .before .before .later .given .0 .0)
     (sym (c .before .before .later .given .1) ∙ f .letter-after .ensures)
 
 enum-told : tie.Need-enum-told Inv-loop μ-loop
@@ -94,7 +95,8 @@ returns-3 c =
     let a = l .before .before .args in
     let z : l .loop .i ≡ 0 = omega (arith, c .before .before .loop-test .left) in
     let n = ap (λ (j : ℕ). nextAsLong (a .letters .now) (a .least) (drop j (a .word .now))) (sym z) ∙ l .loop .inv .1 in
-    c .word-with2 .ensures ∙ one-longer (a .letters .now) (a .least) (a .word .now) n (below-four (length (a .word .now)) (l .before .before .pre) (c .before .if1 .left))
+    c .word-with2 .ensures
+    ∙ one-longer (a .letters .now) (a .least) (a .word .now) n (below-four (length (a .word .now)) (l .before .before .pre) (c .before .if1 .left))
 
 pub next-over-spec : {M : Type 1} → statement M
 next-over-spec =

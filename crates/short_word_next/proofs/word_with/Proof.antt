@@ -23,7 +23,8 @@ returns c =
     let a = c .before .before .before .before .before .args in
     let w = lettersWith (a .word .now) (a .kept) (a .c) (a .least) (a .n) in
     word-is w (a .n) (c .before .before .before .letter-at .result) (c .before .before .letter-at2 .result) (c .before .letter-at3 .result)
-    (c .letter-at4 .result) (with-length (a .word .now) (a .kept) (a .c) (a .least) (a .n) (search needs) (search needs)) (c .before .before .before .letter-at .ensures)
+    (c .letter-at4 .result) (with-length (a .word .now) (a .kept) (a .c) (a .least) (a .n) (search needs) (search needs))
+    (c .before .before .before .letter-at .ensures)
     (c .before .before .letter-at2 .ensures) (c .before .letter-at3 .ensures) (c .letter-at4 .ensures)
 
 pub word-with-spec : {M : Type 1} → statement M

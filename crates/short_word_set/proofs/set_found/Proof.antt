@@ -50,10 +50,12 @@ returns c =
     let x = n .before .before .before .set-items in
     let s = n .before .before .before .before .before .before .before in
     let a = s .args in
-    subst (λ (y : ℤ). SetsFound (nextWordItems (a .first) (a .pairs .now) (a .ops .now) y (heldWord (a .word)) (length (a .items .now))) (wordFound (a .word)) (a .items .now)
+    subst (λ (y : ℤ). SetsFound (nextWordItems (a .first) (a .pairs .now) (a .ops .now) y (heldWord (a .word)) (length (a .items .now)))
+    (wordFound (a .word)) (a .items .now)
     (z .result) (z .last .1 .0)) (number-word (a .boundary) (s .fits .boundary))
     (found-refused (nextWordItems (a .first) (a .pairs .now) (a .ops .now) (numberOf (wordOf (a .boundary))) (heldWord (a .word)) (length (a .items .now)))
-    (wordFound (a .word)) (a .items .now) (n .n .given .0 .0) (tells-as (n .n .given .1) (x .ensures)) (x .kept .1 .1 .1 .1 .1 .0) (z .ensures .0) (z .ensures .1))
+    (wordFound (a .word)) (a .items .now) (n .n .given .0 .0) (tells-as (n .n .given .1) (x .ensures))
+    (x .kept .1 .1 .1 .1 .1 .0) (z .ensures .0) (z .ensures .1))
 
 same-length-2 : tie.Need-same-length-2
 same-length-2 c = search needs
@@ -64,7 +66,8 @@ returns-2 c =
     let x = n .before .before .before .set-items in
     let s = n .before .before .before .before .before .before .before in
     let a = s .args in
-    subst (λ (y : ℤ). SetsFound (nextWordItems (a .first) (a .pairs .now) (a .ops .now) y (heldWord (a .word)) (length (a .items .now))) (wordFound (a .word)) (a .items .now)
+    subst (λ (y : ℤ). SetsFound (nextWordItems (a .first) (a .pairs .now) (a .ops .now) y (heldWord (a .word)) (length (a .items .now)))
+    (wordFound (a .word)) (a .items .now)
     (record { answer = Word; word = a .word; count = n .k .given .0 .0 }) (x .last .1 .1 .1 .1 .1 .0)) (number-word (a .boundary) (s .fits .boundary))
     (found-counted (nextWordItems (a .first) (a .pairs .now) (a .ops .now) (numberOf (wordOf (a .boundary))) (heldWord (a .word)) (length (a .items .now)))
     (wordFound (a .word)) (a .items .now) (n .k .given .0 .0) (tells-as (n .k .given .1) (x .ensures)))

@@ -75,7 +75,8 @@ returns c =
     (n .checked-next .result) (x .result) (x .last .1 .1 .1 .1 .1 .0) (answers n (m .enum-told .given .1))
     (subst (λ (y : ℤ). SetsFound
     (nextWordItems (eqb (length (a .word .now)) 0) (a .pairs .now) (a .ops .now) y (heldWord (n .checked-next .result .word)) (length (a .items .now)))
-    (wordFound (n .checked-next .result .word)) (a .items .now) (x .result) (x .last .1 .1 .1 .1 .1 .0)) (number-word (a .boundary) (s .fits .boundary)) (x .ensures))
+    (wordFound (n .checked-next .result .word)) (a .items .now) (x .result) (x .last .1 .1 .1 .1 .1 .0))
+    (number-word (a .boundary) (s .fits .boundary)) (x .ensures))
 
 same-length-2 : tie.Need-same-length-2
 same-length-2 c = search needs

@@ -1,4 +1,4 @@
--- `test_font_acts::acts` meets its contract: it ends, within what it was lent.
+-- `test_font_acts::acts` meets its contract: how many acts there are, and it ends, within what it was lent.
 -- Assumes nothing.
 use mathlib.Core.Path.{_≡_}
 use Prim.Native.Nat.{_-_, _/_}
