@@ -1,11 +1,13 @@
 /* An example of a host: hands the text of a file to the letter setter and writes its reply to standard output. Where the
    text is refused, it writes N and the number, as the program `ligcols` does, and the reason to standard error.
 
-   host FILE      ends with 0 after a reply, 1 after a refusal, 2 where the file can't be read or the reply not written */
+   host FILE              ends with 0 after a reply, 1 after a refusal, 2 where the file can't be read or the reply not written
+   host convert FILE      the same with the text that it becomes without kern values */
 #include "ligcols.h"
 
 #include <inttypes.h>
 #include <stdio.h>
+#include <string.h>
 
 /* One byte more than a text may have: of a longer file so much is read that it is seen to be too long. */
 static uint8_t text[LIGCOLS_TEXT + 1];
@@ -60,14 +62,18 @@ static int report(int32_t answer)
 
 int main(int argc, char **argv)
 {
-    if (argc != 2) {
-        fprintf(stderr, "usage: %s FILE\n", argv[0]);
+    int converts = argc == 3 && strcmp(argv[1], "convert") == 0;
+    if (argc != 2 && !converts) {
+        fprintf(stderr, "usage: %s [convert] FILE\n", argv[0]);
         return 2;
     }
-    long length = read_file(argv[1]);
+    long length = read_file(argv[argc - 1]);
     if (length < 0) {
-        perror(argv[1]);
+        perror(argv[argc - 1]);
         return 2;
+    }
+    if (converts) {
+        return report(ligcols_convert(text, (size_t)length, reply, sizeof reply));
     }
     return report(ligcols(text, (size_t)length, reply, sizeof reply));
 }

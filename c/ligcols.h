@@ -1,4 +1,4 @@
-/* The letter setter for a host in C: one function. Link target/staticlib/libligkern.a, which c/build writes for x86-64 Linux. c/host.c is an example. */
+/* The letter setter for a host in C: two functions. Link target/staticlib/libligkern.a, which c/build writes for x86-64 Linux. c/host.c is an example. */
 #ifndef LIGCOLS_H
 #define LIGCOLS_H
 
@@ -42,9 +42,29 @@ extern "C" {
    memcpy. So any number of threads may call it at once, each with a reply of its own; they may share a text.
 
    Stack, in bytes, measured by tools/stack/run:
-     ligcols  116,921
-   Give a thread that calls it 256 KiB. The function always returns and never ends the process, but for a stack that is too small, of which no proof speaks. */
+     ligcols          118,985
+     ligcols_convert   35,368
+   Give a thread that calls one of them 256 KiB. The function always returns and never ends the process, but for a stack that is too small, of which no proof speaks. */
 int32_t ligcols(const uint8_t *text, size_t text_length, uint8_t *reply, size_t reply_length);
+
+/* Writes a column text anew without kern values in its instructions (kind 0): each becomes an index (kind 1) to the first line K with that value, or to a line K
+   that is added before W, or last. So does an index past the lines K, which means a kern of zero. All else stands as it stood. The new text sets every word as the
+   old one does. docs/RULES.md has the rules (R461 to R467).
+
+   text, text_length   as for ligcols.
+   out                 where the bytes of the new text go. No zero byte is added to end them.
+   out_length          how many bytes may be written there. LIGCOLS_TEXT are enough for every text.
+
+   Returns the length of the new text, with zeros after it up to out_length. Where the text is refused, it returns minus the number, with zeros in all of out:
+      2, 4, 5  as ligcols
+     15  the new text has no room
+     16  as ligcols; or it would have more than 512 lines K, or more than LIGCOLS_TEXT bytes
+     20  as ligcols. 15 comes before it
+   Where several hold, the lowest is returned, but 16 comes before all. Nothing is compiled: a text that ligcols refuses with 12, 13 or 14 is written anew, and
+   refused by ligcols as before.
+
+   Who owns what, threads, stack: as for ligcols. */
+int32_t ligcols_convert(const uint8_t *text, size_t text_length, uint8_t *out, size_t out_length);
 
 #ifdef __cplusplus
 }

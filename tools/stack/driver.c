@@ -70,6 +70,7 @@ CALL(ligkern_commit_repair, warnings, n.handed, PROGRAM, kerns, n.kerns, entries
 CALL(ligkern_deserialize, file, n.file, out, n.out, loops, n.loops, entries_out, n.entries_out, edges, n.edges, counts, n.counts)
 CALL(ligkern_replace_lig_kern_program, file, n.file, PROGRAM, kerns, n.kerns, entries, n.entries, boundary, left_entry, new_file, n.new_file, VALUES)
 CALL(ligcols, text, n.text, reply, n.reply)
+CALL(ligcols_convert, text, n.text, reply, n.reply)
 
 enum call {
     COMPILE, SCALE, SET, CHECK, CHECKED, FILL, INDEXED, CHECKED_INDEXED,             /* captions */
@@ -91,18 +92,18 @@ static struct {
     ROW(COMPILE, ligkern_compile, 1, 2, 3, 4, 5, 12, 13, 14, 15, 19),
     ROW(SCALE, ligkern_to_scaled, 5, 13, 15, 19),
     ROW(SET, ligkern_set_word, 4, 6, 7, 15),
-    ROW(FILL, ligkern_fill_index, 7, 15),
     ROW(CHECK, ligkern_check_table, 7),
     ROW(CHECKED, ligkern_set_checked_word, 4, 6, 7, 15),
+    ROW(FILL, ligkern_fill_index, 7, 15),
     ROW(INDEXED, ligkern_set_word_indexed, 4, 6, 7, 15),
-    ROW(BEGIN, ligkern_begin, 4, 6, 7, 15),
     ROW(CHECKED_INDEXED, ligkern_set_checked_word_indexed, 4, 6, 7, 15),
+    ROW(BEGIN, ligkern_begin, 4, 6, 7, 15),
     ROW(STEP, ligkern_step, 4, 6, 7, 15),
-    ROW(HAS, ligkern_has_replacement, 4, 7, 15),
     ROW(STEP_INDEXED, ligkern_step_indexed, 4, 6, 7, 15),
     ROW(ASK_FONT, ligkern_ask_font, 4, 7),
     ROW(START_WORD, ligkern_start_word, 4, 6, 7),
     ROW(FONT_STEP, ligkern_font_step, 4, 6, 7, 15),
+    ROW(HAS, ligkern_has_replacement, 4, 7, 15),
     ROW(LISTED, ligkern_all_pairs_with_replacements, 7, 15),
     ROW(TABLE_SAFE, ligkern_table_is_seven_bit_safe, 7, 15),
     ROW(PROGRAM_SAFE, ligkern_program_is_seven_bit_safe, 1, 2, 4, 15),
@@ -117,6 +118,7 @@ static struct {
     ROW(READ_FILE, ligkern_deserialize, 15, 17),
     ROW(WRITE_FILE, ligkern_replace_lig_kern_program, 1, 2, 3, 4, 10, 11, 15, 17, 18),
     ROW(TEXT, ligcols, 2, 4, 5, 12, 13, 14, 15, 16),
+    ROW(CONVERT, ligcols_convert, 2, 4, 5, 15, 16),
 #undef ROW
 };
 
@@ -200,9 +202,9 @@ static void lend_all(void)
     n.count = 1;
     n.values = 3;
     n.state = 9;
+    n.run = LIGKERN_FONT_RUN;
     n.item = 7;
     n.out = sizeof out / sizeof *out;
-    n.run = LIGKERN_FONT_RUN;
     n.entries_out = sizeof entries_out / sizeof *entries_out;
     n.through = sizeof through;
     n.chain = sizeof chain / sizeof *chain;
@@ -354,10 +356,10 @@ static void take_table(void)
     asked_left = letter();
     asked_right = letter();
     take(SET);
-    take(FILL);
-    take(INDEXED);
     take(CHECK);
     take(CHECKED);
+    take(FILL);
+    take(INDEXED);
     take(CHECKED_INDEXED);
     take_steps(200, STEP);
     take_steps(200, STEP_INDEXED);
@@ -367,9 +369,9 @@ static void take_table(void)
     take(TABLE_SAFE);
     numbers[5 * below(257)] ^= (uint64_t)1 << below(64);
     take(INDEXED);
+    take(CHECKED_INDEXED);
 }
 
-    take(CHECKED_INDEXED);
 /* The font written into a file, and read again where it was taken. */
 static void take_file(void)
 {
@@ -404,9 +406,9 @@ static void take_font(void)
     take_file();
     write_text();
     take(TEXT);
+    take(CONVERT);
     size = below(2) ? 0 : (int32_t)(1 + below(134217727));
     magnification = size || below(2) ? 0 : (int32_t)(1 + below(32768));
-    take(CONVERT);
     take(SCALE);
     if (take(COMPILE) == 0) take_table();
     size = magnification = 0;
@@ -579,20 +581,20 @@ static void refuse_texts(void)
         write_text();                                                                                                                                     \
         place = was;                                                                                                                                      \
         due(TEXT, wanted);                                                                                                                                \
+        if (wanted < 12) due(CONVERT, wanted);                                                                                                            \
     } while (0)
     TEXT_WITH(instructions[2], 9, 2);
-        if (wanted < 12) due(CONVERT, wanted);                                                                                                            \
     TEXT_WITH(entries[0], 256, 4);
     TEXT_WITH(design_size, -1, 5);
     TEXT_WITH(kerns[0], 16777216, 13);
 #undef TEXT_WITH
     write_text();
     with_length(&n.reply, 10, TEXT, 15);
-    with_length(&n.text, n.text - 1, TEXT, 16);
-    with_length(&n.text, LIGCOLS_TEXT + 1, TEXT, 16);
     with_length(&n.reply, 10, CONVERT, 15);
-    /* 513 pairs of three letters that share a chain. */
+    with_length(&n.text, n.text - 1, TEXT, 16);
     with_length(&n.text, n.text - 1, CONVERT, 16);
+    with_length(&n.text, LIGCOLS_TEXT + 1, TEXT, 16);
+    /* 513 pairs of three letters that share a chain. */
     n.entries = 0;
     n.instructions = 4 * 171;
     for (int32_t i = 0; i < 171; i++) put_instruction((size_t)i, i < 170 ? 0 : -1, i, 2, 200);

@@ -39,7 +39,7 @@ number-fits w = by (less-or-not w (2 ^ 31))
     by (inl h) = rw (number-pos w h) (le-leb w 2147483647 (omega arith))
     by (inr h) = rw (number-neg w h) (le-leb (2 ^ 32 - suc w) 2147483647 (omega arith))
 
-i32-fits : (z : ℤ) → isI32 z ≡ true → SFits w32 z
+pub i32-fits : (z : ℤ) → isI32 z ≡ true → SFits w32 z
 i32-fits (pos n) e = record { sfits = omega (arith, leb-true n 2147483647 e) }
 i32-fits (negsuc n) e = record { sfits = omega (arith, leb-true n 2147483647 e) }
 

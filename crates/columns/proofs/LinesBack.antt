@@ -29,7 +29,7 @@ text-ends (l ∷ ls) = inr (by (text-ends ls))
 
 -- ---- bytes without a line feed
 
-data Unfed : List ℕ → Type 0 where
+pub data Unfed : List ℕ → Type 0 where
   none : Unfed []
   byte : (b : ℕ) {bs : List ℕ} → (b ≡ 10 → ⊥) → Unfed bs → Unfed (b ∷ bs)
 
@@ -54,14 +54,14 @@ spelled-unfed : (z : ℤ) → Unfed (spelled z)
 spelled-unfed (pos n) = digits-unfed 10 n
 spelled-unfed (negsuc n) = byte 45 (λ e. omega (arith, e)) (digits-unfed 10 (suc n))
 
-fields-unfed : (zs : List ℤ) → Unfed (fieldsOf zs)
+pub fields-unfed : (zs : List ℤ) → Unfed (fieldsOf zs)
 unfolding fieldsOf
 fields-unfed [] = none
 fields-unfed (z ∷ zs) = unfed-both (unfed-both (blanks-unfed (12 - length (spelled z))) (spelled-unfed z)) (fields-unfed zs)
 
 -- ---- lines
 
-line-back : {l : List ℕ} → Unfed l → (bs : List ℕ) (ls : List (List ℕ)) → linesOf bs ≡ some ls → linesOf (l ++ (10 ∷ bs)) ≡ some (l ∷ ls)
+pub line-back : {l : List ℕ} → Unfed l → (bs : List ℕ) (ls : List (List ℕ)) → linesOf bs ≡ some ls → linesOf (l ++ (10 ∷ bs)) ≡ some (l ∷ ls)
 unfolding linesOf
 line-back none bs ls e = ap afterFeed e
 line-back (byte b h u) bs ls e = rw (ne-eqb b 10 h) (ap (onFirst b) (line-back u bs ls e))

@@ -1,5 +1,5 @@
--- The numbers that refuse a text. Not 1 or 3: its I lines are in fours, and these and its K lines are few. Not 6 or 7: once compiling accepts its font, and its
--- letters are characters, begin and every step accept its word. Assumes nothing.
+-- The numbers that refuse a text. Not 1 or 3: its I lines are in fours, and these, its K lines and the kerns that are added are few. Not 6 or 7: once compiling
+-- accepts its font, and its letters are characters, begin and every step accept its word. Assumes nothing.
 use mathlib.Core.Path.{_≡_, refl}
 use mathlib.Core.Bool.{Bool, true, false, cond}
 use mathlib.Core.List.{List, [], _∷_, List·Memᴰ, List·Memᴰ·head, List·Memᴰ·tail, Memᴰ·cast}
@@ -15,6 +15,7 @@ use Rattle.lang.specs.Every.{both, every}
 use Rattle.lang.specs.Records.{count, isInstruction, absentOr}
 use Rattle.lang.specs.Checks.{unless, orElse, lower, sizeRefusal, kernsRefusal, entryFits, isLetter}
 use Rattle.lang.proofs.Refusals.{lower-none}
+use Rattle.program_kerns.proofs.SharedKerns.{kerns-few, shared-length}
 use Rattle.fonts.specs.Fonts.{Font, pairsOf}
 use Rattle.fonts.specs.Compiled.{Room, loopsOfFont, totalOps, fontTable, fontOps, fontLoops, allScale, fontRefusal, compileRefusal}
 use Rattle.captions.specs.Begin.{lettersRefusal}
@@ -67,7 +68,7 @@ word-told {m = suc m} h k = lower-told h k
 
 -- ---- compiling
 
-module _ (f : Font) (fours : length (f .instructions) % 4 ≡ 0) (few : length (f .instructions) ≤ 2048) (kerns : length (f .kerns) ≤ 512) where
+module _ (f : Font) (fours : length (f .instructions) % 4 ≡ 0) (few : length (f .instructions) ≤ 2048) (kerns : length (f .kerns) ≤ 1024) where
   no-1 : sizeRefusal (f .instructions) ≡ 0
   no-1 = rw (fours, le-leb (count (f .instructions)) 32767 (omega arith))
 
@@ -107,9 +108,12 @@ module _ (t : Text) (k : Known t) where
       let f = fontOfText t in
       let w = wordOfText t in
       let bytes = columnBytes f (lengthOfWord (t .word)) w in
+      let long = shared-length (t .instructions) (t .kerns) in
       let alone = replyBytes (fontTable f) (fontOps f) (fontLoops f) (negsuc 0) [] in
       or-by
-      (lower-told (compile-told f (k .fours) (k .instructions) (k .kerns) columnRoom)
+      (lower-told
+      (compile-told f (omega (arith, long, k .fours)) (omega (arith, long, k .instructions))
+      (omega (arith, kerns-few (t .instructions) (t .kerns) (count (t .instructions)), k .instructions, k .kerns)) columnRoom)
       (unless-told (every (length w) (λ i. ltb (getD w i 0) 2147483648)) (told 2 (omega arith))))
       (λ e. or-by
       (word-told (unless-told (every (length w) (λ i. isLetter (getD w i 0))) (told 9 (omega arith)))

@@ -1,5 +1,5 @@
--- What is known of a text that is read: its design size is an i32, as every number is that is read from a field; it has at most 512 instructions, four numbers
--- each, and 512 kerns; and its word has at most 64 letters.
+-- What is known of a text that is read: its design size, its instructions' numbers and its kerns are i32, as every number is that is read from a field; it has
+-- at most 512 instructions, four numbers each, and 512 kerns; and its word has at most 64 letters.
 -- Assumes nothing.
 use mathlib.Core.Path.{_≡_, refl, sym, ap, _∙_, subst}
 use mathlib.Core.Bool.{Bool, true, false, cond}
@@ -19,6 +19,7 @@ use Rattle.columns.specs.Texts.{Text, opened, withBoundary, withLeft, wi
 use Rattle.columns.specs.Texts.{addLines, openedBy, readLines, readText}
 use Rattle.columns.specs.Scanned.{lettersOf}
 use Rattle.columns.specs.Purpose.{isI32, allI32}
+use Rattle.columns.proofs.Fitting.{all-both}
 use Rattle.columns.proofs.Options.{none-some, cond-some, and-some, lettered-some}
 
 -- ---- numbers that are read
@@ -67,6 +68,8 @@ pub record KnownBy (d : ℤ) (is ks : List ℤ) (w : Option (List ℤ)) : Type 0
   pub fours : length is % 4 ≡ 0
   pub instructions : length is ≤ 2048
   pub kerns : length ks ≤ 512
+  pub instruction-numbers : allI32 is ≡ true
+  pub kern-numbers : allI32 ks ≡ true
   pub short : length (lettersOf w) ≤ 64
 
 abbrev pub Known : Text → Type 0
@@ -89,8 +92,8 @@ module _ (t u : Text) (k : Known t) where
   one-known f (z ∷ []) h e = h z e
   one-known f (z ∷ y ∷ zs) h e = absurd (none-some e)
 
-  instruction-known : (zs : List ℤ) → withInstruction t zs ≡ some u → Known u
-  instruction-known zs e =
+  instruction-known : (zs : List ℤ) → allI32 zs ≡ true → withInstruction t zs ≡ some u → Known u
+  instruction-known zs f e =
       let few = leb (suc (length (t .instructions) / 4)) 512 in
       let c = cond-some (both (eqb (length zs) 4) few) (some _) u e in
       let four = eqb-true (length zs) 4 (both-left (eqb (length zs) 4) few (c .0)) in
@@ -102,11 +105,13 @@ module _ (t u : Text) (k : Known t) where
         fours = omega (arith, sum, four, k .fours);
         instructions = omega (arith, sum, four, more, k .fours);
         kerns = k .kerns;
+        instruction-numbers = all-both (t .instructions) zs (k .instruction-numbers) f;
+        kern-numbers = k .kern-numbers;
         short = k .short;
       })
 
-  kern-known : (zs : List ℤ) → withKern t zs ≡ some u → Known u
-  kern-known zs e =
+  kern-known : (zs : List ℤ) → allI32 zs ≡ true → withKern t zs ≡ some u → Known u
+  kern-known zs f e =
       let few = leb (suc (length (t .kerns))) 512 in
       let c = cond-some (both (eqb (length zs) 1) few) (some _) u e in
       let one = eqb-true (length zs) 1 (both-left (eqb (length zs) 1) few (c .0)) in
@@ -118,6 +123,8 @@ module _ (t u : Text) (k : Known t) where
         fours = k .fours;
         instructions = k .instructions;
         kerns = omega (arith, sum, one, more);
+        instruction-numbers = k .instruction-numbers;
+        kern-numbers = all-both (t .kerns) zs (k .kern-numbers) f;
         short = k .short;
       })
 
@@ -133,6 +140,8 @@ module _ (t u : Text) (k : Known t) where
         fours = k .fours;
         instructions = k .instructions;
         kerns = k .kerns;
+        instruction-numbers = k .instruction-numbers;
+        kern-numbers = k .kern-numbers;
         short = leb-true (length zs) 64 (c .0);
       })
 
@@ -140,10 +149,10 @@ module _ (t u : Text) (k : Known t) where
   either true f g e = f e
   either false f g e = g e
 
-  letter-known : (letter : ℕ) (zs : List ℤ) → byLetter t letter zs ≡ some u → Known u
-  letter-known letter zs =
-      either (eqb letter 73) (instruction-known zs)
-      (either (eqb letter 75) (kern-known zs)
+  letter-known : (letter : ℕ) (zs : List ℤ) → allI32 zs ≡ true → byLetter t letter zs ≡ some u → Known u
+  letter-known letter zs f =
+      either (eqb letter 73) (instruction-known zs f)
+      (either (eqb letter 75) (kern-known zs f)
       (either (eqb letter 69) (entry-known zs)
       (either (eqb letter 82) (one-known (withBoundary t (t .boundary)) zs (boundary-known (t .boundary)))
       (either (eqb letter 76) (one-known (withLeft t (t .left)) zs (left-known (t .left)))
@@ -153,22 +162,32 @@ unless-some : (w : Option (List ℤ)) (r : Option Text) (u : Text) → unlessWor
 unless-some none r u e = e
 unless-some (some zs) r u e = absurd (none-some e)
 
-line-known : (r : Option Text) (l : Option Line) (u : Text) → ((t : Text) → r ≡ some t → Known t) → addTo r l ≡ some u → Known u
-line-known none l u h e = absurd (none-some e)
-line-known (some t) none u h e = absurd (none-some e)
-line-known (some t) (some l) u h e =
-    letter-known t u (h t refl) (l .letter) (l .numbers) (unless-some (t .word) (byLetter t (l .letter) (l .numbers)) u e)
+line-known : (r : Option Text) (l : Option Line) (u : Text) → ((t : Text) → r ≡ some t → Known t) → ((x : Line) → l ≡ some x → allI32 (x .numbers) ≡ true) →
+    addTo r l ≡ some u → Known u
+line-known none l u h f e = absurd (none-some e)
+line-known (some t) none u h f e = absurd (none-some e)
+line-known (some t) (some l) u h f e =
+    letter-known t u (h t refl) (l .letter) (l .numbers) (f l refl) (unless-some (t .word) (byLetter t (l .letter) (l .numbers)) u e)
 
 lines-known : (ls : List (List ℕ)) (r : Option Text) (u : Text) → ((t : Text) → r ≡ some t → Known t) → addLines ls r ≡ some u → Known u
 unfolding addLines
 lines-known [] r u h e = h u e
-lines-known (l ∷ ls) r u h e = lines-known ls (addTo r (readLine l)) u (λ t. line-known r (readLine l) t h) e
+lines-known (l ∷ ls) r u h e = lines-known ls (addTo r (readLine l)) u (λ t. line-known r (readLine l) t h (line-fits l)) e
 
 one-fits : (zs : List ℤ) (u : Text) → allI32 zs ≡ true → byOne (λ z. some (opened z)) zs ≡ some u → Known u
 unfolding allI32
 one-fits [] u f e = absurd (none-some e)
 one-fits (z ∷ []) u f e =
-    known-as e (record { design = both-left (isI32 z) true f; fours = refl; instructions = omega arith; kerns = omega arith; short = omega arith })
+    known-as e
+    (record {
+      design = both-left (isI32 z) true f;
+      fours = refl;
+      instructions = omega arith;
+      kerns = omega arith;
+      instruction-numbers = refl;
+      kern-numbers = refl;
+      short = omega arith;
+    })
 one-fits (z ∷ y ∷ zs) u f e = absurd (none-some e)
 
 opened-known : (o : Option Line) (u : Text) → ((l : Line) → o ≡ some l → allI32 (l .numbers) ≡ true) → openedBy o ≡ some u → Known u

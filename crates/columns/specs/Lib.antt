@@ -8,6 +8,8 @@
 --   Example   the text examples/ordinary.txt (R275)
 --   Purpose   what is proved of fields, lines and texts
 --   ReplyRead a reply read back, and what is proved of every text that is answered
+--   Converting     THE contract of ligcols_convert (R464 to R466): a text written anew without kern values
+--   SharedPurpose  what is proved of kern values shared (R463), and of texts that are written anew (R467)
 pub mod Numbers
 pub mod Lines
 pub mod Texts
@@ -17,3 +19,6 @@ pub mod Ligcols
 pub mod Example
 pub mod Purpose
 pub mod ReplyRead
+pub mod Converting
+pub mod ConvertingExample
+pub mod SharedPurpose

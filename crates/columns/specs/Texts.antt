@@ -126,11 +126,15 @@ abbrev pub orAbsent : Option ℤ → ℤ
 orAbsent none = negsuc 0
 orAbsent (some z) = z
 
--- the font that a text says
-abbrev pub fontOfText : Text → Font
-fontOfText t = fontOf (t .instructions) (t .kerns) (t .entries) (orAbsent (t .boundary)) (orAbsent (t .left)) (t .design)
-
 -- R463: a text with its kern values shared: these, and indices past the K lines, become indices to kerns that stand once (R461, R462)
 abbrev pub sharedText : Text → Text
 sharedText t =
     textBy (t .design) (t .boundary) (t .left) (shareKerns (t .instructions) (t .kerns)) (allKerns (t .instructions) (t .kerns)) (t .entries) (t .word)
+
+-- the font of a text's lines as they stand, kern values among them
+abbrev pub fontAsItStands : Text → Font
+fontAsItStands t = fontOf (t .instructions) (t .kerns) (t .entries) (orAbsent (t .boundary)) (orAbsent (t .left)) (t .design)
+
+-- the font that a text says: its kern values are shared
+abbrev pub fontOfText : Text → Font
+fontOfText t = fontAsItStands (sharedText t)

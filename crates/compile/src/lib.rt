@@ -42,7 +42,7 @@ fn edge_refusal(boundary: i32, left_entry: i32, design_size: i32) -> u32
 }
 
 // 1 to 5, the lowest.
-fn font_refusal(
+pub fn font_refusal(
     instructions: &[i32],
     kerns: &[i32],
     entries: &[i32],

@@ -17,12 +17,13 @@ use Rattle.lang.specs.Checks.{orElse, unless}
 use Rattle.lang.specs.Answers.{roomRefusal, listOf, replyOf}
 use Rattle.lang.proofs.Filled.{refused-list}
 use Rattle.property_lists.specs.declared.Progress.{Progress}
-use Rattle.property_lists.specs.declared.Listed.the-variants as listed
-use Rattle.property_lists.specs.ListReading.{ListRead, hasLabel, labelEntries, plRead, plRefusal, plValues, listedReply, ReadsList}
-use Rattle.pl_read.specs.declared.state.Change.{Change}
-use Rattle.pl_read.specs.declared.state.Change.the-variants as change
-use Rattle.pl_read.specs.Standing.{overlay, Stands, StandsAt, Follows, on, stuck}
-use Rattle.pl_read.proofs.Laws.{overlay-all}
+use Rattle.property_lists.specs.ListReading.{ListRead, hasLabel, labelEntries, plRead}
+use Rattle.pl_read.specs.declared.StepsListed.the-variants as listed
+use Rattle.pl_read.specs.ValueLists.{stepsRefusal, stepsValues, stepsReply, ReadsValues}
+use Rattle.pl_progress.specs.declared.Change.{Change}
+use Rattle.pl_progress.specs.declared.Change.the-variants as change
+use Rattle.pl_apply.specs.Standing.{overlay, Stands, StandsAt, Follows, on, stuck}
+use Rattle.pl_apply.proofs.Laws.{overlay-all}
 
 -- ---- entries
 
@@ -88,13 +89,13 @@ pub followed-on : {z : List ℤ} {o : Option ListRead} {r : Change} {s : Progres
 followed-on {s = s} (on {s = u} st) q = let x : u ≡ s = cc in rw x at st
 followed-on (stuck k) q = let x : _≡_ {A = ℕ} 0 1 = cc in absurd (omega arith)
 
-number-of : (m : ℕ) → (m ≡ 0 → ⊥) → (vs : List ℤ) → listedReply (listed.Refused m) ≡ replyOf m vs
+number-of : (m : ℕ) → (m ≡ 0 → ⊥) → (vs : List ℤ) → stepsReply (listed.Refused m) ≡ replyOf m vs
 number-of zero h vs = absurd (h refl)
 number-of (suc m) h vs = refl
 
 module _ (text : List ℕ) (instructions entries : List ℤ) where
   pub answer-none : {r : Change} {z i₁ b₁ i e : List ℤ} → Follows z (plRead text) r i₁ b₁ → r ≡ change.Refused → i ≡ replicate (length instructions) (pos 0) →
-      e ≡ replicate (length entries) (pos 0) → ReadsList text instructions entries (listed.Refused 23) i e
+      e ≡ replicate (length entries) (pos 0) → ReadsValues text instructions entries (listed.Refused 23) i e
   answer-none (on st) q p f = let x : _≡_ {A = ℕ} 0 1 = cc in absurd (omega arith)
   answer-none (stuck k) q p f = record { answer = rw k; program = rw k p; labels = rw k f }
 
@@ -102,20 +103,20 @@ module _ (text : List ℕ) (instructions entries : List ℤ) where
       (counted : n ≡ length (labelEntries b 256)) {room space : ℕ}
       (number : m ≡ orElse (unless 1 (leb (s .steps) 32767)) (orElse (roomRefusal (4 * s .steps) room) (roomRefusal n space)))
       (room-is : room ≡ length instructions) (space-is : space ≡ length entries) where
-    refusal-is : m ≡ plRefusal (plRead text) (length instructions) (length entries)
+    refusal-is : m ≡ stepsRefusal (plRead text) (length instructions) (length entries)
     refusal-is = number ∙ rw (st .is, st .stands .now-is, counted, st .stands .labels-are, room-is, space-is)
 
     pub answer-refused : {i e : List ℤ} → (m ≡ 0 → ⊥) → i ≡ replicate (length instructions) (pos 0) → e ≡ replicate (length entries) (pos 0) →
-        ReadsList text instructions entries (listed.Refused m) i e
+        ReadsValues text instructions entries (listed.Refused m) i e
     answer-refused h p f =
         record {
-          answer = number-of m h (plValues (plRead text)) ∙ ap (λ (k : ℕ). replyOf k (plValues (plRead text))) refusal-is;
+          answer = number-of m h (stepsValues (plRead text)) ∙ ap (λ (k : ℕ). replyOf k (stepsValues (plRead text))) refusal-is;
           program = refused-list (pos 0) (length instructions) _ refusal-is h p;
           labels = refused-list (pos 0) (length entries) _ refusal-is h f;
         }
 
     pub answer-font : {i e : List ℤ} → m ≡ 0 → i ≡ i₁ → e ≡ overlay (labelEntries b 256) (replicate (length entries) (pos 0)) → {boundary left : ℤ} →
-        boundary ≡ numberOf (s .boundary) → left ≡ getD b 256 (pos 0) → ReadsList text instructions entries (listed.Font (s .steps) (n / 2) boundary left) i e
+        boundary ≡ numberOf (s .boundary) → left ≡ getD b 256 (pos 0) → ReadsValues text instructions entries (listed.Font (s .steps) (n / 2) boundary left) i e
     answer-font h p f bo le =
         let z = sym refusal-is ∙ h in
         let o = or-none (unless 1 (leb (s .steps) 32767)) _ (sym number ∙ h) in

@@ -16,13 +16,15 @@ use Rattle.property_lists.specs.declared.Property.the-variants as property
 use Rattle.property_lists.specs.declared.Progress.{Progress}
 use Rattle.property_lists.specs.Properties.{propertyAt, leastBytes}
 use Rattle.property_lists.specs.ListReading.{ListRead, readingBy, progressBy, atStage, bounded, tableOpened, tableClosed, mayLabel, labelledAt, mayEnd, endedAt}
-use Rattle.property_lists.specs.ListReading.{nextSet, steppedAt, stepped, atLeast, labelSet, withNow, applied, isEnded, nothingRead, readAll, listFinished, plRead}
+use Rattle.property_lists.specs.ListReading.{nextSet, steppedAt, stepped, atLeast, labelSet, withNow}
+use Rattle.property_lists.specs.ListReading.{applied, isEnded, nothingRead, readAll, listFinished, plRead}
 use Rattle.property_lists.specs.Indents.{goodIndents}
-use Rattle.pl_read.specs.declared.state.Change.{Change}
-use Rattle.pl_read.specs.declared.state.Change.the-variants as change
-use Rattle.pl_read.specs.Standing.{overlay, Stands, StandsAt, Follows, on, stuck, Going}
-use Rattle.pl_read.proofs.Laws.{overlay-set}
-use Rattle.pl_read.proofs.Applying.{follows-is}
+use Rattle.pl_progress.specs.declared.Change.{Change}
+use Rattle.pl_progress.specs.declared.Change.the-variants as change
+use Rattle.pl_apply.specs.Standing.{overlay, Stands, StandsAt, Follows, on, stuck}
+use Rattle.pl_read.specs.Going.{Going}
+use Rattle.pl_apply.proofs.Laws.{overlay-set}
+use Rattle.pl_apply.proofs.Applying.{follows-is}
 
 -- ---- a property makes no more steps than its bytes allow
 
@@ -62,6 +64,31 @@ some-bytes (property.Skip n) e = omega arith
 some-bytes (property.Ligature op right inserted) e = omega arith
 some-bytes (property.Kern right bits) e = omega arith
 
+-- only the end of the text has no bytes
+pub no-bytes : (p : Property) → leastBytes p ≡ 0 → isEnded p ≡ true
+no-bytes property.Ended e = refl
+no-bytes property.Closed e = absurd (omega arith)
+no-bytes property.Comment e = absurd (omega arith)
+no-bytes (property.Boundary c) e = absurd (omega arith)
+no-bytes property.Table e = absurd (omega arith)
+no-bytes (property.Label c) e = absurd (omega arith)
+no-bytes property.Stop e = absurd (omega arith)
+no-bytes (property.Skip n) e = absurd (omega arith)
+no-bytes (property.Ligature op right inserted) e = absurd (omega arith)
+no-bytes (property.Kern right bits) e = absurd (omega arith)
+
+pub any-bytes : (p : Property) → (leastBytes p ≡ 0 → ⊥) → isEnded p ≡ false
+any-bytes property.Ended n = absurd (n refl)
+any-bytes property.Closed n = refl
+any-bytes property.Comment n = refl
+any-bytes (property.Boundary c) n = refl
+any-bytes property.Table n = refl
+any-bytes (property.Label c) n = refl
+any-bytes property.Stop n = refl
+any-bytes (property.Skip n₁) n = refl
+any-bytes (property.Ligature op right inserted) n = refl
+any-bytes (property.Kern right bits) n = refl
+
 -- ---- one after the other
 
 pub going-start : (text : List ℕ) (z : List ℤ) {b : List ℤ} → b ≡ replicate 257 (negsuc 0) → Going text z (progressBy 0 4294967295 0 false 0) 0 z b
@@ -86,7 +113,8 @@ unfolding readAll
 stuck-by zero l bs e = refl
 stuck-by (suc f) l bs e = rw e
 
-done-by : (f : ℕ) (l : ListRead) (bs : List ℕ) {p : Property} {rest : List ℕ} → 0 < f → propertyAt bs ≡ some (p, rest) → isEnded p ≡ true → readAll f l bs ≡ some l
+done-by : (f : ℕ) (l : ListRead) (bs : List ℕ) {p : Property} {rest : List ℕ} → 0 < f → propertyAt bs ≡ some (p, rest) → isEnded p ≡ true → readAll f l bs
+    ≡ some l
 unfolding readAll
 done-by zero l bs h e g = absurd (omega arith)
 done-by (suc f) l bs h e g = rw (e, g)

@@ -5,8 +5,8 @@ ghost use Prim.Native.Nat.{_+_, _<_, _≤_};
 ghost use lib.IntN.{pos};
 ghost use lib.ListN.{length, getD, set};
 ghost use Rattle.property_lists.specs.ListReading.{hasLabel, labelEntries};
-ghost use Rattle.pl_read.specs.Standing.{overlay};
-use crate::state::has_label;
+ghost use Rattle.pl_apply.specs.Standing.{overlay};
+use pl_progress::has_label;
 use words::i32s::put_word;
 use words::i32s::word_at;
 

@@ -5,11 +5,12 @@ ghost use Prim.Native.Nat.{suc, _*_, _≤_};
 ghost use lib.IntN.{ℤ, negsuc};
 ghost use lib.ListN.{length, replicate};
 ghost use Rattle.property_lists.specs.ListReading.{ListRead, nothingRead, readAll, listFinished, plRead};
-ghost use Rattle.pl_read.specs.Standing.{Stands, Follows, stepsIn};
-use crate::state::Change;
-use crate::table::applied;
-use crate::table::is_ended;
+ghost use Rattle.pl_apply.specs.Standing.{Stands, Follows};
+ghost use Rattle.pl_read.specs.Going.{stepsIn};
+use pl_apply::applied;
 use pl_indents::good_indents;
+use pl_progress::Change;
+use pl_progress::least_bytes;
 use pl_steps::property;
 use property_lists::Progress;
 use property_lists::PropertyRead;
@@ -35,7 +36,7 @@ fn read_all(text: &[u8], instructions: &mut [i32], labels: &mut [i32]) -> Change
         let PropertyRead::Read(p, n) = property(text, at) else {
             return Change::Refused;
         };
-        if is_ended(p) {
+        if least_bytes(p) == 0 {
             return Change::To(s);
         }
         let Change::To(t) = applied(p, s, instructions, labels) else {

@@ -21,7 +21,7 @@ use Rattle.pack.proofs.Packing.{tabulate-getD}
 use Rattle.file_fonts.proofs.Ascending.{Ascending, none, more, twos}
 use Rattle.property_lists.specs.ListReading.{labelEntries}
 use Rattle.pl_read_backs.proofs.Labels.{table-set, below-same}
-use Rattle.pl_read_backs.proofs.Sound.{LabelIn, no-label, to}
+use Rattle.pl_programs.proofs.Sound.{LabelIn, no-label, to}
 
 -- ---- one entry more in a table
 

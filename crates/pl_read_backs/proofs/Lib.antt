@@ -6,10 +6,9 @@
 --   Labels  labels are read into the table
 --   Steps   an instruction is read as its numbers
 --   Programs  a program is read as its numbers
---   Given   what holds of every property that is read
---   Sound   what holds of all that is read
 --   Theorems  proves that what is written is read back
 --   Entries  entries that are read make their table again
+--   Shared  a program shared, and packed again
 --   Again   proves that what is read is written
 pub mod Values
 pub mod Lines
@@ -18,8 +17,7 @@ pub mod Texts
 pub mod Labels
 pub mod Steps
 pub mod Programs
-pub mod Given
-pub mod Sound
 pub mod Theorems
 pub mod Entries
+pub mod Shared
 pub mod Again

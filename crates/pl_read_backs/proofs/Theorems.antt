@@ -10,6 +10,7 @@ use native.Mathlib.Omega.{arith}
 use lib.Dec.{leb, ltb, eqb}
 use lib.IntN.{ℤ, pos, negsuc}
 use lib.ListN.{length, getD, replicate, length-append, length-set}
+use lib.Seq.{getD-set-same}
 use mir.Syntax.{w32}
 use mir.Val.{SFits}
 use borrow.Author.Tests.{eq-eqb, ne-eqb, eqb-true, ltb-true, leb-true, le-leb}
@@ -34,7 +35,7 @@ use Rattle.property_lists.specs.Indents.{indentsBy, indentsKept, goodIndents}
 use Rattle.property_lists.specs.Displays.{octalChar, lineEnd, boundaryLine, programLines, ligTableLines, displayText, displayFault, lentFault, showsAll}
 use Rattle.property_lists.specs.Displays.{instructionShown, kernsShown, entriesShown, leftShown}
 use Rattle.property_lists.specs.ListReading.{ListRead, readingBy, progressBy, nothingRead, applied, isEnded, propertyOn, readAll, listFinished, plRead}
-use Rattle.pl_read_backs.specs.Purpose.{ListReadBack, FontReadBack}
+use Rattle.pl_read_backs.specs.Purpose.{ListReadBack, SharedReadBack, FontReadBack}
 use Rattle.pl_read_backs.proofs.Lines.{boundary-read, table-read, closed-read}
 use Rattle.pl_read_backs.proofs.Kept.{plainBytes, plain-char, inside, LevelOne, end-kept}
 use Rattle.pl_read_backs.proofs.Texts.{LinesOf, lines-kept, lines-few, lines-on, property-on, appliedAll}
@@ -301,9 +302,30 @@ module _ (s kerns es : List ℤ) (b l : ℤ) (fs : AreI32 s) (fk : AreI32 kerns)
         boundary-char = boundary-is b boundary-there;
       }
 
-pub font-read-back : FontReadBack
-font-read-back s kerns es b l fs fk fe fb fl taken = by (same-or-not (count s) 0)
+list-read-back : (s kerns es : List ℤ) (b l : ℤ) → AreI32 s → AreI32 kerns → AreI32 es → SFits w32 b → SFits w32 l → displayFault s kerns es b l ≡ 0 →
+    ListReadBack (displayText s kerns es b l) s kerns es b l
+list-read-back s kerns es b l fs fk fe fb fl taken = by (same-or-not (count s) 0)
   where
     by : (count s ≡ 0) ⊎ (count s ≡ 0 → ⊥) → ListReadBack (displayText s kerns es b l) s kerns es b l
     by (inl e) = no-table s kerns es b l fs fk fe fb fl taken e
     by (inr n) = with-table s kerns es b l fs fk fe fb fl taken n
+
+-- ---- what is answered
+
+left-at : (es : List ℤ) (l : ℤ) → getD (entriesTable es l) 256 (pos 0) ≡ l
+unfolding entriesTable
+left-at es l = getD-set-same (entered es (length es / 2)) 256 l (pos 0) (omega (arith, length-entered es (length es / 2)))
+
+shared-read-back : {text : List ℕ} {s kerns es : List ℤ} {b l : ℤ} → ListReadBack text s kerns es b l → SharedReadBack text s kerns es b l
+shared-read-back {es = es} {l = l} k =
+    record {
+      program = rw (k .read, k .program);
+      shares = rw (k .read, k .program);
+      entries = rw (k .read, k .labels);
+      values = rw (k .read, k .steps, k .program, k .labels, k .boundary-char, left-at es l);
+    }
+
+pub font-read-back : FontReadBack
+font-read-back s kerns es b l fs fk fe fb fl taken =
+    let k = list-read-back s kerns es b l fs fk fe fb fl taken in
+    (k, shared-read-back k)

@@ -3,15 +3,14 @@ ghost use Prim.Native.Nat.{_≤_};
 ghost use lib.ListN.{length, drop};
 ghost use Rattle.property_lists.specs.Properties.{propertyAt, namedFrom, leastBytes, threeBytes, ReadsProperty};
 use kinds::by_code;
-use names::name_at;
 use pl_chars::past_blanks;
+use pl_names::name_at;
 use property_lists::Passed;
 use property_lists::Property;
 use property_lists::PropertyRead;
 use property_lists::ValueRead;
 
 mod kinds;
-mod names;
 
 // What stands behind a parenthesis.
 fn named_from(text: &[u8], at: usize) -> PropertyRead

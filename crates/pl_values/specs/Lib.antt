@@ -1,2 +1,1 @@
--- The definitions are those of property_lists/specs/Values; Places is cited by private functions alone.
-pub mod Places
+-- The definitions are those of property_lists/specs/Values.

@@ -11,7 +11,7 @@ use pl_chars::is_visible;
 use pl_chars::upper_case;
 use property_lists::ValueRead;
 
-pub(crate) fn wide(b: u8) -> u32
+fn wide(b: u8) -> u32
     ensures { λ r. ⌜ r ≡ b ⌝ }
 {
     b as u32

@@ -12,6 +12,7 @@ use Rattle.words.specs.Words.{wordOf, numberOf}
 use Rattle.lang.specs.Every.{both}
 use Rattle.lang.specs.Checks.{unless, orElse}
 use Rattle.lang.specs.Answers.{Reply, replyOf, roomRefusal, listOf}
+use Rattle.program_kerns.specs.Kerns.{kernsOf, unpacked}
 use Rattle.property_lists.specs.declared.Property.{Property}
 use Rattle.property_lists.specs.declared.Property.the-variants as property
 use Rattle.property_lists.specs.declared.Progress.{Progress}
@@ -163,24 +164,38 @@ abbrev pub plProgram : Option ListRead → List ℤ
 plProgram none = []
 plProgram (some r) = r .program
 
--- how many instructions and entries, the boundary character and the left entry
+-- R468: reading shares kerns: the program with an index for each kern value, and the kerns, each value once in the order of appearance
+abbrev pub plShared : Option ListRead → List ℤ
+plShared r = unpacked (plProgram r)
+
+abbrev pub plKerns : Option ListRead → List ℤ
+plKerns r = kernsOf (plProgram r)
+
+-- how many instructions, kerns and entries, the boundary character and the left entry
 abbrev pub plValues : Option ListRead → List ℤ
 plValues none = []
 plValues (some r) =
-    pos (r .now .steps) ∷ pos (length (labelEntries (r .labels) 256) / 2) ∷ numberOf (r .now .boundary) ∷ getD (r .labels) 256 (pos 0) ∷ []
+    pos (r .now .steps) ∷ pos (length (kernsOf (r .program))) ∷ pos (length (labelEntries (r .labels) 256) / 2) ∷ numberOf (r .now .boundary) ∷
+    getD (r .labels) 256 (pos 0) ∷ []
 
--- 23; else 1, over 32,767 steps; else 15, where a list is too short
-abbrev pub plRefusal : Option ListRead → ℕ → ℕ → ℕ
-plRefusal none room entryRoom = 23
-plRefusal (some r) room entryRoom =
+-- 23; else 1, over 32,767 steps; else 15, where the instructions, the kerns or the entries are too short
+abbrev pub plRefusal : Option ListRead → ℕ → ℕ → ℕ → ℕ
+plRefusal none room kernRoom entryRoom = 23
+plRefusal (some r) room kernRoom entryRoom =
     orElse (unless 1 (leb (r .now .steps) 32767))
-    (orElse (roomRefusal (4 * r .now .steps) room) (roomRefusal (length (labelEntries (r .labels) 256)) entryRoom))
+    (orElse (roomRefusal (4 * r .now .steps) room)
+    (orElse (roomRefusal (length (kernsOf (r .program))) kernRoom) (roomRefusal (length (labelEntries (r .labels) 256)) entryRoom)))
 
 abbrev pub listedReply : Listed → Reply
-listedReply (listed.Font n e boundary left) = replyOf 0 (pos n ∷ pos e ∷ boundary ∷ left ∷ [])
+listedReply (listed.Font n k e boundary left) = replyOf 0 (pos n ∷ pos k ∷ pos e ∷ boundary ∷ left ∷ [])
 listedReply (listed.Refused n) = record { number = n; values = [] }
 
-pub record ReadsList (text : List ℕ) (instructions entries : List ℤ) (r : Listed) (instructions′ entries′ : List ℤ) : Type 0 where
-  pub answer : listedReply r ≡ replyOf (plRefusal (plRead text) (length instructions) (length entries)) (plValues (plRead text))
-  pub program : instructions′ ≡ listOf (plRefusal (plRead text) (length instructions) (length entries)) (pos 0) (length instructions) (plProgram (plRead text))
-  pub labels : entries′ ≡ listOf (plRefusal (plRead text) (length instructions) (length entries)) (pos 0) (length entries) (plEntries (plRead text))
+-- THE contract of from_pl_source_code: the answer, and each list with zeros after what was read; or the number, and zeros
+pub record ReadsList (text : List ℕ) (instructions kerns entries : List ℤ) (r : Listed) (instructions′ kerns′ entries′ : List ℤ) : Type 0 where
+  pub answer : listedReply r ≡ replyOf (plRefusal (plRead text) (length instructions) (length kerns) (length entries)) (plValues (plRead text))
+  pub program : instructions′ ≡
+      listOf (plRefusal (plRead text) (length instructions) (length kerns) (length entries)) (pos 0) (length instructions) (plShared (plRead text))
+  pub shares : kerns′ ≡
+      listOf (plRefusal (plRead text) (length instructions) (length kerns) (length entries)) (pos 0) (length kerns) (plKerns (plRead text))
+  pub labels : entries′ ≡
+      listOf (plRefusal (plRead text) (length instructions) (length kerns) (length entries)) (pos 0) (length entries) (plEntries (plRead text))

@@ -63,9 +63,9 @@ pub enum Indented {
     Refused,
 }
 
-// What reading a text answers: how many instructions and entries it has, its boundary character and its left entry (-1
-// for none); or the number of its refusal.
+// What reading a text answers: how many instructions, kerns and entries it has, its boundary character and its left
+// entry (-1 for none); or the number of its refusal.
 pub enum Listed {
-    Font(usize, usize, i32, i32),
+    Font(usize, usize, usize, i32, i32),
     Refused(u32),
 }

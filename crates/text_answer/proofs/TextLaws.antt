@@ -3,7 +3,7 @@
 use mathlib.Core.Path.{_≡_, refl, sym, ap, subst, _∙_}
 use mathlib.Core.Bool.{Bool, true, false, cond}
 use mathlib.Core.List.{List, [], _∷_, map}
-use mathlib.Core.Option.{Option, none, some}
+use mathlib.Core.Option.{Option, none, some, Option·some-injective}
 use Prim.Native.Nat.{ℕ, zero, suc, _-_, _*_, _/_, _%_, _<_, _≤_}
 use native.Mathlib.Omega.{arith}
 use lib.IntN.{ℤ, pos, negsuc}
@@ -32,14 +32,15 @@ use Rattle.word_set.proofs.Bounds.{orElse-few}
 use Rattle.word_set.proofs.Few.{items-few}
 use Rattle.columns.specs.declared.TextHeads.{TextHeads}
 use Rattle.columns.specs.declared.TextRead.the-variants as text
-use Rattle.columns.specs.Texts.{Text, readText, fontOfText}
-use Rattle.columns.specs.Scanned.{lengthOfWord}
+use Rattle.columns.specs.Texts.{Text, readText, sharedText, fontAsItStands, fontOfText}
+use Rattle.columns.specs.Scanned.{lengthOfWord, sharedRead}
 use Rattle.columns.specs.Replying.{replyBytes, replyRefusal}
 use Rattle.columns.specs.Ligcols.{columnRoom, columnItems, columnBytes, columnNumber, wordOfText, numberOfText, bytesOfText, lengthOr}
 use Rattle.columns.specs.Ligcols.{signsRefusal, orLower, wordNumber, AnswersText}
 use Rattle.text_font_reply.specs.Answering.{AnswersBytes}
 use Rattle.columns.specs.Scanned.{lettersIn}
 use Rattle.text_font_reply.proofs.Laws.{count-known, refused-known}
+use Rattle.columns.proofs.Options.{none-some}
 use Rattle.columns.proofs.Saying.{Said}
 
 pub answers-as : {m m′ : ℕ} {bytes bytes′ reply reply′ : List ℕ} {r : Written} → m ≡ m′ → bytes ≡ bytes′ → AnswersBytes m bytes reply r reply′ →
@@ -55,10 +56,30 @@ letters-word {z} {w} h l = sym (ap lettersIn (read-pos h l))
 pub letters-none : {z : ℤ} {w : ℕ} → Word z w → 2147483648 ≤ w → 0 ≡ lettersIn z
 letters-none {z} {w} h l = sym (ap lettersIn (read-neg h l))
 
+-- ---- a text that is not read
+
+pub unread-number : (o : Option Text) → sharedRead o ≡ none → (room : ℕ) → numberOfText o room ≡ 16
+unread-number none e room = refl
+unread-number (some t) e room = absurd (none-some (sym e))
+
 -- ---- a text that is read
 
+-- the font of a text is that of what was said, which is the text with its kern values shared
+shared-is : (t u : Text) → sharedRead (some t) ≡ some u → u ≡ sharedText t
+shared-is t u e = sym (Option·some-injective (sharedText t) u e)
+
+said-number : (o : Option Text) (u : Text) → sharedRead o ≡ some u → (room : ℕ) →
+    columnNumber (fontAsItStands u) (lengthOfWord (u .word)) (wordOfText u) room ≡ numberOfText o room
+said-number none u e room = absurd (none-some e)
+said-number (some t) u e room = ap (λ (v : Text). columnNumber (fontAsItStands v) (lengthOfWord (v .word)) (wordOfText v) room) (shared-is t u e)
+
+said-bytes : (o : Option Text) (u : Text) → sharedRead o ≡ some u → columnBytes (fontAsItStands u) (lengthOfWord (u .word)) (wordOfText u) ≡ bytesOfText o
+said-bytes none u e = absurd (none-some e)
+said-bytes (some t) u e = ap (λ (v : Text). columnBytes (fontAsItStands v) (lengthOfWord (v .word)) (wordOfText v)) (shared-is t u e)
+
 -- the answer for what was said is that for the text
-pub said-answer : (bytes : List ℕ) {h : TextHeads} {is ks es : List ℤ} {ws : List ℕ} (s : Said (readText bytes) 512 h is ks es ws) {reply reply′ : List ℕ} {r : Written} →
+pub said-answer : (bytes : List ℕ) {h : TextHeads} {is ks es : List ℤ} {ws : List ℕ} (s : Said (sharedRead (readText bytes)) 1024 h is ks es ws)
+    {reply reply′ : List ℕ} {r : Written} →
     AnswersBytes
     (columnNumber (fontOf (take (h .instructions) is) (take (h .kerns) ks) (take (h .entries) es) (h .boundary) (h .left) (h .design)) (h .letters)
     (take (lettersIn (h .letters)) ws) (length reply))
@@ -68,9 +89,9 @@ pub said-answer : (bytes : List ℕ) {h : TextHeads} {is ks es : List ℤ} {ws :
 said-answer bytes s {reply} a =
     answers-as
     ((λ i. columnNumber (fontOf (s .instructions i) (s .kerns i) (s .entries i) (s .boundary i) (s .left i) (s .design i)) (s .letters i) (s .word i)
-    (length reply)) ∙ ap (λ (o : Option Text). numberOfText o (length reply)) (sym (s .read)))
+    (length reply)) ∙ said-number (readText bytes) (s .said) (s .read) (length reply))
     ((λ i. columnBytes (fontOf (s .instructions i) (s .kerns i) (s .entries i) (s .boundary i) (s .left i) (s .design i)) (s .letters i) (s .word i))
-    ∙ ap bytesOfText (sym (s .read)))
+    ∙ said-bytes (readText bytes) (s .said) (s .read))
     a
 
 -- ---- every number is at most 20

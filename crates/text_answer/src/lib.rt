@@ -1,5 +1,5 @@
-// The column text for a host: a text in, the reply in bytes out (R211). Crate `text_scan` reads the text, and
-// `text_font_reply` answers for the font and the word that it says.
+// The column text for a host: a text in, the reply in bytes out (R211). Crate `text_shared` reads the text and
+// shares its kern values, and `text_font_reply` answers for the font and the word that it says.
 ghost use mathlib.Core.Path.{_≡_};
 ghost use lib.ListN.{length};
 ghost use Rattle.columns.specs.Ligcols.{numberOfText, bytesOfText, AnswersText};
@@ -9,23 +9,23 @@ ghost use Rattle.columns.specs.Scanned.{lettersIn};
 use columns::TextRead;
 use lang::Written;
 use text_font_reply::answer_font;
-use text_scan::read_text;
+use text_shared::read_shared;
 use words::number_of;
 use words::u8s::zero_u8;
 use words::word_of;
 
-// Room for what a text says, within its limits: four numbers an instruction, one a kern, two an entry, and a word's
-// letters.
+// Room for what a text says, within its limits: four numbers an instruction, one a kern, of which each instruction may
+// add one, two an entry, and a word's letters.
 fn instruction_list() -> [i32; 2048]
     ensures { λ r. ⌜ 2048 ≡ length r ⌝ }
 {
     [0; 2048]
 }
 
-fn kern_list() -> [i32; 512]
-    ensures { λ r. ⌜ 512 ≡ length r ⌝ }
+fn kern_list() -> [i32; 1024]
+    ensures { λ r. ⌜ 1024 ≡ length r ⌝ }
 {
-    [0; 512]
+    [0; 1024]
 }
 
 fn entry_list() -> [i32; 5040]
@@ -57,7 +57,7 @@ fn answer(text: &[u8], reply: &mut [u8]) -> Written
     let mut kerns = kern_list();
     let mut entries = entry_list();
     let mut word = letter_list();
-    match read_text(text, &mut instructions, &mut kerns, &mut entries, &mut word) {
+    match read_shared(text, &mut instructions, &mut kerns, &mut entries, &mut word) {
         TextRead::Unreadable => {
             zero_u8(reply);
             Written::Refused(16)

@@ -92,7 +92,7 @@ fn answer_table(
 }
 
 // 4: a letter below 0, by the highest of its 32 bits.
-fn signs_refusal(word: &[u32]) -> u32
+pub fn signs_refusal(word: &[u32]) -> u32
     ensures { λ r. ⌜ r ≡ signsRefusal (now (word .entry)) ⌝ }
 {
     let mut i = 0;

@@ -14,7 +14,8 @@ use Rattle.words.proofs.Tests.{less-or-not}
 use Rattle.columns.specs.Lines.{linesOf}
 use Rattle.columns.specs.Texts.{Text, readLines}
 use Rattle.columns.specs.Ligcols.{numberOfText, bytesOfText}
-use Rattle.text_print.specs.Printing.{printedBytes, printedText, LongRefused, FirstBytesPrinted}
+use Rattle.columns.specs.Converting.{convertedBy, convertNumber}
+use Rattle.text_print.specs.Printing.{printedBytes, printedText, printedConverted, LongRefused, LongNotConverted, FirstBytesPrinted, FirstBytesConverted}
 
 -- A text of more than 65,536 bytes is 16.
 pub long-refused : LongRefused
@@ -29,3 +30,20 @@ first-bytes-printed input = by (less-or-not 65536 (length input))
     by : (65536 < length input) ⊎ (length input ≤ 65536) → printedText (take 65537 input) ≡ printedText input
     by (inl l) = long-refused (take 65537 input) (omega (arith, length-take-le 65537 input (omega (arith, l)))) ∙ sym (long-refused input l)
     by (inr l) = ap printedText (take-all 65537 input (omega (arith, l)))
+
+-- The same of a text that is written anew.
+pub long-not-converted : LongNotConverted
+long-not-converted input l =
+    ap
+    (λ (t : Bool).
+    printedBytes (convertNumber (cond t (readLines (linesOf input)) none) (convertedBy (cond t (readLines (linesOf input)) none) input) 65536)
+    (convertedBy (cond t (readLines (linesOf input)) none) input))
+    (lt-leb (length input) 65536 l)
+
+pub first-bytes-converted : FirstBytesConverted
+first-bytes-converted input = by (less-or-not 65536 (length input))
+  where
+    by : (65536 < length input) ⊎ (length input ≤ 65536) → printedConverted (take 65537 input) ≡ printedConverted input
+    by (inl l) =
+        long-not-converted (take 65537 input) (omega (arith, length-take-le 65537 input (omega (arith, l)))) ∙ sym (long-not-converted input l)
+    by (inr l) = ap printedConverted (take-all 65537 input (omega (arith, l)))

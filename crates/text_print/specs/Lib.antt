@@ -1,3 +1,3 @@
--- What the program `ligcols` prints.
---   Printing  the reply, or the line N: the contract of `print_answer`, and what is proved of it
+-- What the programs `ligcols` and `ligcols_convert` print.
+--   Printing  the reply or what a text becomes, or the line N: the contracts of `print_answer` and `print_converted`, and what is proved of them
 pub mod Printing

@@ -1,3 +1,3 @@
--- A program in front of a list, shared, and the heads of a text then (Fronts): only private functions' contracts cite it. The contract is that
--- of columns/specs/Scanned.
+-- A program in front of a list, shared; what a text says, shared: the contract of `share_text`; the heads of a text then (Fronts). The
+-- contract of `read_shared` is that of columns/specs/Scanned.
 pub mod Fronts

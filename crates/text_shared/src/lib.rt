@@ -3,9 +3,9 @@
 ghost use mathlib.Core.Path.{_≡_};
 ghost use mathlib.Core.List.{_++_};
 ghost use Prim.Native.Nat.{_≤_};
-ghost use lib.ListN.{length, drop};
+ghost use lib.ListN.{length, take, drop};
 ghost use Rattle.columns.specs.Scanned.{ReadsShared};
-ghost use Rattle.text_shared.specs.Fronts.{SharesFront, headsWith};
+ghost use Rattle.text_shared.specs.Fronts.{SharesFront, SharesText, headsWith};
 use columns::TextHeads;
 use columns::TextRead;
 use kern_share::share_kerns;
@@ -21,13 +21,13 @@ fn line_kerns() -> [i32; 512]
     [0; 512]
 }
 
-// A list copied to the front of a longer one.
-fn copy_front(from: &[i32], to: &mut [i32])
-    requires { ⌜ length (now from) ≤ length (now to) ⌝ }
-    ensures { λ _. ⌜ now (to .exit) ≡ now (from .entry) ++ drop (length (now (from .entry))) (now (to .entry)) ⌝ }
+// The first k numbers of a list copied to the front of another.
+fn copy_front(from: &[i32], k: usize, to: &mut [i32])
+    requires { ⌜ (k ≤ length (now from)) × (k ≤ length (now to)) ⌝ }
+    ensures { λ _. ⌜ now (to .exit) ≡ take k (now (from .entry)) ++ drop k (now (to .entry)) ⌝ }
 {
     let mut j = 0;
-    while j < from.len() {
+    while j < k {
         put_word(to, j, word_at(from, j));
         j += 1;
     }
@@ -57,6 +57,26 @@ fn share_front(instructions: &mut [i32], n: usize, kerns: &mut [i32], k: usize) 
     share_kerns(&mut instructions[..n], kerns, k)
 }
 
+// What a text says, i numbers of instructions and k kerns of its own, with its kern values shared in place. Answers how
+// many kerns there are then. Over 2,048 numbers or 512 kerns are no text's: nothing is shared.
+pub fn share_text(
+    i: usize,
+    k: usize,
+    instructions: &mut [i32; 2048],
+    own: &[i32; 512],
+    kerns: &mut [i32; 1024],
+) -> usize
+    ensures { λ r. ⌜ SharesText i k (now (instructions .entry)) (now (own .entry)) r (now (instructions .exit))
+        (now (kerns .exit)) ⌝ }
+{
+    zero_i32(kerns);
+    if 2048 < i || 512 < k {
+        return 0;
+    }
+    copy_front(own, k, kerns);
+    share_front(instructions, i, kerns, k)
+}
+
 // A text read, with its kern values shared; or 16, and zeros.
 pub fn read_shared(
     text: &[u8],
@@ -68,16 +88,14 @@ pub fn read_shared(
     ensures { λ r. ⌜ ReadsShared (now (text .entry)) r (now (instructions .exit)) (now (kerns .exit))
         (now (entries .exit)) (now (word .exit)) ⌝ }
 {
-    zero_i32(kerns);
     let mut own = line_kerns();
-    let read = read_text(text, instructions, &mut own, entries, word);
-    match read {
-        TextRead::Unreadable => TextRead::Unreadable,
+    match read_text(text, instructions, &mut own, entries, word) {
+        TextRead::Unreadable => {
+            zero_i32(kerns);
+            TextRead::Unreadable
+        }
         TextRead::Text(heads) => {
-            let i = heads.instructions;
-            let k = heads.kerns;
-            copy_front(&own[..k], kerns);
-            let m = share_front(instructions, i, kerns, k);
+            let m = share_text(heads.instructions, heads.kerns, instructions, &own, kerns);
             TextRead::Text(with_kerns(heads, m))
         }
     }

@@ -1,7 +1,7 @@
 /* list FONT LETTERS CALL HOW N: one call of the setter's library on a font of 32,767 instructions that is written as a property list (tools/bench/font);
    LETTERS is not looked at.
 
-   CALL  display: ligkern_display.
+   CALL  display: ligkern_display. from_pl_source_code: ligkern_from_pl_source_code, of the text that it wrote.
    HOW   answer: writes the text; count, time: see meter.h.
 
    What is lent has room for the longest text. */
@@ -15,6 +15,8 @@ static uint8_t text[TEXT];
 static uint32_t said;
 static uint64_t bytes;
 static size_t steps, kern_count, entry_count;
+static int32_t read_steps[4 * MOST], read_kerns[MOST], read_entries[2 * 256], edges[2];
+static uint64_t counts[3];
 
 static int32_t next_number(char **at) {
     char *end;
@@ -45,6 +47,10 @@ static void display(void) {
     said = ligkern_display(instructions, 4 * steps, kerns, kern_count, entries, 2 * entry_count, boundary, left_entry, text, TEXT, &bytes, 1);
 }
 
+static void from_pl(void) {
+    said = ligkern_from_pl_source_code(text, bytes, read_steps, 4 * MOST, read_kerns, MOST, read_entries, 2 * 256, edges, 2, counts, 3);
+}
+
 static void nothing(void) {}
 
 int main(int argc, char **argv) {
@@ -56,6 +62,8 @@ int main(int argc, char **argv) {
         fwrite(text, 1, bytes, stdout);
     } else if (!strcmp(argv[3], "display")) {
         meter(argv[4], atol(argv[5]), nothing, display);
+    } else if (!strcmp(argv[3], "from_pl_source_code")) {
+        meter(argv[4], atol(argv[5]), nothing, from_pl);
     } else {
         die("no such call");
     }

@@ -312,6 +312,12 @@ int main(int argc, char **argv) {
         else if (!strcmp(call, "checked")) meter(how, n, nothing, set_checked_word);
         else if (!strcmp(call, "checked_indexed")) meter(how, n, nothing, set_checked_word_indexed);
         else if (!strcmp(call, "step_indexed")) meter(how, n, start_again, step_indexed_to_end);
+        else if (!strncmp(call, "font_", 5)) {
+            weave_word();
+            if (said) die("start_word refused");
+            if (!strcmp(call, "font_waits")) said = ligkern_ask_font(1, pairs.at, 6 * counts[0], ops.at, 2 * counts[1], boundary, fresh_run, LIGKERN_FONT_RUN);
+            meter(how, n, run_again, !strcmp(call, "font_plain") ? font_plain : font_steps);
+        }
         else if (!strcmp(call, "short")) meter(how, n, nothing, short_words);
         else if (!strcmp(call, "short_word")) meter(how, n, nothing, short_set);
         else if (!strcmp(call, "short_40")) meter(how, n, nothing, short_40);

@@ -42,11 +42,11 @@ returns c =
     let a = y .before .before .before .args in
     rw (w .font2 .given .1)
     (list-short (a .edges .now) (a .counts .now) (y .zero-i32 .ensures) (z .zero-u64 .ensures) (f .fixed-refusal .ensures) (w .font2 .given .0 .0)
-    (w .font2 .given .0 .1 .0) (w .font2 .given .0 .1 .1 .0) (w .font2 .given .0 .1 .1 .1 .0) (c .if1 .taken))
+    (w .font2 .given .0 .1 .0) (w .font2 .given .0 .1 .1 .0) (w .font2 .given .0 .1 .1 .1 .0) (w .font2 .given .0 .1 .1 .1 .1 .0) (c .if1 .taken))
 
 -- there is room for the edges and the counts
 room : (c : tie.Else1) → let f = c .before .before .before .before in
-    (2 ≤ length (f .before .before .before .before .before .before .zero-i32 .last .0)) × (2 ≤ length (f .before .before .before .zero-u64 .last .0))
+    (2 ≤ length (f .before .before .before .before .before .before .zero-i32 .last .0)) × (3 ≤ length (f .before .before .before .zero-u64 .last .0))
 room c =
     let f = c .before .before .before .before in
     fixed-room (length (f .before .before .before .before .before .before .zero-i32 .last .0)) (length (f .before .before .before .zero-u64 .last .0))
@@ -96,9 +96,9 @@ returns-3 c =
     let t = e .before .known-told2 .given in
     rw (w .font2 .given .1)
     (list-told (a .edges .now) (a .counts .now) (y .zero-i32 .ensures) (z .zero-u64 .ensures) (f .fixed-refusal .ensures) (v .0) (v .1 .0) (v .1 .1 .0)
-    (v .1 .1 .1 .0) (e .if1 .left)
-    (λ j. set (set (y .zero-i32 .last .0) 0 (number-word (v .1 .1 .0) (record { sfits = t .1 .1 .0 .1 }) j)) 1
-    (number-word (v .1 .1 .1 .0) (record { sfits = t .1 .1 .1 .0 .1 }) j)) (c .before .before .put-counts .ensures))
+    (v .1 .1 .1 .0) (v .1 .1 .1 .1 .0) (e .if1 .left)
+    (λ j. set (set (y .zero-i32 .last .0) 0 (number-word (v .1 .1 .1 .0) (record { sfits = t .1 .1 .1 .0 .1 }) j)) 1
+    (number-word (v .1 .1 .1 .1 .0) (record { sfits = t .1 .1 .1 .1 .0 .1 }) j)) (c .before .before .put-counts .ensures))
 
 pub tell-list-spec : {M : Type 1} → statement M
 tell-list-spec =

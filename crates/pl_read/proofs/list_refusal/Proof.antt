@@ -3,7 +3,7 @@
 use Prim.Native.Nat.{_*_}
 use borrow.Author.Tests.{lt-leb, le-leb}
 use Rattle.property_lists.specs.declared.Property.the-variants as property
-use Rattle.pl_read.specs.declared.state.Change.the-variants as change
+use Rattle.pl_progress.specs.declared.Change.the-variants as change
 use borrow.Author.Needs.{needs}
 use Rattle.pl_read.proofs.list_refusal.Statement.{statement}
 use Rattle.pl_read.proofs.list_refusal.Tie as tie

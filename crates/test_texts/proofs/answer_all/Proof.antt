@@ -8,10 +8,13 @@ use Rattle.test_texts.proofs.answer_all.Statement.{statement}
 use Rattle.test_texts.proofs.answer_all.Tie as tie
 
 abbrev Inv-loop : tie.InvT-loop
-Inv-loop texts reply₀ at₀ reply at = (at ≤ length texts) × (length reply ≡ length reply₀)
+Inv-loop texts reply₀ counts₀ at₀ reply counts at = (at ≤ length texts) × (length reply ≡ length reply₀)
 
 abbrev μ-loop : tie.MeasureT-loop
-μ-loop texts reply₀ at₀ reply at = length texts - at
+μ-loop texts reply₀ counts₀ at₀ reply counts at = length texts - at
+
+no-counts-requires : tie.Need-no-counts-requires Inv-loop μ-loop
+no-counts-requires c κs = tt
 
 loop-holds : tie.Need-loop-holds Inv-loop μ-loop
 loop-holds c = (omega arith, refl)
@@ -58,15 +61,20 @@ part-answer-in-end c = let e = c .before .before .before .before .before .line-e
 answer-in-requires : tie.Need-answer-in-requires Inv-loop μ-loop
 answer-in-requires c κs = tt
 
+one-more-requires : tie.Need-one-more-requires Inv-loop μ-loop
+one-more-requires c κs = tt
+
 loop-less : tie.Need-loop-less Inv-loop μ-loop
 loop-less c =
-    let e = c .before .before .before .before .before .before .before .before .before .before .line-end .ensures (omega arith) in omega (arith, e .0, e .1)
+    let b = c .before .before .before .before .before .before .before .before .before .before .before in
+    let e = b .line-end .ensures (omega arith) in
+    omega (arith, e .0, e .1)
 
 loop-again : tie.Need-loop-again Inv-loop μ-loop
 loop-again c =
-    let b = c .before .before .before .before .before .before .before .before .before .before in
+    let b = c .before .before .before .before .before .before .before .before .before .before .before in
     let e = b .line-end .ensures (omega arith) in
-    (omega (arith, e .0, e .1), c .before .before .answer-in .kept .1 .0 ∙ b .before .before .loop .inv .1)
+    (omega (arith, e .0, e .1), c .before .before .before .answer-in .kept .1 .0 ∙ b .before .before .loop .inv .1)
 
 same-length-2 : tie.Need-same-length-2 Inv-loop μ-loop
 same-length-2 c = c .before .loop .inv .1
@@ -80,6 +88,7 @@ answer-all-spec =
     (tie.spec
     Inv-loop
     μ-loop
+    no-counts-requires
     loop-holds
     line-end-requires
     sub-head-of
@@ -95,6 +104,7 @@ answer-all-spec =
     part-answer-in-start
     part-answer-in-end
     answer-in-requires
+    one-more-requires
     loop-less
     loop-again
     same-length-2

@@ -1,37 +1,41 @@
--- `text_print::print_answer` meets its contract: the reply that `ligcols` wrote, or the line N over the zeros that it left.
+-- `text_print::print_answer` meets its contract: what `ligcols` wrote, or the line N over the zeros that it left.
 -- Assumes nothing.
-use mathlib.Core.Path.{_≡_, subst}
+use mathlib.Core.Path.{_≡_, subst, _∙_}
 use mathlib.Core.List.{List}
 use Prim.Native.Nat.{ℕ}
+use lib.IntN.{ℤ}
 use lib.ListN.{length, take}
 use borrow.Author.Needs.{needs}
-use Rattle.words.specs.Words.{Word}
-use Rattle.lang.proofs.Records.{word-passed}
-use Rattle.columns.specs.Ligcols.{AnswersText}
-use Rattle.text_print.proofs.Laws.{reply-printed, refusal-printed}
+use Rattle.words.specs.Words.{wordOf, numberOf}
+use Rattle.words.proofs.Bits.{number-word}
+use Rattle.columns.specs.Texts.{readText}
+use Rattle.columns.specs.Ligcols.{numberOfText, bytesOfText, AnswersText}
+use Rattle.text_answer.proofs.TextLaws.{text-few}
+use Rattle.text_print.specs.Printing.{PrintsNumber}
+use Rattle.text_print.proofs.Laws.{is-answer, answer-printed}
 use Rattle.text_print.proofs.print_answer.Statement.{statement}
 use Rattle.text_print.proofs.print_answer.Tie as tie
 
-abbrev start : tie.After-word-of → tie.Start
-start v = v .before .before .before .before .before
+abbrev start : tie.After-ligcols → tie.Start
+start l = l .before .before .before .before
 
 -- what `ligcols` answered for the bytes that were read
-answered : (v : tie.After-word-of) → let l = v .before in
-    AnswersText (take (start v .args .got) (start v .args .read .now)) (start v .args .out .now) (l .ligcols .result) (l .ligcols .last .1 .0)
-answered v =
-    let l = v .before in
-    subst (λ (t : List ℕ). AnswersText t (start v .args .out .now) (l .ligcols .result) (l .ligcols .last .1 .0)) (l .before .before .front .ensures)
+answered : (l : tie.After-ligcols) →
+    AnswersText (take (start l .args .got) (start l .args .read .now)) (start l .args .out .now) (l .ligcols .result) (l .ligcols .last .1 .0)
+answered l =
+    subst (λ (t : List ℕ). AnswersText t (start l .args .out .now) (l .ligcols .result) (l .ligcols .last .1 .0)) (l .before .before .front .ensures)
     (l .ligcols .ensures)
 
-word : (v : tie.After-word-of) → Word (v .before .ligcols .result) (v .word-of .result)
-word v = word-passed (record { sfits = v .before .ligcols .ok }) (v .word-of .ensures)
+-- .. which is passed on by its bits
+passed : (l : tie.After-ligcols) → numberOf (wordOf (l .ligcols .result)) ≡ l .ligcols .result
+passed l = number-word (l .ligcols .result) (record { sfits = l .ligcols .ok })
 
 -- how long the lists are that were lent
-read-long : (v : tie.After-word-of) → length (start v .args .read .now) ≡ 65537
-read-long v = search needs
+read-long : (l : tie.After-ligcols) → length (start l .args .read .now) ≡ 65537
+read-long l = search needs
 
-out-long : (v : tie.After-word-of) → length (start v .args .out .now) ≡ 65536
-out-long v = search needs
+out-long : (l : tie.After-ligcols) → length (start l .args .out .now) ≡ 65536
+out-long l = search needs
 
 front-requires : tie.Need-front-requires
 front-requires c κs = search needs
@@ -39,56 +43,20 @@ front-requires c κs = search needs
 ligcols-requires : tie.Need-ligcols-requires
 ligcols-requires c κs = search needs
 
-word-of-requires : tie.Need-word-of-requires
-word-of-requires c κs = search needs
-
-cast-result : tie.Need-cast-result
-cast-result c = search needs
+print-number-requires : tie.Need-print-number-requires
+print-number-requires c κs =
+    let l = c .before in (
+      search needs,
+      is-answer (numberOfText (readText (take (start l .args .got) (start l .args .read .now))) (length (start l .args .out .now))) (length (bytesOfText (readText (take (start l .args .got) (start l .args .read .now)))))
+          (text-few (readText (take (start l .args .got) (start l .args .read .now))) (length (start l .args .out .now))) (passed l ∙ answered l .answer),
+    )
 
 returns : tie.Need-returns
 returns c =
-    let v = c .before in
-    let s = start v in
-    reply-printed (s .args .read .now) (s .args .got) (read-long v) (s .args .out .now) (v .before .ligcols .last .1 .0) (out-long v)
-    (v .before .ligcols .kept .1 .0) (word v) (answered v) (c .if1 .taken)
-
-sub-number-of : tie.Need-sub-number-of
-sub-number-of c = search needs
-
-add-number-of : tie.Need-add-number-of
-add-number-of c = search needs
-
-number-of-requires : tie.Need-number-of-requires
-number-of-requires c κs = search needs
-
-slice-aggregate-put-lines : tie.Need-slice-aggregate-put-lines
-slice-aggregate-put-lines c = search needs
-
-put-lines-requires : tie.Need-put-lines-requires
-put-lines-requires c κs = search needs
-
-returns-2 : tie.Need-returns-2
-returns-2 c =
-    let n = c .before .before .before in
-    let o = n .before in
-    let v = o .before in
-    let s = start v in
-    refusal-printed (s .args .read .now) (s .args .got) (read-long v) (s .args .out .now) (v .before .ligcols .last .1 .0) (out-long v)
-    (v .before .ligcols .kept .1 .0) (word v) (answered v) (o .if1 .left) (n .number-of .result) (n .number-of .ensures)
-    (c .put-lines .result) (c .put-lines .last .1 .1 .1 .1 .1 .0) (c .put-lines .ensures)
+    let l = c .before .before in
+    let o = c .print-number .last .1 .0 in
+    answer-printed (start l .args .read .now) (start l .args .got) (read-long l) (out-long l) (c .print-number .kept .1 .0 ∙ l .ligcols .kept .1 .0)
+    (subst (λ (z : ℤ). PrintsNumber z (l .ligcols .last .1 .0) (c .print-number .result) o) (passed l) (c .print-number .ensures)) (answered l)
 
 pub print-answer-spec : {M : Type 1} → statement M
-print-answer-spec =
-    tie.close
-    (tie.spec
-    front-requires
-    ligcols-requires
-    word-of-requires
-    cast-result
-    returns
-    sub-number-of
-    add-number-of
-    number-of-requires
-    slice-aggregate-put-lines
-    put-lines-requires
-    returns-2)
+print-answer-spec = tie.close (tie.spec front-requires ligcols-requires print-number-requires returns)

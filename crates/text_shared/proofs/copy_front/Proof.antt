@@ -2,7 +2,7 @@
 -- Assumes nothing.
 use Prim.Native.Nat.{_-_, _≤_}
 use native.Mathlib.Omega.{arith}
-use lib.ListN.{length, take}
+use lib.ListN.{take}
 use denote.Ref.{now}
 use Rattle.words.specs.Lists.{Appending}
 use Rattle.words.proofs.Bits.{number-is}
@@ -13,10 +13,10 @@ use Rattle.text_shared.proofs.copy_front.Statement.{statement}
 use Rattle.text_shared.proofs.copy_front.Tie as tie
 
 abbrev Inv-loop : tie.InvT-loop
-Inv-loop from to₀ j₀ to j = (j ≤ length from) × Appending (take j from) to₀ to
+Inv-loop from k to₀ j₀ to j = (j ≤ k) × Appending (take j from) to₀ to
 
 abbrev μ-loop : tie.MeasureT-loop
-μ-loop from to₀ j₀ to j = length from - j
+μ-loop from k to₀ j₀ to j = k - j
 
 loop-holds : tie.Need-loop-holds Inv-loop μ-loop
 loop-holds c = (omega arith, appending-none (now (c .args .to)))
@@ -39,7 +39,7 @@ loop-again c =
     let l = t .before in
     let b = l .before in (
       omega (arith, t .loop-test .taken),
-      copying-more (now (b .args .from)) (now (b .args .to)) (b .pre) (t .loop-test .taken) (l .loop .inv .1) (c .before .put-word .ensures)
+      copying-more (now (b .args .from)) (now (b .args .to)) (b .args .k) (b .pre .0) (t .loop-test .taken) (b .pre .1) (l .loop .inv .1) (c .before .put-word .ensures)
           (number-is (c .before .before .word-at .ensures)),
     )
 
@@ -50,7 +50,7 @@ returns : tie.Need-returns Inv-loop μ-loop
 returns c =
     let l = c .before in
     let b = l .before in
-    copying-all (now (b .args .from)) (now (b .args .to)) (b .pre) (c .loop-test .left) (l .loop .inv .1)
+    copying-all (now (b .args .from)) (now (b .args .to)) (b .args .k) (b .pre .0) {j = l .loop .j} (omega (arith, c .loop-test .left, l .loop .inv .0)) (l .loop .inv .1)
 
 pub copy-front-spec : {M : Type 1} → statement M
 copy-front-spec =

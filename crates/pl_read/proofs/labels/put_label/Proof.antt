@@ -2,10 +2,10 @@
 -- Assumes nothing.
 use mathlib.Core.Path.{sym, _∙_}
 use borrow.Author.Tests.{not-true, not-false}
-use Rattle.pl_read.proofs.Laws.{small-number}
+use Rattle.pl_apply.proofs.Laws.{small-number}
 use Rattle.words.proofs.Bits.{number-is}
 use Rattle.property_lists.specs.declared.Property.the-variants as property
-use Rattle.pl_read.specs.declared.state.Change.the-variants as change
+use Rattle.pl_progress.specs.declared.Change.the-variants as change
 use borrow.Author.Needs.{needs}
 use native.Mathlib.Omega.{arith}
 use Rattle.pl_read.proofs.labels.put_label.Statement.{statement}

@@ -3,11 +3,11 @@
 use mathlib.Core.Path.{_≡_, refl, ap, _∙_}
 use Prim.Native.Nat.{ℕ, _-_, _≤_}
 use lib.ListN.{length}
-use Rattle.pl_read.specs.Standing.{overlay}
+use Rattle.pl_apply.specs.Standing.{overlay}
 use Rattle.pl_read.proofs.Answering.{entry-more, entries-few}
 use Rattle.property_lists.specs.ListReading.{labelEntries}
 use Rattle.property_lists.specs.declared.Property.the-variants as property
-use Rattle.pl_read.specs.declared.state.Change.the-variants as change
+use Rattle.pl_progress.specs.declared.Change.the-variants as change
 use native.Mathlib.Omega.{arith}
 use Rattle.pl_read.proofs.labels.put_labels.Statement.{statement}
 use Rattle.pl_read.proofs.labels.put_labels.Tie as tie
@@ -42,7 +42,8 @@ loop-again c =
     let put-label = c .before .put-label in
     let loop = c .before .before .before .before .loop in
     let args = c .before .before .before .before .before .args in
-    let m = entry-more (args .labels .now) (args .entries .now) (loop .c) (loop .n) (loop .inv .2) (loop .inv .3) _ refl (put-label .ensures .0) (put-label .ensures .1) in
+    let m = entry-more (args .labels .now) (args .entries .now) (loop .c) (loop .n) (loop .inv .2) (loop .inv .3) _ refl (put-label .ensures .0)
+    (put-label .ensures .1) in
     (omega arith, omega arith, m .0, m .1)
 
 same-length : tie.Need-same-length Inv-loop μ-loop

@@ -6,7 +6,7 @@ use Prim.Native.Nat.{ℕ, _*_}
 use lib.ListN.{set}
 use borrow.Author.Tests.{lt-leb, le-leb, eq-eqb, ne-eqb}
 use Rattle.property_lists.specs.declared.Property.the-variants as property
-use Rattle.pl_read.specs.declared.state.Change.the-variants as change
+use Rattle.pl_progress.specs.declared.Change.the-variants as change
 use Rattle.pl_read.proofs.Running.{finish-open, finish-short, finish-kept, finish-ended}
 use borrow.Author.Needs.{needs}
 use Rattle.pl_read.proofs.whole.finish.Statement.{statement}

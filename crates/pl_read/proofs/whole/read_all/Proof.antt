@@ -4,10 +4,10 @@ use mathlib.Core.Path.{_≡_, refl, sym, _∙_}
 use Prim.Native.Nat.{_-_}
 use lib.ListN.{length}
 use Rattle.property_lists.specs.ListReading.{applied}
-use Rattle.pl_read.specs.Standing.{Going}
+use Rattle.pl_read.specs.Going.{Going}
 use Rattle.property_lists.specs.declared.Property.the-variants as property
-use Rattle.pl_read.specs.declared.state.Change.the-variants as change
-use Rattle.pl_read.proofs.Running.{going-start, going-stuck, going-done, going-refused, going-on, going-less}
+use Rattle.pl_progress.specs.declared.Change.the-variants as change
+use Rattle.pl_read.proofs.Running.{no-bytes, any-bytes, going-start, going-stuck, going-done, going-refused, going-on, going-less}
 use Rattle.pl_steps.proofs.ReadLaws.{read-at, read-none}
 use borrow.Author.Needs.{needs}
 use native.Mathlib.Omega.{arith}
@@ -48,8 +48,8 @@ returns c =
     let loop = c .before .before .before .loop in
     (going-stuck (loop .inv .2) (read-none (property .ensures) (enum-told .given .1)), omega arith)
 
-is-ended-requires : tie.Need-is-ended-requires Inv-loop μ-loop
-is-ended-requires c κs = search needs
+least-bytes-requires : tie.Need-least-bytes-requires Inv-loop μ-loop
+least-bytes-requires c κs = search needs
 
 same-length-3 : tie.Need-same-length-3 Inv-loop μ-loop
 same-length-3 c = omega arith
@@ -60,19 +60,17 @@ same-length-4 c = omega arith
 returns-2 : tie.Need-returns-2 Inv-loop μ-loop
 returns-2 c =
     let if1 = c .if1 in
-    let is-ended = c .before .is-ended in
+    let least-bytes = c .before .least-bytes in
     let p = c .before .before .before .p in
     let property = c .before .before .before .before .before .property in
-    let loop = c .before .before .before .before .before .before .loop in
-    (going-done (loop .inv .2) (read-at (property .ensures) (p .given .1) .0) (sym (is-ended .ensures) ∙ if1 .taken), omega (arith, loop .inv .2 .few, loop .inv .2 .within))
+    let loop = c .before .before .before .before .before .before .loop in (
+      going-done (loop .inv .2) (read-at (property .ensures) (p .given .1) .0) (no-bytes (p .given .0 .0)
+          (sym (least-bytes .ensures .0) ∙ if1 .taken)),
+      omega (arith, loop .inv .2 .few, loop .inv .2 .within),
+    )
 
 applied-requires : tie.Need-applied-requires Inv-loop μ-loop
-applied-requires c κs =
-    let p = c .before .before .before .before .before .p in
-    let property = c .before .before .before .before .before .before .before .property in
-    let loop = c .before .before .before .before .before .before .before .before .loop in
-    let k = read-at (property .ensures) (p .given .1) in
-    omega (arith, k .1 (loop .inv .2 .within), k .2, loop .inv .2 .few)
+applied-requires c κs = search needs
 
 enum-known-t : tie.Need-enum-known-t Inv-loop μ-loop
 enum-known-t c = search needs
@@ -91,36 +89,45 @@ returns-3 c =
     let enum-told2 = c .enum-told2 in
     let applied = c .before .before .before .before .applied in
     let if1 = c .before .before .before .before .before .before .before .if1 in
-    let is-ended = c .before .before .before .before .before .before .before .before .is-ended in
+    let least-bytes = c .before .before .before .before .before .before .before .before .least-bytes in
     let p = c .before .before .before .before .before .before .before .before .before .before .p in
     let property = c .before .before .before .before .before .before .before .before .before .before .before .before .property in
     let loop = c .before .before .before .before .before .before .before .before .before .before .before .before .before .loop in
-    let k = read-at (property .ensures) (p .given .1) in
-    (going-refused (loop .inv .2) (k .0) (sym (is-ended .ensures) ∙ if1 .left) (applied .ensures _ _ (loop .inv .2 .stands)) (enum-told2 .given .1), omega arith)
+    let k = read-at (property .ensures) (p .given .1) in (
+      going-refused (loop .inv .2) (k .0) (any-bytes (p .given .0 .0) (λ e. if1 .left (least-bytes .ensures .0 ∙ e)))
+          (applied .ensures (omega (arith, k .1 (loop .inv .2 .within), k .2, loop .inv .2 .few)) _ _ (loop .inv .2 .stands)) (enum-told2 .given .1),
+      omega arith,
+    )
 
 loop-less : tie.Need-loop-less Inv-loop μ-loop
 loop-less c =
     let if1 = c .before .before .before .before .before .before .before .before .if1 in
-    let is-ended = c .before .before .before .before .before .before .before .before .before .is-ended in
+    let least-bytes = c .before .before .before .before .before .before .before .before .before .least-bytes in
     let p = c .before .before .before .before .before .before .before .before .before .before .before .p in
     let property = c .before .before .before .before .before .before .before .before .before .before .before .before .before .property in
     let loop = c .before .before .before .before .before .before .before .before .before .before .before .before .before .before .loop in
     let k = read-at (property .ensures) (p .given .1) in
-    omega (arith, going-less (loop .inv .2) (k .0) (sym (is-ended .ensures) ∙ if1 .left) _ (k .1 (loop .inv .2 .within)), k .2)
+    omega (
+      arith,
+      going-less (loop .inv .2) (k .0) (any-bytes (p .given .0 .0) (λ e. if1 .left (least-bytes .ensures .0 ∙ e))) _
+          (k .1 (loop .inv .2 .within)),
+      k .2,
+    )
 
 loop-again : tie.Need-loop-again Inv-loop μ-loop
 loop-again c =
     let t = c .before .t in
     let applied = c .before .before .before .before .before .applied in
     let if1 = c .before .before .before .before .before .before .before .before .if1 in
-    let is-ended = c .before .before .before .before .before .before .before .before .before .is-ended in
+    let least-bytes = c .before .before .before .before .before .before .before .before .before .least-bytes in
     let p = c .before .before .before .before .before .before .before .before .before .before .before .p in
     let property = c .before .before .before .before .before .before .before .before .before .before .before .before .before .property in
     let loop = c .before .before .before .before .before .before .before .before .before .before .before .before .before .before .loop in
     let k = read-at (property .ensures) (p .given .1) in (
       omega arith,
       omega arith,
-      going-on (loop .inv .2) (k .0) (sym (is-ended .ensures) ∙ if1 .left) (applied .ensures _ _ (loop .inv .2 .stands)) (t .given .1) refl
+      going-on (loop .inv .2) (k .0) (any-bytes (p .given .0 .0) (λ e. if1 .left (least-bytes .ensures .0 ∙ e)))
+          (applied .ensures (omega (arith, k .1 (loop .inv .2 .within), k .2, loop .inv .2 .few)) _ _ (loop .inv .2 .stands)) (t .given .1) refl
           (k .1 (loop .inv .2 .within)) (k .2),
     )
 
@@ -137,7 +144,7 @@ read-all-spec =
     same-length
     same-length-2
     returns
-    is-ended-requires
+    least-bytes-requires
     same-length-3
     same-length-4
     returns-2

@@ -3,7 +3,7 @@
 use mathlib.Core.Path.{sym, _∙_}
 use borrow.Author.Tests.{not-true, not-false}
 use Rattle.property_lists.specs.declared.Property.the-variants as property
-use Rattle.pl_read.specs.declared.state.Change.the-variants as change
+use Rattle.pl_progress.specs.declared.Change.the-variants as change
 use Rattle.pl_read.proofs.Running.{scan-bad, scan-none, scan-all}
 use borrow.Author.Needs.{needs}
 use native.Mathlib.Omega.{arith}

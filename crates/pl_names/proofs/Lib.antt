@@ -1,0 +1,1 @@
+-- No laws: those of pl_chars and pl_values serve.

@@ -1,0 +1,2 @@
+-- What is proved of all that is read.
+pub mod Purpose

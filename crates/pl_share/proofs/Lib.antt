@@ -1,0 +1,3 @@
+-- The laws of kerns shared.
+--   Sharing  the refusals of both calls, and the answer
+pub mod Sharing

@@ -1,0 +1,1 @@
+-- Crate pl_share is held to `ReadsList` of property_lists/specs/ListReading.

@@ -1,0 +1,13 @@
+-- `test_convert::room` is as long as it says: by a law, since to compute the length costs by the length.
+-- Assumes nothing.
+use Prim.Native.Nat.{ℕ}
+use mathlib.Core.Path.{sym}
+use lib.ListN.{length-replicate}
+use Rattle.test_convert.proofs.room.Statement.{statement}
+use Rattle.test_convert.proofs.room.Tie as tie
+
+returns : tie.Need-returns
+returns c = sym (length-replicate {A = ℕ} 1048576 0)
+
+pub room-spec : {M : Type 1} → statement M
+room-spec = tie.close (tie.spec returns)
