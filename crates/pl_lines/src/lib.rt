@@ -1,53 +1,15 @@
-// One property of a LIGTABLE list, or the BOUNDARYCHAR list, put into a lent list of bytes from a place on, as TFtoPL
-// writes it (property_lists/specs/Displays.antt). What passes the end is left off, and the place behind the end is
-// answered.
+// A step of a LIGTABLE list, or what comes after one, put into a lent list of bytes from a place on, as TFtoPL writes it
+// (property_lists/specs/Displays.antt). What passes the end is left off, and the place behind the end is answered.
 ghost use Prim.Native.Nat.{_≤_, _<_};
 ghost use Rattle.words.specs.Words.{numberOf};
 ghost use Rattle.property_lists.specs.Putting.{PutsCounted};
-ghost use Rattle.property_lists.specs.Displays.{leadingOctal, octalChar, lineEnd, labelLine, boundaryLabelLine};
-ghost use Rattle.property_lists.specs.Displays.{ligName, ligLine, krnLine, nextLine, boundaryLine};
-use real_text::bytes::put_byte;
-use real_text::bytes::put_bytes;
-use real_text::bytes::put_repeated;
+ghost use Rattle.property_lists.specs.Displays.{ligName, ligLine, krnLine, nextLine};
+use pl_labels::put_char;
+use pl_put::bytes::put_bytes;
+use pl_put::bytes::put_repeated;
+use pl_put::whole::put_whole;
 use real_text::put_real;
-use real_text::whole::put_whole;
 use words::sizes::smaller;
-
-// The last octal digit of a number, and nothing where the number is 0.
-fn put_leading(out: &mut [u8], at: usize, n: u32) -> usize
-    ensures { λ r. ⌜ PutsCounted (now (out .entry)) at (leadingOctal n) r (now (out .exit)) ⌝ }
-{
-    if n == 0 {
-        return smaller(at, out.len() + 1);
-    }
-    put_byte(out, at, 48 + ((n % 8) as u8))
-}
-
-// A character in octal, a blank, O and a blank before it.
-fn put_char(out: &mut [u8], at: usize, c: u32) -> usize
-    ensures { λ r. ⌜ PutsCounted (now (out .entry)) at (octalChar c) r (now (out .exit)) ⌝ }
-{
-    let first = put_bytes(out, at, b" O ");
-    let second = put_leading(out, first, c / 64);
-    let last = put_leading(out, second, c / 8);
-    put_byte(out, last, 48 + ((c % 8) as u8))
-}
-
-// The label of a character.
-pub fn put_label(out: &mut [u8], at: usize, c: u32) -> usize
-    ensures { λ r. ⌜ PutsCounted (now (out .entry)) at (labelLine c) r (now (out .exit)) ⌝ }
-{
-    let first = put_bytes(out, at, b"   (LABEL");
-    let end = put_char(out, first, c);
-    put_bytes(out, end, b")\n")
-}
-
-// The label of the left boundary.
-pub fn put_boundary_label(out: &mut [u8], at: usize) -> usize
-    ensures { λ r. ⌜ PutsCounted (now (out .entry)) at boundaryLabelLine r (now (out .exit)) ⌝ }
-{
-    put_bytes(out, at, b"   (LABEL BOUNDARYCHAR)\n")
-}
 
 // LIG with the slashes and arrows of an op byte.
 fn put_name(out: &mut [u8], at: usize, op: u32) -> usize
@@ -102,16 +64,4 @@ pub fn put_next(out: &mut [u8], at: usize, next: u32) -> usize
         return put_skip(out, at, next);
     }
     put_bytes(out, at, b"   (STOP)\n")
-}
-
-// The boundary character, by its 32 bits; nothing where there is none.
-pub fn put_boundary(out: &mut [u8], at: usize, boundary: u32) -> usize
-    ensures { λ r. ⌜ PutsCounted (now (out .entry)) at (boundaryLine (numberOf boundary)) r (now (out .exit)) ⌝ }
-{
-    if 2147483648 <= boundary {
-        return smaller(at, out.len() + 1);
-    }
-    let first = put_bytes(out, at, b"(BOUNDARYCHAR");
-    let end = put_char(out, first, boundary);
-    put_bytes(out, end, b")\n")
 }

@@ -4,8 +4,8 @@ ghost use Rattle.property_lists.specs.Putting.{PutsCounted};
 ghost use Rattle.property_lists.specs.Displays.{labelLines, charLabels};
 ghost use Rattle.pl_write.specs.NextLabels.{NextLabel};
 use lang::entries::entry_at;
-use pl_lines::put_boundary_label;
-use pl_lines::put_label;
+use pl_labels::put_boundary_label;
+use pl_labels::put_label;
 use words::sizes::smaller;
 
 // The lowest instruction from `from` on and below n that has a label, or n.

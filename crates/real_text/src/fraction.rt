@@ -3,7 +3,7 @@ ghost use mathlib.Core.Path.{_≡_};
 ghost use Prim.Native.Nat.{_^_, _≤_, _<_};
 ghost use Rattle.property_lists.specs.Putting.{PutsCounted};
 ghost use Rattle.property_lists.specs.RealTexts.{nearestIn, readsAs, placesOf, fixedDigits, fractionDigits};
-use crate::bytes::put_byte;
+use pl_put::bytes::put_byte;
 use words::sizes::smaller;
 
 // How many decimals there are, and ten to that power.

@@ -8,7 +8,7 @@ ghost use Rattle.columns.specs.Converting.{instructionLine, kernLines};
 ghost use Rattle.columns.specs.Lines.{linesOf, textOf};
 ghost use Rattle.text_convert_lines.specs.Anew.{lineLength, isWholeLines, isBeforeWord, instructionsIn, lineAnew};
 ghost use Rattle.text_convert_lines.specs.Anew.{linesAnew, PutsNext, PutsEnd, PutsAnew};
-use real_text::bytes::put_bytes;
+use pl_put::bytes::put_bytes;
 use text_lines::put_lines;
 use words::u8s::u8_at;
 use words::u8s::zero_u8;

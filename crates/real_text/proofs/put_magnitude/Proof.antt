@@ -1,6 +1,6 @@
 -- `real_text::put_magnitude` meets its contract: the whole part, a point and the decimals.
 -- Assumes nothing.
-use Rattle.real_text.proofs.Wholes.{magnitude-put}
+use Rattle.real_text.proofs.Magnitudes.{magnitude-put}
 use borrow.Author.Needs.{needs}
 use Rattle.real_text.proofs.put_magnitude.Statement.{statement}
 use Rattle.real_text.proofs.put_magnitude.Tie as tie

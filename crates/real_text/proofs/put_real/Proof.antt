@@ -1,6 +1,6 @@
 -- `real_text::put_real` meets its contract: a minus sign where the number is negative, and its size.
 -- Assumes nothing.
-use Rattle.real_text.proofs.Wholes.{positive-put, negative-put}
+use Rattle.real_text.proofs.Magnitudes.{positive-put, negative-put}
 use borrow.Author.Needs.{needs}
 use Rattle.real_text.proofs.put_real.Statement.{statement}
 use Rattle.real_text.proofs.put_real.Tie as tie

@@ -1,10 +1,10 @@
--- `real_text::whole::put_leading` meets its contract: nothing, or one byte.
+-- `pl_put::whole::put_leading` meets its contract: nothing, or one byte.
 -- Assumes nothing.
 use denote.Ref.{now}
-use Rattle.real_text.proofs.Wholes.{leading-none, leading-one}
+use Rattle.pl_put.proofs.Wholes.{leading-none, leading-one}
 use borrow.Author.Needs.{needs}
-use Rattle.real_text.proofs.whole.put_leading.Statement.{statement}
-use Rattle.real_text.proofs.whole.put_leading.Tie as tie
+use Rattle.pl_put.proofs.whole.put_leading.Statement.{statement}
+use Rattle.pl_put.proofs.whole.put_leading.Tie as tie
 
 add-smaller : tie.Need-add-smaller
 add-smaller c = search needs

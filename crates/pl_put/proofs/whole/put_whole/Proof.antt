@@ -1,9 +1,9 @@
--- `real_text::whole::put_whole` meets its contract: its digits one after the other.
+-- `pl_put::whole::put_whole` meets its contract: its digits one after the other.
 -- Assumes nothing.
-use Rattle.real_text.proofs.Wholes.{whole-put}
+use Rattle.pl_put.proofs.Wholes.{whole-put}
 use borrow.Author.Needs.{needs}
-use Rattle.real_text.proofs.whole.put_whole.Statement.{statement}
-use Rattle.real_text.proofs.whole.put_whole.Tie as tie
+use Rattle.pl_put.proofs.whole.put_whole.Statement.{statement}
+use Rattle.pl_put.proofs.whole.put_whole.Tie as tie
 
 put-leading-requires : tie.Need-put-leading-requires
 put-leading-requires c κs = search needs

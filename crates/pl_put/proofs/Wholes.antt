@@ -1,17 +1,12 @@
--- Bytes one after the other: a byte repeated, a whole number, and the text of a real.
+-- Bytes one after the other: a byte repeated, and a whole number.
 -- Assumes nothing.
-use mathlib.Core.Path.{_≡_, refl, ap, sym, _∙_}
-use mathlib.Core.List.{List, [], _∷_, _++_}
-use Prim.Native.Nat.{ℕ, suc, _+_, _-_, _/_, _%_, _^_, _<_, _≤_, min}
-use native.Mathlib.Numerals.{add-one}
-use native.Mathlib.Omega.{arith}
+use mathlib.Core.Path.{_≡_}
+use mathlib.Core.List.{List, [], _∷_}
+use Prim.Native.Nat.{ℕ, _+_, _/_, _%_, min}
 use lib.ListN.{length, replicate, replicate-append-replicate}
 use borrow.Author.Tests.{eq-eqb, ne-eqb}
-use Rattle.words.specs.Words.{numberOf}
-use Rattle.words.proofs.Bits.{number-pos, number-neg}
 use Rattle.points.specs.Printing.{leadingDigit, wholeText}
 use Rattle.property_lists.specs.Putting.{PutsCounted}
-use Rattle.property_lists.specs.RealTexts.{fractionDigits, magnitudeText, realText}
 use Rattle.property_lists.proofs.Putting.{counted-none, counted-more}
 
 pub repeated-more : (b i : ℕ) {out : List ℕ} {at m : ℕ} {d : List ℕ} {r : ℕ} {d′ : List ℕ} → PutsCounted out at (replicate i b) m d →
@@ -37,18 +32,3 @@ pub whole-put : (n : ℕ) {out : List ℕ} {at : ℕ} {a b c d e : ℕ} {out₁ 
     PutsCounted out₄ d ((48 + n % 10) ∷ []) e out₅ →
     PutsCounted out at (wholeText n) e out₅
 whole-put n p₁ p₂ p₃ p₄ p₅ = counted-more p₁ (counted-more p₂ (counted-more p₃ (counted-more p₄ p₅)))
-
-pub magnitude-put : (n : ℕ) {out : List ℕ} {at a b r : ℕ} {out₁ out₂ out₃ : List ℕ} → PutsCounted out at (wholeText (n / 1048576)) a out₁ →
-    PutsCounted out₁ a (46 ∷ []) b out₂ → PutsCounted out₂ b (fractionDigits (n % 1048576)) r out₃ → PutsCounted out at (magnitudeText n) r out₃
-magnitude-put n p q s = counted-more p (counted-more q s)
-
-pub positive-put : (w : ℕ) {out : List ℕ} {at r : ℕ} {d : List ℕ} → w < 2147483648 → PutsCounted out at (magnitudeText w) r d →
-    PutsCounted out at (realText (numberOf w)) r d
-positive-put w h p = rw (number-pos w h) p
-
-pub negative-put : (w : ℕ) {out : List ℕ} {at a r : ℕ} {d d′ : List ℕ} → 2147483648 ≤ w → w < 2 ^ 32 → PutsCounted out at (45 ∷ []) a d →
-    PutsCounted d a (magnitudeText (4294967295 - w + 1)) r d′ → PutsCounted out at (realText (numberOf w)) r d′
-negative-put w {out} {at} {a} {r} {d} {d′} h l p q =
-    let s : 4294967295 - w + 1 ≡ suc (2 ^ 32 - suc w) = omega arith in
-    rw (number-neg w h)
-    (counted-more p (let q′ : PutsCounted d a (magnitudeText (suc (2 ^ 32 - suc w))) r d′ = rw s at q in q′))

@@ -1,4 +1,4 @@
--- `real_text::bytes::put_bytes` meets its contract: what is put is the text so far.
+-- `pl_put::bytes::put_bytes` meets its contract: what is put is the text so far.
 -- Assumes nothing.
 use Prim.Native.Nat.{_-_, _≤_}
 use native.Mathlib.Omega.{arith}
@@ -6,8 +6,8 @@ use lib.ListN.{length, take}
 use Rattle.property_lists.specs.Putting.{PutsCounted}
 use Rattle.property_lists.proofs.Putting.{counted-none, counted-next, counted-all, counted-long}
 use borrow.Author.Needs.{needs}
-use Rattle.real_text.proofs.bytes.put_bytes.Statement.{statement}
-use Rattle.real_text.proofs.bytes.put_bytes.Tie as tie
+use Rattle.pl_put.proofs.bytes.put_bytes.Statement.{statement}
+use Rattle.pl_put.proofs.bytes.put_bytes.Tie as tie
 
 abbrev Inv-loop : tie.InvT-loop
 Inv-loop out₀ at text next₀ i₀ out next i = (i ≤ length text) × PutsCounted out₀ at (take i text) next out

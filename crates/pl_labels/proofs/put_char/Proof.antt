@@ -1,9 +1,9 @@
--- `pl_lines::put_char` meets its contract: its parts one after the other.
+-- `pl_labels::put_char` meets its contract: its parts one after the other.
 -- Assumes nothing.
-use Rattle.pl_lines.proofs.Lines.{char-put}
+use Rattle.pl_labels.proofs.Labels.{char-put}
 use borrow.Author.Needs.{needs}
-use Rattle.pl_lines.proofs.put_char.Statement.{statement}
-use Rattle.pl_lines.proofs.put_char.Tie as tie
+use Rattle.pl_labels.proofs.put_char.Statement.{statement}
+use Rattle.pl_labels.proofs.put_char.Tie as tie
 
 slice-aggregate-put-bytes : tie.Need-slice-aggregate-put-bytes
 slice-aggregate-put-bytes c = search needs

@@ -1,10 +1,10 @@
--- `pl_lines::put_leading` meets its contract: nothing, or one byte.
+-- `pl_labels::put_leading` meets its contract: nothing, or one byte.
 -- Assumes nothing.
 use denote.Ref.{now}
-use Rattle.pl_lines.proofs.Lines.{octal-none, octal-one}
+use Rattle.pl_labels.proofs.Labels.{octal-none, octal-one}
 use borrow.Author.Needs.{needs}
-use Rattle.pl_lines.proofs.put_leading.Statement.{statement}
-use Rattle.pl_lines.proofs.put_leading.Tie as tie
+use Rattle.pl_labels.proofs.put_leading.Statement.{statement}
+use Rattle.pl_labels.proofs.put_leading.Tie as tie
 
 add-smaller : tie.Need-add-smaller
 add-smaller c = search needs

@@ -1,11 +1,11 @@
--- `pl_lines::put_boundary` meets its contract: nothing, or its parts one after the other.
+-- `pl_labels::put_boundary` meets its contract: nothing, or its parts one after the other.
 -- Assumes nothing.
 use denote.Ref.{now}
 use native.Mathlib.Omega.{arith}
-use Rattle.pl_lines.proofs.Lines.{absent-put, boundary-put}
+use Rattle.pl_labels.proofs.Labels.{absent-put, boundary-put}
 use borrow.Author.Needs.{needs}
-use Rattle.pl_lines.proofs.put_boundary.Statement.{statement}
-use Rattle.pl_lines.proofs.put_boundary.Tie as tie
+use Rattle.pl_labels.proofs.put_boundary.Statement.{statement}
+use Rattle.pl_labels.proofs.put_boundary.Tie as tie
 
 add-smaller : tie.Need-add-smaller
 add-smaller c = search needs

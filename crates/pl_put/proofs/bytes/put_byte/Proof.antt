@@ -1,10 +1,10 @@
--- `real_text::bytes::put_byte` meets its contract: a byte, or nothing past the end.
+-- `pl_put::bytes::put_byte` meets its contract: a byte, or nothing past the end.
 -- Assumes nothing.
 use denote.Ref.{now}
 use Rattle.property_lists.proofs.Putting.{counted-past}
 use borrow.Author.Needs.{needs}
-use Rattle.real_text.proofs.bytes.put_byte.Statement.{statement}
-use Rattle.real_text.proofs.bytes.put_byte.Tie as tie
+use Rattle.pl_put.proofs.bytes.put_byte.Statement.{statement}
+use Rattle.pl_put.proofs.bytes.put_byte.Tie as tie
 
 slice-write-out : tie.Need-slice-write-out
 slice-write-out c = search needs

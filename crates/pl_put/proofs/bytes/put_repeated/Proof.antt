@@ -1,4 +1,4 @@
--- `real_text::bytes::put_repeated` meets its contract: what is put is the byte so often.
+-- `pl_put::bytes::put_repeated` meets its contract: what is put is the byte so often.
 -- Assumes nothing.
 use Prim.Native.Nat.{_-_, _≤_}
 use mathlib.Core.Path.{_≡_}
@@ -6,10 +6,10 @@ use native.Mathlib.Omega.{arith}
 use lib.ListN.{replicate}
 use Rattle.property_lists.specs.Putting.{PutsCounted}
 use Rattle.property_lists.proofs.Putting.{counted-none, counted-long}
-use Rattle.real_text.proofs.Wholes.{repeated-more, repeated-all}
+use Rattle.pl_put.proofs.Wholes.{repeated-more, repeated-all}
 use borrow.Author.Needs.{needs}
-use Rattle.real_text.proofs.bytes.put_repeated.Statement.{statement}
-use Rattle.real_text.proofs.bytes.put_repeated.Tie as tie
+use Rattle.pl_put.proofs.bytes.put_repeated.Statement.{statement}
+use Rattle.pl_put.proofs.bytes.put_repeated.Tie as tie
 
 abbrev Inv-loop : tie.InvT-loop
 Inv-loop out₀ at b n next₀ i₀ out next i = (i ≤ n) × PutsCounted out₀ at (replicate i b) next out
