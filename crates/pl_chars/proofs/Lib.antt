@@ -1,5 +1,3 @@
--- The laws of scanners over a text and a place.
---   Places    the byte at a place, and what follows a part that is passed
---   Passing   what is passed over, and names
-pub mod Places
-pub mod Passing
+-- The laws of scanners over a text and a place are those of pl_blanks/proofs/Places.
+--   CharLaws   comments, single bytes and names
+pub mod CharLaws

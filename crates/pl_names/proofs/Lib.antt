@@ -1,1 +1,1 @@
--- No laws: those of pl_chars and pl_values serve.
+-- No laws: those of pl_blanks and pl_values serve.

@@ -1,5 +1,5 @@
 -- The laws of a text read.
 --   Running    properties one after the other
---   Answering  the entries, and the answer
+--   Answering  the answer
 pub mod Running
 pub mod Answering

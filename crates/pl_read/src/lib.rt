@@ -1,20 +1,18 @@
-// A property list read, each kern as its value (R457, R458; PLtoTF 82 to 85, 94 to 102, 116). Files by concern:
-//   whole   all properties
-//   labels  the entries
+// A property list read, each kern as its value (R457, R458; PLtoTF 82 to 85, 94 to 102, 116). File `whole` has all
+// properties.
 ghost use mathlib.Core.Path.{_≡_};
 ghost use Prim.Native.Nat.{_*_};
 ghost use lib.Dec.{leb};
 ghost use Rattle.lang.specs.Checks.{unless, orElse};
 ghost use Rattle.lang.specs.Answers.{roomRefusal};
 ghost use Rattle.pl_read.specs.ValueLists.{ReadsValues};
-use labels::put_labels;
+use pl_entries::put_label_entries;
 use pl_progress::Change;
 use whole::scan;
 use words::i32s::word_at;
 use words::i32s::zero_i32;
 use words::number_of;
 
-mod labels;
 mod whole;
 
 // What a text says: how many instructions and entries it has, its boundary character and its left entry (-1 for none);
@@ -53,7 +51,7 @@ pub fn read_list(text: &[u8], instructions: &mut [i32], entries: &mut [i32]) -> 
         zero_i32(instructions);
         return StepsListed::Refused(23);
     };
-    let n = put_labels(&labels, entries);
+    let n = put_label_entries(&labels, entries);
     let refusal = list_refusal(s.steps, n, instructions.len(), entries.len());
     if refusal != 0 {
         zero_i32(instructions);

@@ -17,7 +17,7 @@ use Rattle.words.proofs.Tests.{less-or-not}
 use Rattle.property_lists.specs.Chars.{isFigure}
 use Rattle.property_lists.specs.Reals.{decimalSum, realDecimals, realMagnitude}
 use Rattle.property_lists.specs.Values.{isSign, pastSigns, wholeDigits, figures, pastFigures, decimalsAt, pastDecimals, bitsOf, realFrom}
-use Rattle.pl_chars.proofs.Places.{at-byte, at-end}
+use Rattle.pl_blanks.proofs.Places.{at-byte, at-end}
 use Rattle.pl_reals.specs.Places.{FiguresEnd}
 
 -- ---- signs

@@ -3,7 +3,7 @@ ghost use Prim.Native.Nat.{_≤_};
 ghost use lib.ListN.{length, drop};
 ghost use Rattle.property_lists.specs.Properties.{propertyAt, namedFrom, leastBytes, threeBytes, ReadsProperty};
 use kinds::by_code;
-use pl_chars::past_blanks;
+use pl_blanks::past_blanks;
 use pl_names::name_at;
 use property_lists::Passed;
 use property_lists::Property;

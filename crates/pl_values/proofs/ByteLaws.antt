@@ -11,7 +11,7 @@ use lib.ListN.{length, getD, drop, length-drop}
 use borrow.Author.Tests.{eq-eqb, ne-eqb, lt-ltb, le-ltb, le-leb, lt-leb}
 use Rattle.property_lists.specs.Chars.{isVisible, upperCase}
 use Rattle.property_lists.specs.Values.{figureOf, byteDigits, charValue, faceOf, faceValue}
-use Rattle.pl_chars.proofs.Places.{at-byte, at-end}
+use Rattle.pl_blanks.proofs.Places.{at-byte, at-end}
 
 -- ---- digits
 

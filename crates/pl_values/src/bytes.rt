@@ -5,10 +5,10 @@ ghost use lib.ListN.{length, drop};
 ghost use Rattle.property_lists.specs.Values.{figureOf, byteDigits, charValue, weightOf, slopeOf, expansionOf};
 ghost use Rattle.property_lists.specs.Values.{faceValue};
 ghost use Rattle.property_lists.specs.Values.{typedByte, Scans};
-use pl_chars::is_capital;
-use pl_chars::is_figure;
-use pl_chars::is_visible;
-use pl_chars::upper_case;
+use pl_bytes::is_capital;
+use pl_bytes::is_figure;
+use pl_bytes::is_visible;
+use pl_bytes::upper_case;
 use property_lists::ValueRead;
 
 fn wide(b: u8) -> u32

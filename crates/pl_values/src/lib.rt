@@ -4,8 +4,8 @@ ghost use Prim.Native.Nat.{_≤_};
 ghost use lib.ListN.{length, drop};
 ghost use Rattle.property_lists.specs.Values.{byteValue, Scans};
 use bytes::typed_byte;
-use pl_chars::past_blanks;
-use pl_chars::upper_case;
+use pl_blanks::past_blanks;
+use pl_bytes::upper_case;
 use property_lists::Passed;
 use property_lists::ValueRead;
 

@@ -1,8 +1,8 @@
 -- `pl_chars::name_ends` meets its contract.
 -- Assumes nothing.
 use mathlib.Core.Path.{sym, _∙_}
-use Rattle.pl_chars.proofs.Places.{passed-at, passed-none}
-use Rattle.pl_chars.proofs.Passing.{ends-no, ends-here, ends-end}
+use Rattle.pl_blanks.proofs.Places.{passed-at, passed-none}
+use Rattle.pl_chars.proofs.CharLaws.{ends-no, ends-here, ends-end}
 use borrow.Author.Needs.{needs}
 use native.Mathlib.Omega.{arith}
 use Rattle.pl_chars.proofs.name_ends.Statement.{statement}

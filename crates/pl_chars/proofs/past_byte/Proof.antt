@@ -1,7 +1,7 @@
 -- `pl_chars::past_byte` meets its contract.
 -- Assumes nothing.
-use Rattle.pl_chars.proofs.Places.{passed-at, passed-none}
-use Rattle.pl_chars.proofs.Passing.{byte-there, byte-other, byte-end}
+use Rattle.pl_blanks.proofs.Places.{passed-at, passed-none}
+use Rattle.pl_chars.proofs.CharLaws.{byte-there, byte-other, byte-end}
 use borrow.Author.Needs.{needs}
 use native.Mathlib.Omega.{arith}
 use Rattle.pl_chars.proofs.past_byte.Statement.{statement}

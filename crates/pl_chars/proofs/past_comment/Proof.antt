@@ -4,8 +4,8 @@ use mathlib.Core.Path.{_≡_, refl, sym, _∙_}
 use Prim.Native.Nat.{_-_, _≤_}
 use lib.ListN.{length, drop}
 use Rattle.property_lists.specs.Chars.{pastComment}
-use Rattle.pl_chars.proofs.Places.{passed-at, passed-none}
-use Rattle.pl_chars.proofs.Passing.{comment-closed, comment-close, comment-open, comment-more, comment-end}
+use Rattle.pl_blanks.proofs.Places.{passed-at, passed-none}
+use Rattle.pl_chars.proofs.CharLaws.{comment-closed, comment-close, comment-open, comment-more, comment-end}
 use native.Mathlib.Omega.{arith}
 use Rattle.pl_chars.proofs.past_comment.Statement.{statement}
 use Rattle.pl_chars.proofs.past_comment.Tie as tie

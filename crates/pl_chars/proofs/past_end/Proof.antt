@@ -2,7 +2,7 @@
 -- Assumes nothing.
 use mathlib.Core.Path.{sym, ap}
 use Rattle.property_lists.specs.Chars.{thenBy, pastByte}
-use Rattle.pl_chars.proofs.Places.{passed-none, passed-from, known-at, known-none}
+use Rattle.pl_blanks.proofs.Places.{passed-none, passed-from, known-at, known-none}
 use borrow.Author.Needs.{needs}
 use native.Mathlib.Omega.{arith}
 use Rattle.pl_chars.proofs.past_end.Statement.{statement}

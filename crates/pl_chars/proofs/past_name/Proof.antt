@@ -4,8 +4,8 @@ use mathlib.Core.Path.{_≡_, sym, ap, _∙_}
 use Prim.Native.Nat.{_+_, _-_, _≤_}
 use lib.ListN.{length, drop}
 use Rattle.property_lists.specs.Chars.{pastName}
-use Rattle.pl_chars.proofs.Places.{at-least, passed-from, passed-none}
-use Rattle.pl_chars.proofs.Passing.{name-more, name-other, name-short, name-all}
+use Rattle.pl_blanks.proofs.Places.{at-least, passed-from, passed-none}
+use Rattle.pl_chars.proofs.CharLaws.{name-more, name-other, name-short, name-all}
 use borrow.Author.Needs.{needs}
 use native.Mathlib.Omega.{arith}
 use Rattle.pl_chars.proofs.past_name.Statement.{statement}

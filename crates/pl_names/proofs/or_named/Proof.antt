@@ -2,7 +2,7 @@
 -- Assumes nothing.
 use Rattle.property_lists.specs.declared.Property.the-variants as property
 use Rattle.property_lists.specs.declared.ValueRead.the-variants as value
-use Rattle.pl_chars.proofs.Places.{known-at, known-none}
+use Rattle.pl_blanks.proofs.Places.{known-at, known-none}
 use Rattle.pl_values.proofs.Scanning.{scanned-at, scanned-none}
 use borrow.Author.Needs.{needs}
 use native.Mathlib.Omega.{arith}

@@ -54,11 +54,11 @@ returns c =
     answer-none (args .text .now) (args .instructions .now) (args .entries .now) (scan .ensures) (enum-told .given .1)
     (zero-i323 .ensures ∙ ap (λ (n : ℕ). replicate n (pos 0)) h) (zero-i322 .ensures)
 
-slice-aggregate-put-labels : tie.Need-slice-aggregate-put-labels
-slice-aggregate-put-labels c = search needs
+slice-aggregate-put-label-entries : tie.Need-slice-aggregate-put-label-entries
+slice-aggregate-put-label-entries c = search needs
 
-put-labels-requires : tie.Need-put-labels-requires
-put-labels-requires c κs = search needs
+put-label-entries-requires : tie.Need-put-label-entries-requires
+put-label-entries-requires c κs = search needs
 
 list-refusal-requires : tie.Need-list-refusal-requires
 list-refusal-requires c κs = search needs
@@ -81,7 +81,7 @@ returns-2 c =
     let zero-i324 = c .before .before .before .before .zero-i324 in
     let if1 = c .before .before .before .before .before .before .if1 in
     let list-refusal = c .before .before .before .before .before .before .before .list-refusal in
-    let put-labels = c .before .before .before .before .before .before .before .before .before .put-labels in
+    let put-label-entries = c .before .before .before .before .before .before .before .before .before .put-label-entries in
     let s = c .before .before .before .before .before .before .before .before .before .before .before .before .before .s in
     let scan = c .before .before .before .before .before .before .before .before .before .before .before .before .before .before .before .before .before
     .scan in
@@ -93,9 +93,9 @@ returns-2 c =
     .before .before .before .before .before .before .before .before .before .before .args in
     let h : length (scan .last .1 .0) ≡ length (args .instructions .now) = omega arith in
     let g : length (zero-i322 .last .0) ≡ length (args .entries .now) = ap length (zero-i322 .ensures) ∙ length-replicate _ _ in
-    let k : length (put-labels .last .1 .0) ≡ length (args .entries .now) = omega (arith, g) in
+    let k : length (put-label-entries .last .1 .0) ≡ length (args .entries .now) = omega (arith, g) in
     answer-refused (args .text .now) (args .instructions .now) (args .entries .now) (followed-on (rw (zero-i32 .ensures) at (scan .ensures)) (s .given .1))
-    (put-labels .ensures .1)
+    (put-label-entries .ensures .1)
     (list-refusal .ensures) h k (if1 .taken) (zero-i324 .ensures ∙ ap (λ (n : ℕ). replicate n (pos 0)) h)
     (zero-i325 .ensures ∙ ap (λ (n : ℕ). replicate n (pos 0)) k)
 
@@ -124,7 +124,7 @@ returns-3 c =
     let number-of = c .before .before .before .number-of in
     let if1 = c .before .before .before .before .if1 in
     let list-refusal = c .before .before .before .before .before .list-refusal in
-    let put-labels = c .before .before .before .before .before .before .before .put-labels in
+    let put-label-entries = c .before .before .before .before .before .before .before .put-label-entries in
     let s = c .before .before .before .before .before .before .before .before .before .before .before .s in
     let scan = c .before .before .before .before .before .before .before .before .before .before .before .before .before .before .before .scan in
     let zero-i322 = c .before .before .before .before .before .before .before .before .before .before .before .before .before .before .before .before
@@ -135,12 +135,12 @@ returns-3 c =
     .before .before .before .before .before .before .before .before .args in
     let h : length (scan .last .1 .0) ≡ length (args .instructions .now) = omega arith in
     let g : length (zero-i322 .last .0) ≡ length (args .entries .now) = ap length (zero-i322 .ensures) ∙ length-replicate _ _ in
-    let k : length (put-labels .last .1 .0) ≡ length (args .entries .now) = omega (arith, g) in
+    let k : length (put-label-entries .last .1 .0) ≡ length (args .entries .now) = omega (arith, g) in
     let b = number-word (number-of .result) (record { sfits = number-of .ok }) ∙ number-of .ensures in
     let l = number-word (number-of2 .result) (record { sfits = number-of2 .ok }) ∙ number-of2 .ensures ∙ number-is (word-at .ensures) in
     answer-font (args .text .now) (args .instructions .now) (args .entries .now) (followed-on (rw (zero-i32 .ensures) at (scan .ensures)) (s .given .1))
-    (put-labels .ensures .1)
-    (list-refusal .ensures) h k (if1 .left) refl (put-labels .ensures .0 ∙ rw (zero-i322 .ensures)) b l
+    (put-label-entries .ensures .1)
+    (list-refusal .ensures) h k (if1 .left) refl (put-label-entries .ensures .0 ∙ rw (zero-i322 .ensures)) b l
 
 pub read-list-spec : {M : Type 1} → statement M
 read-list-spec =
@@ -156,8 +156,8 @@ read-list-spec =
     same-length
     same-length-2
     returns
-    slice-aggregate-put-labels
-    put-labels-requires
+    slice-aggregate-put-label-entries
+    put-label-entries-requires
     list-refusal-requires
     zero-i32-requires-4
     zero-i32-requires-5

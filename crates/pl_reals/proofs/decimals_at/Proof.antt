@@ -8,7 +8,7 @@ use lib.Seq.{slice}
 use borrow.Author.Tests.{eq-eqb, ne-eqb}
 use Rattle.property_lists.specs.Reals.{decimalSum, realDecimals}
 use Rattle.property_lists.specs.Values.{decimalsAt}
-use Rattle.pl_chars.proofs.Places.{at-byte, at-end}
+use Rattle.pl_blanks.proofs.Places.{at-byte, at-end}
 use Rattle.pl_reals.proofs.RealLaws.{first-seven}
 use borrow.Author.Needs.{needs}
 use native.Mathlib.Omega.{arith}

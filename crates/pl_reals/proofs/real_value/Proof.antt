@@ -3,7 +3,7 @@
 use mathlib.Core.Path.{sym, ap}
 use Rattle.property_lists.specs.Chars.{thenBy}
 use Rattle.property_lists.specs.Values.{typedReal}
-use Rattle.pl_chars.proofs.Places.{known-at, known-none}
+use Rattle.pl_blanks.proofs.Places.{known-at, known-none}
 use Rattle.pl_values.proofs.Scanning.{scanned-none, scanned-from}
 use borrow.Author.Needs.{needs}
 use native.Mathlib.Omega.{arith}

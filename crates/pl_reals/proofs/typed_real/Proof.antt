@@ -6,7 +6,7 @@ use lib.Dec.{eqb}
 use lib.ListN.{getD}
 use borrow.Author.Tests.{not-true, not-false}
 use Rattle.property_lists.specs.Chars.{upperCase, oneOf}
-use Rattle.pl_chars.proofs.Places.{at-byte, at-end}
+use Rattle.pl_blanks.proofs.Places.{at-byte, at-end}
 use Rattle.pl_values.proofs.Scanning.{scanned-none, scanned-from, value-at, value-none}
 use borrow.Author.Needs.{needs}
 use native.Mathlib.Omega.{arith}

@@ -5,7 +5,7 @@ use lib.ListN.{getD}
 use borrow.Author.Tests.{eq-eqb, ne-eqb}
 use Rattle.property_lists.specs.declared.Property.the-variants as property
 use Rattle.property_lists.specs.declared.ValueRead.the-variants as value
-use Rattle.pl_chars.proofs.Places.{at-byte, at-end, known-at, known-none}
+use Rattle.pl_blanks.proofs.Places.{at-byte, at-end, known-at, known-none}
 use Rattle.pl_steps.proofs.ReadLaws.{property-at, property-none, property-from, four-bytes}
 use borrow.Author.Needs.{needs}
 use native.Mathlib.Omega.{arith}

@@ -4,7 +4,7 @@ use mathlib.Core.Path.{_≡_, sym, ap, _∙_}
 use lib.ListN.{drop}
 use Rattle.property_lists.specs.Chars.{thenBy}
 use Rattle.property_lists.specs.Values.{byteValue, typedByte, byType}
-use Rattle.pl_chars.proofs.Places.{at-byte, at-end, known-at, known-none}
+use Rattle.pl_blanks.proofs.Places.{at-byte, at-end, known-at, known-none}
 use Rattle.pl_values.proofs.Scanning.{scanned-none, scanned-from}
 use borrow.Author.Needs.{needs}
 use native.Mathlib.Omega.{arith}

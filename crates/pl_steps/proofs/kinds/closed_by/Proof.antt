@@ -5,7 +5,7 @@ use mathlib.Core.Option.{some}
 use Rattle.property_lists.specs.declared.Property.the-variants as property
 use Rattle.property_lists.specs.declared.ValueRead.the-variants as value
 use Rattle.property_lists.specs.Chars.{thenBy}
-use Rattle.pl_chars.proofs.Places.{known-at, known-none}
+use Rattle.pl_blanks.proofs.Places.{known-at, known-none}
 use Rattle.pl_steps.proofs.ReadLaws.{property-at, property-none}
 use borrow.Author.Needs.{needs}
 use native.Mathlib.Omega.{arith}

@@ -3,7 +3,7 @@
 use mathlib.Core.Path.{sym}
 use Rattle.property_lists.specs.declared.Property.the-variants as property
 use Rattle.property_lists.specs.declared.ValueRead.the-variants as value
-use Rattle.pl_chars.proofs.Places.{known-at, known-none}
+use Rattle.pl_blanks.proofs.Places.{known-at, known-none}
 use Rattle.pl_steps.proofs.ReadLaws.{property-none, property-from}
 use borrow.Author.Needs.{needs}
 use native.Mathlib.Omega.{arith}

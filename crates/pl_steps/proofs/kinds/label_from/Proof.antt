@@ -8,7 +8,7 @@ use borrow.Author.Tests.{eq-eqb, ne-eqb}
 use Rattle.property_lists.specs.declared.Property.the-variants as property
 use Rattle.property_lists.specs.declared.ValueRead.the-variants as value
 use Rattle.property_lists.specs.Chars.{upperCase}
-use Rattle.pl_chars.proofs.Places.{at-byte, at-end, known-at, known-none}
+use Rattle.pl_blanks.proofs.Places.{at-byte, at-end, known-at, known-none}
 use Rattle.pl_steps.proofs.ReadLaws.{property-none, property-from}
 use borrow.Author.Needs.{needs}
 use native.Mathlib.Omega.{arith}

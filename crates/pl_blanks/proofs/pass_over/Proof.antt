@@ -1,4 +1,4 @@
--- `pl_chars::pass_over` meets its contract: bytes that are passed change nothing.
+-- `pl_blanks::pass_over` meets its contract: bytes that are passed change nothing.
 -- Assumes nothing.
 use mathlib.Core.Path.{_≡_, sym, ap, _∙_}
 use mathlib.Core.Bool.{false}
@@ -6,12 +6,12 @@ use borrow.Author.Tests.{not-true, not-false}
 use Prim.Native.Nat.{_-_, _≤_}
 use lib.ListN.{length, drop}
 use Rattle.property_lists.specs.Chars.{passOver}
-use Rattle.pl_chars.proofs.Places.{at-least, passed-from}
-use Rattle.pl_chars.proofs.Passing.{over-more, over-stop, over-end}
+use Rattle.pl_blanks.proofs.Places.{at-least, passed-from}
+use Rattle.pl_blanks.proofs.Passing.{over-more, over-stop, over-end}
 use borrow.Author.Needs.{needs}
 use native.Mathlib.Omega.{arith}
-use Rattle.pl_chars.proofs.pass_over.Statement.{statement}
-use Rattle.pl_chars.proofs.pass_over.Tie as tie
+use Rattle.pl_blanks.proofs.pass_over.Statement.{statement}
+use Rattle.pl_blanks.proofs.pass_over.Tie as tie
 
 abbrev Inv-loop : tie.InvT-loop
 Inv-loop text at all held₀ i₀ held i =

@@ -1,8 +1,8 @@
--- `pl_chars::is_figure` meets its contract.
+-- `pl_bytes::is_figure` meets its contract.
 -- Assumes nothing.
 use borrow.Author.Tests.{lt-leb, le-leb}
-use Rattle.pl_chars.proofs.is_figure.Statement.{statement}
-use Rattle.pl_chars.proofs.is_figure.Tie as tie
+use Rattle.pl_bytes.proofs.is_figure.Statement.{statement}
+use Rattle.pl_bytes.proofs.is_figure.Tie as tie
 
 returns : tie.Need-returns
 returns c = rw (lt-leb 48 (c .before .args .b) (c .if1 .taken))

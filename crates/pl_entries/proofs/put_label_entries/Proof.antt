@@ -1,16 +1,14 @@
--- `pl_read::labels::put_labels` meets its contract: the entries of the characters passed stand in the list.
+-- `pl_entries::put_label_entries` meets its contract: the entries of the characters passed stand in the list.
 -- Assumes nothing.
 use mathlib.Core.Path.{_≡_, refl, ap, _∙_}
 use Prim.Native.Nat.{ℕ, _-_, _≤_}
 use lib.ListN.{length}
 use Rattle.pl_apply.specs.Standing.{overlay}
-use Rattle.pl_read.proofs.Answering.{entry-more, entries-few}
+use Rattle.pl_entries.proofs.EntryLaws.{entry-more, entries-few}
 use Rattle.property_lists.specs.ListReading.{labelEntries}
-use Rattle.property_lists.specs.declared.Property.the-variants as property
-use Rattle.pl_progress.specs.declared.Change.the-variants as change
 use native.Mathlib.Omega.{arith}
-use Rattle.pl_read.proofs.labels.put_labels.Statement.{statement}
-use Rattle.pl_read.proofs.labels.put_labels.Tie as tie
+use Rattle.pl_entries.proofs.put_label_entries.Statement.{statement}
+use Rattle.pl_entries.proofs.put_label_entries.Tie as tie
 
 abbrev Inv-loop : tie.InvT-loop
 Inv-loop labels entries₀ n₀ c₀ entries n c =
@@ -24,8 +22,8 @@ unfolding overlay labelEntries
 loop-holds c =
     (omega arith, refl, refl, refl)
 
-put-label-requires : tie.Need-put-label-requires Inv-loop μ-loop
-put-label-requires c κs =
+put-label-entry-requires : tie.Need-put-label-entry-requires Inv-loop μ-loop
+put-label-entry-requires c κs =
     let loop-test = c .before .loop-test in
     let loop = c .before .before .loop in
     let args = c .before .before .before .args in
@@ -39,11 +37,11 @@ loop-less c = omega arith
 
 loop-again : tie.Need-loop-again Inv-loop μ-loop
 loop-again c =
-    let put-label = c .before .put-label in
+    let put-label-entry = c .before .put-label-entry in
     let loop = c .before .before .before .before .loop in
     let args = c .before .before .before .before .before .args in
-    let m = entry-more (args .labels .now) (args .entries .now) (loop .c) (loop .n) (loop .inv .2) (loop .inv .3) _ refl (put-label .ensures .0)
-    (put-label .ensures .1) in
+    let m = entry-more (args .labels .now) (args .entries .now) (loop .c) (loop .n) (loop .inv .2) (loop .inv .3) _ refl (put-label-entry .ensures .0)
+    (put-label-entry .ensures .1) in
     (omega arith, omega arith, m .0, m .1)
 
 same-length : tie.Need-same-length Inv-loop μ-loop
@@ -59,14 +57,14 @@ returns c =
       loop .inv .3 ∙ ap (λ (x : ℕ). length (labelEntries (args .labels .now) x)) k,
     )
 
-pub put-labels-spec : {M : Type 1} → statement M
-put-labels-spec =
+pub put-label-entries-spec : {M : Type 1} → statement M
+put-label-entries-spec =
     tie.close
     (tie.spec
     Inv-loop
     μ-loop
     loop-holds
-    put-label-requires
+    put-label-entry-requires
     add-c
     loop-less
     loop-again

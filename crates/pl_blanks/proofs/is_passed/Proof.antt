@@ -1,10 +1,10 @@
--- `pl_chars::is_passed` meets its contract.
+-- `pl_blanks::is_passed` meets its contract.
 -- Assumes nothing.
 use mathlib.Core.Path.{_∙_}
 use borrow.Author.Tests.{eq-eqb, ne-eqb}
 use borrow.Author.Needs.{needs}
-use Rattle.pl_chars.proofs.is_passed.Statement.{statement}
-use Rattle.pl_chars.proofs.is_passed.Tie as tie
+use Rattle.pl_blanks.proofs.is_passed.Statement.{statement}
+use Rattle.pl_blanks.proofs.is_passed.Tie as tie
 
 returns : tie.Need-returns
 returns c = rw (eq-eqb (c .before .args .b) 10 (c .if1 .taken))

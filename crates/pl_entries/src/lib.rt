@@ -1,4 +1,4 @@
-// The entries of the characters that have a label.
+// The entries of the characters that have a label, ascending (R458).
 ghost use mathlib.Core.Path.{_≡_};
 ghost use mathlib.Core.Bool.{cond};
 ghost use Prim.Native.Nat.{_+_, _<_, _≤_};
@@ -11,7 +11,7 @@ use words::i32s::put_word;
 use words::i32s::word_at;
 
 // One of them goes to a place of a list; answered is the place after it.
-fn put_label(labels: &[i32], c: usize, n: usize, entries: &mut [i32]) -> usize
+fn put_label_entry(labels: &[i32], c: usize, n: usize, entries: &mut [i32]) -> usize
     requires { ⌜ (c < 256) × (n ≤ 512) ⌝ }
     ensures { λ r. ⌜ (now (entries .exit) ≡ cond (hasLabel c (now (labels .entry)))
         (set (set (now (entries .entry)) n (pos c)) (n + 1) (getD (now (labels .entry)) c (pos 0)))
@@ -27,14 +27,14 @@ fn put_label(labels: &[i32], c: usize, n: usize, entries: &mut [i32]) -> usize
 
 // They go to a list, ascending, and how many numbers they are is answered. What is past the list's end is counted
 // alone.
-pub(crate) fn put_labels(labels: &[i32], entries: &mut [i32]) -> usize
+pub fn put_label_entries(labels: &[i32], entries: &mut [i32]) -> usize
     ensures { λ r. ⌜ (now (entries .exit) ≡ overlay (labelEntries (now (labels .entry)) 256) (now (entries .entry))) ×
         (r ≡ length (labelEntries (now (labels .entry)) 256)) ⌝ }
 {
     let mut n = 0;
     let mut c = 0;
     while c < 256 {
-        n = put_label(labels, c, n, entries);
+        n = put_label_entry(labels, c, n, entries);
         c += 1;
     }
     n

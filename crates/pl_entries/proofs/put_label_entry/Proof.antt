@@ -1,15 +1,13 @@
--- `pl_read::labels::put_label` meets its contract.
+-- `pl_entries::put_label_entry` meets its contract.
 -- Assumes nothing.
 use mathlib.Core.Path.{sym, _∙_}
 use borrow.Author.Tests.{not-true, not-false}
 use Rattle.pl_apply.proofs.Laws.{small-number}
 use Rattle.words.proofs.Bits.{number-is}
-use Rattle.property_lists.specs.declared.Property.the-variants as property
-use Rattle.pl_progress.specs.declared.Change.the-variants as change
 use borrow.Author.Needs.{needs}
 use native.Mathlib.Omega.{arith}
-use Rattle.pl_read.proofs.labels.put_label.Statement.{statement}
-use Rattle.pl_read.proofs.labels.put_label.Tie as tie
+use Rattle.pl_entries.proofs.put_label_entry.Statement.{statement}
+use Rattle.pl_entries.proofs.put_label_entry.Tie as tie
 
 has-label-requires : tie.Need-has-label-requires
 has-label-requires c κs = search needs
@@ -54,8 +52,8 @@ returns-2 c =
     let a = small-number (args .c) (omega (arith, pre .0)) in
     (rw f (put-word2 .ensures ∙ rw (put-word .ensures, a, number-is (word-at .ensures))), rw f)
 
-pub put-label-spec : {M : Type 1} → statement M
-put-label-spec =
+pub put-label-entry-spec : {M : Type 1} → statement M
+put-label-entry-spec =
     tie.close
     (tie.spec
     has-label-requires

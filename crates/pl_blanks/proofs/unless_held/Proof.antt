@@ -1,9 +1,9 @@
--- `pl_chars::unless_held` meets its contract.
+-- `pl_blanks::unless_held` meets its contract.
 -- Assumes nothing.
-use Rattle.pl_chars.proofs.Places.{passed-at, passed-none}
+use Rattle.pl_blanks.proofs.Places.{passed-at, passed-none}
 use native.Mathlib.Omega.{arith}
-use Rattle.pl_chars.proofs.unless_held.Statement.{statement}
-use Rattle.pl_chars.proofs.unless_held.Tie as tie
+use Rattle.pl_blanks.proofs.unless_held.Statement.{statement}
+use Rattle.pl_blanks.proofs.unless_held.Tie as tie
 
 returns : tie.Need-returns
 returns c = passed-none _ (rw (c .if1 .taken))

@@ -1,9 +1,9 @@
--- `pl_chars::upper_case` meets its contract.
+-- `pl_bytes::upper_case` meets its contract.
 -- Assumes nothing.
 use borrow.Author.Tests.{lt-leb, le-leb}
 use borrow.Author.Needs.{needs}
-use Rattle.pl_chars.proofs.upper_case.Statement.{statement}
-use Rattle.pl_chars.proofs.upper_case.Tie as tie
+use Rattle.pl_bytes.proofs.upper_case.Statement.{statement}
+use Rattle.pl_bytes.proofs.upper_case.Tie as tie
 
 sub-result : tie.Need-sub-result
 sub-result c = search needs

@@ -1,8 +1,8 @@
--- `pl_chars::is_visible` meets its contract.
+-- `pl_bytes::is_visible` meets its contract.
 -- Assumes nothing.
 use borrow.Author.Tests.{lt-leb, le-leb, eq-eqb, ne-eqb}
-use Rattle.pl_chars.proofs.is_visible.Statement.{statement}
-use Rattle.pl_chars.proofs.is_visible.Tie as tie
+use Rattle.pl_bytes.proofs.is_visible.Statement.{statement}
+use Rattle.pl_bytes.proofs.is_visible.Tie as tie
 
 returns : tie.Need-returns
 returns c = rw (lt-leb 33 (c .before .args .b) (c .if1 .taken))

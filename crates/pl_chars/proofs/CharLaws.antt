@@ -1,33 +1,15 @@
--- What is passed over: blanks, everything up to a parenthesis, comments and names.
+-- What is passed over: comments, single bytes and names.
 -- Assumes nothing.
-use mathlib.Core.Path.{_≡_, refl, sym, ap, _∙_}
-use mathlib.Core.Bool.{Bool, true, false}
-use mathlib.Core.List.{List, [], _∷_}
-use mathlib.Core.Option.{Option, none, some}
-use Prim.Native.Nat.{ℕ, suc, _+_, _-_, _<_, _≤_}
+use mathlib.Core.Path.{_≡_}
+use mathlib.Core.Bool.{true, false}
+use mathlib.Core.List.{List}
+use mathlib.Core.Option.{none, some}
+use Prim.Native.Nat.{ℕ, _+_, _-_, _<_, _≤_}
 use native.Mathlib.Numerals.{add-one}
-use native.Mathlib.Omega.{arith}
-use lib.Dec.{eqb}
 use lib.ListN.{length, getD, drop}
 use borrow.Author.Tests.{eq-eqb, ne-eqb}
-use Rattle.property_lists.specs.Chars.{upperCase, inName, isPassed, unlessHeld, passOver, pastComment, pastByte, nameEnds, pastName}
-use Rattle.pl_chars.proofs.Places.{at-byte, at-end}
-
--- ---- blanks
-
-module _ (text : List ℕ) (i : ℕ) (all held : Bool) where
-  pub over-more : i < length text → isPassed all held (getD text i 0) ≡ true →
-      passOver all held (drop i text) ≡ passOver all (eqb (getD text i 0) 13) (drop (i + 1) text)
-  unfolding passOver
-  over-more h e = rw (at-byte text i h, e)
-
-  pub over-stop : i < length text → isPassed all held (getD text i 0) ≡ false → passOver all held (drop i text) ≡ unlessHeld held (drop i text)
-  unfolding passOver
-  over-stop h e = rw (at-byte text i h, e)
-
-  pub over-end : length text ≤ i → passOver all held (drop i text) ≡ unlessHeld held (drop i text)
-  unfolding passOver
-  over-end h = rw (at-end text i h)
+use Rattle.property_lists.specs.Chars.{upperCase, inName, pastComment, pastByte, nameEnds, pastName}
+use Rattle.pl_blanks.proofs.Places.{at-byte, at-end}
 
 -- ---- comments
 

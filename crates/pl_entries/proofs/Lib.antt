@@ -1,0 +1,2 @@
+-- The laws of the entries of labels.
+pub mod EntryLaws

@@ -1,0 +1,1 @@
+-- The definitions are those of property_lists/specs/ListReading and pl_apply/specs/Standing.
