@@ -1,7 +1,7 @@
 -- Whose turn it is, and the list after a begin.
 -- Assumes nothing.
 use mathlib.Core.Path.{_≡_, refl, sym, ap, subst, _∙_}
-use mathlib.Core.Bool.{Bool, true, false, cond, not}
+use mathlib.Core.Bool.{Bool, true, false, cond}
 use mathlib.Core.List.{List, [], _∷_, _++_}
 use Prim.Native.Nat.{ℕ, zero, suc, _+_, _-_, _<_, _≤_}
 use native.Mathlib.Omega.{arith}
@@ -116,7 +116,8 @@ module _ (ns : List ℕ) (c : ℕ) (h : isChip ns ≡ true) (l : c ≤ 7) where
       let counted : length (front ++ lettersAt n ns ++ take 8 (drop 82 ns)) ≡ 90 =
       length-append (front ++ lettersAt n ns) (take 8 (drop 82 ns)) ∙ omega (arith, word, eight) in
       let one : length (c ∷ []) ≡ 1 = refl in
-      length-append (front ++ lettersAt n ns ++ take 8 (drop 82 ns)) (c ∷ []) ∙ (let e : length (front ++ lettersAt n ns ++ take 8 (drop 82 ns)) + length (c ∷ []) ≡ 91 = omega (arith, counted, one) in e)
+      let e : length (front ++ lettersAt n ns ++ take 8 (drop 82 ns)) + length (c ∷ []) ≡ 91 = omega (arith, counted, one) in
+      length-append (front ++ lettersAt n ns ++ take 8 (drop 82 ns)) (c ∷ []) ∙ e
 
   pub opened-long : (s : State) (block : List ℕ) {block′ ns₂ : List ℕ} → ShowsChanges true End s block called block′ ns₂ → length ns₂ ≡ length ns
   opened-long s block {block′} {ns₂} w =
@@ -127,7 +128,7 @@ module _ (ns : List ℕ) (c : ℕ) (h : isChip ns ≡ true) (l : c ≤ 7) where
   module _ (s : State) (fresh : s ≡ freshState [] plainOptions) (none : flagOf (getD ns 2 0) ≡ false) where
     -- the chip after begin, but for its length
     abbrev before : Chip
-    before = record { opened = true; length = getD ns 1 0; letters = lettersAt (getD ns 1 0) ns; counts = take 8 (drop 82 ns); caller = c; item = End; state = s }
+    before = calledChip s
 
     begun-is : chipBegun c (chipAt ns) ≡
         record { opened = true; length = 0; letters = lettersAt (getD ns 1 0) ns; counts = take 8 (drop 82 ns); caller = c; item = End; state = s }
@@ -205,8 +206,8 @@ pub table-moves : (pairs ops : List ℤ) (boundary : ℤ) (ns block : List ℕ) 
     MovesChip (afterEarly boundary (chipRead ns) (length block) (orElse (tableRefusal pairs ops) x)) after block ns n block ns
 table-moves pairs ops boundary ns block x after {n} l e h =
     refused-moves after block ns
-    (rw (le-leb 16 (length block) l) (table-by (absentOr 255 boundary) (tableForm pairs ops) (chipTests (chipRead ns)) n x h (e ∙ begin-refusal-is pairs ops boundary)))
-    h
+    (rw (le-leb 16 (length block) l)
+    (table-by (absentOr 255 boundary) (tableForm pairs ops) (chipTests (chipRead ns)) n x h (e ∙ begin-refusal-is pairs ops boundary))) h
 
 pub formed-moves : (pairs ops : List ℤ) (boundary : ℤ) (ns block : List ℕ) (x : ℕ) (after : Chip) {r : ℕ} {block′ ns′ : List ℕ} →
     beginRefusal pairs ops boundary [] plainOptions ≡ 0 → MovesChip (afterEarly boundary (chipRead ns) (length block) x) after block ns r block′ ns′ →

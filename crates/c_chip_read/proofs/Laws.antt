@@ -1,7 +1,7 @@
 -- What is tested of a list, and that it is what `isChip` and `chipRefusal` ask.
 -- Assumes nothing.
 use mathlib.Core.Path.{_≡_, refl, sym, ap, _∙_}
-use mathlib.Core.Bool.{Bool, true, false, cond, not}
+use mathlib.Core.Bool.{Bool, true, false, cond}
 use mathlib.Core.List.{List, [], _∷_}
 use Prim.Native.Nat.{ℕ, zero, suc, _+_, _-_, _<_, _≤_}
 use native.Mathlib.Omega.{arith}
@@ -17,7 +17,7 @@ use Rattle.c_states.specs.States.{flagOf, isState}
 use Rattle.chips.specs.declared.Chip.{Chip}
 use Rattle.chips.specs.Commands.{itemStands, openStands, chipRefusal}
 use Rattle.chips.proofs.Turns.{every-taken}
-use Rattle.c_chips.specs.ChipLists.{isWord, is32Bits, isShown, areLetters, areCounts, isChip, shownBy, shownAt, lettersAt, chipAt, noChip, chipRead}
+use Rattle.c_chips.specs.ChipLists.{isWord, isShown, areLetters, areCounts, isChip, shownBy, shownAt, lettersAt, chipAt, noChip, chipRead}
 use Rattle.c_chips.proofs.Laws.{part, ready-is, count-at}
 use Rattle.c_chip_read.specs.Standing.{byteLetters, callersStand, listStands}
 
@@ -167,7 +167,8 @@ module _ (ns : List ℕ) where
     u₄ : both (areLetters ns) (areCounts ns) ≡ true
     u₄ = both-right (isState (drop 9 ns)) _ u₃
 
-    v₁ : both (every n (λ i. leb (getD (lettersAt n ns) i 0) 255)) (both (itemStands (shownAt ns)) (both (leb (getD ns 90 0) 7) (openStands (chipAt ns)))) ≡ true
+    v₁ : both (every n (λ i. leb (getD (lettersAt n ns) i 0) 255)) (both (itemStands (shownAt ns))
+        (both (leb (getD ns 90 0) 7) (openStands (chipAt ns)))) ≡ true
     v₁ = both-right (leb n 64) _ tests
 
     v₂ : both (itemStands (shownAt ns)) (both (leb (getD ns 90 0) 7) (openStands (chipAt ns))) ≡ true

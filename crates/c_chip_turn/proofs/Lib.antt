@@ -1,2 +1,2 @@
--- Laws of crate c_chip_turn: Laws (letters that are read, a letter more, a word counted, and what a command leaves).
+-- Laws of crate c_chip_turn: Laws (what each command leaves, by byte 0).
 pub mod Laws

@@ -1,2 +1,2 @@
--- Add, end and take on the chip that stands in a list: ListTurns.
+-- The commands but begin on the chip that stands in a list: ListTurns.
 pub mod ListTurns

@@ -1,2 +1,3 @@
--- Laws of crate c_chip_write: Laws (a list that was written part by part).
+-- Laws of crate c_chip_write: Laws (a list that was written part by part), Altered (a list whose chip is another's but for some parts).
 pub mod Laws
+pub mod Altered

@@ -61,8 +61,9 @@ returns-2 c =
     let block = a .block .now in
     let ns = a .chip .now in
     turn-told (a .pairs .now) (a .ops .now) (a .boundary) block ns (λ e. i .if1 .left (u .u8-at .ensures ∙ e))
-    (subst (λ (z : ℤ). MovesChip (afterEarly z (chipRead ns) (length block)
-    (otherRefusal (a .pairs .now) (a .ops .now) z block (chipRead ns))) (chipAfter (a .pairs .now) (a .ops .now) z block (chipRead ns)) block ns (w .turn-in .result) (w .turn-in .last .1 .1 .1 .0) (w .turn-in .last .1 .1 .1 .1 .0))
+    (subst (λ (z : ℤ). MovesChip (afterEarly z (chipRead ns) (length block) (otherRefusal (a .pairs .now) (a .ops .now) z block (chipRead ns)))
+    (chipAfter (a .pairs .now) (a .ops .now) z block (chipRead ns)) block ns (w .turn-in .result) (w .turn-in .last .1 .1 .1 .0)
+    (w .turn-in .last .1 .1 .1 .1 .0))
     (number-word (a .boundary) (s .fits .boundary)) (w .turn-in .ensures))
 
 pub ligkern-chip-spec : {M : Type 1} → statement M

@@ -26,15 +26,21 @@ flag-of-requires-2 c κs = search needs
 
 returns-2 : tie.Need-returns-2
 returns-2 c =
-    let s = c .before .before .before .before .before .before .before in
-    let a = s .args in
-    ready-waits (a .list .now) (a .caller) (sym (c .before .before .before .before .flag-of .ensures) ∙ c .before .before .before .if1 .left) (sym (c .before .flag-of2 .ensures) ∙ c .if2 .taken)
+    let g = c .before in
+    let i = g .before .before in
+    let f = i .before in
+    let a = f .before .before .before .args in
+    ready-waits (a .list .now) (a .caller) (sym (f .flag-of .ensures) ∙ i .if1 .left) (sym (g .flag-of2 .ensures) ∙ c .if2 .taken)
 
 returns-3 : tie.Need-returns-3
 returns-3 c =
-    let s = c .before .before .before .before .before .before .before .before in
-    let a = s .args in
-    above-begins (a .list .now) (a .caller) (s .pre) (sym (c .before .before .before .before .before .flag-of .ensures) ∙ c .before .before .before .before .if1 .left) (sym (c .before .before .flag-of2 .ensures) ∙ c .before .if2 .left) (c .if3 .taken)
+    let j = c .before in
+    let g = j .before in
+    let i = g .before .before in
+    let f = i .before in
+    let s = f .before .before .before in
+    above-begins (s .args .list .now) (s .args .caller) (s .pre) (sym (f .flag-of .ensures) ∙ i .if1 .left) (sym (g .flag-of2 .ensures) ∙ j .if2 .left)
+    (c .if3 .taken)
 
 add-result : tie.Need-add-result
 add-result c = search needs
@@ -47,9 +53,12 @@ shared-slice-read-result c = search needs
 
 returns-4 : tie.Need-returns-4
 returns-4 c =
-    let s = c .before .before .before .before .before .before .before .before .before in
-    let a = s .args in
-    counted-begins (a .list .now) (a .caller) (sym (c .before .before .before .before .before .before .flag-of .ensures) ∙ c .before .before .before .before .before .if1 .left) (sym (c .before .before .before .flag-of2 .ensures) ∙ c .before .before .if2 .left) (c .before .if3 .left)
+    let j = c .before .before in
+    let g = j .before in
+    let i = g .before .before in
+    let f = i .before in
+    let a = f .before .before .before .args in
+    counted-begins (a .list .now) (a .caller) (sym (f .flag-of .ensures) ∙ i .if1 .left) (sym (g .flag-of2 .ensures) ∙ j .if2 .left) (c .before .if3 .left)
 
 pub may-begin-spec : {M : Type 1} → statement M
 may-begin-spec =

@@ -6,7 +6,7 @@ use mathlib.Core.List.{List}
 use Prim.Native.Nat.{ℕ, _<_, _≤_}
 use native.Mathlib.Omega.{arith}
 use lib.ListN.{length, getD, set, length-set}
-use borrow.Author.Tests.{le-leb, lt-leb, not-true, not-false}
+use borrow.Author.Tests.{lt-leb, not-true, not-false}
 use Rattle.captions.specs.declared.Answer.the-variants.{End}
 use Rattle.chips.specs.Commands.{mayBegin, chipBegun}
 use Rattle.chips.proofs.Turns.{all-taken}
@@ -18,8 +18,20 @@ use borrow.Author.Needs.{needs}
 use Rattle.c_chip_begin.proofs.open_word.Statement.{statement}
 use Rattle.c_chip_begin.proofs.open_word.Tie as tie
 
+-- whose turn it is, by the caller in byte 1
+module _ (c : tie.After-may-begin) where
+  abbrev block : List ℕ
+  block = c .before .before .before .before .before .before .args .block .now
+
+  abbrev ns : List ℕ
+  ns = c .before .before .before .before .before .before .args .list .now
+
+  turn : c .may-begin .result ≡ mayBegin (getD block 1 0) (chipAt ns)
+  turn = c .may-begin .ensures ∙ ap (λ (x : ℕ). mayBegin x (chipAt ns)) (c .before .before .u8-at .ensures)
+
 -- the list keeps its length
-list-kept : (c : tie.After-show-changes) → length (c .show-changes .last .1 .0) ≡ length (c .before .before .before .before .before .before .before .before .before .before .before .args .list .now)
+list-kept : (c : tie.After-show-changes) →
+    length (c .show-changes .last .1 .0) ≡ length (c .before .before .before .before .before .before .before .before .before .before .before .args .list .now)
 list-kept c =
     let s = c .before .before .before .before .before .before .before .before .before .before .before in
     let u = c .before .before .before .before .before .before .before in
@@ -40,14 +52,10 @@ same-length-2 c = search needs
 
 returns : tie.Need-returns
 returns c =
-    let s = c .before .before .before .before .before .before .before in
-    let a = s .args in
-    let u = c .before .before .before in
-    let block = a .block .now in
-    let ns = a .list .now in
-    let caller = getD block 1 0 in
-    let m : mayBegin caller (chipAt ns) ≡ false = (sym (c .before .may-begin .ensures ∙ ap (λ (x : ℕ). mayBegin x (chipAt ns)) (u .u8-at .ensures)) ∙ not-true _ (c .if1 .taken)) in
-    refused-moves (chipBegun caller (chipAt ns)) block ns (rw m) (λ z. omega (arith, z))
+    let p = c .before in
+    let caller = getD (block p) 1 0 in
+    let m : mayBegin caller (chipAt (ns p)) ≡ false = sym (turn p) ∙ not-true _ (c .if1 .taken) in
+    refused-moves (chipBegun caller (chipAt (ns p))) (block p) (ns p) (rw m) (λ z. omega (arith, z))
 
 same-length-3 : tie.Need-same-length-3
 same-length-3 c = search needs
@@ -57,15 +65,11 @@ same-length-4 c = search needs
 
 returns-2 : tie.Need-returns-2
 returns-2 c =
-    let s = c .before .before .before .before .before .before .before .before in
-    let a = s .args in
-    let u = c .before .before .before .before in
-    let block = a .block .now in
-    let ns = a .list .now in
-    let caller = getD block 1 0 in
-    let m : mayBegin caller (chipAt ns) ≡ true = (sym (c .before .before .may-begin .ensures ∙ ap (λ (x : ℕ). mayBegin x (chipAt ns)) (u .u8-at .ensures)) ∙ not-false _ (c .before .if1 .left)) in
-    let l : 7 < caller = omega (arith, u .u8-at .ensures, c .if2 .taken) in
-    refused-moves (chipBegun caller (chipAt ns)) block ns (rw (m, lt-leb caller 7 l)) (λ z. omega (arith, z))
+    let p = c .before .before in
+    let caller = getD (block p) 1 0 in
+    let m : mayBegin caller (chipAt (ns p)) ≡ true = sym (turn p) ∙ not-false _ (c .before .if1 .left) in
+    let l : 7 < caller = omega (arith, p .before .before .u8-at .ensures, c .if2 .taken) in
+    refused-moves (chipBegun caller (chipAt (ns p))) (block p) (ns p) (rw (m, lt-leb caller 7 l)) (λ z. omega (arith, z))
 
 cast-list : tie.Need-cast-list
 cast-list c = search needs
@@ -79,7 +83,9 @@ show-changes-requires c κs = search needs
 
 slice-write-list-2 : tie.Need-slice-write-list-2
 slice-write-list-2 c =
-    let s = c .before .before .before .before .before .before .before .before .before .before .before .before .before .before .before in omega (arith, chip-long (s .args .list .now) (s .pre .1), list-kept (c .before .before .before .before))
+    let w = c .before .before .before .before in
+    let s = w .before .before .before .before .before .before .before .before .before .before .before in
+    omega (arith, chip-long (s .args .list .now) (s .pre .1), list-kept w)
 
 same-length-5 : tie.Need-same-length-5
 same-length-5 c = search needs
@@ -90,17 +96,19 @@ same-length-6 c =
 
 returns-3 : tie.Need-returns-3
 returns-3 c =
-    let s = c .before .before .before .before .before .before .before .before .before .before .before .before .before .before .before in
-    let a = s .args in
-    let u = c .before .before .before .before .before .before .before .before .before .before .before in
-    let block = a .block .now in
-    let ns = a .list .now in
-    let caller = getD block 1 0 in
-    let m : mayBegin caller (chipAt ns) ≡ true = (sym (c .before .before .before .before .before .before .before .before .before .may-begin .ensures ∙ ap (λ (x : ℕ). mayBegin x (chipAt ns)) (u .u8-at .ensures)) ∙ not-false _ (c .before .before .before .before .before .before .before .before .if1 .left)) in
-    let l : caller ≤ 7 = omega (arith, u .u8-at .ensures, c .before .before .before .before .before .before .before .if2 .left) in
     let w = c .before .before .before .before .show-changes in
-    opened-moves ns caller (s .pre .1) l (a .state) (s .pre .3) (sym (ready-is ns) ∙ all-taken caller (chipAt ns) m) block (s .pre .0) m
-    (subst (λ (x : ℕ). ShowsChanges true End (a .state) block (set ns 90 x) (w .last .0) (w .last .1 .0)) (u .u8-at .ensures) (w .ensures))
+    let j = c .before .before .before .before .before .before .before in
+    let i = j .before in
+    let p = i .before in
+    let u = p .before .before in
+    let s = u .before .before .before .before in
+    let l = s .args .list .now in
+    let b = s .args .block .now in
+    let caller = getD b 1 0 in
+    let m : mayBegin caller (chipAt l) ≡ true = sym (turn p) ∙ not-false _ (i .if1 .left) in
+    let low : caller ≤ 7 = omega (arith, u .u8-at .ensures, j .if2 .left) in
+    opened-moves l caller (s .pre .1) low (s .args .state) (s .pre .3) (sym (ready-is l) ∙ all-taken caller (chipAt l) m) b (s .pre .0) m
+    (subst (λ (x : ℕ). ShowsChanges true End (s .args .state) b (set l 90 x) (w .last .0) (w .last .1 .0)) (u .u8-at .ensures) (w .ensures))
 
 pub open-word-spec : {M : Type 1} → statement M
 open-word-spec =

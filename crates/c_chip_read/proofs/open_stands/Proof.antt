@@ -29,7 +29,8 @@ returns-2 c =
     let g = c .before in
     let i = g .before .before in
     let f = i .before in
-    ready-stands (f .before .before .before .args .list .now) (sym (f .flag-of .ensures) ∙ not-false _ (i .if1 .left)) (sym (g .flag-of2 .ensures) ∙ c .if2 .taken)
+    ready-stands (f .before .before .before .args .list .now) (sym (f .flag-of .ensures) ∙ not-false _ (i .if1 .left))
+    (sym (g .flag-of2 .ensures) ∙ c .if2 .taken)
 
 shared-slice-read-caller : tie.Need-shared-slice-read-caller
 shared-slice-read-caller c = search needs

@@ -21,8 +21,10 @@ shared-slice-read-caller c = search needs
 
 returns-3 : tie.Need-returns-3
 returns-3 c =
-    let s = c .before .before .before .before .before .args .list .now in
-    rw (le-leb 91 (length s) (c .before .before .before .before .if1 .left), le-leb (getD s 1 0) 64 (c .before .before .if2 .left), lt-leb (getD s 90 0) 7 (c .if3 .taken))
+    let j = c .before .before in
+    let i = j .before .before in
+    let s = i .before .args .list .now in
+    rw (le-leb 91 (length s) (i .if1 .left), le-leb (getD s 1 0) 64 (j .if2 .left), lt-leb (getD s 90 0) 7 (c .if3 .taken))
 
 add-result : tie.Need-add-result
 add-result c = search needs
@@ -35,8 +37,11 @@ shared-slice-read-result c = search needs
 
 returns-4 : tie.Need-returns-4
 returns-4 c =
-    let s = c .before .before .before .before .before .before .args .list .now in
-    rw (le-leb 91 (length s) (c .before .before .before .before .before .if1 .left), le-leb (getD s 1 0) 64 (c .before .before .before .if2 .left), le-leb (getD s 90 0) 7 (c .before .if3 .left))
+    let k = c .before in
+    let j = k .before .before in
+    let i = j .before .before in
+    let s = i .before .args .list .now in
+    rw (le-leb 91 (length s) (i .if1 .left), le-leb (getD s 1 0) 64 (j .if2 .left), le-leb (getD s 90 0) 7 (k .if3 .left))
 
 pub can-show-spec : {M : Type 1} → statement M
 can-show-spec =

@@ -23,10 +23,11 @@ shown-long c =
     let a = c .before .before .before .before .before .args in
     one-long (a .list .now) (c .put-shown .last .0) (c .before .before .bit .result) (shownNumbers (a .item)) (c .put-shown .ensures)
 
-run-long : (c : tie.After-put-run) → length (c .put-run .last .0) ≡ length (c .before .before .before .before .before .before .before .before .before .args .list .now)
+run-long : (c : tie.After-put-run) →
+    length (c .put-run .last .0) ≡ length (c .before .before .before .before .before .before .before .before .before .args .list .now)
 run-long c =
-    let a = c .before .before .before .before .before .before .before .before .before .args in
     let p = c .before .before .before .before in
+    let a = p .before .before .before .before .before .args in
     more-long (a .list .now) (p .put-shown .last .0) (c .put-run .last .0) 9 (numbersOf (a .state)) (shown-long p) (c .put-run .ensures)
 
 slice-read-n : tie.Need-slice-read-n
@@ -59,20 +60,21 @@ put-zeros-requires c κs =
 same-length : tie.Need-same-length
 same-length c =
     let z = c .before .before in
-    let n = getD (c .before .before .before .before .before .before .before .before .before .before .before .before .before .before .before .args .list .now) 1 0 in
-    more-long (c .before .before .before .before .before .before .before .before .before .before .before .before .before .before .before .args .list .now) (c .before .before .before .before .before .before .put-run .last .0) (z .put-zeros .last .0) (18 + n) (replicate (82 - (18 + n)) 0) (run-long (c .before .before .before .before .before .before))
-    (z .put-zeros .ensures)
+    let p = z .before .before .before .before in
+    let l = p .before .before .before .before .before .before .before .before .before .args .list .now in
+    let n = getD l 1 0 in
+    more-long l (p .put-run .last .0) (z .put-zeros .last .0) (18 + n) (replicate (82 - (18 + n)) 0) (run-long p) (z .put-zeros .ensures)
 
 returns : tie.Need-returns
 returns c =
-    let p = c .before .before .before .before .before .before .before .before .before .before in
-    let b = c .before .before .before .before .before .before .before .before .before .before .before .before in
-    let s = c .before .before .before .before .before .before .before .before .before .before .before .before .before .before .before in
+    let z = c .before .before in
+    let r = z .before .before .before .before in
+    let p = r .before .before .before .before in
+    let b = p .before .before in
+    let s = b .before .before .before in
     let a = s .args in
-    changes-put (a .list .now) (a .opened) (a .item) (a .state) (s .pre .0) (s .pre .1) (p .put-shown .last .0) (c .before .before .before .before .before .before .put-run .last .0)
-    (c .before .before .put-zeros .last .0)
-    (p .put-shown .ensures ∙ (λ j. stored (a .list .now) (b .bit .ensures j) (shownNumbers (a .item)))) (c .before .before .before .before .before .before .put-run .ensures)
-    (c .before .before .put-zeros .ensures)
+    changes-put (a .list .now) (a .opened) (a .item) (a .state) (s .pre .0) (s .pre .1) (p .put-shown .last .0) (r .put-run .last .0) (z .put-zeros .last .0)
+    (p .put-shown .ensures ∙ (λ j. stored (a .list .now) (b .bit .ensures j) (shownNumbers (a .item)))) (r .put-run .ensures) (z .put-zeros .ensures)
 
 pub put-changes-spec : {M : Type 1} → statement M
 put-changes-spec =

@@ -1,4 +1,4 @@
--- `c_chip_turn::step_in` meets its contract: a step over the letters that stand in the list, from the state that stands there.
+-- `c_chip_step::step_in` meets its contract: a step over the letters that stand in the list, from the state that stands there.
 -- Assumes nothing.
 use mathlib.Core.Path.{_≡_, sym, ap, _∙_}
 use Prim.Native.Nat.{ℕ, _-_}
@@ -13,8 +13,8 @@ use Rattle.captions.proofs.Replies.{stepped-is}
 use Rattle.c_chips.specs.ChipLists.{lettersAt}
 use Rattle.c_chips.proofs.Laws.{chip-long, chip-few, letters-asked, letters-given, state-given}
 use borrow.Author.Needs.{needs}
-use Rattle.c_chip_turn.proofs.step_in.Statement.{statement}
-use Rattle.c_chip_turn.proofs.step_in.Tie as tie
+use Rattle.c_chip_step.proofs.step_in.Statement.{statement}
+use Rattle.c_chip_step.proofs.step_in.Tie as tie
 
 -- 64 letters
 letters-long : (c : tie.After-letters-of) → length (c .letters-of .result) ≡ 64
@@ -23,9 +23,10 @@ letters-long c =
     let ns = s .args .list .now in
     let n = getD ns 1 0 in
     let h = s .pre in
-    ap length (c .letters-of .ensures ∙ letters-given ns h)
-    ∙ (let e : length (lettersAt n ns) ≡ 64 = length-append (take n (drop 18 ns)) (replicate (64 - n) 0)
-    ∙ omega (arith, length-take-le n (drop 18 ns) (omega (arith, length-drop 18 ns, chip-long ns h, chip-few ns h)), length-replicate {A = ℕ} (64 - n) 0, chip-few ns h) in e)
+    let l : length (take n (drop 18 ns)) ≡ n = length-take-le n (drop 18 ns) (omega (arith, length-drop 18 ns, chip-long ns h, chip-few ns h)) in
+    let e : length (lettersAt n ns) ≡ 64 =
+    length-append (take n (drop 18 ns)) (replicate (64 - n) 0) ∙ omega (arith, l, length-replicate {A = ℕ} (64 - n) 0, chip-few ns h) in
+    ap length (c .letters-of .ensures ∙ letters-given ns h) ∙ e
 
 shared-slice-read-length : tie.Need-shared-slice-read-length
 shared-slice-read-length c = let s = c .before .before in omega (arith, chip-long (s .args .list .now) (s .pre))

@@ -1,4 +1,4 @@
--- `c_chip_turn::letters_of` meets its contract. The loop's invariant: the letters passed stand in front of zeros.
+-- `c_chip_step::letters_of` meets its contract. The loop's invariant: the letters passed stand in front of zeros.
 -- Assumes nothing.
 use Prim.Native.Nat.{_-_, _≤_}
 use native.Mathlib.Omega.{arith}
@@ -8,9 +8,9 @@ use Rattle.words.specs.Lists.{Filling}
 use Rattle.words.proofs.Lists.{filling-none, filling-length, filling-more}
 use Rattle.lang.proofs.Every.{every-at}
 use Rattle.c_chips.specs.ChipLists.{isWord}
-use Rattle.c_chip_turn.proofs.Laws.{words-read}
-use Rattle.c_chip_turn.proofs.letters_of.Statement.{statement}
-use Rattle.c_chip_turn.proofs.letters_of.Tie as tie
+use Rattle.c_chip_step.proofs.Laws.{words-read}
+use Rattle.c_chip_step.proofs.letters_of.Statement.{statement}
+use Rattle.c_chip_step.proofs.letters_of.Tie as tie
 
 abbrev Inv-loop : tie.InvT-loop
 Inv-loop codes letters₀ i₀ letters i = (i ≤ length codes) × Filling (λ k. getD codes k 0) (replicate 64 0) letters i

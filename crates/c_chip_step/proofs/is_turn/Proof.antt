@@ -1,10 +1,10 @@
--- `c_chip_turn::is_turn` meets its contract: by the flag of the word, or of the item.
+-- `c_chip_step::is_turn` meets its contract: by the flag of the word, or of the item.
 -- Assumes nothing.
 use mathlib.Core.Path.{sym, _∙_}
 use Rattle.c_chips.proofs.Laws.{ready-is}
 use borrow.Author.Needs.{needs}
-use Rattle.c_chip_turn.proofs.is_turn.Statement.{statement}
-use Rattle.c_chip_turn.proofs.is_turn.Tie as tie
+use Rattle.c_chip_step.proofs.is_turn.Statement.{statement}
+use Rattle.c_chip_step.proofs.is_turn.Tie as tie
 
 shared-slice-read-flag-of : tie.Need-shared-slice-read-flag-of
 shared-slice-read-flag-of c = search needs

@@ -1,14 +1,13 @@
--- `c_chip_turn::count_word` meets its contract: nothing, or one store.
+-- `c_chip_step::count_word` meets its contract: nothing, or one store.
 -- Assumes nothing.
 use mathlib.Core.Path.{ap}
 use Prim.Native.Nat.{ℕ, _+_}
 use native.Mathlib.Numerals.{add-one}
-use native.Mathlib.Omega.{arith}
 use lib.ListN.{getD, set}
 use borrow.Author.Tests.{not-true, not-false}
 use borrow.Author.Needs.{needs}
-use Rattle.c_chip_turn.proofs.count_word.Statement.{statement}
-use Rattle.c_chip_turn.proofs.count_word.Tie as tie
+use Rattle.c_chip_step.proofs.count_word.Statement.{statement}
+use Rattle.c_chip_step.proofs.count_word.Tie as tie
 
 returns : tie.Need-returns
 returns c = rw (not-true (c .before .args .ends) (c .if1 .taken))

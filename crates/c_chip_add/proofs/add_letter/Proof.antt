@@ -1,4 +1,4 @@
--- `c_chip_turn::add_letter` meets its contract: no word is open, it is full, or it has a letter more.
+-- `c_chip_add::add_letter` meets its contract: no word is open, it is full, or it has a letter more.
 -- Assumes nothing.
 use mathlib.Core.Path.{_≡_, sym, subst, _∙_}
 use mathlib.Core.Bool.{true}
@@ -11,10 +11,11 @@ use Rattle.chips.specs.Commands.{chipAdded}
 use Rattle.c_chips.specs.ChipLists.{chipAt}
 use Rattle.c_chips.proofs.Laws.{chip-long, chip-few, state-given, refused-moves}
 use Rattle.c_chip_write.specs.Changes.{ShowsChanges}
-use Rattle.c_chip_turn.proofs.Laws.{letter-altered, altered-moves, added-is, may-add}
+use Rattle.c_chip_write.proofs.Altered.{altered-moves}
+use Rattle.c_chip_add.proofs.Laws.{letter-altered, added-is, may-add}
 use borrow.Author.Needs.{needs}
-use Rattle.c_chip_turn.proofs.add_letter.Statement.{statement}
-use Rattle.c_chip_turn.proofs.add_letter.Tie as tie
+use Rattle.c_chip_add.proofs.add_letter.Statement.{statement}
+use Rattle.c_chip_add.proofs.add_letter.Tie as tie
 
 slice-read-length : tie.Need-slice-read-length
 slice-read-length c = let s = c .before .before .before in omega (arith, chip-long (s .args .list .now) (s .pre .1))
@@ -36,12 +37,13 @@ returns c =
 
 returns-2 : tie.Need-returns-2
 returns-2 c =
-    let s = c .before .before .before .before .before .before .before in
-    let a = s .args in
+    let i = c .before in
+    let f = i .before in
+    let a = f .before .before .before .before .before .args in
     let block = a .block .now in
     let ns = a .list .now in
-    let x = chipAt ns in
-    refused-moves (chipAdded (getD block 1 0) x) block ns (rw ((sym (c .before .before .flag-of .ensures) ∙ not-false _ (c .before .if1 .left)), le-ltb (getD ns 1 0) 64 (omega (arith, c .if2 .taken)))) (λ z. omega (arith, z))
+    refused-moves (chipAdded (getD block 1 0) (chipAt ns)) block ns
+    (rw (sym (f .flag-of .ensures) ∙ not-false _ (i .if1 .left), le-ltb (getD ns 1 0) 64 (omega (arith, c .if2 .taken)))) (λ z. omega (arith, z))
 
 sub-state-in : tie.Need-sub-state-in
 sub-state-in c =
@@ -71,14 +73,18 @@ mul-list c = search needs
 
 slice-write-list : tie.Need-slice-write-list
 slice-write-list c =
-    let s = c .before .before .before .before .before .before .before .before .before .before .before .before in omega (arith, chip-long (s .args .list .now) (s .pre .1), chip-few (s .args .list .now) (s .pre .1))
+    let s = c .before .before .before .before .before .before .before .before .before .before .before .before in
+    let ns = s .args .list .now in
+    omega (arith, chip-long ns (s .pre .1), chip-few ns (s .pre .1))
 
 add-list-2 : tie.Need-add-list-2
 add-list-2 c = search needs
 
 slice-write-list-2 : tie.Need-slice-write-list-2
 slice-write-list-2 c =
-    let s = c .before .before .before .before .before .before .before .before .before .before .before .before in omega (arith, chip-long (s .args .list .now) (s .pre .1), length-set (s .args .list .now) (18 + getD (s .args .list .now) 1 0) (c .u8-at .result))
+    let s = c .before .before .before .before .before .before .before .before .before .before .before .before in
+    let ns = s .args .list .now in
+    omega (arith, chip-long ns (s .pre .1), length-set ns (18 + getD ns 1 0) (c .u8-at .result))
 
 show-changes-requires : tie.Need-show-changes-requires
 show-changes-requires c κs = search needs
@@ -88,25 +94,28 @@ same-length c = search needs
 
 same-length-2 : tie.Need-same-length-2
 same-length-2 c =
-    let ns = c .before .before .before .before .before .before .before .before .before .before .before .before .before .before .before .before .before .before .before .args .list .now in
+    let w = c .before .before .before .before in
+    let u = w .before .before .before in
+    let ns = u .before .before .before .before .before .before .before .before .before .before .before .before .args .list .now in
     let n = getD ns 1 0 in
-    let v = c .before .before .before .before .before .before .before .u8-at .result in
-    let k : length (c .before .before .before .before .show-changes .last .1 .0) ≡ length (set (set ns (18 + n) v) 1 (n + 1)) = search needs in
+    let v = u .u8-at .result in
+    let k : length (w .show-changes .last .1 .0) ≡ length (set (set ns (18 + n) v) 1 (n + 1)) = search needs in
     k ∙ length-set (set ns (18 + n) v) 1 (n + 1) ∙ length-set ns (18 + n) v
 
 returns-3 : tie.Need-returns-3
 returns-3 c =
-    let s = c .before .before .before .before .before .before .before .before .before .before .before .before .before .before .before .before .before .before .before in
-    let a = s .args in
-    let block = a .block .now in
-    let ns = a .list .now in
-    let x = chipAt ns in
-    let n = getD ns 1 0 in
-    let u = c .before .before .before .before .before .before .before in
     let w = c .before .before .before .before .show-changes in
-    let o = (sym (c .before .before .before .before .before .before .before .before .before .before .before .before .before .before .flag-of .ensures) ∙ not-false _ (c .before .before .before .before .before .before .before .before .before .before .before .before .before .if1 .left)) in
-    let room : n < 64 = omega (arith, c .before .before .before .before .before .before .before .before .before .before .before .before .if2 .left) in
-    let t = c .before .before .before .before .before .before .before .before .before in
+    let u = c .before .before .before .before .before .before .before in
+    let t = u .before .before in
+    let j = t .before .before .before in
+    let i = j .before in
+    let f = i .before in
+    let s = f .before .before .before .before .before in
+    let block = s .args .block .now in
+    let ns = s .args .list .now in
+    let n = getD ns 1 0 in
+    let o = sym (f .flag-of .ensures) ∙ not-false _ (i .if1 .left) in
+    let room : n < 64 = omega (arith, j .if2 .left) in
     let y = getD block 1 0 in
     altered-moves (letter-altered ns (s .pre .1) (s .pre .2) y room) true End (t .state-in .result) block (s .pre .0)
     (may-add ns (s .pre .1) (s .pre .2) y room o)
