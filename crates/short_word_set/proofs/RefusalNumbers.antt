@@ -30,14 +30,15 @@ use Rattle.captions.specs.Replies.{answerReply}
 use Rattle.captions.specs.Tables.{opKind, opValue}
 use Rattle.captions.specs.Form.{tableForm}
 use Rattle.captions.specs.Begin.{edgesRefusal, wordRefusal, beginRefusal, freshState, plainOptions}
-use Rattle.captions.specs.Steps.{refused, taken, takesBoundary, giveItem, giveCharacter, giveLigature, afterOp, endsWord, opsFit, readOp, gathered, leftPlaceOf}
-use Rattle.captions.specs.Steps.{afterRight, readOn, withNext, giveLeft, entryReads, findWithin, turnBy, turnAtEnd, turn, goesOn, withNothingNext, byNext, stepBy}
-use Rattle.captions.specs.Steps.{runOn, placed, rightItemFits, rightItem, ranFrom, stepRefusal, handBack, steppedBy, stepOf}
+use Rattle.captions.specs.Steps.{refused, taken, takesBoundary, giveItem, giveCharacter, giveLigature, afterOp, endsWord, opsFit, readOp, gathered}
+use Rattle.captions.specs.Steps.{afterRight, readOn, withNext, giveLeft, entryReads, findWithin, turnBy, turnAtEnd, turn, goesOn, withNothingNext, byNext}
+use Rattle.captions.specs.Steps.{leftPlaceOf, stepBy, runOn, placed, rightItemFits, rightItem, ranFrom, stepRefusal, handBack, steppedBy, stepOf}
 use Rattle.captions.proofs.Running.{right-item}
 use Rattle.word_set.specs.Setting.{andThen, itemsBy, itemsFrom, afterBegin}
 use Rattle.short_words.specs.ShortWords.{isShortWord}
 use Rattle.short_words.specs.NextWords.{nextShortWord, shortRefusal}
-use Rattle.short_word_set.specs.SetNext.{nextWordItems, itemsOfNext}
+use Rattle.short_word_items.specs.NextItems.{nextWordItems}
+use Rattle.short_word_set.specs.SetNext.{itemsOfNext}
 use Rattle.short_word_set.specs.Purpose.{SetNextNumbers}
 use Rattle.short_word_set.proofs.Theorems.{few, all-letters}
 
