@@ -13,14 +13,15 @@ use Rattle.lang.proofs.Filled.{refused-list}
 use Rattle.c_values.specs.Telling.{kept}
 use Rattle.c_values.proofs.Telling.{listed}
 use Rattle.short_words.specs.declared.SetNext.{SetNext}
-use Rattle.c_word_write.specs.NextLists.{answerRefusal, letterNumbers, nextValues, WritesNext}
+use Rattle.short_words.specs.NextWords.{nextAnswerReply}
+use Rattle.c_word_write.specs.NextLists.{letterNumbers, nextValues, WritesNext}
 
 module _ (told : SetNext) (next : List ℕ) (items : List ℤ) (values : List ℕ) where
   -- what stands before the number is looked at: zeros in both lists, and the number
   pub record Course (nz vz : List ℕ) (items₁ : List ℤ) (number : ℕ) : Type 0 where
     pub zero-next : nz ≡ replicate (length next) 0
     pub zero-values : vz ≡ replicate (length values) 0
-    pub number-is : number ≡ lower (answerRefusal (told .answer)) (lower (roomRefusal 4 (length nz)) (roomRefusal 3 (length vz)))
+    pub number-is : number ≡ lower (nextAnswerReply (told .answer) .number) (lower (roomRefusal 4 (length nz)) (roomRefusal 3 (length vz)))
     pub kept-items : items₁ ≡ kept number (pos 0) items
 
   module _ (nz vz : List ℕ) (items₁ : List ℤ) (number : ℕ) (h : Course nz vz items₁ number) where
@@ -30,9 +31,9 @@ module _ (told : SetNext) (next : List ℕ) (items : List ℤ) (values : List �
     long-values : length vz ≡ length values
     long-values = ap length (h .zero-values) ∙ length-replicate (length values) 0
 
-    its-number : number ≡ lower (answerRefusal (told .answer)) (lower (roomRefusal 4 (length next)) (roomRefusal 3 (length values)))
+    its-number : number ≡ lower (nextAnswerReply (told .answer) .number) (lower (roomRefusal 4 (length next)) (roomRefusal 3 (length values)))
     its-number =
-        h .number-is ∙ ap₂ (λ (a b : ℕ). lower (answerRefusal (told .answer)) (lower (roomRefusal 4 a) (roomRefusal 3 b))) long-next long-values
+        h .number-is ∙ ap₂ (λ (a b : ℕ). lower (nextAnswerReply (told .answer) .number) (lower (roomRefusal 4 a) (roomRefusal 3 b))) long-next long-values
 
     pub next-refused : (number ≡ 0 → ⊥) → WritesNext told next items values number nz items₁ vz
     next-refused r =
@@ -47,7 +48,7 @@ module _ (told : SetNext) (next : List ℕ) (items : List ℤ) (values : List �
       rooms : (roomRefusal 4 (length next) ≡ 0) × (roomRefusal 3 (length values) ≡ 0)
       rooms =
           lower-none (roomRefusal 4 (length next)) (roomRefusal 3 (length values))
-          (lower-none (answerRefusal (told .answer)) (lower (roomRefusal 4 (length next)) (roomRefusal 3 (length values))) (sym its-number ∙ z) .1)
+          (lower-none (nextAnswerReply (told .answer) .number) (lower (roomRefusal 4 (length next)) (roomRefusal 3 (length values))) (sym its-number ∙ z) .1)
 
       pub room-for-values : 3 ≤ length vz
       room-for-values = omega (arith, room-fits 3 (length values) (rooms .1), long-values)

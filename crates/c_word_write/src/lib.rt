@@ -1,10 +1,12 @@
 // The next short word in lists, for a host in C: its letters, its items and what is told of it.
 ghost use mathlib.Core.Path.{_≡_};
 ghost use Prim.Native.Nat.{_≤_};
-ghost use lib.ListN.{length};
+ghost use lib.IntN.{pos};
+ghost use lib.ListN.{length, getD};
 ghost use lib.Seq.{sets};
-ghost use Rattle.c_word_write.specs.NextLists.{answerRefusal, moreNumber, letterNumbers, nextValues};
-ghost use Rattle.c_word_write.specs.NextLists.{WritesNext};
+ghost use Rattle.c_values.specs.Telling.{natural};
+ghost use Rattle.short_words.specs.NextWords.{nextAnswerReply};
+ghost use Rattle.c_word_write.specs.NextLists.{letterNumbers, nextValues, WritesNext};
 use c_values::i32s::keep_i32;
 use program_checks::lower_of;
 use program_limits::room_refusal;
@@ -17,7 +19,7 @@ use words::u64s::zero_u64;
 
 // The number of a refusal, else 0.
 fn answer_refusal(answer: NextAnswer) -> u32
-    ensures { λ r. ⌜ r ≡ answerRefusal answer ⌝ }
+    ensures { λ r. ⌜ r ≡ nextAnswerReply answer .number ⌝ }
 {
     match answer {
         NextAnswer::Word => 0,
@@ -28,7 +30,7 @@ fn answer_refusal(answer: NextAnswer) -> u32
 
 // 1 where there is a next word.
 fn more_number(answer: NextAnswer) -> u64
-    ensures { λ r. ⌜ r ≡ moreNumber answer ⌝ }
+    ensures { λ r. ⌜ r ≡ natural (getD (nextAnswerReply answer .values) 0 (pos 0)) ⌝ }
 {
     match answer {
         NextAnswer::Word => 1,

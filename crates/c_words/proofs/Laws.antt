@@ -11,17 +11,17 @@ use Rattle.lang.proofs.Refusals.{lower-none}
 use Rattle.c_values.specs.Telling.{kept}
 use Rattle.c_values.proofs.Telling.{kept-list}
 use Rattle.short_words.specs.declared.SetNext.{SetNext}
-use Rattle.short_words.specs.NextWords.{nextFound}
+use Rattle.short_words.specs.NextWords.{nextFound, nextAnswerReply}
 use Rattle.short_word_set.specs.SetNext.{setNextBy, SetsFound}
-use Rattle.c_word_write.specs.NextLists.{answerRefusal, letterNumbers, nextValues, WritesNext}
+use Rattle.c_word_write.specs.NextLists.{letterNumbers, nextValues, WritesNext}
 use Rattle.c_words.specs.Words.{nextShortNumber, TellsNext}
 
 -- the number of an answer is that of the reply
-found-taken : (o : Option (List ℕ)) → answerRefusal (nextFound o .answer) ≡ 0
+found-taken : (o : Option (List ℕ)) → nextAnswerReply (nextFound o .answer) .number ≡ 0
 found-taken none = refl
 found-taken (some w) = refl
 
-answer-number : (o : Option (List ℕ)) (n k : ℕ) → answerRefusal (setNextBy n (nextFound o) k .answer) ≡ n
+answer-number : (o : Option (List ℕ)) (n k : ℕ) → nextAnswerReply (setNextBy n (nextFound o) k .answer) .number ≡ n
 answer-number o zero k = found-taken o
 answer-number o (suc n) k = refl
 
@@ -39,7 +39,7 @@ module _ (o : Option (List ℕ)) (reply : Reply) (next : List ℕ) (items : List
       let number = nextShortNumber reply (length next) (length values) in
       let count = length (reply .values) / 6 in
       let is : _ ≡ number =
-      w .number ∙ ap (λ (n : ℕ). lower n rooms) (ap (λ (t : SetNext). answerRefusal (t .answer)) (found .answer) ∙ answer-number o (reply .number) count) in
+      w .number ∙ ap (λ (n : ℕ). lower n rooms) (ap (λ (t : SetNext). nextAnswerReply (t .answer) .number) (found .answer) ∙ answer-number o (reply .number) count) in
       let taken : number ≡ 0 → reply .number ≡ 0 = λ z. lower-none (reply .number) rooms z .0 in
       record {
         number = is;

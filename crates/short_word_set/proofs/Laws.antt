@@ -1,6 +1,6 @@
--- The next word by its answer, and its items by what they were written as. Assumes nothing.
+-- The next word by its answer, and what is answered of its items. Assumes nothing.
 use mathlib.Core.Path.{_≡_, refl, sym, ap, ap₂, subst, _∙_}
-use mathlib.Core.Bool.{Bool, true, false}
+use mathlib.Core.Bool.{Bool, true}
 use mathlib.Core.List.{List, [], _∷_}
 use mathlib.Core.Option.{Option, none, some}
 use Prim.Native.Nat.{ℕ, zero, suc, _/_, _≤_}
@@ -17,8 +17,7 @@ use Rattle.lang.specs.Checks.{unless, orElse, absentRefusal}
 use Rattle.lang.specs.Answers.{Reply, replyOf, listOf, writtenReply}
 use Rattle.lang.proofs.Every.{both-left}
 use Rattle.lang.proofs.Refusals.{unless-none}
-use Rattle.captions.specs.Begin.{freshState, plainOptions}
-use Rattle.word_set.specs.Setting.{itemsFrom, setReply, Sets, afterBegin}
+use Rattle.word_set.specs.Setting.{afterBegin}
 use Rattle.word_set.specs.Writing.{Tells}
 use Rattle.short_words.specs.declared.NextAnswer.the-variants.{Word, End, Refused}
 use Rattle.short_words.specs.declared.NextWord.{NextWord}
@@ -26,21 +25,8 @@ use Rattle.short_words.specs.declared.SetNext.{SetNext}
 use Rattle.short_words.specs.ShortWords.{allInSet, isShortWord}
 use Rattle.short_words.specs.NextWords.{nextShortWord, shortRefusal, shortWord, heldWord, nextFound, nextWordBy}
 use Rattle.short_words.proofs.Theorems.{next-is-taken, holds-word}
-use Rattle.short_word_set.specs.SetNext.{nextWordItems, itemsOfNext, wordFound, notSet, setNextBy, SetsFound}
-
--- ---- the items of a word
-
-module _ (pairs ops : List ℤ) (boundary : ℤ) (word : List ℕ) (items : List ℤ) (r : Written) (items′ : List ℤ) where
-  pub first-items : (t : Bool) → t ≡ true → Sets pairs ops boundary word plainOptions items r items′ →
-      Tells (nextWordItems t pairs ops boundary word (length items)) items r items′
-  first-items t e h =
-      subst (λ (u : Bool). Tells (nextWordItems u pairs ops boundary word (length items)) items r items′) (sym e)
-      (record { answer = h .answer; list = h .list })
-
-  pub other-items : (t : Bool) → t ≡ false →
-      Tells (itemsFrom pairs ops boundary word plainOptions (length items / 6) (freshState word plainOptions)) items r items′ →
-      Tells (nextWordItems t pairs ops boundary word (length items)) items r items′
-  other-items t e h = subst (λ (u : Bool). Tells (nextWordItems u pairs ops boundary word (length items)) items r items′) (sym e) h
+use Rattle.short_word_items.specs.NextItems.{nextWordItems}
+use Rattle.short_word_set.specs.SetNext.{itemsOfNext, wordFound, notSet, setNextBy, SetsFound}
 
 -- ---- what is answered of them
 

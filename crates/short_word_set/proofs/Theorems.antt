@@ -1,4 +1,4 @@
--- What specs/Purpose states. Assumes nothing.
+-- What specs/Purpose states but the numbers (RefusalNumbers). Assumes nothing.
 use mathlib.Core.Path.{_≡_, refl, sym, ap, ap₂, _∙_}
 use mathlib.Core.Bool.{Bool, true, false, cond}
 use mathlib.Core.List.{List, [], _∷_}
@@ -26,7 +26,8 @@ use Rattle.short_words.specs.ShortWords.{allInSet, isShortWord}
 use Rattle.short_words.specs.NextWords.{nextShortWord, shortRefusal}
 use Rattle.short_words.proofs.Products.{letters-cons}
 use Rattle.short_words.proofs.Theorems.{next-is-taken}
-use Rattle.short_word_set.specs.SetNext.{nextWordItems, itemsOfNext}
+use Rattle.short_word_items.specs.NextItems.{nextWordItems}
+use Rattle.short_word_set.specs.SetNext.{itemsOfNext}
 use Rattle.short_word_set.specs.Purpose.{SetsAsWord, SetsAsRead}
 
 -- ---- a word over a set is a caption
@@ -46,10 +47,10 @@ module _ (letters word next : List ℕ) (taken : shortRefusal letters word ≡ 0
   next-is : isShortWord letters next ≡ true
   next-is = next-is-taken letters word next (unless-none 26 (isShortWord letters word) taken) is
 
-  few : length next ≤ 4
+  pub few : length next ≤ 4
   few = leb-true (length next) 4 (both-left (leb (length next) 4) (allInSet letters next) next-is)
 
-  all-letters : every (length next) (λ i. isLetter (getD next i 0)) ≡ true
+  pub all-letters : every (length next) (λ i. isLetter (getD next i 0)) ≡ true
   all-letters =
       every-all (length next) (λ i. isLetter (getD next i 0))
       (λ i l. below-letter letters (getD next i 0) (letter-of letters next i (both-right (leb (length next) 4) (allInSet letters next) next-is) l))

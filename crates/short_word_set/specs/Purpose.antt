@@ -1,7 +1,7 @@
 -- What the next short word's items are: on a table that begin accepts those that set_word gives, and so, for a font that compile accepts and a
--- reading that ends, the reading's. Proved: proofs/Theorems.
+-- reading that ends, the reading's. Proved: proofs/Theorems. And by which numbers it is refused, at the end.
 use mathlib.Core.Path.{_≡_}
-use mathlib.Core.List.{List}
+use mathlib.Core.List.{List, [], _∷_, List·Memᴰ}
 use mathlib.Core.Option.{some}
 use Prim.Native.Nat.{ℕ, _*_, _≤_}
 use lib.IntN.{ℤ}
@@ -33,3 +33,12 @@ SetsAsRead =
     × (6 * length items ≤ room →
     (setNextReply letters pairs ops (f .boundary) word room ≡ setReply pairs ops (f .boundary) next plainOptions room)
     × SetAs f pairs ops next plainOptions room items)
+
+-- ---- the numbers
+
+-- Whatever set, table, boundary character, word and room are lent, the number is 0 or one of these. Not 6 or 20: the next word has at most
+-- four letters, each a character of the set, and there is no override. Proved: `set-next-numbers` of proofs/RefusalNumbers.
+abbrev pub SetNextNumbers : Type 0
+SetNextNumbers =
+    (letters : List ℕ) (pairs ops : List ℤ) (boundary : ℤ) (word : List ℕ) (room : ℕ) →
+    List·Memᴰ (setNextReply letters pairs ops boundary word room .number) (0 ∷ 4 ∷ 7 ∷ 15 ∷ 27 ∷ [])

@@ -1,7 +1,7 @@
 -- The next short word with its items (R439): the contract of `set_next`. Numbers, the lowest first: 4 of the boundary character, 7 and 15 of
 -- the items, 27 of the word. 7 and 15 are of a next word that exists, so that neither holds where 27 does, or at the end.
 use mathlib.Core.Path.{_≡_}
-use mathlib.Core.Bool.{Bool, true, false}
+use mathlib.Core.Bool.{Bool}
 use mathlib.Core.List.{List, []}
 use mathlib.Core.Option.{Option, none, some}
 use Prim.Native.Nat.{ℕ, zero, suc, _/_}
@@ -10,20 +10,14 @@ use lib.Dec.{eqb}
 use lib.ListN.{length}
 use Rattle.lang.specs.Checks.{orElse, absentRefusal}
 use Rattle.lang.specs.Answers.{Reply, replyOf, listOf}
-use Rattle.captions.specs.Begin.{freshState, plainOptions}
-use Rattle.word_set.specs.Setting.{itemsFrom, afterBegin, setReply}
+use Rattle.word_set.specs.Setting.{afterBegin}
 use Rattle.short_words.specs.declared.ShortWord.{ShortWord}
 use Rattle.short_words.specs.declared.NextAnswer.{NextAnswer}
 use Rattle.short_words.specs.declared.NextAnswer.the-variants.{Word, Refused}
 use Rattle.short_words.specs.declared.NextWord.{NextWord}
 use Rattle.short_words.specs.declared.SetNext.{SetNext}
 use Rattle.short_words.specs.NextWords.{nextShortWord, shortRefusal, shortWord, nextFound}
-
--- the items of a word, set with the left boundary and no override: of the first after the empty word, with which a listing starts, as
--- set_word sets it, the table checked whole; of any other as set_fresh does, which checks what its steps read
-abbrev pub nextWordItems : Bool → List ℤ → List ℤ → ℤ → List ℕ → ℕ → Reply
-nextWordItems true pairs ops boundary next room = setReply pairs ops boundary next plainOptions room
-nextWordItems false pairs ops boundary next room = itemsFrom pairs ops boundary next plainOptions (room / 6) (freshState next plainOptions)
+use Rattle.short_word_items.specs.NextItems.{nextWordItems}
 
 -- of a next word that exists; at the end there are none
 abbrev pub itemsOfNext : Option (List ℕ) → Bool → List ℤ → List ℤ → ℤ → ℕ → Reply

@@ -3,17 +3,15 @@ ghost use mathlib.Core.Path.{_≡_};
 ghost use Prim.Native.Nat.{_≤_};
 ghost use lib.IntN.{pos};
 ghost use lib.ListN.{length, replicate};
-ghost use Rattle.word_set.specs.Writing.{Tells};
 ghost use Rattle.short_words.specs.NextWords.{heldWord};
-ghost use Rattle.short_word_set.specs.SetNext.{nextWordItems, notSet, wordFound, SetsFound, SetsNext};
-use captions::RunOptions;
+ghost use Rattle.short_word_items.specs.NextItems.{nextWordItems};
+ghost use Rattle.short_word_set.specs.SetNext.{notSet, wordFound, SetsFound, SetsNext};
 use lang::Written;
+use short_word_items::set_items;
 use short_word_next::checked_next;
 use short_words::NextAnswer;
 use short_words::SetNext;
 use short_words::ShortWord;
-use word_set::set_fresh;
-use word_set::set_word;
 use words::i32s::zero_i32;
 
 // No word is answered: zeros for the items.
@@ -31,30 +29,6 @@ fn not_set(answer: NextAnswer, items: &mut [i32]) -> SetNext
         word: none,
         count: 0,
     }
-}
-
-// The items of a word with the left boundary and no override: the first of a listing has the table checked whole, and
-// every other as much of it as its steps read.
-fn set_items(
-    pairs: &[i32],
-    ops: &[i32],
-    boundary: i32,
-    first: bool,
-    word: &[u32],
-    items: &mut [i32],
-) -> Written
-    ensures { λ r. ⌜ Tells
-        (nextWordItems first (now (pairs .entry)) (now (ops .entry)) boundary (now (word .entry))
-        (length (now (items .entry)))) (now (items .entry)) r (now (items .exit)) ⌝ }
-{
-    let options = RunOptions {
-        disable_left_boundary: false,
-        right_boundary_override: -1,
-    };
-    if first {
-        return set_word(pairs, ops, boundary, word, options, items);
-    }
-    set_fresh(pairs, ops, boundary, word, options, items)
 }
 
 // A word that there is, with its items; or their number, and zeros.

@@ -1,6 +1,6 @@
 -- The word after a word (R436, R437): the contract of `next_word`.
 use mathlib.Core.Bool.{cond}
-use mathlib.Core.List.{List, [], _∷_, map}
+use mathlib.Core.List.{List, [], _∷_}
 use mathlib.Core.Option.{Option, none, some}
 use Prim.Native.Nat.{ℕ, zero, suc}
 use lib.IntN.{pos}
@@ -77,8 +77,8 @@ nextWordBy (suc n) next = noWord (Refused (suc n))
 abbrev pub nextWordOf : List ℕ → List ℕ → NextWord
 nextWordOf letters word = nextWordBy (shortRefusal letters word) (nextShortWord letters word)
 
--- an answer as a number and values (R285): 1, or 0 at the end, and the word's length and four letters; or the number of a refusal
-abbrev pub nextAnswerReply : NextAnswer → ShortWord → Reply
-nextAnswerReply Word w = replyOf 0 (pos 1 ∷ pos (w .length) ∷ map pos (w .letters))
-nextAnswerReply End w = replyOf 0 (pos 0 ∷ pos (w .length) ∷ map pos (w .letters))
-nextAnswerReply (Refused n) w = record { number = n; values = [] }
+-- an answer as a number and values (R285): 1, or 0 at the end; or the number of a refusal
+abbrev pub nextAnswerReply : NextAnswer → Reply
+nextAnswerReply Word = replyOf 0 (pos 1 ∷ [])
+nextAnswerReply End = replyOf 0 (pos 0 ∷ [])
+nextAnswerReply (Refused n) = record { number = n; values = [] }

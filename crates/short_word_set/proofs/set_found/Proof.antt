@@ -10,7 +10,8 @@ use Rattle.words.proofs.Bits.{number-word}
 use Rattle.chip_check.proofs.Laws.{array-long}
 use Rattle.short_words.specs.declared.NextAnswer.the-variants.{Word}
 use Rattle.short_words.specs.NextWords.{heldWord}
-use Rattle.short_word_set.specs.SetNext.{nextWordItems, wordFound, SetsFound}
+use Rattle.short_word_items.specs.NextItems.{nextWordItems}
+use Rattle.short_word_set.specs.SetNext.{wordFound, SetsFound}
 use Rattle.short_word_set.proofs.Laws.{found-refused, found-counted, tells-as}
 use borrow.Author.Needs.{needs}
 use Rattle.short_word_set.proofs.set_found.Statement.{statement}

@@ -9,7 +9,8 @@ use Rattle.words.proofs.Bits.{number-word}
 use Rattle.lang.specs.Checks.{orElse, absentRefusal}
 use Rattle.short_words.specs.declared.NextAnswer.the-variants.{Word}
 use Rattle.short_words.specs.NextWords.{nextShortWord, shortRefusal, nextWordBy, heldWord}
-use Rattle.short_word_set.specs.SetNext.{nextWordItems, wordFound, SetsFound}
+use Rattle.short_word_items.specs.NextItems.{nextWordItems}
+use Rattle.short_word_set.specs.SetNext.{wordFound, SetsFound}
 use Rattle.short_word_set.proofs.Laws.{Answers, word-answers, answered-short, word-set, end-set, refused-set}
 use borrow.Author.Needs.{needs}
 use Rattle.short_word_set.proofs.set_next.Statement.{statement}

@@ -1,4 +1,4 @@
--- `short_word_set::set_items` meets its contract: a word set whole, or from a fresh state.
+-- `short_word_items::set_items` meets its contract: a word set whole, or from a fresh state.
 -- Assumes nothing.
 use mathlib.Core.Path.{subst}
 use Prim.Native.Nat.{_/_}
@@ -8,10 +8,10 @@ use Rattle.words.proofs.Bits.{number-word}
 use Rattle.captions.specs.Begin.{freshState, plainOptions}
 use Rattle.word_set.specs.Setting.{itemsFrom, Sets}
 use Rattle.word_set.specs.Writing.{Tells}
-use Rattle.short_word_set.proofs.Laws.{first-items, other-items}
+use Rattle.short_word_items.proofs.Laws.{first-items, other-items}
 use borrow.Author.Needs.{needs}
-use Rattle.short_word_set.proofs.set_items.Statement.{statement}
-use Rattle.short_word_set.proofs.set_items.Tie as tie
+use Rattle.short_word_items.proofs.set_items.Statement.{statement}
+use Rattle.short_word_items.proofs.set_items.Tie as tie
 
 set-word-requires : tie.Need-set-word-requires
 set-word-requires c κs = search needs
