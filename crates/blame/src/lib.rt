@@ -1,15 +1,14 @@
 // Which instruction did that? (R481 to R488). Each instruction of a font is removed alone, from the lowest on, until a
-// removal alters the items of a word, or brings a loop, or a number. The font as given, and then the removals, is crate
-// `blame_given`; the refusals are crate `blame_numbers`, the removals `blame_search` and, one alone, `blame_removal`.
+// removal alters the items of a word, or brings a loop, or a number. The tables are cut in crate `blame_cut`; the font
+// as given, and then the removals, is crate `blame_given`; the refusals are crate `blame_numbers`, the removals
+// `blame_search` and, one alone, `blame_removal`.
 ghost use Rattle.removals.specs.Removed.{fontAt, sizeNumber};
 ghost use Rattle.removals.specs.Search.{Blames};
-use blame_given::answer_given;
+use blame_cut::answer_cut;
+use blame_zero::zero_work;
 use captions::RunOptions;
 use removals::Blamed;
 use removals::FontNumbers;
-use words::i32s::zero_i32;
-use words::sizes::smaller;
-use words::u32s::zero_u32;
 
 // The lowest instruction whose removal alone alters the items of a word. The six lists are work, and left zero: a table
 // for the font as given, one for a removal, edited instructions, and compile's work. Compile's numbers, begin's, 15
@@ -35,27 +34,20 @@ pub fn blamed_instruction(
         (now (ops .exit)) (now («pairs_without» .exit)) (now («ops_without» .exit)) (now (edited .exit))
         (now (work .exit)) ⌝ }
 {
-    let p = smaller(pairs.len(), pairs_without.len());
-    let o = smaller(ops.len(), ops_without.len());
-    let answer = answer_given(
+    let answer = answer_cut(
         instructions,
         kerns,
         entries,
         numbers,
         word,
         options,
-        &mut pairs[..p],
-        &mut ops[..o],
-        &mut pairs_without[..p],
-        &mut ops_without[..o],
+        pairs,
+        ops,
+        pairs_without,
+        ops_without,
         edited,
         work,
     );
-    zero_i32(pairs);
-    zero_i32(ops);
-    zero_i32(pairs_without);
-    zero_i32(ops_without);
-    zero_i32(edited);
-    zero_u32(work);
+    zero_work(pairs, ops, pairs_without, ops_without, edited, work);
     answer
 }

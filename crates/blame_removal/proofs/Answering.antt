@@ -7,7 +7,6 @@ use Prim.Native.Nat.{ℕ, zero, suc, _*_, _≤_}
 use native.Mathlib.Omega.{arith}
 use lib.IntN.{ℤ, pos}
 use lib.ListN.{length, take, length-take}
-use borrow.Author.Tests.{ne-eqb}
 use Rattle.lang.specs.Answers.{Reply, replyOf}
 use Rattle.fonts.specs.declared.Compiled.{Compiled}
 use Rattle.fonts.specs.declared.Compiled.the-variants.{Tables, Refused}
@@ -16,25 +15,13 @@ use Rattle.fonts.specs.Compiled.{Room, roomIn, fontTable, fontOps, tablePairs, 
 use Rattle.columns.proofs.FontBegins.{lists-of}
 use Rattle.captions.specs.declared.RunOptions.{RunOptions}
 use Rattle.captions.specs.Begin.{freshState}
-use Rattle.removals.specs.declared.Blamed.{Blamed}
-use Rattle.removals.specs.declared.Blamed.the-variants as blamed
 use Rattle.removals.specs.Items.{runItems, fontItems, sameItems}
 use Rattle.removals.specs.Search.{removalAnswer}
 use Rattle.blame_removal.specs.Edited.{TablesFit, compiledAnswer}
 
--- ---- by the number, and by the items
-
-module _ (i : ℕ) where
-  pub by-loop : (n : ℕ) (same : Bool) → n ≡ 15 → blamed.At i ≡ removalAnswer i n same
-  by-loop n same e = rw e
-
-  pub by-number : (n : ℕ) (same : Bool) → (n ≡ 15 → ⊥) → (n ≡ 0 → ⊥) → blamed.Refused n ≡ removalAnswer i n same
-  by-number zero same h k = absurd (k refl)
-  by-number (suc n) same h k = rw (ne-eqb n 14 (λ e. h (omega (arith, e))))
-
-  -- a number is answered whatever the items are
-  any-items : (m n k : ℕ) (a b : Bool) → m ≡ suc k → n ≡ suc k → removalAnswer i n a ≡ removalAnswer i m b
-  any-items m n k a b e f = rw (e, f)
+-- a number is answered whatever the items are
+any-items : (i m n k : ℕ) (a b : Bool) → m ≡ suc k → n ≡ suc k → removalAnswer i n a ≡ removalAnswer i m b
+any-items i m n k a b e f = rw (e, f)
 
 -- ---- by what compile answered and wrote
 

@@ -1,2 +1,2 @@
--- What is proved of one removal: Answering (by compile's answer, and by the items).
+-- What is proved of one removal: Answering (by compile's answer).
 pub mod Answering

@@ -2,8 +2,8 @@
 // items of a word in it are compared with those over the table of the font as it was given.
 ghost use mathlib.Core.Path.{_≡_};
 ghost use Rattle.removals.specs.Removed.{fontAt, sizeNumber};
-ghost use Rattle.removals.specs.Search.{removalAnswer};
 ghost use Rattle.blame_removal.specs.Edited.{TablesFit, compiledAnswer, AnswersEdited};
+use blame_answer::removal_answer;
 use blame_compile::compile_loopless;
 use captions::RunOptions;
 use fonts::Compiled;
@@ -11,19 +11,6 @@ use removals::Blamed;
 use removals::FontNumbers;
 use same_items::same_run;
 use words::i32s::zero_i32;
-
-// What compile's number and the items say of removal i.
-fn removal_answer(i: usize, number: u32, same: bool) -> Blamed
-    ensures { λ r. ⌜ r ≡ removalAnswer i number same ⌝ }
-{
-    if number == 15 {
-        return Blamed::At(i);
-    }
-    if number != 0 {
-        return Blamed::Refused(number);
-    }
-    if same { Blamed::Nothing } else { Blamed::At(i) }
-}
 
 // Removal i, by what compile answered of the edited font and left in the second table.
 fn answer_compiled(

@@ -3,48 +3,20 @@
 ghost use mathlib.Core.Path.{_≡_};
 ghost use Prim.Native.Nat.{_≤_};
 ghost use lib.ListN.{length};
-ghost use lib.Seq.{sets};
 ghost use Rattle.captions.specs.Replies.{answerReply};
 ghost use Rattle.word_items.specs.ItemLists.{Small};
-ghost use Rattle.c_steps.specs.Step.{itemNumbers};
 ghost use Rattle.font_runs.specs.Requests.{lending};
 ghost use Rattle.c_font_step_any.specs.FontSteps.{fontStepIn, TellsStep};
 use c_font_runs::put_run;
 use c_font_runs::run_in;
-use captions::Answer;
+use c_steps::items::refusal_of;
+use c_steps::items::tell;
 use captions::RunOptions;
 use font_runs::FontStep;
 use font_steps::font_step;
 use program_checks::lower_of;
 use program_limits::room_refusal;
-use word_items::is_item;
-use word_items::put_item;
-use words::i32s::put_word;
 use words::i32s::zero_i32;
-
-// The number of a refusal, else 0.
-fn refusal_of(answer: Answer) -> u32
-    ensures { λ r. ⌜ r ≡ answerReply answer .number ⌝ }
-{
-    match answer {
-        Answer::Char(_, _) => 0,
-        Answer::Ligature(_, _, _, _, _) => 0,
-        Answer::Kern(_) => 0,
-        Answer::End => 0,
-        Answer::Refused(n) => n,
-    }
-}
-
-// 1 and the numbers of an item at the front; the end and a refusal have none.
-fn tell(item: &mut [i32], answer: Answer)
-    requires { ⌜ Small answer × (7 ≤ length (now item)) ⌝ }
-    ensures { λ _. ⌜ now (item .exit) ≡ sets (now (item .entry)) 0 (itemNumbers answer) ⌝ }
-{
-    if is_item(answer) {
-        put_word(item, 0, 1);
-        put_item(item, 1, answer);
-    }
-}
 
 // A step whatever is asked for, told into both lists.
 fn tell_step(run: &mut [u64], item: &mut [i32], stepped: FontStep) -> u32

@@ -1,19 +1,16 @@
 // One step of a run that may change its font, for a host in C (R214): slices and integers in, the number of a refusal
 // out (0 where it is taken). The run stands in a list of twelve numbers (crate c_font_runs). With nothing asked for the
-// step is that of `ligkern_step`, on the first nine, and so it is where a font that is asked for is known to wait: then
-// the last three numbers stay. Every other step goes by `any_step`.
-//   held  whether a font that is asked for is known to wait
+// step is that of `ligkern_step`, on the first nine, and so it is where a font that is asked for is known to wait
+// (crate c_font_waits): then the last three numbers stay. Every other step goes by `any_step`.
 ghost use mathlib.Core.Path.{_≡_};
 ghost use Rattle.c_states.specs.States.{optionsOf};
 ghost use Rattle.font_runs.specs.Requests.{lending};
 ghost use Rattle.c_font_step_any.specs.FontSteps.{fontStepIn, TellsStep, isIdle};
 use c_font_runs::is_run;
 use c_font_step_any::any_step;
+use c_font_waits::is_kept;
 use c_steps::ligkern_step;
 use captions::RunOptions;
-use held::is_kept;
-
-mod held;
 
 // Twelve numbers that are a run's, with nothing asked for.
 fn is_idle(run: &[u64]) -> bool

@@ -18,7 +18,7 @@ use Rattle.word_set.specs.Setting.{andThen}
 use Rattle.word_set.proofs.Bounds.{step-small}
 use Rattle.removals.specs.Items.{mostItems, runItems, sameItems}
 use Rattle.removals.proofs.Lessening.{step-lessens, run-step}
-use Rattle.same_items.specs.Answers.{sameAnswer}
+use Rattle.same_answer.specs.Answers.{sameAnswer}
 use Rattle.same_items.proofs.Comparing.{differs, both-end, goes-on}
 
 -- one run: what the step a from s answered

@@ -1,76 +1,18 @@
--- `blame::blamed_instruction` meets its contract: both tables are cut to the smaller of each kind, and the six lists are zeroed at the end.
+-- `blame::blamed_instruction` meets its contract: the answer is that over the cut tables, and the six lists are zeroed at the end.
 -- Assumes nothing.
 use mathlib.Core.Path.{_≡_, sym, ap, _∙_}
-use Prim.Native.Nat.{ℕ, min}
-use native.Mathlib.Omega.{arith}
+use Prim.Native.Nat.{ℕ}
 use lib.IntN.{pos}
-use lib.ListN.{length, take, replicate}
-use lib.Seq.{length-take-le}
+use lib.ListN.{replicate}
 use borrow.Author.Needs.{needs}
-use Rattle.fonts.specs.Compiled.{roomOf}
-use Rattle.removals.specs.Removed.{fontAt, sizeNumber}
-use Rattle.blame_given.specs.Given.{blamedIn}
 use Rattle.blame.proofs.blamed_instruction.Statement.{statement}
 use Rattle.blame.proofs.blamed_instruction.Tie as tie
 
-smaller-requires : tie.Need-smaller-requires
-smaller-requires c κs = search needs
+answer-cut-requires : tie.Need-answer-cut-requires
+answer-cut-requires c κs = search needs
 
-smaller-requires-2 : tie.Need-smaller-requires-2
-smaller-requires-2 c κs = search needs
-
-slice-relend-prefix-answer-given : tie.Need-slice-relend-prefix-answer-given
-slice-relend-prefix-answer-given c = search needs
-
-slice-aggregate-answer-given : tie.Need-slice-aggregate-answer-given
-slice-aggregate-answer-given c =
-    let m = c .before .before .smaller in
-    sym (length-take-le (m .result) (c .before .before .before .before .before .args .pairs .now) (omega (arith, m .ensures)))
-
-slice-relend-prefix-answer-given-2 : tie.Need-slice-relend-prefix-answer-given-2
-slice-relend-prefix-answer-given-2 c = search needs
-
-slice-aggregate-answer-given-2 : tie.Need-slice-aggregate-answer-given-2
-slice-aggregate-answer-given-2 c =
-    let m = c .before .before .smaller2 in
-    sym (length-take-le (m .result) (c .before .before .before .before .before .before .args .ops .now) (omega (arith, m .ensures)))
-
-slice-relend-prefix-answer-given-3 : tie.Need-slice-relend-prefix-answer-given-3
-slice-relend-prefix-answer-given-3 c = search needs
-
-slice-aggregate-answer-given-3 : tie.Need-slice-aggregate-answer-given-3
-slice-aggregate-answer-given-3 c =
-    let m = c .before .before .before .before .smaller in
-    sym (length-take-le (m .result) (c .before .before .before .before .before .before .before .args .pairs-without .now) (omega (arith, m .ensures)))
-
-slice-relend-prefix-answer-given-4 : tie.Need-slice-relend-prefix-answer-given-4
-slice-relend-prefix-answer-given-4 c = search needs
-
-slice-aggregate-answer-given-4 : tie.Need-slice-aggregate-answer-given-4
-slice-aggregate-answer-given-4 c =
-    let m = c .before .before .before .before .smaller2 in
-    sym (length-take-le (m .result) (c .before .before .before .before .before .before .before .before .args .ops-without .now) (omega (arith, m .ensures)))
-
-answer-given-requires : tie.Need-answer-given-requires
-answer-given-requires c κs = search needs
-
-zero-i32-requires : tie.Need-zero-i32-requires
-zero-i32-requires c κs = search needs
-
-zero-i32-requires-2 : tie.Need-zero-i32-requires-2
-zero-i32-requires-2 c κs = search needs
-
-zero-i32-requires-3 : tie.Need-zero-i32-requires-3
-zero-i32-requires-3 c κs = search needs
-
-zero-i32-requires-4 : tie.Need-zero-i32-requires-4
-zero-i32-requires-4 c κs = search needs
-
-zero-i32-requires-5 : tie.Need-zero-i32-requires-5
-zero-i32-requires-5 c κs = search needs
-
-zero-u32-requires : tie.Need-zero-u32-requires
-zero-u32-requires c κs = search needs
+zero-work-requires : tie.Need-zero-work-requires
+zero-work-requires c κs = search needs
 
 same-length : tie.Need-same-length
 same-length c = search needs
@@ -92,42 +34,20 @@ same-length-6 c = search needs
 
 returns : tie.Need-returns
 returns c =
-    let g = c .before .before .before .before .before .before .before .before .before .before .before .before .before .before .before .before .before .before
-    .before .before .before .before .before .before .before .before in
-    let s = g .before .before .before .before .before .before .before .before .before .before .before in
-    let a = s .args in
-    let p = g .before .before .before .before .before .before .before .before .smaller in
-    let o = g .before .before .before .before .before .before .before .smaller2 in
+    let z = c .before .before .before .before .before .before .before in
+    let g = z .before .before .before .before .before .before .before .before .before .before .before .before .before .before in
     record {
-      answer =
-          g .answer-given .ensures
-          ∙ (λ j. blamedIn (fontAt (a .instructions .now) (a .kerns .now) (a .entries .now) (a .numbers))
-          (roomOf ((length-take-le (p .result) (a .pairs .now) (omega (arith, p .ensures)) ∙ p .ensures) j)
-          ((length-take-le (o .result) (a .ops .now) (omega (arith, o .ensures)) ∙ o .ensures) j) 0 (length (a .work .now)))
-          (roomOf ((length-take-le (p .result) (a .pairs-without .now) (omega (arith, p .ensures)) ∙ p .ensures) j)
-          ((length-take-le (o .result) (a .ops-without .now) (omega (arith, o .ensures)) ∙ o .ensures) j) 0 (length (a .work .now)))
-          (sizeNumber (a .numbers)) (a .word .now) (a .options) (length (a .edited .now)));
+      answer = g .answer-cut .ensures;
       zeroed =
+          let w = z .zero-work .ensures in
+          let k = z .zero-work .kept in
           record {
-            table =
-                let z = c .before .before .before .before .before .before .before .before .before .before .before .before .before .before .before .before
-                .before .zero-i32 in
-                z .ensures ∙ ap (λ (m : ℕ). replicate m (pos 0)) (sym (z .kept .0) ∙ same-length c);
-            ops-table =
-                let z = c .before .before .before .before .before .before .before .before .before .before .before .before .before .before .zero-i322 in
-                z .ensures ∙ ap (λ (m : ℕ). replicate m (pos 0)) (sym (z .kept .0) ∙ same-length-2 c);
-            second-table =
-                let z = c .before .before .before .before .before .before .before .before .before .before .before .zero-i323 in
-                z .ensures ∙ ap (λ (m : ℕ). replicate m (pos 0)) (sym (z .kept .0) ∙ same-length-3 c);
-            second-ops =
-                let z = c .before .before .before .before .before .before .before .before .zero-i324 in
-                z .ensures ∙ ap (λ (m : ℕ). replicate m (pos 0)) (sym (z .kept .0) ∙ same-length-4 c);
-            edits =
-                let z = c .before .before .before .before .before .zero-i325 in
-                z .ensures ∙ ap (λ (m : ℕ). replicate m (pos 0)) (sym (z .kept .0) ∙ same-length-5 c);
-            cleared =
-                let z = c .before .before .zero-u32 in
-                z .ensures ∙ ap (λ (m : ℕ). replicate m 0) (sym (z .kept .0) ∙ same-length-6 c);
+            table = w .table ∙ ap (λ (m : ℕ). replicate m (pos 0)) (sym (k .0) ∙ same-length c);
+            ops-table = w .ops-table ∙ ap (λ (m : ℕ). replicate m (pos 0)) (sym (k .1 .0) ∙ same-length-2 c);
+            second-table = w .second-table ∙ ap (λ (m : ℕ). replicate m (pos 0)) (sym (k .1 .1 .0) ∙ same-length-3 c);
+            second-ops = w .second-ops ∙ ap (λ (m : ℕ). replicate m (pos 0)) (sym (k .1 .1 .1 .0) ∙ same-length-4 c);
+            edits = w .edits ∙ ap (λ (m : ℕ). replicate m (pos 0)) (sym (k .1 .1 .1 .1 .0) ∙ same-length-5 c);
+            cleared = w .cleared ∙ ap (λ (m : ℕ). replicate m 0) (sym (k .1 .1 .1 .1 .1 .0) ∙ same-length-6 c);
           };
     }
 
@@ -135,23 +55,8 @@ pub blamed-instruction-spec : {M : Type 1} → statement M
 blamed-instruction-spec =
     tie.close
     (tie.spec
-    smaller-requires
-    smaller-requires-2
-    slice-relend-prefix-answer-given
-    slice-aggregate-answer-given
-    slice-relend-prefix-answer-given-2
-    slice-aggregate-answer-given-2
-    slice-relend-prefix-answer-given-3
-    slice-aggregate-answer-given-3
-    slice-relend-prefix-answer-given-4
-    slice-aggregate-answer-given-4
-    answer-given-requires
-    zero-i32-requires
-    zero-i32-requires-2
-    zero-i32-requires-3
-    zero-i32-requires-4
-    zero-i32-requires-5
-    zero-u32-requires
+    answer-cut-requires
+    zero-work-requires
     same-length
     same-length-2
     same-length-3

@@ -1,5 +1,6 @@
 -- `c_font_step_any::tell_step` meets its contract: proofs/Telling.
 -- Assumes nothing.
+use Rattle.c_steps.proofs.Stepping.{told-sets}
 use Rattle.c_font_step_any.proofs.Telling.{step-refused, has-room, step-answered, step-taken}
 use borrow.Author.Needs.{needs}
 use Rattle.c_font_step_any.proofs.tell_step.Statement.{statement}
@@ -31,18 +32,7 @@ returns c =
     (l .lower-of .ensures) (c .if1 .taken)
 
 tell-requires : tie.Need-tell-requires
-tell-requires c κs =
-    let i = c .before in
-    let l = i .before in
-    let r = l .before in
-    let n = r .before in
-    let z = n .before .before in
-    let s = z .before .before .before in
-    let a = s .args in (
-      s .pre .0,
-      has-room (a .stepped) (a .run .now) (a .item .now) (z .zero-i32 .last .0) (z .zero-i32 .ensures) (n .refusal-of .ensures) (r .room-refusal .ensures)
-          (l .lower-of .ensures) (i .if1 .left),
-    )
+tell-requires c κs = search needs
 
 put-run-requires : tie.Need-put-run-requires
 put-run-requires c κs = search needs
@@ -66,8 +56,11 @@ returns-2 c =
     let a = s .args in
     let e = step-answered (a .stepped) (a .run .now) (a .item .now) (z .zero-i32 .last .0) (z .zero-i32 .ensures) (n .refusal-of .ensures)
     (r .room-refusal .ensures) (l .lower-of .ensures) (i .if1 .left) in
+    let h = has-room (a .stepped) (a .run .now) (a .item .now) (z .zero-i32 .last .0) (z .zero-i32 .ensures) (n .refusal-of .ensures)
+    (r .room-refusal .ensures) (l .lower-of .ensures) (i .if1 .left) in
     step-taken (a .stepped) (a .run .now) (a .item .now) (z .zero-i32 .last .0) (z .zero-i32 .ensures) (n .refusal-of .ensures) (r .room-refusal .ensures)
-    (l .lower-of .ensures) (i .if1 .left) (s .pre .1 e) (t .tell .ensures) (p .put-run .ensures)
+    (l .lower-of .ensures) (i .if1 .left) (s .pre .1 e)
+    (told-sets (z .zero-i32 .last .0) (t .tell .last .0) (a .stepped .answer) (s .pre .0) h (t .tell .ensures)) (p .put-run .ensures)
 
 pub tell-step-spec : {M : Type 1} → statement M
 tell-step-spec =

@@ -16,7 +16,7 @@ use Rattle.font_runs.specs.declared.FontStep.{FontStep}
 use Rattle.font_runs.specs.Requests.{LentFont, lending}
 use Rattle.c_font_runs.proofs.Laws.{run-long}
 use Rattle.c_font_step_any.specs.FontSteps.{fontStepIn, TellsStep, isIdle}
-use Rattle.c_font_steps.specs.Waiting.{isWaiting}
+use Rattle.c_font_waits.specs.Waiting.{isWaiting}
 use Rattle.c_font_steps.proofs.Idle.{idle-run, idle-taken}
 use Rattle.c_font_steps.proofs.Waiting.{kept-refused, kept-taken}
 use borrow.Author.Needs.{needs}

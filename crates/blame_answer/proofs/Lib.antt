@@ -1,0 +1,2 @@
+-- What is proved of one removal's answer: Laws.
+pub mod Laws

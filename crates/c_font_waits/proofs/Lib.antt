@@ -1,0 +1,2 @@
+-- What is proved of a request that waits: Waiting.
+pub mod Waiting

@@ -1,0 +1,2 @@
+-- What is proved of two answers: Laws.
+pub mod Laws
