@@ -11,8 +11,8 @@ use lib.Dec.{leb, ltb, eqb}
 use lib.ListN.{length, take, getD}
 use lib.Signed.{nonNeg}
 use borrow.Author.Tests.{leb-true}
-use Rattle.words.specs.Words.{Word, wordOf, numberOf}
-use Rattle.words.proofs.Bits.{number-neg, read-pos, read-neg}
+use Rattle.words.specs.Words.{numberOf}
+use Rattle.words.proofs.Bits.{number-neg}
 use Rattle.lang.specs.declared.Written.{Written}
 use Rattle.lang.specs.declared.Written.the-variants as written
 use Rattle.lang.specs.Every.{both, every}
@@ -47,14 +47,6 @@ pub answers-as : {m m′ : ℕ} {bytes bytes′ reply reply′ : List ℕ} {r : 
     AnswersBytes m′ bytes′ reply r reply′
 answers-as {m} {m′} {bytes} {bytes′} {reply} {reply′} {r} p q a =
     subst (λ (k : ℕ). AnswersBytes k bytes′ reply r reply′) p (subst (λ (bs : List ℕ). AnswersBytes m bs reply r reply′) q a)
-
--- ---- letters
-
-pub letters-word : {z : ℤ} {w : ℕ} → Word z w → w < 2147483648 → w ≡ lettersIn z
-letters-word {z} {w} h l = sym (ap lettersIn (read-pos h l))
-
-pub letters-none : {z : ℤ} {w : ℕ} → Word z w → 2147483648 ≤ w → 0 ≡ lettersIn z
-letters-none {z} {w} h l = sym (ap lettersIn (read-neg h l))
 
 -- ---- a text that is not read
 

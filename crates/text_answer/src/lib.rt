@@ -5,48 +5,17 @@ ghost use lib.ListN.{length};
 ghost use Rattle.columns.specs.Ligcols.{numberOfText, bytesOfText, AnswersText};
 ghost use Rattle.columns.specs.Texts.{readText};
 ghost use Rattle.text_font_reply.specs.Answering.{AnswersBytes};
-ghost use Rattle.columns.specs.Scanned.{lettersIn};
 use columns::TextRead;
 use lang::Written;
 use text_font_reply::answer_font;
+use text_lists::entry_list;
+use text_lists::instruction_list;
+use text_lists::kern_list;
+use text_lists::letter_list;
+use text_lists::letters_in;
 use text_shared::read_shared;
 use words::number_of;
 use words::u8s::zero_u8;
-use words::word_of;
-
-// Room for what a text says, within its limits: four numbers an instruction, one a kern, of which each instruction may
-// add one, two an entry, and a word's letters.
-fn instruction_list() -> [i32; 2048]
-    ensures { λ r. ⌜ 2048 ≡ length r ⌝ }
-{
-    [0; 2048]
-}
-
-fn kern_list() -> [i32; 1024]
-    ensures { λ r. ⌜ 1024 ≡ length r ⌝ }
-{
-    [0; 1024]
-}
-
-fn entry_list() -> [i32; 5040]
-    ensures { λ r. ⌜ 5040 ≡ length r ⌝ }
-{
-    [0; 5040]
-}
-
-fn letter_list() -> [u32; 64]
-    ensures { λ r. ⌜ 64 ≡ length r ⌝ }
-{
-    [0; 64]
-}
-
-// How many letters there are: none where there is no word.
-fn length_of(letters: i32) -> usize
-    ensures { λ r. ⌜ r ≡ lettersIn letters ⌝ }
-{
-    let w = word_of(letters);
-    if w < 2147483648 { w as usize } else { 0 }
-}
 
 // A text read, and then answered.
 fn answer(text: &[u8], reply: &mut [u8]) -> Written
@@ -67,7 +36,7 @@ fn answer(text: &[u8], reply: &mut [u8]) -> Written
             let k = heads.kerns;
             let e = heads.entries;
             let letters = heads.letters;
-            let n = length_of(letters);
+            let n = letters_in(letters);
             answer_font(
                 &instructions[..i],
                 &kerns[..k],

@@ -3,16 +3,15 @@
 use mathlib.Core.Path.{_≡_, refl, sym, ap, subst, _∙_}
 use mathlib.Core.Bool.{Bool, true, false, cond}
 use mathlib.Core.List.{List, [], _∷_}
-use mathlib.Core.Logic.{_⊎_, inl, inr}
 use mathlib.Core.Option.{Option, none, some, Option·some-injective}
-use Prim.Native.Nat.{ℕ, zero, suc, _+_, _-_, _*_, _/_, _%_, _<_, _≤_}
+use Prim.Native.Nat.{ℕ, zero, suc, _-_, _/_, _%_, _<_, _≤_}
 use native.Mathlib.Omega.{arith}
 use lib.IntN.{ℤ, pos, negsuc}
 use lib.Dec.{leb, ltb, eqb}
 use lib.ListN.{length, getD, take, drop, replicate, length-take, length-drop}
 use lib.Seq.{take-all}
 use lib.Signed.{nonNeg}
-use borrow.Author.Tests.{le-leb, lt-leb, leb-true}
+use borrow.Author.Tests.{le-leb, leb-true}
 use Rattle.words.specs.Words.{numberOf}
 use Rattle.words.proofs.Bits.{number-neg}
 use Rattle.lang.specs.declared.Written.{Written}
@@ -22,8 +21,7 @@ use Rattle.lang.specs.Records.{count, isInstruction, absentOr}
 use Rattle.lang.specs.Checks.{unless, orElse, lower, sizeRefusal, recordRefusal, programRefusal, kernsRefusal, entriesRefusal, absentRefusal, designRefusal, entryFits}
 use Rattle.lang.specs.Checks.{isLetter}
 use Rattle.lang.specs.Answers.{Reply, listOf, roomRefusal}
-use Rattle.lang.proofs.Every.{both-left, both-right}
-use Rattle.lang.proofs.Refusals.{first-is, second-is, orElse-none, unless-none, room-fits, room-is, room-short, lower-few}
+use Rattle.lang.proofs.Refusals.{lower-few}
 use Rattle.program_kerns.proofs.SharedKerns.{kerns-least}
 use Rattle.fonts.specs.Fonts.{Font, fontOf}
 use Rattle.fonts.specs.Compiled.{fontRefusal}
@@ -37,55 +35,15 @@ use Rattle.columns.specs.Ligcols.{signsRefusal, wordOfText, lengthOr}
 use Rattle.columns.specs.Converting.{addedKerns, convertedBytes, convertedBy, convertedText, convertNumber, ConvertsText}
 use Rattle.columns.proofs.ConvertedLengths.{converted-length}
 use Rattle.columns.proofs.Options.{cond-some, none-some}
-use Rattle.columns.proofs.Saying.{Said, text-said}
+use Rattle.columns.proofs.Saying.{text-said}
 use Rattle.text_convert_lines.specs.Anew.{linesAnew, PutsAnew}
 use Rattle.text_font_reply.specs.Answering.{AnswersBytes}
 use Rattle.text_font_reply.proofs.Laws.{count-known, refused-known}
-use Rattle.text_shared.specs.Fronts.{SharesText, headsWith}
+use Rattle.text_shared.specs.Fronts.{SharesText}
 use Rattle.text_shared.proofs.Laws.{read-and-shared}
-use Rattle.text_convert.specs.Judging.{anewRefusal, LengthKnown}
-
--- ---- the number
-
-module _ (kerns n bad letters room : ℕ) where
-  abbrev limits : Bool
-  limits = both (leb kerns 512) (leb n 65536)
-
-  pub past-limits : (512 < kerns) ⊎ (65536 < n) → 16 ≡ anewRefusal kerns n bad letters room
-  past-limits h = sym (ap (λ (t : Bool). orElse (unless 16 t) (orElse bad (orElse (roomRefusal n room) letters))) (by h))
-    where
-      right : (t : Bool) → both t false ≡ false
-      right true = refl
-      right false = refl
-
-      by : (512 < kerns) ⊎ (65536 < n) → both (leb kerns 512) (leb n 65536) ≡ false
-      by (inl l) = rw (lt-leb kerns 512 l)
-      by (inr l) = rw (lt-leb n 65536 l) (right (leb kerns 512))
-
-  module _ (k : kerns ≤ 512) (l : n ≤ 65536) where
-    within : anewRefusal kerns n bad letters room ≡ orElse bad (orElse (roomRefusal n room) letters)
-    within = rw (le-leb kerns 512 k, le-leb n 65536 l)
-
-    pub font-refused : (bad ≡ 0 → ⊥) → bad ≡ anewRefusal kerns n bad letters room
-    font-refused h = sym (within ∙ first-is bad (orElse (roomRefusal n room) letters) h)
-
-    module _ (e : bad ≡ 0) where
-      sound : anewRefusal kerns n bad letters room ≡ orElse (roomRefusal n room) letters
-      sound = within ∙ second-is bad (orElse (roomRefusal n room) letters) e
-
-      pub room-refused : room < n → 15 ≡ anewRefusal kerns n bad letters room
-      room-refused h = sym (sound ∙ ap (λ (r : ℕ). orElse r letters) (room-short n room h))
-
-      pub letters-last : n ≤ room → letters ≡ anewRefusal kerns n bad letters room
-      letters-last h = sym (sound ∙ second-is (roomRefusal n room) letters (room-is n room h))
-
-  -- where none holds there is room, and not too much is written
-  pub none-refused : anewRefusal kerns n bad letters room ≡ 0 → (n ≤ 65536) × (n ≤ room)
-  none-refused e =
-      let a = orElse-none (unless 16 limits) (orElse bad (orElse (roomRefusal n room) letters)) e in
-      let b = orElse-none bad (orElse (roomRefusal n room) letters) (a .1) in
-      let c = orElse-none (roomRefusal n room) letters (b .1) in
-      (leb-true n 65536 (both-right (leb kerns 512) (leb n 65536) (unless-none 15 limits (a .0))), room-fits n room (c .0))
+use Rattle.text_convert_refusal.specs.Judging.{saidRefusal, anewRefusal}
+use Rattle.text_convert_refusal.proofs.Laws.{none-refused}
+use Rattle.text_convert.specs.Lengths.{LengthKnown}
 
 -- ---- what is written
 
@@ -189,17 +147,13 @@ module _ {bytes : List ℕ} {h : TextHeads} {m : ℕ} {is ks es : List ℤ} {ws 
       }
 
   -- the number, as the code finds it
-  pub number-is : (room : ℕ) (bad letters : ℕ) →
-      bad ≡ lower
-      (fontRefusal (fontOf (take (h .instructions) is) (take m ks) (take (h .entries) es) (h .boundary) (h .left) (h .design)))
-      (signsRefusal (take (lettersIn (h .letters)) ws)) →
+  pub number-is : (room bad letters : ℕ) →
+      bad ≡ saidRefusal h (take (h .instructions) is) (take m ks) (take (h .entries) es) (take (lettersIn (h .letters)) ws) →
       letters ≡ lettersRefusal (take (lettersIn (h .letters)) ws) →
       anewRefusal (length (take m ks)) (length (linesAnew (take (h .instructions) is) (drop (h .kerns) (take m ks)) (linesOf bytes))) bad letters room ≡
       convertNumber (readText bytes) (convertedText bytes) room
   number-is room bad letters b c =
-      let f : lower
-      (fontRefusal (fontOf (take (h .instructions) is) (take m ks) (take (h .entries) es) (h .boundary) (h .left) (h .design)))
-      (signsRefusal (take (lettersIn (h .letters)) ws))
+      let f : saidRefusal h (take (h .instructions) is) (take m ks) (take (h .entries) es) (take (lettersIn (h .letters)) ws)
       ≡ lower (fontRefusal (fontOfText t)) (signsRefusal (wordOfText t)) = (λ i. lower
       (fontRefusal (fontOf (a .instructions i) (a .kerns i) (a .entries i) (a .boundary i) (a .left i) (a .design i))) (signsRefusal (a .word i))) in
       let bl = b ∙ f in

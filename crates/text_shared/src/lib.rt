@@ -9,17 +9,11 @@ ghost use Rattle.text_shared.specs.Fronts.{SharesFront, SharesText, head
 use columns::TextHeads;
 use columns::TextRead;
 use kern_share::share_kerns;
+use text_lists::line_kerns;
 use text_scan::read_text;
 use words::i32s::put_word;
 use words::i32s::word_at;
 use words::i32s::zero_i32;
-
-// Room for the K lines.
-fn line_kerns() -> [i32; 512]
-    ensures { λ r. ⌜ 512 ≡ length r ⌝ }
-{
-    [0; 512]
-}
 
 // The first k numbers of a list copied to the front of another.
 fn copy_front(from: &[i32], k: usize, to: &mut [i32])

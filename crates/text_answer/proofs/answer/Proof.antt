@@ -63,18 +63,18 @@ zero-u8-requires c κs = search needs
 enum-known-heads : tie.Need-enum-known-heads
 enum-known-heads c = search needs
 
-length-of-requires : tie.Need-length-of-requires
-length-of-requires c κs = search needs
+letters-in-requires : tie.Need-letters-in-requires
+letters-in-requires c κs = search needs
 
 -- how many letters there are
-counted : (l : tie.After-length-of) → l .length-of .result ≡ lettersIn (l .before .before .before .heads .given .0 .0 .letters)
+counted : (l : tie.After-letters-in) → l .letters-in .result ≡ lettersIn (l .before .before .before .heads .given .0 .0 .letters)
 counted l =
     let k = l .before in
-    l .length-of .ensures
+    l .letters-in .ensures
     ∙ ap lettersIn (number-word (k .before .before .heads .given .0 .0 .letters) (record { sfits = k .struct-told .given .1 .1 .1 .1 .1 .1 .0 .1 }))
 
 -- .. which is 64 at most
-few-letters : (l : tie.After-length-of) → l .length-of .result ≤ 64
+few-letters : (l : tie.After-letters-in) → l .letters-in .result ≤ 64
 few-letters l = omega (arith, counted l, said (l .before .before .before) .few-letters)
 
 -- the lists are as long as they were
@@ -113,7 +113,7 @@ array-share-prefix-word c = let l = c .before .before .before in omega (arith, f
 slice-aggregate-answer-font-4 : tie.Need-slice-aggregate-answer-font-4
 slice-aggregate-answer-font-4 c =
     let l = c .before .before .before .before in
-    sym (length-take-le (l .length-of .result) (l .before .before .before .before .before .read-shared .last .1 .1 .1 .1 .0)
+    sym (length-take-le (l .letters-in .result) (l .before .before .before .before .before .read-shared .last .1 .1 .1 .1 .0)
     (omega (arith, few-letters l, long (l .before .before .before) .3)))
 
 answer-font-requires : tie.Need-answer-font-requires
@@ -172,7 +172,7 @@ answer-spec =
     enum-told
     zero-u8-requires
     enum-known-heads
-    length-of-requires
+    letters-in-requires
     array-share-prefix-instructions
     slice-aggregate-answer-font
     array-share-prefix-kerns

@@ -1,32 +1,35 @@
 -- `text_convert::convert_shared` meets its contract: the number and zeros, or what `put_converted` wrote. Assumes nothing.
-use mathlib.Core.Path.{_≡_, sym, ap, subst, _∙_}
+use mathlib.Core.Path.{_≡_, sym, subst, _∙_}
 use mathlib.Core.List.{List}
 use Prim.Native.Nat.{ℕ}
 use native.Mathlib.Omega.{arith}
 use lib.IntN.{ℤ}
 use lib.ListN.{length, drop}
 use borrow.Author.Needs.{needs}
+use Rattle.captions.specs.Begin.{lettersRefusal}
 use Rattle.columns.specs.Lines.{linesOf}
 use Rattle.text_convert_lines.specs.Anew.{linesAnew, PutsAnew}
-use Rattle.text_convert.specs.Judging.{anewRefusal}
-use Rattle.text_convert.proofs.Laws.{none-refused, number-answers, bytes-answer, rest-is}
+use Rattle.text_convert_refusal.specs.Judging.{anewRefusal}
+use Rattle.text_convert_refusal.proofs.Laws.{none-refused}
+use Rattle.text_convert.proofs.Laws.{number-answers, bytes-answer, rest-is}
 use Rattle.text_convert.proofs.convert_shared.Statement.{statement}
 use Rattle.text_convert.proofs.convert_shared.Tie as tie
 
 abbrev start : tie.After-convert-refusal → tie.Start
-start r = r .before .before .before
+start r = r .before .before .before .before .before
 
 abbrev lines : tie.After-convert-refusal → List ℕ
 lines r = let a = start r .args in linesAnew (a .instructions .now) (drop (a .k) (a .kerns .now)) (linesOf (a .text .now))
 
 -- the number, of what is written
 told : (r : tie.After-convert-refusal) → let a = start r .args in
-    r .convert-refusal .result ≡ anewRefusal (length (a .kerns .now)) (length (lines r)) (a .bad) (a .letters) (length (a .out .now))
+    r .convert-refusal .result ≡ anewRefusal (length (a .kerns .now)) (length (lines r)) (a .bad) (lettersRefusal (a .word .now)) (length (a .out .now))
 told r =
     let s = start r in
     let a = s .args in
-    r .convert-refusal .ensures
-    ∙ ap (λ (n : ℕ). anewRefusal (length (a .kerns .now)) n (a .bad) (a .letters) (length (a .out .now))) (sym (s .pre .long))
+    let n = sym (s .pre .long) in
+    let l = r .before .letters-refusal .ensures in
+    r .convert-refusal .ensures ∙ (λ i. anewRefusal (length (a .kerns .now)) (n i) (a .bad) (l i) (length (a .out .now)))
 
 sub-n : tie.Need-sub-n
 sub-n c = search needs
@@ -36,6 +39,9 @@ mul-n c = search needs
 
 add-n : tie.Need-add-n
 add-n c = search needs
+
+letters-refusal-requires : tie.Need-letters-refusal-requires
+letters-refusal-requires c κs = search needs
 
 convert-refusal-requires : tie.Need-convert-refusal-requires
 convert-refusal-requires c κs = search needs
@@ -52,7 +58,7 @@ returns c =
     let t = z .before .before in
     let r = t .before in
     let a = start r .args in
-    number-answers (r .convert-refusal .result) (anewRefusal (length (a .kerns .now)) (length (lines r)) (a .bad) (a .letters) (length (a .out .now))) (lines r)
+    number-answers (r .convert-refusal .result) (anewRefusal (length (a .kerns .now)) (length (lines r)) (a .bad) (lettersRefusal (a .word .now)) (length (a .out .now))) (lines r)
     (a .out .now) (z .zero-u8 .last .0) (told r) (t .if1 .taken) (z .zero-u8 .ensures)
 
 mul-put-converted : tie.Need-mul-put-converted
@@ -79,11 +85,11 @@ returns-2 c =
     let e = p .before .before .before in
     let r = e .before in
     let a = start r .args in
-    let z : anewRefusal (length (a .kerns .now)) (length (lines r)) (a .bad) (a .letters) (length (a .out .now)) ≡ 0 = sym (told r) ∙ e .if1 .left in
+    let z : anewRefusal (length (a .kerns .now)) (length (lines r)) (a .bad) (lettersRefusal (a .word .now)) (length (a .out .now)) ≡ 0 = sym (told r) ∙ e .if1 .left in
     let o = p .put-converted .last .1 .1 .1 .0 in
-    bytes-answer (anewRefusal (length (a .kerns .now)) (length (lines r)) (a .bad) (a .letters) (length (a .out .now))) (lines r) (a .out .now) o
+    bytes-answer (anewRefusal (length (a .kerns .now)) (length (lines r)) (a .bad) (lettersRefusal (a .word .now)) (length (a .out .now))) (lines r) (a .out .now) o
     (p .put-converted .result) z
-    (none-refused (length (a .kerns .now)) (length (lines r)) (a .bad) (a .letters) (length (a .out .now)) z .1)
+    (none-refused (length (a .kerns .now)) (length (lines r)) (a .bad) (lettersRefusal (a .word .now)) (length (a .out .now)) z .1)
     (subst (λ (l : List ℤ). PutsAnew (linesAnew (a .instructions .now) l (linesOf (a .text .now))) (a .out .now) (p .put-converted .result) o)
     (rest-is (a .k) (a .kerns .now)) (p .put-converted .ensures))
 
@@ -94,6 +100,7 @@ convert-shared-spec =
     sub-n
     mul-n
     add-n
+    letters-refusal-requires
     convert-refusal-requires
     zero-u8-requires
     same-length

@@ -1,10 +1,10 @@
--- `text_convert::convert_refusal` meets its contract: the first number that is not 0. Assumes nothing.
+-- `text_convert_refusal::convert_refusal` meets its contract: the first number that is not 0. Assumes nothing.
 use mathlib.Core.Logic.{_⊎_, inl, inr, ⊎-elim}
 use Prim.Native.Nat.{_<_, _≤_}
 use borrow.Author.Tests.{ltb-true, ltb-false}
-use Rattle.text_convert.proofs.Laws.{past-limits, font-refused, room-refused, letters-last}
-use Rattle.text_convert.proofs.convert_refusal.Statement.{statement}
-use Rattle.text_convert.proofs.convert_refusal.Tie as tie
+use Rattle.text_convert_refusal.proofs.Laws.{past-limits, font-refused, room-refused, letters-last}
+use Rattle.text_convert_refusal.proofs.convert_refusal.Statement.{statement}
+use Rattle.text_convert_refusal.proofs.convert_refusal.Tie as tie
 
 -- past a limit, by either test
 past : (j : tie.Joined1) → let a = j .before .args in (512 < a .kerns) ⊎ (65536 < a .n)

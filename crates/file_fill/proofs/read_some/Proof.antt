@@ -1,16 +1,16 @@
--- `ligcols::read_some` is safe and ends. The measure is how many tries are left; the list stays as long as it came.
+-- `file_fill::read_some` is safe and ends. The measure is how many tries are left; the list stays as long as it came.
 -- Assumes nothing.
 use mathlib.Core.Path.{_≡_, refl, _∙_}
 use native.Mathlib.Omega.{arith}
 use lib.ListN.{length}
-use Rattle.ligcols.proofs.read_some.Statement.{statement}
-use Rattle.ligcols.proofs.read_some.Tie as tie
+use Rattle.file_fill.proofs.read_some.Statement.{statement}
+use Rattle.file_fill.proofs.read_some.Tie as tie
 
 abbrev Inv-loop : tie.InvT-loop
-Inv-loop rest₀ tries₀ got₀ rest tries got = length rest ≡ length rest₀
+Inv-loop fd rest₀ tries₀ got₀ rest tries got = length rest ≡ length rest₀
 
 abbrev μ-loop : tie.MeasureT-loop
-μ-loop rest₀ tries₀ got₀ rest tries got = tries
+μ-loop fd rest₀ tries₀ got₀ rest tries got = tries
 
 read-requires : tie.Need-read-requires Inv-loop μ-loop
 read-requires c κs = tt

@@ -1,25 +1,26 @@
--- `ligcols::read_input` stays within the list, and ends: every turn but the last reads a byte or more. The list stays as long as it came.
+-- `file_fill::fill` stays within the list, and ends: every turn but the last reads a byte or more. The list stays as long as it came.
 -- Assumes nothing.
 use mathlib.Core.Path.{_≡_, refl, _∙_}
 use Prim.Native.Nat.{_≤_, _-_}
 use native.Mathlib.Omega.{arith}
 use lib.ListN.{length}
 use borrow.Rule.Slice.PartMut.{putMid, same-len-mid, mid-len}
-use Rattle.ligcols.proofs.read_input.Statement.{statement}
-use Rattle.ligcols.proofs.read_input.Tie as tie
+use Rattle.file_fill.proofs.fill.Statement.{statement}
+use Rattle.file_fill.proofs.fill.Tie as tie
 
 abbrev Inv-loop : tie.InvT-loop
-Inv-loop text₀ done₀ text done = (done ≤ length text) × (length text ≡ length text₀)
+Inv-loop fd bytes₀ done₀ bytes done = (done ≤ length bytes) × (length bytes ≡ length bytes₀)
 
 abbrev μ-loop : tie.MeasureT-loop
-μ-loop text₀ done₀ text done = length text₀ - done
+μ-loop fd bytes₀ done₀ bytes done = length bytes₀ - done
 
 -- after a read the list is as long as it came
 long : (a : tie.After-read-some Inv-loop μ-loop) → let l = a .before .before .before .loop in
-    length (putMid (l .done) (length (l .text) - l .done) (l .text) (a .read-some .last .0)) ≡ length (a .before .before .before .before .before .args .text .now)
+    length (putMid (l .done) (length (l .bytes) - l .done) (l .bytes) (a .read-some .last .1 .0))
+    ≡ length (a .before .before .before .before .before .args .bytes .now)
 long a =
     let l = a .before .before .before .loop in
-    same-len-mid (l .done) (length (l .text) - l .done) (l .text) (a .read-some .last .0) (a .read-some .kept .0) ∙ l .inv .1
+    same-len-mid (l .done) (length (l .bytes) - l .done) (l .bytes) (a .read-some .last .1 .0) (a .read-some .kept .1 .0) ∙ l .inv .1
 
 loop-holds : tie.Need-loop-holds Inv-loop μ-loop
 loop-holds c = (omega arith, refl)
@@ -40,7 +41,7 @@ same-length : tie.Need-same-length Inv-loop μ-loop
 same-length c = long (c .before .before .before)
 
 returns : tie.Need-returns Inv-loop μ-loop
-returns c = tt
+returns c = omega arith
 
 sub-count : tie.Need-sub-count Inv-loop μ-loop
 sub-count c = omega arith
@@ -58,7 +59,8 @@ same-length-2 : tie.Need-same-length-2 Inv-loop μ-loop
 same-length-2 c = long (c .before .before .before .before .before .before .before)
 
 returns-2 : tie.Need-returns-2 Inv-loop μ-loop
-returns-2 c = tt
+returns-2 c =
+    let a = c .before .before .before .before .before .before .before in omega (arith, long a, a .before .before .before .loop .inv .1)
 
 add-done : tie.Need-add-done Inv-loop μ-loop
 add-done c = omega arith
@@ -70,17 +72,17 @@ loop-again : tie.Need-loop-again Inv-loop μ-loop
 loop-again c =
     let a = c .before .before .before .before .before .before .before in
     let l = a .before .before .before .loop in
-    let t = putMid (l .done) (length (l .text) - l .done) (l .text) (a .read-some .last .0) in
+    let t = putMid (l .done) (length (l .bytes) - l .done) (l .bytes) (a .read-some .last .1 .0) in
     (omega (arith, long a, c .before .count .ensures .0 .0, mid-len (l .done) (length t) t (omega arith)), long a)
 
 same-length-3 : tie.Need-same-length-3 Inv-loop μ-loop
 same-length-3 c = c .before .loop .inv .1
 
 returns-3 : tie.Need-returns-3 Inv-loop μ-loop
-returns-3 c = tt
+returns-3 c = omega arith
 
-pub read-input-spec : {M : Type 1} → statement M
-read-input-spec =
+pub fill-spec : {M : Type 1} → statement M
+fill-spec =
     tie.close
     (tie.spec
     Inv-loop

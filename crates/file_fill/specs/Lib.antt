@@ -1,0 +1,3 @@
+-- An open file read into a list.
+--   Filling  how many bytes an answer says
+pub mod Filling
