@@ -1,5 +1,5 @@
-// End and take on the chip that stands in a list, for a host in C. Only what a command changes is written, and the letters
-// of the word are read where the step is made.
+// End and take on the chip that stands in a list, for a host in C. Only what a command changes is written, and the
+// letters of the word are read where the step is made.
 ghost use mathlib.Core.Path.{_≡_};
 ghost use mathlib.Core.Bool.{true, cond};
 ghost use mathlib.Core.List.{_++_};

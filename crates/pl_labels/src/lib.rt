@@ -1,6 +1,6 @@
 // A character, a label of a LIGTABLE list and the BOUNDARYCHAR list, put into a lent list of bytes from a place on, as
-// TFtoPL writes them (property_lists/specs/Displays.antt). What passes the end is left off, and the place behind the end
-// is answered.
+// TFtoPL writes them (property_lists/specs/Displays.antt). What passes the end is left off, and the place behind the
+// end is answered.
 ghost use Rattle.words.specs.Words.{numberOf};
 ghost use Rattle.property_lists.specs.Putting.{PutsCounted};
 ghost use Rattle.property_lists.specs.Displays.{leadingOctal, octalChar, labelLine, boundaryLabelLine, boundaryLine};

@@ -1,4 +1,2 @@
--- The next short word with its items, to be read in this order: SetNext (the contract of set_next), Purpose (what it means for a table that
--- begin accepts, and for a font).
+-- The next short word with its items: SetNext (the contract of set_next). What it means is crate short_word_settings.
 pub mod SetNext
-pub mod Purpose

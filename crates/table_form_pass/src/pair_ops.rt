@@ -57,8 +57,8 @@ fn all_pass(ops: &[i32], left: u32, flag: u32, start: usize, end: usize) -> bool
     left == 4294967295 || flag == 1
 }
 
-// The same, and the left is in range. Most are the left as it stands and a kern, so these come first, without a loop: an
-// op that is the left tests it.
+// The same, and the left is in range. Most are the left as it stands and a kern, so these come first, without a loop:
+// an op that is the left tests it.
 pub(crate) fn ops_pass(ops: &[i32], left: u32, flag: u32, start: usize, end: usize) -> bool
     requires { ⌜ (start ≤ end) × (end ≤ opCount (now ops)) ⌝ }
     ensures { λ r. ⌜ LeftPasses (now (ops .entry)) left (eqb flag 1) start end r ⌝ }

@@ -28,8 +28,8 @@ use text_shared::share_text;
 use words::number_of;
 use words::u8s::zero_u8;
 
-// A text whose first k kerns are its own and whose kern values are shared, written anew; `bad` is the number of its font
-// and of the signs of its letters.
+// A text whose first k kerns are its own and whose kern values are shared, written anew; `bad` is the number of its
+// font and of the signs of its letters.
 fn convert_shared(
     text: &[u8],
     k: usize,

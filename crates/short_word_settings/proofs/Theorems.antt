@@ -27,8 +27,8 @@ use Rattle.short_words.specs.NextWords.{nextShortWord, shortRefusal}
 use Rattle.short_words.proofs.Products.{letters-cons}
 use Rattle.short_words.proofs.Theorems.{next-is-taken}
 use Rattle.short_word_items.specs.NextItems.{nextWordItems}
 use Rattle.short_word_set.specs.SetNext.{itemsOfNext}
-use Rattle.short_word_set.specs.Purpose.{SetsAsWord, SetsAsRead}
+use Rattle.short_word_settings.specs.Purpose.{SetsAsWord, SetsAsRead}
 
 -- ---- a word over a set is a caption
 

@@ -38,9 +38,9 @@ use Rattle.word_set.specs.Setting.{andThen, itemsBy, itemsFrom, afterBegin}
 use Rattle.short_words.specs.ShortWords.{isShortWord}
 use Rattle.short_words.specs.NextWords.{nextShortWord, shortRefusal}
 use Rattle.short_word_items.specs.NextItems.{nextWordItems}
 use Rattle.short_word_set.specs.SetNext.{itemsOfNext}
-use Rattle.short_word_set.specs.Purpose.{SetNextNumbers}
-use Rattle.short_word_set.proofs.Theorems.{few, all-letters}
+use Rattle.short_word_settings.specs.Purpose.{SetNextNumbers}
+use Rattle.short_word_settings.proofs.Theorems.{few, all-letters}
 
 -- ---- 0, or one of the numbers
 

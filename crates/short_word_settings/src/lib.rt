@@ -1,0 +1,1 @@
+// Theorems: what setting the next short word gives. No functions.
