@@ -1,4 +1,6 @@
 // What one removal answers (R485).
+#![tactic(auto)]
+
 ghost use Rattle.std.specs.Prelude.{◌≡◌};
 ghost use Rattle.removals.specs.Search.{removal_answer};
 

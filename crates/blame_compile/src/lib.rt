@@ -1,4 +1,6 @@
 // A font compiled with no room for a loop (R484), so that compile answers 15 exactly where there is one.
+#![tactic(auto)]
+
 ghost use Rattle.std.specs.Prelude.{[]};
 ghost use Rattle.fonts.specs.Compiled.{Compiles};
 ghost use Rattle.removals.specs.Removed.{font_at, size_number};

@@ -1,4 +1,6 @@
 // The tables cut (R484): of each kind both are cut to the smaller, and then the font as given is answered.
+#![tactic(auto)]
+
 ghost use Rattle.std.specs.Prelude.{◌≡◌, length};
 ghost use Rattle.removals.specs.Removed.{font_at, size_number};
 ghost use Rattle.removals.specs.Search.{blame_room, blamed_of};

@@ -1,4 +1,6 @@
 // The font as given (R486): its table, its refusals, and then the removals one after the other.
+#![tactic(auto)]
+
 ghost use Rattle.std.specs.Prelude.{◌≡◌, length};
 ghost use Rattle.fonts.specs.Compiled.{room_of};
 ghost use Rattle.removals.specs.Removed.{font_at, size_number};

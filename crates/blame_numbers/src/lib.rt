@@ -1,4 +1,6 @@
 // The refusals before any removal (R486), the lowest that holds.
+#![tactic(auto)]
+
 ghost use Rattle.std.specs.Prelude.{◌≡◌, []};
 ghost use Rattle.lang.specs.Answers.{room_refusal};
 ghost use Rattle.lang.specs.Checks.{lower};

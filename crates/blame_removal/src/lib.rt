@@ -1,5 +1,7 @@
 // One removal answered (R485): a font whose instructions were edited is compiled, with no room for a loop, and the
 // items of a word in it are compared with those over the table of the font as it was given.
+#![tactic(auto)]
+
 ghost use Rattle.std.specs.Prelude.{◌≡◌};
 ghost use Rattle.removals.specs.Removed.{font_at, size_number};
 ghost use Rattle.blame_removal.specs.Edited.{TablesFit, compiled_answer, AnswersEdited};

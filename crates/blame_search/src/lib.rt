@@ -1,4 +1,6 @@
 // The removals one after the other (R483).
+#![tactic(auto)]
+
 ghost use Rattle.std.specs.Prelude.{◌≡◌, ◌/◌, ◌<◌, length};
 ghost use Rattle.std.proofs.lemmas.List.Edits.{sets};
 ghost use Rattle.removals.specs.Removed.{without_instruction, font_at, size_number};

@@ -1,4 +1,6 @@
 // The six lists that are lent as work, each left zero.
+#![tactic(auto)]
+
 ghost use Rattle.removals.specs.Search.{WorkZeroed};
 
 use words::i32s::zero_i32;

@@ -1,4 +1,6 @@
 // What is told a host in C of a blamed instruction: two values in a list, or a number.
+#![tactic(auto)]
+
 ghost use Rattle.std.specs.Prelude.{[], ◌∷◌, pos};
 ghost use Rattle.lang.specs.Answers.{reply_of};
 ghost use Rattle.removals.specs.declared.Blamed.TheVariants as blamed;

@@ -3,5 +3,6 @@
 // c_steps, and the list of a state is c_states.
 //   runs   ligkern_begin
 //   whole  ligkern_set_word
+#![tactic(auto)]
 pub mod runs;
 pub mod whole;

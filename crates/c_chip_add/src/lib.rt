@@ -1,4 +1,6 @@
 // Add on the chip that stands in a list, for a host in C: the letter, the length of the word and the block are written.
+#![tactic(auto)]
+
 ghost use Rattle.std.specs.Prelude.{◌≡◌, true, ◌≤◌, length};
 ghost use Rattle.chips.specs.Blocks.{block_letter};
 ghost use Rattle.chips.specs.Commands.{chip_refusal, may_add, in_turn, chip_added};

@@ -1,5 +1,7 @@
 // Begin of the chip that stands in a list, for a host in C. The table is looked at before the list, so that nothing of
 // the list is kept while it is read.
+#![tactic(auto)]
+
 ghost use Rattle.std.specs.Prelude.{◌≡◌, true, [], ◌≤◌, length};
 ghost use Rattle.lang.specs.Checks.{or_else};
 ghost use Rattle.captions.specs.Form.{table_refusal};

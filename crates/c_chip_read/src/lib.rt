@@ -1,5 +1,7 @@
 // A chip that stands in a list of 91 numbers, for a host in C: whether some command leaves such a one, and what is
 // refused before a command is looked at. No chip is built for it.
+#![tactic(auto)]
+
 ghost use Rattle.std.specs.Prelude.{◌≡◌, ◌≤◌, leb, length, get_or};
 ghost use Rattle.lang.specs.Every.{both, every};
 ghost use Rattle.chips.specs.Commands.{item_stands, open_stands};

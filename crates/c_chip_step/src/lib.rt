@@ -1,5 +1,7 @@
 // End and take on the chip that stands in a list, for a host in C. Only what a command changes is written, and the
 // letters of the word are read where the step is made.
+#![tactic(auto)]
+
 ghost use Rattle.std.specs.Prelude.{◌≡◌, true, cond, ◌++◌, suc, ◌+◌, ◌-◌, ◌≤◌, length, get_or, set, replicate};
 ghost use Rattle.lang.specs.Every.{every};
 ghost use Rattle.chips.specs.Blocks.{item_ready};

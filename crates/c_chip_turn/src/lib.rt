@@ -1,4 +1,6 @@
 // The commands but begin on the chip that stands in a list, for a host in C, by byte 0.
+#![tactic(auto)]
+
 ghost use Rattle.std.specs.Prelude.{length};
 ghost use Rattle.chips.specs.Commands.{chip_after};
 ghost use Rattle.c_chips.specs.ChipLists.{chip_read, after_early, MovesChip};

@@ -1,5 +1,7 @@
 // What a command changes of a chip that stands in a list of 91 numbers, for a host in C: only that is written, and the
 // block that shows it.
+#![tactic(auto)]
+
 ghost use Rattle.std.specs.Prelude.{◌≡◌, [], ◌∷◌, ◌++◌, ◌-◌, ◌≤◌, length, get_or, drop, replicate};
 ghost use Rattle.std.proofs.lemmas.List.Edits.{sets};
 ghost use Rattle.c_states.specs.States.{numbers_of};

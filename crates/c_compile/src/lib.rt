@@ -2,5 +2,7 @@
 // the counts in a list that is lent for them (R215).
 //   compiling  ligkern_compile
 //   numbers    three numbers of a list
+#![tactic(auto)]
+
 pub mod compiling;
 mod numbers;

@@ -1,5 +1,7 @@
 // Asking for another font, and the start of a word, for a host in C (R214): slices and integers in, the number of a
 // refusal out (0 where it is taken). The run stands in a list of twelve numbers (crate c_font_runs).
+#![tactic(auto)]
+
 ghost use Rattle.std.specs.Prelude.{◌≡◌};
 ghost use Rattle.lang.specs.Checks.{unless};
 ghost use Rattle.c_states.specs.States.{options_of};

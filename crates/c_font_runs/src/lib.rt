@@ -1,5 +1,7 @@
 // A run that knows its font as twelve numbers of a list: read there, and written. Each function is the definition of
 // its name in specs/RunLists.antt.
+#![tactic(auto)]
+
 ghost use Rattle.std.specs.Prelude.{◌≡◌, true, get_or};
 ghost use Rattle.c_font_runs.specs.RunLists.{asked_flag, asked_number, asked_of, asked_fits, is_run, run_read};
 ghost use Rattle.c_font_runs.specs.RunLists.{PutsRun};

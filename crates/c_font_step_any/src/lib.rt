@@ -1,5 +1,7 @@
 // One step of a run that may change its font, whatever is asked for, told into lists (R214): the run in a list of
 // twelve numbers (crate c_font_runs), the item in one of seven.
+#![tactic(auto)]
+
 ghost use Rattle.std.specs.Prelude.{◌≡◌, ◌≤◌, length};
 ghost use Rattle.captions.specs.Replies.{answer_reply};
 ghost use Rattle.word_items.specs.ItemLists.{Small};

@@ -2,6 +2,8 @@
 // out (0 where it is taken). The run stands in a list of twelve numbers (crate c_font_runs). With nothing asked for the
 // step is that of `ligkern_step`, on the first nine, and so it is where a font that is asked for is known to wait
 // (crate c_font_waits): then the last three numbers stay. Every other step goes by `any_step`.
+#![tactic(auto)]
+
 ghost use Rattle.std.specs.Prelude.{◌≡◌};
 ghost use Rattle.c_states.specs.States.{options_of};
 ghost use Rattle.font_runs.specs.Requests.{lending};

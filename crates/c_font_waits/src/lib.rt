@@ -1,5 +1,7 @@
 // Whether a font that is asked for is known to wait through a step: one look-up. Each function is the definition of its
 // name in specs/Waiting.antt.
+#![tactic(auto)]
+
 ghost use Rattle.std.specs.Prelude.{◌≡◌, true, cond};
 ghost use Rattle.c_font_waits.specs.Waiting.{has_pair, is_held, is_waiting};
 

@@ -1,5 +1,7 @@
 // One kern scaled (R48 to R54, R350 to R356) for a host in C: integers in, the number of a refusal out (R214), and the
 // scaled kern in a list that is lent for it.
+#![tactic(auto)]
+
 ghost use Rattle.tfm.specs.Scaled.{scaled_at, scaled_at_reply};
 ghost use Rattle.c_scale.specs.Scaling.{TellsScaled};
 

@@ -3,6 +3,8 @@
 // every other one goes by `any_step`. `any_step` reads the state from its list anew, so that on the quick path no state
 // is built in memory for it.
 //   items  an item, in a list of seven numbers
+#![tactic(auto)]
+
 ghost use Rattle.c_states.specs.States.{options_of};
 ghost use Rattle.c_steps.specs.Step.{StepsRun};
 

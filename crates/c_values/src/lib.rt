@@ -1,6 +1,8 @@
 // What every call for a host in C does with the answer of the port's own function: it tells the number, 0 or that of a
 // refusal (R214), and the values in a lent list of u64 (R215); and it zeroes each list that was written, where the
 // number refuses (R252).
+#![tactic(auto)]
+
 ghost use Rattle.lang.specs.Answers.{written_reply};
 ghost use Rattle.c_values.specs.Telling.{TellsHost};
 

@@ -1,4 +1,6 @@
 // The next short word in lists, for a host in C: its letters, its items and what is told of it.
+#![tactic(auto)]
+
 ghost use Rattle.std.specs.Prelude.{◌≡◌, ◌≤◌, pos, length, get_or};
 ghost use Rattle.std.proofs.lemmas.List.Edits.{sets};
 ghost use Rattle.c_values.specs.Telling.{natural};

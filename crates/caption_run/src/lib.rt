@@ -3,6 +3,8 @@
 //   begin  `begin`
 //   steps  `step`, over crate step_turns
 //   edges  what goes with a word besides its letters
+#![tactic(auto)]
+
 pub mod begin;
 pub mod edges;
 pub mod steps;

@@ -194,8 +194,8 @@ ops_first : (os : List Out) (rest : List ℤ) → ops_from (op_numbers os ++ res
 unfolding ops_from op_numbers
 ops_first [] rest = refl
 ops_first (o ∷ os) rest =
-    rw (append_assoc (out_numbers o) (op_numbers os) rest)
-    (ap₂ (λ (p : Out) (l : List Out). p ∷ l) (op_first o (op_numbers os ++ rest)) (ops_on o (op_numbers os ++ rest) 0 (length os) ∙ ops_first os rest))
+    ap (λ (l : List ℤ). ops_from l 0 (length (o ∷ os))) (append_assoc (out_numbers o) (op_numbers os) rest)
+    ∙ ap₂ (λ (p : Out) (l : List Out). p ∷ l) (op_first o (op_numbers os ++ rest)) (ops_on o (op_numbers os ++ rest) 0 (length os) ∙ ops_first os rest)
 
 ops_after : (os : List Out) (rest : List ℤ) (n : ℕ) → ops_from (op_numbers os ++ rest) (length os) n ≡ ops_from rest 0 n
 unfolding op_numbers

@@ -3,7 +3,9 @@
 // `caption_run` does it.
 
 // How a word is set: without the left boundary, and with another right item than the boundary character (-1 for none).
-#[derive(Drop)]
+#![tactic(auto)]
+
+#[derive(Clone, Copy)]
 pub struct RunOptions {
     pub disable_left_boundary: bool,
     pub right_boundary_override: i32,
@@ -11,7 +13,7 @@ pub struct RunOptions {
 
 // What is looked up next, once the ops are given: the left boundary; a character of the word; a ligature that took the
 // last letter read in; or, at the word's end, a ligature that is given as it stands, or nothing.
-#[derive(Drop)]
+#[derive(Clone, Copy)]
 pub enum NextLeft {
     Boundary,
     Char(u32),
@@ -22,7 +24,7 @@ pub enum NextLeft {
 
 // What the next ligature of a pair takes in of the pair's left: nothing, since it was given or is a pending ligature;
 // its letter; or the left boundary.
-#[derive(Drop)]
+#[derive(Clone, Copy)]
 pub enum Consumes {
     Nothing,
     Letter,
@@ -30,7 +32,7 @@ pub enum Consumes {
 }
 
 // A run between two steps.
-#[derive(Drop)]
+#[derive(Clone, Copy)]
 pub struct State {
     pub next_left: NextLeft,
     // the next op to be given, and how many are to be given
@@ -48,7 +50,7 @@ pub struct State {
 
 // What a step answers: a character with the place of its letter; a ligature with its code, its original's start and
 // length, and whether it took in the left and the right boundary; a scaled kern; the end; or the number of its refusal.
-#[derive(Drop)]
+#[derive(Clone, Copy)]
 pub enum Answer {
     Char(u32, usize),
     Ligature(u32, usize, usize, bool, bool),
@@ -58,35 +60,35 @@ pub enum Answer {
 }
 
 // A step's answer and the state that it leaves.
-#[derive(Drop)]
+#[derive(Clone, Copy)]
 pub struct Step {
     pub answer: Answer,
     pub state: State,
 }
 
 // What begin answers: a fresh state, or the number of its refusal.
-#[derive(Drop)]
+#[derive(Clone, Copy)]
 pub enum Begun {
     Run(State),
     Refused(u32),
 }
 
 // The place of a pair in a table, or nothing.
-#[derive(Drop)]
+#[derive(Clone, Copy)]
 pub enum Found {
     At(usize),
     Nothing,
 }
 
 // The answer to a question about a table, or the number of its refusal.
-#[derive(Drop)]
+#[derive(Clone, Copy)]
 pub enum Told {
     Is(bool),
     Refused(u32),
 }
 
 // One turn of a step: it answers, or goes on with another state.
-#[derive(Drop)]
+#[derive(Clone, Copy)]
 pub enum Turned {
     Gives(Step),
     Goes(State),

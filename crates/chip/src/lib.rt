@@ -1,5 +1,7 @@
 // The caption chip: one command on a block of 16 bytes. What each does, and what it refuses, is said in
 // chips/specs/Commands.antt.
+#![tactic(auto)]
+
 ghost use Rattle.std.specs.Prelude.{◌≡◌};
 ghost use Rattle.chips.specs.Commands.{fresh_chip, Commands};
 

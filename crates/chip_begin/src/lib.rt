@@ -1,4 +1,6 @@
 // Begin of the caption chip: an empty word of a caller, or the number of its refusal and the chip as it was.
+#![tactic(auto)]
+
 ghost use Rattle.std.specs.Prelude.{◌≡◌, []};
 ghost use Rattle.lang.specs.Checks.{or_else};
 ghost use Rattle.captions.specs.Begin.{fresh_state, begin_refusal, begin_of, plain_options};

@@ -1,5 +1,7 @@
 // The bytes of a chip's block that a taken command writes: the status, the words that the caller ended, and the item
 // that is shown. The mask and the rest are left as they are.
+#![tactic(auto)]
+
 ghost use Rattle.std.specs.Prelude.{◌≡◌, [], ◌∷◌, not, ◌+◌, ◌≤◌, length};
 ghost use Rattle.std.proofs.lemmas.List.Edits.{sets};
 ghost use Rattle.captions.specs.Replies.{is_end};

@@ -1,5 +1,7 @@
 // What is refused before a chip's command is looked at: 4 of the boundary character, 7 of a chip that no command
 // leaves, 15 of a block.
+#![tactic(auto)]
+
 ghost use Rattle.std.specs.Prelude.{◌≡◌, leb, length, get_or};
 ghost use Rattle.lang.specs.Every.{every};
 ghost use Rattle.lang.specs.Checks.{or_else, absent_refusal};

@@ -1,5 +1,7 @@
 // A chip after a command, or the number of its refusal and the chip as it was. The block is not looked at here: of it
 // come its length, the command and byte 1, the letter of add and the caller of begin.
+#![tactic(auto)]
+
 ghost use Rattle.std.specs.Prelude.{◌≡◌, true, [], ◌∷◌, ◌≤◌};
 ghost use Rattle.lang.specs.Checks.{absent_refusal};
 ghost use Rattle.chips.specs.Blocks.{item_ready};

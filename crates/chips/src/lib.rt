@@ -2,7 +2,9 @@
 // and theorems (proofs/Theorems) alone: crate `chip` has the commands.
 
 // All that a chip knows between two commands; the block keeps nothing of it.
-#[derive(Drop)]
+#![tactic(auto)]
+
+#[derive(Clone, Copy)]
 pub struct Chip {
     // whether a word is open; how many letters it has, and these; what stands past them is not read
     pub opened: bool,
@@ -18,7 +20,7 @@ pub struct Chip {
 }
 
 // What a command answers: 0 or the number of its refusal, and the chip after it.
-#[derive(Drop)]
+#[derive(Clone, Copy)]
 pub struct Commanded {
     pub number: u32,
     pub chip: Chip,

@@ -3,7 +3,9 @@
 // `text_answer` does the whole.
 
 // A field of 12 columns: its number, or 16.
-#[derive(Drop)]
+#![tactic(auto)]
+
+#[derive(Clone, Copy)]
 pub enum FieldRead {
     Number(i32),
     Unreadable,
@@ -11,7 +13,7 @@ pub enum FieldRead {
 
 // What a text says beside its lists, and how long these are: numbers of instructions, kerns and entries, and the
 // characters of the word (-1 where there is no word).
-#[derive(Drop)]
+#[derive(Clone, Copy)]
 pub struct TextHeads {
     pub design: i32,
     pub boundary: i32,
@@ -23,7 +25,7 @@ pub struct TextHeads {
 }
 
 // A text: its heads, or 16.
-#[derive(Drop)]
+#[derive(Clone, Copy)]
 pub enum TextRead {
     Text(TextHeads),
     Unreadable,

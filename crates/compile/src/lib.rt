@@ -6,6 +6,8 @@
 //   compile_op_counts                 how many ops each pair has
 //   compile_ops, compile_lists        the tables
 // A size that is asked for, or a magnification, is there the design size of that size (R357); its number comes last.
+#![tactic(auto)]
+
 ghost use Rattle.std.specs.Prelude.{◌≡◌};
 ghost use Rattle.tfm.specs.Scaled.{asked_refusal, design_at};
 ghost use Rattle.lang.specs.Checks.{or_else, absent_refusal, design_refusal};

@@ -2,6 +2,8 @@
 // order with the boundary first, after `build_node_to_program_start_map` of ligkern/compiler.rs (lines 113 to 148).
 // Each left's chain is walked once (crate `compile_survey`), and its rows written (crate `compile_chain_rows`).
 // specs/Rows.antt of crate `compiling` says what a row holds.
+#![tactic(auto)]
+
 ghost use Rattle.std.specs.Prelude.{◌≡◌, ◌*◌, ◌<◌, ◌≤◌, ◌/◌, min, length, replicate};
 ghost use Rattle.words.specs.Words.{Word};
 ghost use Rattle.lang.specs.Records.{count};

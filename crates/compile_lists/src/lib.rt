@@ -1,6 +1,8 @@
 // The last stage of compiling: the pair table and the loop list as numbers, from rows that are counted; the ops are
 // crate `compile_ops`'s. After lines 400 to 460 of ligkern/compiler.rs for the loops. specs/Rows.antt of crate
 // `compiling` says what a row holds.
+#![tactic(auto)]
+
 ghost use Rattle.std.specs.Prelude.{◌≡◌, ◌+◌, ◌*◌, ◌<◌, ◌≤◌, length, replicate, ℤ, pos};
 ghost use Rattle.std.proofs.lemmas.List.Edits.{sets};
 ghost use Rattle.words.specs.Words.{number_of};

@@ -1,5 +1,7 @@
 // The third stage of compiling: the loop list (R87 to R89), a walk from each row that never finishes, in the order of
 // TFtoPL 90, after lines 400 to 460 of ligkern/compiler.rs. specs/Rows.antt of crate `compiling` says what a row holds.
+#![tactic(auto)]
+
 ghost use Rattle.std.specs.Prelude.{◌≡◌, ℕ, ◌/◌, ◌<◌, ◌≤◌, min, length, ℤ};
 ghost use Rattle.fonts.specs.Fonts.{font_of};
 ghost use Rattle.compiling.specs.Rows.{at, Encoded};

@@ -1,5 +1,7 @@
 // The fourth stage of compiling: how many ops each pair has, and where they begin, in passes over settled rows; what of
 // the refusals 13 to 15 that tells. specs/Rows.antt of crate `compiling` says what a row holds.
+#![tactic(auto)]
+
 ghost use Rattle.std.specs.Prelude.{◌≡◌, ℕ, ◌+◌, ◌<◌, length, ℤ};
 ghost use Rattle.fonts.specs.Fonts.{Font, font_of};
 ghost use Rattle.fonts.specs.Compiled.{room_of};

@@ -1,5 +1,7 @@
 // The parts that a row's ops are made of, over any rows: counting and writing both go by them. On rows whose rules are
 // written they are those of specs/OpSteps.antt of crate `compiling`, after lines 171 to 398 of ligkern/compiler.rs.
+#![tactic(auto)]
+
 ghost use Rattle.std.specs.Prelude.{◌≡◌};
 ghost use Rattle.compiling.specs.OpSteps.{left_part};
 ghost use Rattle.compile_op_parts.specs.FoundParts.{pair_found, last_found, place_of, first_found, second_found};

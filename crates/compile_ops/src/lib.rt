@@ -1,6 +1,8 @@
 // The fifth stage of compiling: the ops as numbers, in a pass over the rows in the order in which they finished, each
 // copied from rows written before. After lines 171 to 398 of ligkern/compiler.rs. specs/Rows.antt of crate `compiling`
 // says what a row holds.
+#![tactic(auto)]
+
 ghost use Rattle.std.specs.Prelude.{◌≡◌, List, [], ◌∷◌, ◌+◌, ◌*◌, ◌<◌, ◌≤◌, length, take, drop, replicate, ℤ, pos};
 ghost use Rattle.std.proofs.lemmas.List.Edits.{sets};
 ghost use Rattle.words.specs.Words.{number_of};

@@ -1,6 +1,8 @@
 // The first stage of compiling, after ligkern/compiler.rs (reference `CompiledProgram::compile`, lines 113 to 224): the
 // rows of a font in the work buffer; specs/Rows.antt of crate `compiling` says what a row holds. Crate
 // `compile_collect` writes the pairs that have a rule, and `encode` what their rules do.
+#![tactic(auto)]
+
 ghost use Rattle.std.specs.Prelude.{◌/◌, min, length, ℤ};
 ghost use Rattle.fonts.specs.Fonts.{font_of};
 ghost use Rattle.compile_prepare.specs.Prepares.{Prepares};

@@ -1,5 +1,7 @@
 // Rows of the work buffer of compiling: one number read or stored, and the row of a pair by bisection. specs/Rows.antt
 // of crate `compiling` says what a row holds.
+#![tactic(auto)]
+
 ghost use Rattle.std.specs.Prelude.{◌≡◌, ◌+◌, ◌*◌, set};
 ghost use Rattle.compiling.specs.Rows.{at, row_key, search_row, found_row};
 

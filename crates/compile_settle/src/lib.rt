@@ -2,6 +2,8 @@
 // search, after TFtoPL 94 and 95 and `calculate_replacements` of ligkern/compiler.rs (lines 162 to 398). Linear in the
 // rows, times a bisection. The path, from the row that the search began with to the one that it looks at, stands in
 // numbers 8 of the first rows; specs/Rows.antt of crate `compiling` says what a row holds.
+#![tactic(auto)]
+
 ghost use Rattle.std.specs.Prelude.{◌≡◌, ℕ, ◌/◌, ◌<◌, min, length, ℤ};
 ghost use Rattle.compiling.specs.Rows.{at, Ascending, Encoded};
 ghost use Rattle.fonts.specs.Fonts.{left_of, font_of};

@@ -1,5 +1,7 @@
 // What a packed entry stands for (TeX 545): a redirect's target, or itself; and whether it can be followed (TFtoPL 67).
 // After the first part of `unpack_entrypoint` of ligkern/lang.rs (lines 533 to 551).
+#![tactic(auto)]
+
 ghost use Rattle.std.specs.Prelude.{◌≡◌};
 ghost use Rattle.lang.specs.Records.{is_kind};
 ghost use Rattle.entry_targets.specs.Targets.{target_at, stands_for, entry_refusal};

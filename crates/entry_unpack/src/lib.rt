@@ -1,5 +1,7 @@
 // The entry of a character from the packed one, after `unpack_entrypoint` (ligkern/lang.rs lines 533 to 551); the
 // program's seven-bit test, after `is_seven_bit_safe` (lines 678 to 689).
+#![tactic(auto)]
+
 ghost use Rattle.std.specs.Prelude.{◌≡◌, true, [], ◌++◌, ◌<◌, ◌≤◌, ◌/◌, length, drop};
 ghost use Rattle.program_chain.specs.Chains.{chain_of};
 ghost use Rattle.entry_unpack.specs.Unpacking.{unpack_refusal, unpacked_reply, is_named, passthrough_at};
@@ -13,7 +15,7 @@ use program_checks::{program_refusal, range_refusal};
 use program_limits::{entries_refusal, passthrough_refusal, room_refusal};
 
 // What unpacking an entry answers.
-#[derive(Drop)]
+#[derive(Clone, Copy)]
 pub enum Unpacked {
     Entry(usize),
     // The entry is past the instructions.
@@ -25,7 +27,7 @@ pub enum Unpacked {
 }
 
 // What the seven-bit test answers.
-#[derive(Drop)]
+#[derive(Clone, Copy)]
 pub enum SevenBit {
     Safe(bool),
     Refused(u32),

@@ -1,5 +1,7 @@
 // The characters' words of a font file, put into a part that is lent (files/specs/Sections.antt, TeX 543 and 544). What
 // passes the end of the part is left off.
+#![tactic(auto)]
+
 ghost use Rattle.std.specs.Prelude.{◌≡◌, ◌+◌, ◌<◌, negsuc, get_or};
 ghost use Rattle.words.specs.Words.{number_of};
 ghost use Rattle.files.specs.Lengths.{char_count, char_start};

@@ -1,5 +1,7 @@
 // The refusal 18: what no font file holds, or what would make this one too long (files/specs/Writing.antt). Each
 // function is a definition there. The lengths of the old file are read once.
+#![tactic(auto)]
+
 ghost use Rattle.std.specs.Prelude.{◌≡◌, ◌<◌, ◌/◌, leb, length};
 ghost use Rattle.words.specs.Words.{number_of};
 ghost use Rattle.lang.specs.Every.{every};

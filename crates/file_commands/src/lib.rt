@@ -1,5 +1,7 @@
 // Words of a font file, after files/specs/Commands.antt: a word's bytes; an instruction's numbers, from them; a kern; a
 // character's tag; the boundary character and the left entry (TeX 541 to 545). Numbers are given as their 32 bits.
+#![tactic(auto)]
+
 ghost use Rattle.std.specs.Prelude.{◌≡◌, cond, ◌+◌, ◌*◌, ltb, pos, negsuc};
 ghost use Rattle.words.specs.Words.{number_of};
 ghost use Rattle.lang.specs.Every.{both};

@@ -5,4 +5,4 @@ use Rattle.file_fill.specs.declared.Filled.TheVariants as Fill
 
 abbrev pub filled_bytes : Filled → ℕ
 filled_bytes (Fill.Bytes n) = n
-filled_bytes Fill.Failed = 0
+filled_bytes (Fill.Failed e) = 0

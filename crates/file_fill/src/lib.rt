@@ -1,46 +1,67 @@
-// An open file, as standard input is, read into a lent list of bytes. What is read no contract can say; that the count
-// is within the list is proved.
+// A reader, as standard input is, read into a lent list of bytes. What is read no contract can say; that the count is
+// within the list is proved.
+#![tactic(auto)]
+
 ghost use Rattle.std.specs.Prelude.{◌≤◌, length};
+ghost use Rattle.std.specs.Io.{ReadsAtMost};
 ghost use Rattle.file_fill.specs.Filling.{filled_bytes};
 
-// How many bytes were read until the file ended or the list was full; or a read failed.
+use std::io::{self, ErrorKind, Read};
+
+// How many bytes were read until the file ended or the list was full; or why a read failed.
 #[derive(Drop)]
 pub enum Filled {
     Bytes(usize),
-    Failed,
+    Failed(io::Error),
 }
 
 // A signal interrupted the read that answered this.
-fn is_interrupted(got: isize) -> bool {
-    got < 0 && os::errno() == libc::EINTR
+fn is_interrupted(got: &io::Result<usize>) -> bool {
+    match got {
+        Ok(_) => false,
+        Err(error) => error.kind() == ErrorKind::Interrupted,
+    }
 }
 
 // One read. Where a signal interrupts it, it is tried again, but not for ever.
-fn read_some(fd: i32, rest: &mut [u8]) -> isize {
-    let mut tries: usize = 1000;
-    let mut got = libc::read(fd, rest);
-    while 0 < tries && is_interrupted(got) {
-        got = libc::read(fd, rest);
-        tries -= 1;
+fn read_some<R: Read>(reader: &mut R, rest: &mut [u8]) -> io::Result<usize>
+    ensures { ReadsAtMost result rest.new }
+{
+    for _ in 0..1000 {
+        let got = reader.read(rest);
+        if !is_interrupted(&got) {
+            return got;
+        }
     }
-    got
+    reader.read(rest)
 }
 
 // Reads until the file ends or the list is full.
-pub fn fill(fd: i32, bytes: &mut [u8]) -> Filled
+pub fn fill<R: Read>(reader: &mut R, bytes: &mut [u8]) -> Filled
     ensures { filled_bytes result ≤ length bytes.new }
 {
     let mut done = 0;
     while done < bytes.len() {
-        let got = read_some(fd, &mut bytes[done..]);
-        if got < 0 {
-            return Filled::Failed;
+        match read_some(reader, &mut bytes[done..]) {
+            Err(error) => return Filled::Failed(error),
+            Ok(0) => return Filled::Bytes(done),
+            Ok(n) => done += n,
         }
-        let n = io::count(got, &bytes[done..]);
-        if n == 0 {
-            return Filled::Bytes(done);
-        }
-        done += n;
     }
     Filled::Bytes(done)
+}
+
+// As `fill`, but where a read fails what was read before it stands.
+pub fn fill_front<R: Read>(reader: &mut R, bytes: &mut [u8]) -> usize
+    ensures { result ≤ length bytes.new }
+{
+    let mut done = 0;
+    while done < bytes.len() {
+        match read_some(reader, &mut bytes[done..]) {
+            Err(_) => return done,
+            Ok(0) => return done,
+            Ok(n) => done += n,
+        }
+    }
+    done
 }

@@ -1,5 +1,7 @@
 // The font that a file means, read (file_fonts/specs/Meant.antt): how many bytes are the file, its design size, and its
 // lists with the entries unpacked.
+#![tactic(auto)]
+
 ghost use Rattle.std.specs.Prelude.{◌≡◌, ◌+◌, ◌-◌, ◌≤◌, eqb, length};
 ghost use Rattle.words.specs.Words.{number_of};
 ghost use Rattle.lang.specs.Every.{every};

@@ -3,7 +3,9 @@
 
 // What reading such a font answers: how many instructions, kerns, entries, and characters whose entry leads nowhere;
 // its boundary character and its left entry (-1 for none), and its design size. Or the number of its refusal.
-#[derive(Drop)]
+#![tactic(auto)]
+
+#[derive(Clone, Copy)]
 pub enum FileFont {
     Font(usize, usize, usize, usize, i32, i32, i32),
     Refused(u32),

@@ -1,5 +1,7 @@
 // The twelve lengths of a font file, the words at which its sections start, and 17 (TeX 540, 541). Each function is the
 // definition of the same name in files/specs/Lengths.antt.
+#![tactic(auto)]
+
 ghost use Rattle.std.specs.Prelude.{◌≡◌, leb};
 ghost use Rattle.lang.specs.Every.{every};
 ghost use Rattle.files.specs.Lengths.{file_half, lengths_of, char_count, char_start, command_start, kern_start};

@@ -13,4 +13,4 @@ loaded_bytes Answer.TooLong = 0
 
 abbrev pub filled_bytes : Filled → ℕ
 filled_bytes (Fill.Bytes n) = n
-filled_bytes Fill.Failed = 0
+filled_bytes (Fill.Failed e) = 0

@@ -1,10 +1,17 @@
 // A file by its name, read into a lent list of bytes. What is read no contract can say; that the count is within the
 // list is proved. Zeros past the list's end are passed over.
+#![tactic(auto)]
+
 ghost use Rattle.std.specs.Prelude.{◌≤◌, length};
+ghost use Rattle.std.specs.Io.{ReadsAtMost};
 ghost use Rattle.file_load.specs.Loading.{loaded_bytes, filled_bytes};
 
-use words::u8s::u8_at;
-use words::word_of;
+pub mod args;
+
+use failures::tell;
+use std::fs;
+use std::io::{self, ErrorKind, Read};
+use std::rt::Files;
 
 // What is answered: how many bytes were read; that there is no such file; the error of a call that failed, whose text
 // was told on standard error; or that more than zeros follow what the list holds.
@@ -16,147 +23,156 @@ pub enum Loaded {
     TooLong,
 }
 
-// How many bytes were read until the file ended or the list was full; or a read failed.
+// How many bytes were read until the file ended or the list was full; or why a read failed.
 #[derive(Drop)]
 enum Filled {
     Bytes(usize),
-    Failed,
+    Failed(io::Error),
 }
 
-// What a piece past the list is: zeros; the end; other bytes; or a read failed.
+// What a piece past the list is: zeros; the end; other bytes; or why a read failed.
 #[derive(Drop)]
 enum Rest {
     Zeros,
     End,
     Others,
-    Failed,
+    Failed(io::Error),
 }
 
+// No such file; a name that has a zero, for which std has no number of the system; and one that is not UTF-8, which std
+// does not open.
+const ENOENT: i32 = 2;
+
+const EINVAL: i32 = 22;
+
+const EILSEQ: i32 = 84;
+
 // A signal interrupted the read that answered this.
-fn is_interrupted(got: isize) -> bool {
-    got < 0 && os::errno() == libc::EINTR
+fn is_interrupted(got: &io::Result<usize>) -> bool {
+    match got {
+        Ok(_) => false,
+        Err(error) => error.kind() == ErrorKind::Interrupted,
+    }
 }
 
 // One read. Where a signal interrupts it, it is tried again, but not for ever.
-fn read_some(fd: i32, rest: &mut [u8]) -> isize {
-    let mut tries: usize = 1000;
-    let mut got = libc::read(fd, rest);
-    while 0 < tries && is_interrupted(got) {
-        got = libc::read(fd, rest);
-        tries -= 1;
+fn read_some<F: Read>(file: &mut F, rest: &mut [u8]) -> io::Result<usize>
+    ensures { ReadsAtMost result rest.new }
+{
+    for _ in 0..1000 {
+        let got = file.read(rest);
+        if !is_interrupted(&got) {
+            return got;
+        }
     }
-    got
+    file.read(rest)
 }
 
 // Reads until the file ends or the list is full.
-fn fill(fd: i32, bytes: &mut [u8]) -> Filled
+fn fill<F: Read>(file: &mut F, bytes: &mut [u8]) -> Filled
     ensures { filled_bytes result ≤ length bytes.new }
 {
     let mut done = 0;
     while done < bytes.len() {
-        let got = read_some(fd, &mut bytes[done..]);
-        if got < 0 {
-            return Filled::Failed;
+        match read_some(file, &mut bytes[done..]) {
+            Err(error) => return Filled::Failed(error),
+            Ok(0) => return Filled::Bytes(done),
+            Ok(n) => done += n,
         }
-        let n = io::count(got, &bytes[done..]);
-        if n == 0 {
-            return Filled::Bytes(done);
-        }
-        done += n;
     }
     Filled::Bytes(done)
 }
 
 // Every byte is 0.
 fn only_zeros(bytes: &[u8]) -> bool {
-    let mut i = 0;
-    while i < bytes.len() {
-        if u8_at(bytes, i) != 0 {
-            return false;
-        }
-        i += 1;
-    }
-    true
+    bytes.iter().all(|b| *b == 0)
 }
 
 // The next piece.
-fn pass_some(fd: i32) -> Rest {
-    let mut piece = io::buffer();
-    let got = read_some(fd, &mut piece);
-    if got < 0 {
-        return Rest::Failed;
-    }
-    let n = io::count(got, &piece);
-    if n == 0 {
-        return Rest::End;
-    }
-    if only_zeros(&piece[..n]) {
-        Rest::Zeros
-    } else {
-        Rest::Others
+fn pass_some<F: Read>(file: &mut F) -> Rest {
+    let mut piece = [0u8; 4096];
+    match read_some(file, &mut piece) {
+        Err(error) => Rest::Failed(error),
+        Ok(0) => Rest::End,
+        Ok(n) => if only_zeros(&piece[..n]) {
+            Rest::Zeros
+        } else {
+            Rest::Others
+        },
     }
 }
 
 // Pieces while they are zeros, up to 65,536 of them, so that a device of zeros ends.
-fn pass_zeros(fd: i32) -> Rest {
-    let mut turns: usize = 65536;
-    while 0 < turns {
-        match pass_some(fd) {
+fn pass_zeros<F: Read>(file: &mut F) -> Rest {
+    for _ in 0..65536 {
+        match pass_some(file) {
             Rest::Zeros => {}
             other => return other,
         }
-        turns -= 1;
     }
     Rest::Others
 }
 
-// Why the last call failed. A file that is missing is not told on standard error.
-fn failure(path: &[u8]) -> Loaded
+// A line on standard error: a name, a colon and why it can't be read.
+fn tell_of<R: Eprint>(rt: &R, path: &[u8], error: io::Error) {
+    match str::from_utf8(path) {
+        Ok(name) => tell(rt, name, error),
+        Err(_) => tell(rt, path.escape_ascii(), error),
+    }
+}
+
+// Why a call failed. A file that is missing is not told on standard error.
+fn failure<R: Eprint>(rt: &R, path: &[u8], error: io::Error) -> Loaded
     ensures { loaded_bytes result ≤ 0 }
 {
-    let error = word_of(os::errno());
-    if error == 2 {
+    let code = error.raw_os_error().unwrap_or(EINVAL);
+    if code == ENOENT {
         return Loaded::Missing;
     }
-    os::fail(path);
-    Loaded::Unreadable(error)
+    tell_of(rt, path, error);
+    Loaded::Unreadable(code.cast_unsigned())
 }
 
 // What follows a list that is full.
-fn past_end(fd: i32, path: &[u8], n: usize) -> Loaded
+fn past_end<R: Eprint, F: Read>(rt: &R, file: &mut F, path: &[u8], n: usize) -> Loaded
     ensures { loaded_bytes result ≤ n }
 {
-    match pass_zeros(fd) {
+    match pass_zeros(file) {
         Rest::End => Loaded::Bytes(n),
-        Rest::Failed => failure(path),
+        Rest::Failed(error) => failure(rt, path, error),
         _ => Loaded::TooLong,
     }
 }
 
 // An open file.
-fn load_open(fd: i32, path: &[u8], bytes: &mut [u8]) -> Loaded
+fn load_open<R: Eprint, F: Read>(rt: &R, file: &mut F, path: &[u8], bytes: &mut [u8]) -> Loaded
     ensures { loaded_bytes result ≤ length bytes.new }
 {
-    match fill(fd, bytes) {
-        Filled::Failed => failure(path),
+    match fill(file, bytes) {
+        Filled::Failed(error) => failure(rt, path, error),
         Filled::Bytes(n) => {
             if n < bytes.len() {
                 return Loaded::Bytes(n);
             }
-            past_end(fd, path, n)
+            past_end(rt, file, path, n)
         }
     }
 }
 
+// The file of a name.
+fn open<R: Files>(rt: &R, path: &[u8]) -> io::Result<R::File> {
+    match str::from_utf8(path) {
+        Ok(name) => fs::open(rt, name),
+        Err(_) => Err(io::Error::from_raw_os_error(EILSEQ)),
+    }
+}
+
 // The bytes of a file at the front of a list.
-pub fn load_file(path: &[u8], bytes: &mut [u8]) -> Loaded
+pub fn load_file<R: Files + Eprint>(rt: &R, path: &[u8], bytes: &mut [u8]) -> Loaded
     ensures { loaded_bytes result ≤ length bytes.new }
 {
-    let fd = os::open_read(path);
-    if fd < 0 {
-        return failure(path);
+    match open(rt, path) {
+        Ok(mut file) => load_open(rt, &mut file, path, bytes),
+        Err(error) => failure(rt, path, error),
     }
-    let loaded = load_open(fd, path, bytes);
-    libc::close(fd);
-    loaded
 }

@@ -1,4 +1,6 @@
 // The lig/kern program of a font as a font file holds it: its kerns shared, each value once, and its entries packed.
+#![tactic(auto)]
+
 ghost use Rattle.std.specs.Prelude.{◌≡◌, [], ◌∷◌, ℕ, ◌≤◌, pos, length};
 ghost use Rattle.lang.specs.Checks.{or_else};
 ghost use Rattle.lang.specs.Answers.{reply_of, room_refusal, written_reply};

@@ -1,5 +1,7 @@
 // Reading a font file: its instructions, kerns and entries, its boundary character and its left entry (TeX 539 to 545).
 // Each list is read in one pass, and the entries are counted in one more before.
+#![tactic(auto)]
+
 ghost use Rattle.std.specs.Prelude.{◌≡◌, length};
 ghost use Rattle.files.specs.Reading.{deserialize_refusal, Deserializes};
 ghost use Rattle.file_reading.specs.Writing.{WritesFont};

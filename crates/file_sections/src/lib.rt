@@ -1,4 +1,6 @@
 // A font file joined of parts, front to back. Each part is lent from its first byte on, and written there.
+#![tactic(auto)]
+
 ghost use Rattle.std.specs.Prelude.{◌≡◌, ◌++◌, ◌+◌, ◌-◌, ◌*◌, ◌≤◌, negsuc, length, get_or, drop};
 ghost use Rattle.std.proofs.lemmas.List.Edits.{sets};
 ghost use Rattle.lang.specs.Records.{count};

@@ -1,5 +1,7 @@
 // Packed entries unpacked (TeX 1039): those that lead to an instruction to one list, and the characters of the others
 // to another. Each entry is looked at twice: to count, and to write.
+#![tactic(auto)]
+
 ghost use Rattle.std.specs.Prelude.{◌≡◌, List, ◌+◌, ◌*◌, ◌/◌, ◌<◌, ◌≤◌, ℤ, length};
 ghost use Rattle.lang.specs.Records.{count};
 ghost use Rattle.file_fonts.specs.Meant.{unpacked_below};

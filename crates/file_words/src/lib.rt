@@ -1,5 +1,7 @@
 // What is written into a font file, put into a part that is lent: a length, bytes, kerns, the words of the lig/kern
 // section (files/specs/Sections.antt). What passes the end of the part is left off.
+#![tactic(auto)]
+
 ghost use Rattle.std.specs.Prelude.{◌≡◌, ◌<◌, length};
 ghost use Rattle.std.proofs.lemmas.List.Edits.{sets};
 ghost use Rattle.words.specs.Words.{number_of};

@@ -1,5 +1,7 @@
 // Another lig/kern program in the middle of a font file (TeX 539 to 545, PLtoTF 142): the font is packed, then the
 // numbers are asked, then the file is joined.
+#![tactic(auto)]
+
 ghost use Rattle.std.specs.Prelude.{◌≡◌, ◌*◌, length, replicate};
 ghost use Rattle.lang.specs.Checks.{or_else};
 ghost use Rattle.lang.specs.Answers.{room_refusal};

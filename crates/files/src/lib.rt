@@ -2,7 +2,9 @@
 // alone.
 
 // The twelve lengths at the front of a file (TeX 540), in words but for the first and the last character.
-#[derive(Drop)]
+#![tactic(auto)]
+
+#[derive(Clone, Copy)]
 pub struct FileLengths {
     pub lf: u32,
     pub lh: u32,
@@ -20,7 +22,7 @@ pub struct FileLengths {
 
 // What reading a file answers: how many instructions, kerns and entries it has, its boundary character and its left
 // entry (-1 for none); or the number of its refusal.
-#[derive(Drop)]
+#[derive(Clone, Copy)]
 pub enum Deserialized {
     Font(usize, usize, usize, i32, i32),
     Refused(u32),
@@ -28,7 +30,7 @@ pub enum Deserialized {
 
 // What sharing the kerns and packing the entries of a font answers: how many words of the lig/kern section and how many
 // kerns it has; or the number of its refusal.
-#[derive(Drop)]
+#[derive(Clone, Copy)]
 pub enum PackedFont {
     Sizes(usize, usize),
     Refused(u32),

@@ -1,4 +1,6 @@
 // Two parts of checking a font file: the lists that compiling writes, zeroed, and the answer.
+#![tactic(auto)]
+
 ghost use Rattle.std.specs.Prelude.{◌≡◌};
 ghost use Rattle.font_check_parts.specs.CheckParts.{TablesZero, checked_font};
 

@@ -4,7 +4,9 @@
 // What checking a file answers: how many instructions, kerns, entries, and characters whose entry leads nowhere; its
 // boundary character and its left entry (-1 for none), and its design size; how many pairs its table has, how many ops,
 // and how many loops. Or the number of its refusal.
-#[derive(Drop)]
+#![tactic(auto)]
+
+#[derive(Clone, Copy)]
 pub enum Checked {
     Font(usize, usize, usize, usize, i32, i32, i32, usize, usize, usize),
     Refused(u32),

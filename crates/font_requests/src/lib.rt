@@ -1,5 +1,7 @@
 // Asking for another font, and the start of a word, on a run that knows its font. Only these two calls read a table
 // whole. Each function is the definition of its name in font_runs/specs/Requests.antt.
+#![tactic(auto)]
+
 ghost use Rattle.std.specs.Prelude.{◌≡◌};
 ghost use Rattle.font_runs.specs.Requests.{lending, requested_by, request_refusal, ask_font, starting, start_refusal};
 ghost use Rattle.font_runs.specs.Requests.{start_word};

@@ -1,4 +1,6 @@
 // Room for one font of any file: 32,767 words, 49,152 pairs and 98,304 ops. Each list is zeros.
+#![tactic(auto)]
+
 ghost use Rattle.std.specs.Prelude.{pos};
 ghost use Rattle.font_room.specs.Rooms.{ZeroRoom};
 

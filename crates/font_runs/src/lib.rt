@@ -3,14 +3,16 @@
 // alone: crates `font_requests` and `font_steps` have the functions.
 
 // Another font that is asked for, by its number, or none.
-#[derive(Drop)]
+#![tactic(auto)]
+
+#[derive(Clone, Copy)]
 pub enum Asked {
     Nothing,
     Font(u32),
 }
 
 // A run between two steps, with the number of the font in force.
-#[derive(Drop)]
+#[derive(Clone, Copy)]
 pub struct FontRun {
     pub state: captions::State,
     pub font: u32,
@@ -18,14 +20,14 @@ pub struct FontRun {
 }
 
 // What a request, and the start of a word, answers: the run after it, or the number of its refusal.
-#[derive(Drop)]
+#[derive(Clone, Copy)]
 pub enum Requested {
     Taken(FontRun),
     Refused(u32),
 }
 
 // A step's answer and the run that it leaves.
-#[derive(Drop)]
+#[derive(Clone, Copy)]
 pub struct FontStep {
     pub answer: captions::Answer,
     pub run: FontRun,

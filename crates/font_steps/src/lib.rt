@@ -1,6 +1,8 @@
 // A step of a run that may change its font. With a request waiting the state is tested, past a left boundary whose
 // entry gives nothing (the only turn inside a step that can reach another free state: font_runs/specs/Passing); where
 // it is free the step is made from it, restarted, in the font asked for; else in the font in force.
+#![tactic(auto)]
+
 ghost use Rattle.std.specs.Prelude.{◌≡◌};
 ghost use Rattle.lang.specs.Checks.{or_else, absent_refusal};
 ghost use Rattle.font_runs.specs.Requests.{lending};

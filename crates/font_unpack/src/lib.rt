@@ -20,7 +20,7 @@ use words::{number_of, word_of};
 
 // Whether redirects stand only where packing puts them; how many instructions are taken away in front, and how many
 // are left.
-#[derive(Drop)]
+#[derive(Clone, Copy)]
 struct OwnPart {
     packed: bool,
     front: usize,

@@ -4,7 +4,9 @@
 // What taking packing back answers: how many instructions stood in front, how many the font has of its own, and its
 // left entry moved back (-1 for none). Or that a redirect stands where packing puts none, and the font is as it was. Or
 // the number of its refusal.
-#[derive(Drop)]
+#![tactic(auto)]
+
+#[derive(Clone, Copy)]
 pub enum UnpackedFont {
     Own(usize, usize, i32),
     Kept,

@@ -112,11 +112,11 @@ fn put_readings(
 }
 
 // What stands in front of loop i: the word for it, or what parts it from the one before.
-fn put_head(line: &mut [u8], at: usize, i: usize) -> usize {
+fn put_head(rt: &(impl Print + Eprint), line: &mut [u8], at: usize, i: usize) -> usize {
     if i == 0 {
         return put_text(line, at, b"LOOP at");
     }
-    let next = make_room(line, at);
+    let next = make_room(rt, line, at);
     put_text(line, next, b";")
 }
 
@@ -176,6 +176,7 @@ fn put_loop(
 
 // The words for each loop of a list, two numbers each.
 pub(crate) fn put_loops(
+    rt: &(impl Print + Eprint),
     line: &mut [u8],
     at: usize,
     instructions: &[i32],
@@ -186,11 +187,10 @@ pub(crate) fn put_loops(
     loops: &[i32],
 ) -> usize {
     let mut next = at;
-    let mut i = 0;
-    while i < loops.len() / 2 {
+    for i in 0..loops.len() / 2 {
         let left = word_at(loops, 2 * i);
         let right = word_at(loops, 2 * i + 1);
-        next = put_head(line, next, i);
+        next = put_head(rt, line, next, i);
         next = put_loop(
             line,
             next,
@@ -202,7 +202,6 @@ pub(crate) fn put_loops(
             left,
             right,
         );
-        i += 1;
     }
     next
 }

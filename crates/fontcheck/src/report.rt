@@ -1,6 +1,9 @@
 // What a font file is read as: its verdict, and the words for it.
+ghost use Rattle.std.specs.Prelude.{◌≡◌, length};
+
 use crate::loops::put_loops;
 use crate::refusals::put_refused;
+use failures::tell;
 use font_check::check_file;
 use font_checks::Checked;
 use font_room::parts::{fours, ones, twos};
@@ -25,25 +28,32 @@ pub(crate) struct Report {
     pub(crate) at: usize,
 }
 
+// Room for a line.
+pub(crate) fn line_room() -> [u8; 65536]
+    ensures { 65536 ≡ length result }
+{
+    [0; 65536]
+}
+
 // Writes bytes to standard output.
-pub(crate) fn write_bytes(bytes: &[u8]) {
-    if !io::write_all(libc::STDOUT_FILENO, bytes) {
-        os::fail(b"fontcheck: standard output can't be written");
+pub(crate) fn write_bytes(rt: &(impl Print + Eprint), bytes: &[u8]) {
+    if let Err(error) = rt.write_all(bytes) {
+        tell(rt, "fontcheck: standard output can't be written", error);
     }
 }
 
 // Puts what a line ends with, and writes it.
-pub(crate) fn end_line(line: &mut [u8], at: usize, text: &[u8]) {
+pub(crate) fn end_line(rt: &(impl Print + Eprint), line: &mut [u8], at: usize, text: &[u8]) {
     let end = put_text(line, at, text);
-    write_bytes(bytes_before(line, end));
+    write_bytes(rt, bytes_before(line, end));
 }
 
 // Writes the part of a line that is put together so far, where little room is left. Answers the next place.
-pub(crate) fn make_room(line: &mut [u8], at: usize) -> usize {
+pub(crate) fn make_room(rt: &(impl Print + Eprint), line: &mut [u8], at: usize) -> usize {
     if at < 60000 {
         return at;
     }
-    write_bytes(bytes_before(line, at));
+    write_bytes(rt, bytes_before(line, at));
     0
 }
 
@@ -67,19 +77,17 @@ fn put_counts(
 }
 
 // A character whose entry leads nowhere.
-fn put_lost_char(line: &mut [u8], at: usize, c: u32) -> usize {
-    let start = make_room(line, at);
+fn put_lost_char(rt: &(impl Print + Eprint), line: &mut [u8], at: usize, c: u32) -> usize {
+    let start = make_room(rt, line, at);
     let end = put_named(line, start, b"; entry of ", c);
     put_text(line, end, b" leads nowhere")
 }
 
 // The characters whose entry leads nowhere.
-fn put_lost(line: &mut [u8], at: usize, lost: &[i32]) -> usize {
+fn put_lost(rt: &(impl Print + Eprint), line: &mut [u8], at: usize, lost: &[i32]) -> usize {
     let mut next = at;
-    let mut i = 0;
-    while i < lost.len() {
-        next = put_lost_char(line, next, word_at(lost, i));
-        i += 1;
+    for i in 0..lost.len() {
+        next = put_lost_char(rt, line, next, word_at(lost, i));
     }
     next
 }
@@ -101,6 +109,7 @@ fn report_free(
 
 // A font with these loops.
 fn report_loops(
+    rt: &(impl Print + Eprint),
     line: &mut [u8],
     at: usize,
     instructions: &[i32],
@@ -111,6 +120,7 @@ fn report_loops(
     loops: &[i32],
 ) -> Report {
     let end = put_loops(
+        rt,
         line,
         at,
         instructions,
@@ -125,14 +135,20 @@ fn report_loops(
 }
 
 // A font with these characters whose entry leads nowhere.
-fn report_lost(line: &mut [u8], report: Report, lost: &[i32]) -> Report {
+fn report_lost(
+    rt: &(impl Print + Eprint),
+    line: &mut [u8],
+    report: Report,
+    lost: &[i32],
+) -> Report {
     let verdict = report.verdict;
-    let end = put_lost(line, report.at, lost);
+    let end = put_lost(rt, line, report.at, lost);
     Report { verdict, at: end }
 }
 
 // What was checked, and its words.
 fn report_checked(
+    rt: &(impl Print + Eprint),
     checked: Checked,
     file: &[u8],
     line: &mut [u8],
@@ -155,11 +171,12 @@ fn report_checked(
             let nowhere = ones(lost, m);
             if l == 0 {
                 let free = report_free(line, at, n, p, k);
-                return report_lost(line, free, nowhere);
+                return report_lost(rt, line, free, nowhere);
             }
             let program = fours(instructions, n);
             let found = twos(loops, l);
             let looping = report_loops(
+                rt,
                 line,
                 at,
                 program,
@@ -169,13 +186,18 @@ fn report_checked(
                 design,
                 found,
             );
-            report_lost(line, looping, nowhere)
+            report_lost(rt, line, looping, nowhere)
         }
     }
 }
 
 // What a font file is read as, and its words from a place on.
-pub(crate) fn report_font(file: &[u8], line: &mut [u8], at: usize) -> Report {
+pub(crate) fn report_font(
+    rt: &(impl Print + Eprint),
+    file: &[u8],
+    line: &mut [u8],
+    at: usize,
+) -> Report {
     let mut instructions = instruction_room();
     let mut kerns = kern_room();
     let mut entries = entry_room();
@@ -196,6 +218,7 @@ pub(crate) fn report_font(file: &[u8], line: &mut [u8], at: usize) -> Report {
         &mut work,
     );
     report_checked(
+        rt,
         checked,
         file,
         line,

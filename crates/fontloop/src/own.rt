@@ -2,11 +2,15 @@
 // loop.
 use crate::lists::{first_fours, first_numbers};
 use crate::{lists, say};
+use failures::tell;
 use file_writing::replace_lig_kern_program;
 use font_unpack::unpacked_font;
 use font_unpackings::UnpackedFont;
 use lang::Written;
 use phrase_put::bytes_before;
+use std::fs::File;
+use std::io::{self, Write};
+use std::rt::{Env, Files};
 use words::i32s::{put_word, word_at};
 use words::sizes::{minus, smaller};
 
@@ -19,32 +23,43 @@ enum Done {
     Refused(u32),
 }
 
-// Makes the file that the second argument names; one that is there already stays as it is.
-fn is_saved(bytes: &[u8]) -> bool {
-    let mut name = io::buffer();
-    let n = os::arg(2, &mut name);
-    let fd = os::create(&name[..n]);
-    if fd < 0 {
-        os::fail(b"fontloop: the copy can't be made");
-        return false;
+// What std does not open: a name that is not UTF-8.
+const EILSEQ: i32 = 84;
+
+// Makes a file of a name; one that is there already stays as it is.
+fn create<R: Files>(rt: &R, name: &[u8]) -> io::Result<R::File> {
+    match str::from_utf8(name) {
+        Ok(path) => File::create_new(rt, path),
+        Err(_) => Err(io::Error::from_raw_os_error(EILSEQ)),
     }
-    let is_whole = io::write_all(fd, bytes);
-    libc::close(fd);
-    is_whole
+}
+
+// Makes the file that the second argument names, and writes it.
+fn is_saved<R: Env + Files + Eprint>(rt: &R, bytes: &[u8]) -> bool {
+    let mut name = [0u8; 4096];
+    let n = rt.arg(2, &mut name).unwrap_or(0);
+    match create(rt, &name[..n]) {
+        Ok(mut file) => file.write_all(bytes).is_ok(),
+        Err(error) => {
+            tell(rt, "fontloop: the copy can't be made", error);
+            false
+        }
+    }
 }
 
 // What was written is saved, or compared with the file.
-fn done_with(bytes: &[u8], file: &[u8], is_copy: bool) -> Done {
+fn done_with(rt: &(impl Env + Files + Eprint), bytes: &[u8], file: &[u8], is_copy: bool) -> Done {
     let is_done = if is_copy {
-        is_saved(bytes)
+        is_saved(rt, bytes)
     } else {
-        check::same(bytes, file)
+        bytes == file
     };
     if is_done { Done::Yes } else { Done::No }
 }
 
 // The font, written into its file.
 fn written(
+    rt: &(impl Env + Files + Eprint),
     file: &[u8],
     program: &[i32],
     kerns: &[i32],
@@ -56,17 +71,17 @@ fn written(
     let mut out = lists::bytes();
     match replace_lig_kern_program(file, program, kerns, entries, boundary, left, &mut out) {
         Written::Refused(number) => Done::Refused(number),
-        Written::Count(n) => done_with(bytes_before(&out, n), file, is_copy),
+        Written::Count(n) => done_with(rt, bytes_before(&out, n), file, is_copy),
     }
 }
 
 // Prints whether the font gave the file's own words. Answers whether it was written.
-fn tell_words(done: Done) -> bool {
+fn tell_words(rt: &impl Print, done: Done) -> bool {
     match done {
-        Done::Yes => say::words(b": same words"),
-        Done::No => say::words(b": other words"),
+        Done::Yes => say::words(rt, b": same words"),
+        Done::No => say::words(rt, b": other words"),
         Done::Refused(number) => {
-            say::refused(number);
+            say::refused(rt, number);
             return false;
         }
     }
@@ -74,11 +89,11 @@ fn tell_words(done: Done) -> bool {
 }
 
 // Prints what came of the copy.
-fn tell_copy(done: Done, first: u32, last: u32) {
+fn tell_copy(rt: &impl Print, done: Done, first: u32, last: u32) {
     match done {
-        Done::Yes => say::pair(first, last),
-        Done::Refused(number) => say::refused(number),
-        _ => say::words(b"; no copy\n"),
+        Done::Yes => say::pair(rt, first, last),
+        Done::Refused(number) => say::refused(rt, number),
+        _ => say::words(rt, b"; no copy\n"),
     }
 }
 
@@ -95,6 +110,7 @@ fn add_loop(program: &mut [i32], n: usize, entries: &mut [i32], first: u32, last
 
 // Both writings, of a font of n instructions and entries of e numbers.
 fn write_both(
+    rt: &(impl Env + Files + Print + Eprint),
     file: &[u8],
     program: &mut [i32],
     n: usize,
@@ -105,6 +121,7 @@ fn write_both(
     left: i32,
 ) {
     let own = written(
+        rt,
         file,
         first_fours(program, n),
         kerns,
@@ -113,7 +130,7 @@ fn write_both(
         left,
         false,
     );
-    if !tell_words(own) {
+    if !tell_words(rt, own) {
         return;
     }
     let first = word_at(entries, 0);
@@ -121,6 +138,7 @@ fn write_both(
     add_loop(program, n, entries, first, last);
     let more = smaller(n, 32767) + 1;
     let copy = written(
+        rt,
         file,
         first_fours(program, more),
         kerns,
@@ -129,11 +147,12 @@ fn write_both(
         left,
         true,
     );
-    tell_copy(copy, first, last);
+    tell_copy(rt, copy, first, last);
 }
 
 // What is to be said of a font that was read.
 pub(crate) fn answer(
+    rt: &(impl Env + Files + Print + Eprint),
     file: &[u8],
     instructions: &[i32],
     kerns: &[i32],
@@ -144,14 +163,15 @@ pub(crate) fn answer(
     let mut program = lists::numbers();
     let mut moved = lists::entries();
     match unpacked_font(instructions, entries, left, &mut program, &mut moved) {
-        UnpackedFont::Refused(number) => say::refused(number),
-        UnpackedFont::Kept => say::words(b": kept, a redirect stands elsewhere\n"),
+        UnpackedFont::Refused(number) => say::refused(rt, number),
+        UnpackedFont::Kept => say::words(rt, b": kept, a redirect stands elsewhere\n"),
         UnpackedFont::Own(_, n, own_left) => {
             if entries.len() == 0 {
-                say::words(b": no program\n");
+                say::words(rt, b": no program\n");
                 return;
             }
             write_both(
+                rt,
                 file,
                 &mut program,
                 n,

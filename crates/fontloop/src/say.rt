@@ -1,25 +1,24 @@
 // What is printed, on standard output.
-use libc::STDOUT_FILENO;
 
-pub(crate) fn words(text: &[u8]) {
-    io::write_all(STDOUT_FILENO, text);
+pub(crate) fn words(rt: &impl Print, text: &[u8]) {
+    let _ = rt.write_all(text);
 }
 
 // A number, and what stands behind it.
-fn number(n: u32, end: &[u8]) {
-    io::print_decimal(STDOUT_FILENO, n as u64);
-    words(end);
+fn number(rt: &impl Print, n: u32, end: &[u8]) {
+    let _ = rt.print(n);
+    words(rt, end);
 }
 
 // The number of a refusal.
-pub(crate) fn refused(n: u32) {
-    words(b": refused, ");
-    number(n, b"\n");
+pub(crate) fn refused(rt: &impl Print, n: u32) {
+    words(rt, b": refused, ");
+    number(rt, n, b"\n");
 }
 
 // The pair at which the copy loops.
-pub(crate) fn pair(left: u32, right: u32) {
-    words(b"; loop at (");
-    number(left, b" ");
-    number(right, b")\n");
+pub(crate) fn pair(rt: &impl Print, left: u32, right: u32) {
+    words(rt, b"; loop at (");
+    number(rt, left, b" ");
+    number(rt, right, b")\n");
 }

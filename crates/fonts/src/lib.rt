@@ -3,7 +3,9 @@
 // contract does.
 
 // What compiling answers: the pairs in the table, the ops and the loops, or the number of its refusal.
-#[derive(Drop)]
+#![tactic(auto)]
+
+#[derive(Clone, Copy)]
 pub enum Compiled {
     Tables(usize, usize, usize),
     Refused(u32),

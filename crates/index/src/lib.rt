@@ -1,6 +1,8 @@
 // A pair looked up by an index over the table: a bit is tested, and the ones below it are counted. The index may hold
 // anything: what it says of a place is checked by the pair that stands there. Crate index_fill writes the index of a
 // table.
+#![tactic(auto)]
+
 ghost use Rattle.std.specs.Prelude.{◌≡◌, ◌+◌, ◌*◌, ◌/◌, ◌%◌, ◌<◌, ◌≤◌, eqb, get_or};
 ghost use Rattle.captions.specs.Tables.{pair_count, key_by, key_at};
 ghost use Rattle.index.specs.Index.{has_bit, ones_from, ones_below, looked_up};
@@ -9,7 +11,7 @@ ghost use Rattle.index.specs.Index.{looked_place};
 use table_find::left_place;
 
 // What an index says of a left and a right: they have no pair; the pair's place; or a place at which it does not stand.
-#[derive(Drop)]
+#[derive(Clone, Copy)]
 pub enum Looked {
     Missing,
     At(usize),

@@ -1,5 +1,7 @@
 // The index of a table, into a lent list: one pass over the pairs sets their bits, and one over the lefts counts the
 // pairs before each. Linear in both.
+#![tactic(auto)]
+
 ghost use Rattle.std.specs.Prelude.{◌≡◌, true, ◌+◌, ◌*◌, ◌/◌, ◌%◌, ◌^◌, ◌<◌, ◌≤◌, length, get_or, set, replicate};
 ghost use Rattle.std.specs.Int.Bits.{bit_or};
 ghost use Rattle.lang.specs.Every.{every};

@@ -1,6 +1,8 @@
 // Letters that have no pair with the character left of them, and kern pairs, by an index over the table: what
 // `give_letters` of crate word_plain_letters does, with the index for its bisection. They are the steps of crate
 // index_step, in a loop of their own.
+#![tactic(auto)]
+
 ghost use Rattle.std.specs.Prelude.{◌≡◌, ◌<◌, ◌≤◌, length};
 ghost use Rattle.index.specs.Index.{has_bit};
 ghost use Rattle.word_plain_letters.specs.PlainLetters.{GivesItems, MayStand, Stand};
@@ -14,14 +16,14 @@ use word_plain_letters::{give_pair, letters_moved, put_six};
 use words::sizes::{minus, smaller};
 
 // Where a run stands, and how many items it has given.
-#[derive(Drop)]
+#[derive(Clone, Copy)]
 pub struct LettersSet {
     pub state: State,
     pub count: usize,
 }
 
 // Where letters that stand end: the left that is next (one more than its code), and how many were set.
-#[derive(Drop)]
+#[derive(Clone, Copy)]
 struct PlainSet {
     left: u32,
     count: usize,

@@ -1,5 +1,7 @@
 // A word set whole by an index over a table that was checked once (R412, R414): what `set_checked_word` of crate
 // word_set_checked does, with the steps of crate index_step.
+#![tactic(auto)]
+
 ghost use Rattle.std.specs.Prelude.{length};
 ghost use Rattle.word_set.specs.Writing.{Tells};
 ghost use Rattle.index_set_checked.specs.Checked.{checked_indexed_reply};

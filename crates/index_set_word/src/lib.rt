@@ -1,6 +1,8 @@
 // A word set whole by an index over its table: what `set_word` of crate word_set does, with the steps of crate
 // index_step. Letters that have no pair with the character left of them, and kern pairs, are set by crate
 // index_plain_letters.
+#![tactic(auto)]
+
 ghost use Rattle.std.specs.Prelude.{◌≡◌, ◌/◌, pos, length, replicate};
 ghost use Rattle.captions.specs.Begin.{fresh_state};
 ghost use Rattle.word_set.specs.Setting.{items_by};

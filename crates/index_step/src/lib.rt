@@ -1,5 +1,7 @@
 // One step of a run, by an index over its table: a pair is looked up by a bit and a count of ones, where the step
 // bisects. The index may hold anything; on the one that fill_index wrote for the table this is the step.
+#![tactic(auto)]
+
 ghost use Rattle.index_step.specs.Indexed.{IndexedStepped};
 
 use caption_run::steps::{kern_step, step};

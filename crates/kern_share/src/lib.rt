@@ -1,5 +1,7 @@
 // Kern values shared in place: each value, and each index past the kerns, becomes the index of the first kern that
 // equals it, which is added after the others where there is none.
+#![tactic(auto)]
+
 ghost use Rattle.std.specs.Prelude.{◌≡◌, cond, ◌+◌, ◌<◌, ◌≤◌, leb, length, take, set};
 ghost use Rattle.words.specs.Words.{Word, number_of};
 ghost use Rattle.words.specs.Lists.{tabulate, Appending};

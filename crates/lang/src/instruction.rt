@@ -8,13 +8,13 @@ use crate::operation::{Operation, lig_kern_operation_from_bytes};
 use tfm::{Char, FixWord};
 
 // Where a chain goes on: nowhere, or after so many skipped instructions.
-#[derive(Drop)]
+#[derive(Clone, Copy)]
 pub enum NextInstruction {
     Stop,
     Skip(u8),
 }
 
-#[derive(Drop)]
+#[derive(Clone, Copy)]
 pub struct Instruction {
     pub next_instruction: NextInstruction,
     pub right_char: Char,

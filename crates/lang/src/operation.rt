@@ -7,7 +7,7 @@ use tfm::{Char, FixWord};
 
 // What to do after inserting a character: which of the two characters to retain, and where the cursor moves. In the
 // order of their op bytes.
-#[derive(Drop)]
+#[derive(Clone, Copy)]
 pub enum PostLigOperation {
     // LIG
     RetainNeitherMoveToInserted,
@@ -28,7 +28,7 @@ pub enum PostLigOperation {
 }
 
 // A lig/kern operation.
-#[derive(Drop)]
+#[derive(Clone, Copy)]
 pub enum Operation {
     // A kern of this size.
     Kern(FixWord),

@@ -1,13 +1,15 @@
 // A set of characters as 256 bits, four numbers of 64 (R431), as repair's existing characters. The ones are counted for
 // how many letters there are, and trailing zeros give the next letter: no character is asked by itself. Each function
 // is total.
+#![tactic(auto)]
+
 ghost use Rattle.std.specs.Prelude.{◌≡◌, suc};
 ghost use Rattle.letter_set.specs.LetterSets.{letter_in, alphabet_size, word_count, letter_from, letter_found};
 
 use words::u64s::u64_at;
 
 // The least letter that was asked for, or that there is none.
-#[derive(Drop)]
+#[derive(Clone, Copy)]
 pub enum Letter {
     At(u32),
     Nothing,

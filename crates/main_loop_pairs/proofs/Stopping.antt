@@ -30,7 +30,7 @@ use Rattle.main_loop_pairs.proofs.Made.{res_or, taking, last_nodes, end_nodes, a
 -- a pair without a rule is read in one step
 free_read : (rule : Rules) (l : Left) (r : ℕ) → rule l r ≡ free → read rule (suc zero) (head l) (plain r ∷ []) ≡ done (fin (head l)) (at (plain r))
 unfolding read
-free_read rule l r e = rw (key_head l, e, append-nil)
+free_read rule l r e = simp (key_head l, e, append-nil)
 
 module _ (rule : Rules) (table : Finished) (holds : Holds rule table) (all : (l : Left) (r : ℕ) → Ends rule l r) where
   -- what the table says of a pair is its reading

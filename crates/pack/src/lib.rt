@@ -1,5 +1,7 @@
 // Packing of entries into one byte each, after `pack_entrypoints` of ligkern/lang.rs (lines 553 to 622). What the Rust
 // changes in place becomes two more lent lists.
+#![tactic(auto)]
+
 ghost use Rattle.std.specs.Prelude.{◌≡◌, ◌++◌, cond, ℕ, ◌+◌, ◌*◌, ◌≤◌, ◌<◌, eqb, pos, length, get_or, replicate};
 ghost use Rattle.std.specs.Int.Signed.{non_neg};
 ghost use Rattle.words.specs.Words.{word_of, number_of};
@@ -18,7 +20,7 @@ use program_checks::{absent_refusal, program_refusal};
 use program_limits::entries_refusal;
 
 // What packing answers.
-#[derive(Drop)]
+#[derive(Clone, Copy)]
 pub enum Packed {
     // The count of instructions now, the offset of the old ones, and the number of redirects.
     Sizes(usize, usize, usize),

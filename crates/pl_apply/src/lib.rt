@@ -1,4 +1,6 @@
 // A property applied to what was read (PLtoTF 82 to 85, 94 to 102). File `state` has each kind of property.
+#![tactic(auto)]
+
 ghost use Rattle.std.specs.Prelude.{◌≡◌, List, ◌+◌, ◌-◌, ◌*◌, ◌/◌, ◌%◌, ◌≤◌, leb, ℤ};
 ghost use Rattle.property_lists.specs.Properties.{least_bytes};
 ghost use Rattle.property_lists.specs.ListReading.{ListRead, applied};

@@ -1,4 +1,6 @@
 // Blanks of a property list, and everything up to a parenthesis (R450; PLtoTF 28, 34).
+#![tactic(auto)]
+
 ghost use Rattle.std.specs.Prelude.{◌≡◌, false, ◌≤◌, length, drop};
 ghost use Rattle.property_lists.specs.Chars.{is_passed, unless_held, pass_over, past_blanks, to_paren, Passes};
 

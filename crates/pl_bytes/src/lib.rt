@@ -1,4 +1,6 @@
 // Single bytes of a property list (PLtoTF 31, 32, 52).
+#![tactic(auto)]
+
 ghost use Rattle.std.specs.Prelude.{◌≡◌};
 ghost use Rattle.property_lists.specs.Chars.{upper_case, is_figure, is_capital, is_visible};
 

@@ -1,4 +1,6 @@
 // Comments, single characters and names of a property list (R451, R452; PLtoTF 31, 33, 35, 49).
+#![tactic(auto)]
+
 ghost use Rattle.std.specs.Prelude.{◌≡◌, ◌≤◌, length, drop};
 ghost use Rattle.property_lists.specs.Chars.{in_name, past_comment, past_byte, past_end, name_ends, past_name, Passes};
 

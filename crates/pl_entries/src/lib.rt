@@ -1,4 +1,6 @@
 // The entries of the characters that have a label, ascending (R458).
+#![tactic(auto)]
+
 ghost use Rattle.std.specs.Prelude.{◌≡◌, cond, ◌+◌, ◌<◌, ◌≤◌, pos, length, get_or, set};
 ghost use Rattle.property_lists.specs.ListReading.{has_label, label_entries};
 ghost use Rattle.pl_apply.specs.Standing.{overlay};

@@ -1,4 +1,6 @@
 // Indentation (R456; PLtoTF 21, 28, 29), in one pass over the text, comments included.
+#![tactic(auto)]
+
 ghost use Rattle.std.specs.Prelude.{◌≡◌, cond, ◌+◌, ◌-◌, ◌<◌, ◌≤◌, eqb};
 ghost use Rattle.std.proofs.Math.Option.{some};
 ghost use Rattle.property_lists.specs.Indents.{indents_by, with_lines, bad_indent, line_starts, inside_line};

@@ -1,6 +1,8 @@
 // A character, a label of a LIGTABLE list and the BOUNDARYCHAR list, put into a lent list of bytes from a place on, as
 // TFtoPL writes them (property_lists/specs/Displays.antt). What passes the end is left off, and the place behind the
 // end is answered.
+#![tactic(auto)]
+
 ghost use Rattle.words.specs.Words.{number_of};
 ghost use Rattle.property_lists.specs.Putting.{PutsCounted};
 ghost use Rattle.property_lists.specs.Displays.{leading_octal, octal_char, label_line, boundary_label_line, boundary_line};

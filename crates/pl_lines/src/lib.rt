@@ -1,5 +1,7 @@
 // A step of a LIGTABLE list, or what comes after one, put into a lent list of bytes from a place on, as TFtoPL writes
 // it (property_lists/specs/Displays.antt). What passes the end is left off, and the place behind the end is answered.
+#![tactic(auto)]
+
 ghost use Rattle.std.specs.Prelude.{◌≤◌, ◌<◌};
 ghost use Rattle.words.specs.Words.{number_of};
 ghost use Rattle.property_lists.specs.Putting.{PutsCounted};

@@ -1,4 +1,6 @@
 // The names of properties (PLtoTF 44, 47).
+#![tactic(auto)]
+
 ghost use Rattle.std.proofs.Math.Option.{none};
 ghost use Rattle.std.specs.Prelude.{◌≤◌, length, drop};
 ghost use Rattle.property_lists.specs.Chars.{past_name};

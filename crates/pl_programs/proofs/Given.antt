@@ -146,8 +146,8 @@ first_gives : {o : Option (ℕ × List ℕ)} (ns : List (ℕ × List ℕ)) (bs :
     Gives NameRead (first_named o ns bs)
 unfolding first_named standard_codes
 first_gives [] bs e g = g
-first_gives (n ∷ ns) bs e g =
-    first_gives ns bs (both_right (standard_code n.0) (standard_codes ns) e)
+first_gives {o = o} (n ∷ ns) bs e g =
+    first_gives {o = or_named o n.0 (past_name n.1 bs)} ns bs (both_right (standard_code n.0) (standard_codes ns) e)
     (or_gives n.0 (past_name n.1 bs) (both_left (standard_code n.0) (standard_codes ns) e) g)
 
 name_gives : (bs : List ℕ) → Gives NameRead (name_at bs)

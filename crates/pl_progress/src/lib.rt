@@ -1,4 +1,6 @@
 // Where reading stands after a property that changes no list, and what can be asked before one (PLtoTF 82 to 85, 97).
+#![tactic(auto)]
+
 ghost use Rattle.std.specs.Prelude.{◌≡◌, ◌≤◌};
 ghost use Rattle.property_lists.specs.Properties.{least_bytes};
 ghost use Rattle.property_lists.specs.ListReading.{bounded, table_opened, table_closed, has_label, may_label};
@@ -8,7 +10,7 @@ use property_lists::{Progress, Property};
 use words::i32s::word_at;
 
 // After a property: where reading stands, or 23.
-#[derive(Drop)]
+#[derive(Clone, Copy)]
 pub enum Change {
     To(Progress),
     Refused,

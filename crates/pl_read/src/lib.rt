@@ -1,5 +1,7 @@
 // A property list read, each kern as its value (R457, R458; PLtoTF 82 to 85, 94 to 102, 116). File `whole` has all
 // properties.
+#![tactic(auto)]
+
 ghost use Rattle.std.specs.Prelude.{◌≡◌, ◌*◌, leb};
 ghost use Rattle.lang.specs.Checks.{unless, or_else};
 ghost use Rattle.lang.specs.Answers.{room_refusal};
@@ -15,7 +17,7 @@ mod whole;
 
 // What a text says: how many instructions and entries it has, its boundary character and its left entry (-1 for none);
 // or the number of its refusal.
-#[derive(Drop)]
+#[derive(Clone, Copy)]
 pub enum StepsListed {
     Font(usize, usize, i32, i32),
     Refused(u32),

@@ -1,4 +1,6 @@
 // Reals, the values of kerns (R454; PLtoTF 62 to 66).
+#![tactic(auto)]
+
 ghost use Rattle.std.specs.Prelude.{◌≡◌, false, cond, ◌-◌, ◌<◌, ◌≤◌, eqb, length, drop};
 ghost use Rattle.std.proofs.Math.Option.{none, some};
 ghost use Rattle.std.proofs.Math.Seq.{slice};
@@ -145,7 +147,7 @@ fn decimal_sum(text: &[u8], from: usize, end: usize) -> u32
 }
 
 // What follows a whole part: decimals in 2^-20, and the place after them.
-#[derive(Drop)]
+#[derive(Clone, Copy)]
 struct Decimals {
     pub(crate) value: u32,
     pub(crate) next: usize,

@@ -1,5 +1,7 @@
 // A property list read, its kerns shared (R458, R468): `read_list` of pl_read gives each kern as its value, and
 // `unpack_kerns` of program_kerns makes indices of them.
+#![tactic(auto)]
+
 ghost use Rattle.std.specs.Prelude.{◌≡◌, length};
 ghost use Rattle.property_lists.specs.ListReading.{ReadsList};
 

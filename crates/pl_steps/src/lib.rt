@@ -1,4 +1,6 @@
 // One property (R455; PLtoTF 44, 47, 49, 94 to 102).
+#![tactic(auto)]
+
 ghost use Rattle.std.specs.Prelude.{◌≤◌, length, drop};
 ghost use Rattle.property_lists.specs.Properties.{property_at, named_from, least_bytes, three_bytes, ReadsProperty};
 

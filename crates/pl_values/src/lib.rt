@@ -1,4 +1,6 @@
 // The value of a property that is a byte (R453; PLtoTF 50 to 56).
+#![tactic(auto)]
+
 ghost use Rattle.std.specs.Prelude.{◌≡◌, ◌≤◌, length, drop};
 ghost use Rattle.property_lists.specs.Values.{byte_value, Scans};
 

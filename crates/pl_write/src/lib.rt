@@ -1,6 +1,8 @@
 // A font's boundary character and LIGTABLE as a property list, as TFtoPL writes it. The contract is that of
 // property_lists/specs/Displays.antt. Linear in the program, and for each of its labels in the table of entries.
 //   labels   the labels of an instruction        steps   an instruction, and all of them
+#![tactic(auto)]
+
 ghost use Rattle.words.specs.Words.{number_of};
 ghost use Rattle.property_lists.specs.Putting.{PutsCounted};
 ghost use Rattle.property_lists.specs.Displays.{lig_table_lines, display_text, Displays};

@@ -1,5 +1,7 @@
 // What is not written as a property list (property_lists/specs/Displays.antt): 1 to 4 of what is lent, and 24. Linear
 // in what is lent.
+#![tactic(auto)]
+
 ghost use Rattle.std.specs.Prelude.{◌≡◌, ◌<◌};
 ghost use Rattle.words.specs.Words.{number_of};
 ghost use Rattle.lang.specs.Every.{every};

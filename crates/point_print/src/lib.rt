@@ -1,5 +1,7 @@
 // A scaled number as TeX prints it (TeX 103). What has no room in the list is left off and counted all the same; a list
 // that is too short is then zeroed.
+#![tactic(auto)]
+
 ghost use Rattle.std.specs.Prelude.{◌≡◌, ◌+◌, ◌<◌, ◌≤◌};
 ghost use Rattle.words.specs.Words.{number_of};
 ghost use Rattle.points.specs.Printing.{leading_digit, whole_text, last_rounded, decimals_of, size_text, scaled_text};

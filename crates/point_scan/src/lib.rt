@@ -1,4 +1,6 @@
 // A size in points, read from the bytes of a decimal (TeX 102, 452).
+#![tactic(auto)]
+
 ghost use Rattle.std.specs.Prelude.{◌≡◌, ◌+◌, ◌-◌, ◌≤◌, min, eqb, get_or, take};
 ghost use Rattle.points.specs.Scanning.{point_place, only_digits, digits_after, round_decimals, scaled_parts, scaled_of};
 ghost use Rattle.points.specs.Scanning.{scanned_as};

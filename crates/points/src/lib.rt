@@ -2,7 +2,9 @@
 // one. Definitions and theorems; the functions are crates point_print and point_scan.
 
 // What a text says: a size in scaled points below 2^27, or nothing that is taken.
-#[derive(Drop)]
+#![tactic(auto)]
+
+#[derive(Clone, Copy)]
 pub enum Scanned {
     Points(u32),
     Unreadable,

@@ -1,6 +1,8 @@
 // Chains: which instruction is a pair's rule, and what it does. After `build_node_to_program_start_map` of
 // ligkern/compiler.rs (lines 113 to 148), and `instructions_for_entrypoint` of ligkern/lang.rs (lines 667 to 676 and
 // 1005 to 1026).
+#![tactic(auto)]
+
 ghost use Rattle.std.specs.Prelude.{◌≡◌, ◌≤◌, length};
 ghost use Rattle.lang.specs.Records.{count, instruction_at};
 ghost use Rattle.words.specs.Lists.{Appending};
@@ -15,14 +17,14 @@ use program_checks::{program_refusal, range_refusal};
 use tfm::FixWord;
 
 // One step of a walk: the index of an instruction and where the walk goes on, or the end.
-#[derive(Drop)]
+#[derive(Clone, Copy)]
 pub enum Next {
     At(usize, usize),
     End,
 }
 
 // The rule of a pair: the index of an instruction, or nothing.
-#[derive(Drop)]
+#[derive(Clone, Copy)]
 pub enum FoundRule {
     Rule(usize),
     Nothing,

@@ -1,6 +1,8 @@
 // The refusals 1 and 2 of a program (R230, R231), and 4 of a single number (R233), each a function whose result is the
 // number where it holds and 0 where it does not. Every one is linear in what it is lent. The refusals of what is lent
 // beside the program are crate program_limits. And what a letter is, and the lower of two numbers.
+#![tactic(auto)]
+
 ghost use Rattle.std.specs.Prelude.{◌≡◌, ◌<◌};
 ghost use Rattle.lang.specs.Records.{is_instruction, absent_or, within, operand_fits};
 ghost use Rattle.lang.specs.Checks.{size_refusal, record_refusal, absent_refusal, range_refusal, program_refusal, lower};

@@ -1,5 +1,7 @@
 // Kern values and kern indices, one for the other, after `pack_kerns` and `unpack_kerns` of ligkern/lang.rs (lines 624
 // to 654). What the Rust changes in place becomes a second lent list.
+#![tactic(auto)]
+
 ghost use Rattle.std.specs.Prelude.{◌≡◌, ◌++◌, ◌≤◌, length, drop, pos};
 ghost use Rattle.words.specs.Words.{Word};
 ghost use Rattle.words.specs.Lists.{tabulate};

@@ -1,6 +1,8 @@
 // The refusals 3, 4, 5 and 15 (R232 to R234, R244) of what is lent beside the program: kerns, entries, passthrough, a
 // design size and a list's room. Each is a function whose result is the number where it holds and 0 where it does not.
 // Every one is linear in what it is lent.
+#![tactic(auto)]
+
 ghost use Rattle.std.specs.Prelude.{◌≡◌, ◌<◌, ◌/◌, eqb, length, get_or};
 ghost use Rattle.lang.specs.Every.{both};
 ghost use Rattle.lang.specs.Records.{within};

@@ -14,7 +14,7 @@ use program_checks::range_refusal;
 use tfm::{Char, FixWord};
 
 // Where a walk is, and how many indices it has passed.
-#[derive(Drop)]
+#[derive(Clone, Copy)]
 pub(crate) struct ChainWalk {
     pub at: usize,
     pub count: usize,

@@ -2,14 +2,16 @@
 // real_text and pl_*.
 
 // After a part of a text: the place that follows it, or 23.
-#[derive(Drop)]
+#![tactic(auto)]
+
+#[derive(Clone, Copy)]
 pub enum Passed {
     At(usize),
     Refused,
 }
 
 // A number of a text and the place that follows it, or 23.
-#[derive(Drop)]
+#[derive(Clone, Copy)]
 pub enum ValueRead {
     Value(u32, usize),
     Refused,
@@ -18,7 +20,7 @@ pub enum ValueRead {
 // A property, or what else stands where one can: the parenthesis that closes LIGTABLE, and the end of the text. A
 // label's character is 256 for the boundary. A ligature has its op byte, its right and its inserted character; a kern
 // its right character and the 32 bits of its value.
-#[derive(Drop)]
+#[derive(Clone, Copy)]
 pub enum Property {
     Comment,
     Boundary(u32),
@@ -33,7 +35,7 @@ pub enum Property {
 }
 
 // A property and the place that follows it, or 23.
-#[derive(Drop)]
+#[derive(Clone, Copy)]
 pub enum PropertyRead {
     Read(Property, usize),
     Refused,
@@ -42,7 +44,7 @@ pub enum PropertyRead {
 // What was read so far: 0 nothing, 1 the boundary character, 2 LIGTABLE up to here, 3 all of it (`stage`); the 32 bits
 // of the boundary character; how many steps; whether STOP or SKIP may stand here; how many steps labels and SKIPs ask
 // for.
-#[derive(Drop)]
+#[derive(Clone, Copy)]
 pub struct Progress {
     pub stage: u32,
     pub boundary: u32,
@@ -54,7 +56,7 @@ pub struct Progress {
 // Indentation so far: where in a line (0 before its first character, after `blanks` blanks; 1 behind that; 2 behind
 // blanks and carriage returns), how many parentheses are open, how many good lines since the last bad one, and how many
 // blanks for each open parenthesis, 0 if unknown.
-#[derive(Drop)]
+#[derive(Clone, Copy)]
 pub struct Indents {
     pub mode: u32,
     pub blanks: usize,
@@ -64,7 +66,7 @@ pub struct Indents {
 }
 
 // Indentation after a byte, or 23.
-#[derive(Drop)]
+#[derive(Clone, Copy)]
 pub enum Indented {
     To(Indents),
     Refused,
@@ -72,7 +74,7 @@ pub enum Indented {
 
 // What reading a text answers: how many instructions, kerns and entries it has, its boundary character and its left
 // entry (-1 for none); or the number of its refusal.
-#[derive(Drop)]
+#[derive(Clone, Copy)]
 pub enum Listed {
     Font(usize, usize, usize, i32, i32),
     Refused(u32),

@@ -1,6 +1,8 @@
 // Reach: which instructions a font's entries lead to, and their skips counted over those alone (TFtoPL 75), after
 // `reachable_iter` of ligkern/lang.rs (lines 656 to 665, 955 to 1003). The marks are a byte an instruction, 1 where it
 // is reached, in a local array of as many as a program can have.
+#![tactic(auto)]
+
 ghost use Rattle.std.specs.Prelude.{◌≡◌, ◌++◌, ◌+◌, ◌*◌, ◌<◌, ◌≤◌, length, drop};
 ghost use Rattle.words.specs.Words.{number_of};
 ghost use Rattle.words.specs.Lists.{tabulate};

@@ -1,5 +1,7 @@
 // Marks: which instructions a font's entries lead to, a byte an instruction (TFtoPL 66 to 70), after `reachable_array`
 // of ligkern/lang.rs (lines 821 to 853).
+#![tactic(auto)]
+
 ghost use Rattle.std.specs.Prelude.{◌≡◌, cond, ◌/◌, ◌<◌, eqb, length, replicate};
 ghost use Rattle.lang.specs.Records.{count};
 ghost use Rattle.reach_marks.specs.Marks.{entries_marked, left_marked, onward_marked, reachable};

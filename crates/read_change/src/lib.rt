@@ -1,5 +1,7 @@
 // What a rule changes in a list of items: what takes the place of the two at the cursor (TeX 545, 1040). Numbers are
 // taken out of the list and put into it by `places`.
+#![tactic(auto)]
+
 ghost use Rattle.std.specs.Prelude.{◌≡◌, List, ℤ};
 ghost use Rattle.readings.specs.Lists.{replaced_by};
 ghost use Rattle.read_rule.specs.Meant.{meant};
@@ -14,7 +16,7 @@ pub mod places;
 
 // What takes the place of two items: whether the left and the right stay, 1 or 0, how many items the cursor passes, and
 // the kind and the bits of the value of what is inserted between them; kind 0 for nothing.
-#[derive(Drop)]
+#[derive(Clone, Copy)]
 pub struct Change {
     pub left: usize,
     pub right: usize,

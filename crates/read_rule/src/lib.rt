@@ -1,4 +1,6 @@
 // The rule of a pair of a font as it is lent: its operation with the inserted character, its scaled kern, or none.
+#![tactic(auto)]
+
 ghost use Rattle.std.specs.Prelude.{◌≡◌, ℤ};
 ghost use Rattle.words.specs.Words.{Word};
 ghost use Rattle.lang.specs.Entries.{entries_table};
@@ -13,7 +15,7 @@ use tfm::{FixWord, ToScaled};
 
 // What the font says of a pair: nothing; a kern, by the 32 bits of its scaled value; or a ligature operation, and the
 // character that it inserts.
-#[derive(Drop)]
+#[derive(Clone, Copy)]
 pub enum PairRule {
     Free,
     Kern(u32),

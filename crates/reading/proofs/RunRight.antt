@@ -22,7 +22,7 @@ none_not_some e = let z : ◌≡◌ {A = ℕ} 0 1 = cc in omega arith
 -- a pair without a rule is read in one step
 free_read : (rule : Rules) (x : Head) (y : ℕ) → rule (key x) y ≡ free → read rule (suc zero) x (plain y ∷ []) ≡ done (fin x) (at (plain y))
 unfolding read
-free_read rule x y e = rw (e, append-nil)
+free_read rule x y e = let f : rule (key x) (code (plain y)) ≡ free = e in rw (f, f, append-nil)
 
 nothing_read : (rule : Rules) (n : ℕ) (x : Head) {os : List Out} {u : Head} → read rule n x [] ≡ done os u → (os ≡ []) × (u ≡ x)
 nothing_read rule n x e = let r = read_none rule n x in (cc, cc)

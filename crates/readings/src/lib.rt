@@ -2,7 +2,9 @@
 
 // What one step answers: how many items stand then, and which of them is left of the cursor; or that the reading has
 // ended; or the number of its refusal.
-#[derive(Drop)]
+#![tactic(auto)]
+
+#[derive(Clone, Copy)]
 pub enum OneStep {
     Standing(usize, usize),
     Ended,

@@ -7,7 +7,7 @@ use pl_put::bytes::put_byte;
 use words::sizes::smaller;
 
 // How many decimals there are, and ten to that power.
-#[derive(Drop)]
+#[derive(Clone, Copy)]
 struct Places {
     count: u32,
     power: u64,

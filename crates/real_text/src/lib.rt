@@ -1,6 +1,8 @@
 // A kern's text: a sign, the whole part, a point and as few decimals as PLtoTF reads back (TFtoPL 40 to 43). What
 // passes a list's end is left off, and the place behind the end is answered.
 //   fraction   decimals
+#![tactic(auto)]
+
 ghost use Rattle.words.specs.Words.{number_of};
 ghost use Rattle.property_lists.specs.Putting.{PutsCounted};
 ghost use Rattle.property_lists.specs.RealTexts.{magnitude_text, real_text};

@@ -3,7 +3,9 @@
 
 // The numbers of a font beside its lists, as compile takes them: -1 for a boundary character and a left entry that are
 // absent, 0 for a size and a magnification that are not asked for.
-#[derive(Drop)]
+#![tactic(auto)]
+
+#[derive(Clone, Copy)]
 pub struct FontNumbers {
     pub boundary: i32,
     pub left_entry: i32,
@@ -13,7 +15,7 @@ pub struct FontNumbers {
 }
 
 // The lowest instruction whose removal alone alters the items; nothing where none does; or the number of a refusal.
-#[derive(Drop)]
+#[derive(Clone, Copy)]
 pub enum Blamed {
     At(usize),
     Nothing,

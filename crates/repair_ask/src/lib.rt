@@ -1,5 +1,7 @@
 // Asking before a repair (R401, R402): the warnings of a font, which stays as it is. The passes, and the refusals
 // before 15, are crate `repair_passes`'s; here is 15. They need the repaired program, since 12 is of it: it is dropped.
+#![tactic(auto)]
+
 ghost use Rattle.std.specs.Prelude.{◌≡◌};
 ghost use Rattle.lang.specs.Answers.{written_reply};
 ghost use Rattle.repairs.specs.Repairs.{damaged_of};

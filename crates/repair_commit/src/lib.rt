@@ -2,6 +2,8 @@
 // are those of the font as it is lent now. The passes, and the refusals before 15, are crate `repair_passes`'s; 15 and
 // 25 are crate `repair_commit_refusals`'s. The repaired program stands in a local array until it is known that nothing
 // is refused.
+#![tactic(auto)]
+
 ghost use Rattle.std.specs.Prelude.{◌≡◌};
 ghost use Rattle.repairs.specs.Repairs.{damaged_of};
 ghost use Rattle.repairs.specs.Committing.{Commits};

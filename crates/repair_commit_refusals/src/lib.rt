@@ -1,5 +1,7 @@
 // The numbers of committing after those of the passes: 15, where a list is too short, and then 25, where the warnings
 // handed over are not those that were found (R404, R405).
+#![tactic(auto)]
+
 ghost use Rattle.std.specs.Prelude.{◌≡◌};
 ghost use Rattle.repairs.specs.Committing.{starts_with};
 ghost use Rattle.repair_commit_refusals.specs.Numbers.{fits_refusal, lower_refusal, warned_count, differ_refusal};

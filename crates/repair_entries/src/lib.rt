@@ -1,6 +1,8 @@
 // TFtoPL 67 and 69: the entries of a font that is repaired, after the first part of `validate_and_fix` of
 // ligkern/lang.rs (lines 702 to 720). An entry that does not unpack goes, with a warning; a redirect by which one
 // unpacks is passed over.
+#![tactic(auto)]
+
 ghost use Rattle.std.specs.Prelude.{◌≡◌, List, ℕ, ◌/◌, ◌<◌, ◌≤◌, leb, length};
 ghost use Rattle.std.proofs.lemmas.List.Edits.{sets};
 ghost use Rattle.std.specs.Int.Signed.{non_neg};

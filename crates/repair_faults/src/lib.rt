@@ -1,5 +1,7 @@
 // What is wrong with a step of a program, after `validate_and_fix` of ligkern/lang.rs (lines 722 to 806); TFtoPL 70 to
 // 77. Nothing is repaired here: crate `repair_fixes` does.
+#![tactic(auto)]
+
 ghost use Rattle.std.specs.Prelude.{◌≡◌, ℕ, get_or};
 ghost use Rattle.words.specs.Words.{number_of};
 ghost use Rattle.lang.specs.Operations.{is_standard};

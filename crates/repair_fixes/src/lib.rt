@@ -1,5 +1,7 @@
 // The pass of repair over the steps of a program, after `validate_and_fix` of ligkern/lang.rs (lines 722 to 806);
 // TFtoPL 70 to 77. Crate `repair_faults` says what is wrong with a step; here it is warned of and repaired.
+#![tactic(auto)]
+
 ghost use Rattle.std.specs.Prelude.{◌≡◌, cond, ℕ, ◌*◌, ◌<◌, ◌≤◌, leb};
 ghost use Rattle.std.proofs.lemmas.List.Edits.{sets};
 ghost use Rattle.words.specs.Words.{number_of};

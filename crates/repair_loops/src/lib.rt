@@ -1,6 +1,8 @@
 // The warnings of loops, the last of repair, after the end of `validate_and_fix` of ligkern/lang.rs (lines 804 to 818):
 // the loops of the repaired font, which compiling's own search finds. TFtoPL 88 to 95. The true design size is not
 // needed for that; ten times `FixWord::ONE` stands in for it.
+#![tactic(auto)]
+
 ghost use Rattle.std.specs.Prelude.{◌<◌, ◌≤◌, ℤ, pos};
 ghost use Rattle.words.specs.Lists.{tabulate};
 ghost use Rattle.fonts.specs.Fonts.{font_of};

@@ -1,6 +1,8 @@
 // The passes of repair one after the other, after `validate_and_fix` of ligkern/lang.rs (lines 691 to 818): the entries
 // (TFtoPL 67 and 69), what is reachable (68 to 70), the steps (70 to 77) and the loops (88 to 95). Each pass is a crate
 // of its own.
+#![tactic(auto)]
+
 ghost use Rattle.std.specs.Prelude.{◌≡◌, cond, ◌*◌, ◌/◌, ◌<◌, ◌≤◌, leb, eqb, negsuc, length};
 ghost use Rattle.std.specs.Int.Signed.{non_neg};
 ghost use Rattle.words.specs.Words.{word_of};

@@ -1,5 +1,7 @@
 // Places for the repaired program and its passthrough, in which they stand until it is known that nothing is refused:
 // 12, which is of the repaired program, comes before 15 and 25. What the passes of repair leave there is proofs/Left.
+#![tactic(auto)]
+
 ghost use Rattle.std.specs.Prelude.{◌≡◌, min, length};
 ghost use Rattle.std.proofs.lemmas.List.Edits.{sets};
 ghost use Rattle.repair_places.specs.Writing.{WritesRepaired};

@@ -1,5 +1,7 @@
 // The refusals of repair before anything is done, 1 to 4 (R230 to R233): those of the lists, of the boundary character,
 // the left entry and the replacement, and of passthrough.
+#![tactic(auto)]
+
 ghost use Rattle.std.specs.Prelude.{◌≡◌, List, ℕ, leb};
 ghost use Rattle.words.specs.Words.{word_of};
 ghost use Rattle.lang.specs.Checks.{program_refusal, kerns_refusal, entries_refusal, absent_refusal, unless, or_else};

@@ -1,4 +1,6 @@
 // One warning of repair, four numbers, written after those that are there already.
+#![tactic(auto)]
+
 ghost use Rattle.std.specs.Prelude.{ltb};
 ghost use Rattle.words.specs.Words.{number_of};
 ghost use Rattle.lang.specs.Every.{both};

@@ -5,7 +5,9 @@
 // What is wrong with a step: its skip passes the end; it is a redirect to be warned of; its right character neither
 // exists nor is the boundary character; its kern index is past the list; the character that it inserts does not exist;
 // its op byte is not standard.
-#[derive(Drop)]
+#![tactic(auto)]
+
+#[derive(Clone, Copy)]
 pub struct Faults {
     pub skip: bool,
     pub redirect: bool,
@@ -16,7 +18,7 @@ pub struct Faults {
 }
 
 // How many of the entries unpack, and how many warnings there are.
-#[derive(Drop)]
+#[derive(Clone, Copy)]
 pub struct Entered {
     pub entries: usize,
     pub warnings: usize,
@@ -24,14 +26,14 @@ pub struct Entered {
 
 // What the passes of repair answer: the repaired left entry and how many warnings there are, or the number of their
 // refusal.
-#[derive(Drop)]
+#[derive(Clone, Copy)]
 pub enum Validated {
     Fixed(i32, usize),
     Refused(u32),
 }
 
 // What committing answers: the repaired left entry, or the number of its refusal.
-#[derive(Drop)]
+#[derive(Clone, Copy)]
 pub enum Committed {
     Fixed(i32),
     Refused(u32),

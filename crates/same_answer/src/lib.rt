@@ -1,5 +1,7 @@
 // Two answers of steps beside each other (R482): the same item, with its original and its flags, or both the end. Each
 // function is the definition of its name in specs/Answers.antt.
+#![tactic(auto)]
+
 ghost use Rattle.std.specs.Prelude.{◌≡◌};
 ghost use Rattle.captions.specs.declared.Answer.TheVariants as answer;
 ghost use Rattle.same_answer.specs.Answers.{same_flag, is_character_item, is_ligature_item, is_kern_item, same_answer};

@@ -1,4 +1,6 @@
 // Two runs of one word over two tables, beside each other (R482): a step on each in turn, and nothing is stored.
+#![tactic(auto)]
+
 ghost use Rattle.std.specs.Prelude.{◌≡◌};
 ghost use Rattle.captions.specs.Begin.{fresh_state};
 ghost use Rattle.removals.specs.Items.{run_items, same_items};

@@ -1,6 +1,7 @@
 // The size that is asked for: at POINTS, a decimal (TeX 102, 452), or scaled THOUSANDTHS.
 use point_scan::scan_points;
 use points::Scanned;
+use std::rt::Env;
 use words::u8s::u8_at;
 
 // A size in scaled points and a magnification, 0 for what is not asked for; a size or a magnification of 0; one that
@@ -93,16 +94,14 @@ fn read_size(kind: &[u8], number: &[u8]) -> Asked {
 }
 
 // The size of the arguments.
-pub(crate) fn read_asked() -> Asked {
-    let mut kind = io::buffer();
-    let k = os::arg(3, &mut kind);
-    if os::errno() != 0 {
+pub(crate) fn read_asked(rt: &impl Env) -> Asked {
+    let mut kind = [0u8; 4096];
+    let Ok(k) = rt.arg(3, &mut kind) else {
         return Asked::Unknown;
-    }
-    let mut number = io::buffer();
-    let n = os::arg(4, &mut number);
-    if os::errno() != 0 {
+    };
+    let mut number = [0u8; 4096];
+    let Ok(n) = rt.arg(4, &mut number) else {
         return Asked::Unreadable;
-    }
+    };
     read_size(&kind[..k], &number[..n])
 }

@@ -51,7 +51,14 @@ fn put_letters(list: &mut [u32], word: &[u8]) {
 }
 
 // The word set over tables.
-fn set_tables(pairs: &[i32], ops: &[i32], boundary: i32, word: &[u8], file: &[u8]) {
+fn set_tables(
+    rt: &(impl Print + Eprint),
+    pairs: &[i32],
+    ops: &[i32],
+    boundary: i32,
+    word: &[u8],
+    file: &[u8],
+) {
     let mut letters = letter_room();
     put_letters(&mut letters, word);
     let mut items = item_room();
@@ -67,15 +74,16 @@ fn set_tables(pairs: &[i32], ops: &[i32], boundary: i32, word: &[u8], file: &[u8
         options,
         &mut items,
     ) {
-        Written::Count(n) => print_items(sixes(&items, n), word),
-        Written::Refused(number) => print_refused(number, file),
+        Written::Count(n) => print_items(rt, sixes(&items, n), word),
+        Written::Refused(number) => print_refused(rt, number, file),
     }
 }
 
 // Says that the font has a loop.
-fn print_loops(loops: usize) {
+fn print_loops(rt: &(impl Print + Eprint), loops: usize) {
     if 0 < loops {
         print_text(
+            rt,
             b"LOOP: pairs of this font never end, and are set as if they had no rule; fontcheck names them\n",
         );
     }
@@ -83,6 +91,7 @@ fn print_loops(loops: usize) {
 
 // The word set in a font that was read, at a size or by a magnification.
 fn set_read(
+    rt: &(impl Print + Eprint),
     instructions: &[i32],
     kerns: &[i32],
     entries: &[i32],
@@ -112,23 +121,30 @@ fn set_read(
         &mut loops,
         &mut work,
     ) {
-        Compiled::Refused(number) => print_refused(number, file),
+        Compiled::Refused(number) => print_refused(rt, number, file),
         Compiled::Tables(p, o, l) => {
-            print_loops(l);
-            set_tables(sixes(&pairs, p), twos(&ops, o), boundary, word, file);
+            print_loops(rt, l);
+            set_tables(rt, sixes(&pairs, p), twos(&ops, o), boundary, word, file);
         }
     }
 }
 
 // The word set in the font of a file.
-pub(crate) fn set_font(file: &[u8], word: &[u8], size: u32, magnification: u32) {
+pub(crate) fn set_font(
+    rt: &(impl Print + Eprint),
+    file: &[u8],
+    word: &[u8],
+    size: u32,
+    magnification: u32,
+) {
     let mut instructions = instruction_room();
     let mut kerns = kern_room();
     let mut entries = entry_room();
     let mut lost = lost_room();
     match read_font(file, &mut instructions, &mut kerns, &mut entries, &mut lost) {
-        FileFont::Refused(number) => print_refused(number, file),
+        FileFont::Refused(number) => print_refused(rt, number, file),
         FileFont::Font(n, k, e, _, boundary, left, design) => set_read(
+            rt,
             fours(&instructions, n),
             ones(&kerns, k),
             twos(&entries, e),

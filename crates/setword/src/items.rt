@@ -16,82 +16,78 @@ fn part(word: &[u8], start: usize, length: usize) -> &[u8] {
 }
 
 // Letters in quotes.
-fn print_letters(letters: &[u8]) {
-    print_text(b" for '");
-    let mut i = 0;
-    while i < letters.len() {
-        print_coded(b"", u8_at(letters, i) as u32);
-        i += 1;
+fn print_letters(rt: &(impl Print + Eprint), letters: &[u8]) {
+    print_text(rt, b" for '");
+    for i in 0..letters.len() {
+        print_coded(rt, b"", u8_at(letters, i) as u32);
     }
 }
 
 // Which letters of the word they are, counted from 1.
-fn print_places(start: u32, length: u32) {
+fn print_places(rt: &(impl Print + Eprint), start: u32, length: u32) {
     let first = wrapping_add_u32(start, 1);
     if length == 1 {
-        print_counted(b"', letter ", first);
+        print_counted(rt, b"', letter ", first);
         return;
     }
-    print_counted(b"', letters ", first);
-    print_counted(b" to ", wrapping_add_u32(start, length));
+    print_counted(rt, b"', letters ", first);
+    print_counted(rt, b" to ", wrapping_add_u32(start, length));
 }
 
 // What a ligature is for.
-fn print_original(word: &[u8], start: u32, length: u32) {
+fn print_original(rt: &(impl Print + Eprint), word: &[u8], start: u32, length: u32) {
     if length == 0 {
-        print_text(b" for nothing");
+        print_text(rt, b" for nothing");
         return;
     }
-    print_letters(part(word, start as usize, length as usize));
-    print_places(start, length);
+    print_letters(rt, part(word, start as usize, length as usize));
+    print_places(rt, start, length);
 }
 
 // A text where a flag is set.
-fn print_flag(flag: u32, text: &[u8]) {
+fn print_flag(rt: &(impl Print + Eprint), flag: u32, text: &[u8]) {
     if flag != 0 {
-        print_text(text);
+        print_text(rt, text);
     }
 }
 
 // A kern, as TeX prints a scaled number.
-fn print_kern(value: u32) {
+fn print_kern(rt: &(impl Print + Eprint), value: u32) {
     let mut text = [0u8; 16];
     match print_scaled(number_of(value), &mut text) {
         Written::Count(n) => {
-            print_text(b"kern ");
-            print_text(bytes_before(&text, n));
-            print_text(b" points\n");
+            print_text(rt, b"kern ");
+            print_text(rt, bytes_before(&text, n));
+            print_text(rt, b" points\n");
         }
         Written::Refused(_) => {}
     }
 }
 
 // A ligature, six numbers from a place of the list on.
-fn print_ligature(item: &[i32], word: &[u8]) {
-    print_named(b"ligature ", word_at(item, 1));
-    print_original(word, word_at(item, 2), word_at(item, 3));
-    print_flag(word_at(item, 4), b", start of the word");
-    print_flag(word_at(item, 5), b", end of the word");
-    print_text(b"\n");
+fn print_ligature(rt: &(impl Print + Eprint), item: &[i32], word: &[u8]) {
+    print_named(rt, b"ligature ", word_at(item, 1));
+    print_original(rt, word, word_at(item, 2), word_at(item, 3));
+    print_flag(rt, word_at(item, 4), b", start of the word");
+    print_flag(rt, word_at(item, 5), b", end of the word");
+    print_text(rt, b"\n");
 }
 
 // An item of six numbers: its kind, its code or its value, and for a ligature its letters and its two flags.
-fn print_item(item: &[i32], word: &[u8]) {
+fn print_item(rt: &(impl Print + Eprint), item: &[i32], word: &[u8]) {
     match word_at(item, 0) {
         0 => {
-            print_named(b"character ", word_at(item, 1));
-            print_text(b"\n");
+            print_named(rt, b"character ", word_at(item, 1));
+            print_text(rt, b"\n");
         }
-        1 => print_ligature(item, word),
-        _ => print_kern(word_at(item, 1)),
+        1 => print_ligature(rt, item, word),
+        _ => print_kern(rt, word_at(item, 1)),
     }
 }
 
 // The items of a word.
-pub(crate) fn print_items(items: &[i32], word: &[u8]) {
-    let mut i = 0;
-    while i < items.len() / 6 {
-        print_item(&items[6 * i..], word);
-        i += 1;
+pub(crate) fn print_items(rt: &(impl Print + Eprint), items: &[i32], word: &[u8]) {
+    for i in 0..items.len() / 6 {
+        print_item(rt, &items[6 * i..], word);
     }
 }

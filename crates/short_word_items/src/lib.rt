@@ -1,4 +1,6 @@
 // The items of a next short word, six numbers each as a T line has them (R439). The function is total.
+#![tactic(auto)]
+
 ghost use Rattle.std.specs.Prelude.{length};
 ghost use Rattle.word_set.specs.Writing.{Tells};
 ghost use Rattle.short_word_items.specs.NextItems.{next_word_items};

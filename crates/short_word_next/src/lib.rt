@@ -1,4 +1,6 @@
 // The word after a word of at most four letters of a set, found from the word alone (R436, R437).
+#![tactic(auto)]
+
 ghost use Rattle.std.specs.Prelude.{◌≡◌, ◌<◌, ◌≤◌, length, get_or};
 ghost use Rattle.std.proofs.Math.Option.{some};
 ghost use Rattle.lang.specs.Checks.{or_else, absent_refusal};

@@ -2,14 +2,16 @@
 // alone: crate `short_word_next` finds the next word, and `short_word_set` sets it.
 
 // A word of at most four letters; what stands past its length is 0.
-#[derive(Drop)]
+#![tactic(auto)]
+
+#[derive(Clone, Copy)]
 pub struct ShortWord {
     pub length: usize,
     pub letters: [u32; 4],
 }
 
 // There is a next word, the word handed in was the last, or it was refused.
-#[derive(Drop)]
+#[derive(Clone, Copy)]
 pub enum NextAnswer {
     Word,
     End,
@@ -17,14 +19,14 @@ pub enum NextAnswer {
 }
 
 // The next word; no letters at the end or after a refusal.
-#[derive(Drop)]
+#[derive(Clone, Copy)]
 pub struct NextWord {
     pub answer: NextAnswer,
     pub word: ShortWord,
 }
 
 // The same, with how many items the word has.
-#[derive(Drop)]
+#[derive(Clone, Copy)]
 pub struct SetNext {
     pub answer: NextAnswer,
     pub word: ShortWord,

@@ -6,6 +6,8 @@
 //   calm   what is asked of the state and the call
 //   left   a quick state, its character, its letter and its left
 //   kern   a last kern
+#![tactic(auto)]
+
 mod calm;
 pub mod kern;
 pub mod left;

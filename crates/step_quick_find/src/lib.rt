@@ -1,6 +1,8 @@
 // The place of a pair, by the bisection of crate table_find: the left is compared first, and the right only where it
 // decides. What is read is read in bounds. `found_place` is the definition of the same name in specs/Quick.antt of
 // crate step_quick.
+#![tactic(auto)]
+
 ghost use Rattle.std.specs.Prelude.{◌≡◌, ◌<◌, nat_lt};
 ghost use Rattle.captions.specs.Tables.{pair_count, left_place, number, key_by, key_at, place_for};
 ghost use Rattle.step_quick.specs.Quick.{found_place};

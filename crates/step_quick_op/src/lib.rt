@@ -1,6 +1,8 @@
 // What a quick state gives: the first op of an entry, where it is a character, or the character as it stands where
 // there is no entry. What is read is read in bounds. `is_ready` and `quick_step` are the definitions of the same names
 // in specs/Quick.antt of crate step_quick.
+#![tactic(auto)]
+
 ghost use Rattle.std.specs.Prelude.{◌≡◌, true, ◌+◌, ◌≤◌, ◌<◌};
 ghost use Rattle.words.specs.Words.{Word};
 ghost use Rattle.reading.specs.Items.{item};

@@ -1,5 +1,7 @@
 // Kern pairs (R417): entries that are the left as it stands and one kern, and whose last is the right as it stands.
 // Both items of such a pair are given in the loop over letters, and the right goes on as the next left.
+#![tactic(auto)]
+
 ghost use Rattle.std.specs.Prelude.{◌≡◌};
 ghost use Rattle.step_quick_pair.specs.KernPairs.{kern_op};
 

@@ -214,3 +214,7 @@ looked look s (next.Char c) h = refl
 looked look s (next.Lig c) h = refl
 looked look s (next.FinalLig c) h = absurd (omega arith)
 looked look s next.None h = absurd (omega arith)
+
+-- with nothing next the word is over
+pub over_lem : (look : NextLeft → State → Turned) (s : State) (x : NextLeft) → x ≡ next.None → turn_next look s x ≡ Gives (ended s)
+over_lem look s x e = rw e

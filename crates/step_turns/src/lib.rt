@@ -2,6 +2,8 @@
 // function is the definition of the same name in captions/specs/Steps.antt, or in specs/Turns.antt.
 //   check  that the state points inside, and that the right item is a letter
 //   left   the left of a pair        turn   looking a left up
+#![tactic(auto)]
+
 ghost use Rattle.std.specs.Prelude.{◌≡◌, true, suc, ◌-◌, length};
 ghost use Rattle.words.specs.Words.{number_of};
 ghost use Rattle.captions.specs.Tables.{op_count};

@@ -1,5 +1,7 @@
 // A pair of a lent table, whatever it holds, found by bisection: a left's place, a pair's key in the order of pairs,
 // and the search.
+#![tactic(auto)]
+
 ghost use Rattle.std.specs.Prelude.{◌≡◌, ◌+◌, ◌%◌};
 ghost use Rattle.captions.specs.Tables.{key_by, key_at, found_at};
 ghost use Rattle.captions.specs.Tables as tables;

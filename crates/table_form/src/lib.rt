@@ -1,6 +1,8 @@
 // The form of a pair table (R256 to R262). The whole of it is tested by crate table_form_pass; here are the refusal and
 // the key of one pair.
 //   keys  the keys of all pairs
+#![tactic(auto)]
+
 ghost use Rattle.std.specs.Prelude.{◌≡◌};
 ghost use Rattle.words.specs.Words.{number_of};
 ghost use Rattle.lang.specs.Records.{absent_or};

@@ -1,6 +1,8 @@
 // The form of a pair table (R256 to R262), tested in one pass. Each pair is tested against the key of the pair before
 // it and the place where the ops of that pair end. So every op is tested once, with the pair that it is of: the ops of
 // the pairs are all the ops, one pair's after the other's.
+#![tactic(auto)]
+
 ghost use Rattle.std.specs.Prelude.{◌≡◌, ◌+◌, ◌/◌, ◌%◌, ◌<◌, ◌≤◌, length};
 ghost use Rattle.captions.specs.Tables.{op_count, key_at};
 ghost use Rattle.captions.specs.Form.{sizes_form, table_form};

@@ -1,5 +1,7 @@
 // The pair table and the ops as they are lent, whatever they hold: one number as its 32 bits, and what fits. A pair is
 // found by crate table_find.
+#![tactic(auto)]
+
 ghost use Rattle.std.specs.Prelude.{◌≡◌};
 ghost use Rattle.words.specs.Words.{Word};
 ghost use Rattle.captions.specs.Tables.{number, op_kind, op_value, op_fits, record_fits};

@@ -2,6 +2,8 @@
 // `all_pairs_with_replacements` of ligkern/mod.rs, and the original of an item as a part of the caller's word. The
 // table's seven-bit test is crate table_seven_bit.
 //   keys  the left and the right of every pair
+#![tactic(auto)]
+
 ghost use Rattle.std.specs.Prelude.{◌≡◌};
 ghost use Rattle.captions.specs.Tables.{key_by};
 ghost use Rattle.captions.specs.Tables as tables;

@@ -1,5 +1,7 @@
 // The table's seven-bit test, after `CompiledProgram::is_seven_bit_safe` of ligkern/mod.rs: what any pair of seven-bit
 // characters becomes is of seven-bit characters, in a table that is of the form.
+#![tactic(auto)]
+
 ghost use Rattle.std.specs.Prelude.{◌≡◌, true, ◌+◌, ◌<◌, ◌≤◌};
 ghost use Rattle.lang.specs.Every.{every};
 ghost use Rattle.captions.specs.Tables.{pair_count, op_count, record_fits};

@@ -1,7 +1,10 @@
 // Answers requests about removals, one a line, and writes an answer for each. What is due was made by tools/blame, from
 // the rules and not from this program, and the gate compares.
+#![tactic(auto)]
+
 ghost use Rattle.std.specs.Prelude.{◌≡◌, length};
 
+use file_fill::fill_front;
 use test_requests::read::{line_end, numbers_of};
 use test_requests::request::{front, part};
 
@@ -14,23 +17,23 @@ fn room() -> [u8; 262144]
     [0; 262144]
 }
 
-fn answer(line: &[u8]) {
+fn answer(rt: &impl Print, line: &[u8]) {
     let mut numbers = [0i32; 4096];
     let n = numbers_of(line, &mut numbers);
-    request::answer(part(&numbers, 0, n));
+    request::answer(rt, part(&numbers, 0, n));
 }
 
-fn answer_all(text: &[u8]) {
+fn answer_all(rt: &impl Print, text: &[u8]) {
     let mut at = 0;
     while at < text.len() {
         let end = line_end(text, at);
-        answer(&text[at..end]);
+        answer(rt, &text[at..end]);
         at = end + 1;
     }
 }
 
-fn main() {
+fn main(rt: HostRuntime) {
     let mut input = room();
-    let got = io::read_full(libc::STDIN_FILENO, &mut input);
-    answer_all(front(&input, got));
+    let got = fill_front(&mut rt.stdin(), &mut input);
+    answer_all(&rt, front(&input, got));
 }

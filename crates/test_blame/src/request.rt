@@ -13,21 +13,21 @@ use words::i32s::word_at;
 use words::u32s::put_u32;
 
 // The number, and the two values.
-fn print(number: u32, found: usize, index: usize) {
+fn print(rt: &impl Print, number: u32, found: usize, index: usize) {
     let mut out = [0i32; 3];
     let mut line = [0u8; 64];
     let a = put_one(&mut out, 0, number);
     let b = put_count(&mut out, a, found);
     let n = put_count(&mut out, b, index);
     let k = put_line(&mut line, b'B', Written::Count(n), &out);
-    io::write_all(libc::STDOUT_FILENO, front(&line, k));
+    let _ = rt.write_all(front(&line, k));
 }
 
-fn put_blamed(answer: Blamed) {
+fn put_blamed(rt: &impl Print, answer: Blamed) {
     match answer {
-        Blamed::At(i) => print(0, 1, i),
-        Blamed::Nothing => print(0, 0, 0),
-        Blamed::Refused(n) => print(n, 0, 0),
+        Blamed::At(i) => print(rt, 0, 1, i),
+        Blamed::Nothing => print(rt, 0, 0, 0),
+        Blamed::Refused(n) => print(rt, n, 0, 0),
     }
 }
 
@@ -113,9 +113,12 @@ fn answer_of(numbers: &[i32], word: &[u32]) -> Blamed {
     blamed(numbers, items(numbers, after(numbers, 15, 1), 1), word)
 }
 
-pub(crate) fn answer(numbers: &[i32]) {
+pub(crate) fn answer(rt: &impl Print, numbers: &[i32]) {
     let entries = after(numbers, after(numbers, 15, 1), 1);
     let mut word = [0u32; 65536];
     copy_letters(items(numbers, after(numbers, entries, 2), 1), &mut word);
-    put_blamed(answer_of(numbers, letters(&word, word_at(numbers, 14) as usize)));
+    put_blamed(
+        rt,
+        answer_of(numbers, letters(&word, word_at(numbers, 14) as usize)),
+    );
 }

@@ -2,8 +2,11 @@
 // and leaves in the block; and before each what `step` gives from the chip's state. A line of K has callers, whose
 // words the program counts itself. What is due was made by tools/chip, from the rules and not from this program, and
 // the gate compares.
+#![tactic(auto)]
+
 ghost use Rattle.std.specs.Prelude.{◌≡◌, length};
 
+use file_fill::fill_front;
 use test_requests::read::{line_end, numbers_of};
 use test_requests::request::{front, part};
 use words::u8s::u8_at;
@@ -17,27 +20,27 @@ fn room() -> [u8; 262144]
     [0; 262144]
 }
 
-fn answer(line: &[u8]) {
+fn answer(rt: &impl Print, line: &[u8]) {
     let mut numbers = [0i32; 16384];
     let n = numbers_of(line, &mut numbers);
     if u8_at(line, 0) == b'K' {
-        scenario::answer_callers(part(&numbers, 0, n));
+        scenario::answer_callers(rt, part(&numbers, 0, n));
         return;
     }
-    scenario::answer(part(&numbers, 0, n));
+    scenario::answer(rt, part(&numbers, 0, n));
 }
 
-fn answer_all(text: &[u8]) {
+fn answer_all(rt: &impl Print, text: &[u8]) {
     let mut at = 0;
     while at < text.len() {
         let end = line_end(text, at);
-        answer(&text[at..end]);
+        answer(rt, &text[at..end]);
         at = end + 1;
     }
 }
 
-fn main() {
+fn main(rt: HostRuntime) {
     let mut input = room();
-    let got = io::read_full(libc::STDIN_FILENO, &mut input);
-    answer_all(front(&input, got));
+    let got = fill_front(&mut rt.stdin(), &mut input);
+    answer_all(&rt, front(&input, got));
 }

@@ -15,6 +15,7 @@ fn chip_of(counts: [u32; 8]) -> Chip {
 
 // The commands one after the other; of callers, what the program counts is written too.
 fn turns(
+    rt: &impl Print,
     pairs: &[i32],
     ops: &[i32],
     boundary: i32,
@@ -28,39 +29,41 @@ fn turns(
         caller: 0,
         counts: counts,
     };
-    let mut i = 0;
-    while i < commands.len() / 4 {
-        let done = turn(pairs, ops, boundary, rest(commands, 4 * i), block, chip);
+    for i in 0..commands.len() / 4 {
+        let done = turn(rt, pairs, ops, boundary, rest(commands, 4 * i), block, chip);
         let next = done.chip;
         chip = next;
-        let more = count_on(callers, done.number, block, counted);
+        let more = count_on(rt, callers, done.number, block, counted);
         counted = more;
-        i += 1;
     }
 }
 
 // The boundary character, the pairs, the ops, and the commands. A table without pairs has a block of 15 bytes.
-fn answer_from(numbers: &[i32], counts: [u32; 8], callers: bool) {
+fn answer_from(rt: &impl Print, numbers: &[i32], counts: [u32; 8], callers: bool) {
     let boundary = number_at(numbers, 0);
     let pairs = items(numbers, 1, 6);
     let ops = items(numbers, after(numbers, 1, 6), 2);
     let commands = rest(numbers, after(numbers, after(numbers, 1, 6), 2));
     if pairs.len() == 0 {
         let mut short = [170u8; 15];
-        turns(pairs, ops, boundary, commands, counts, callers, &mut short);
+        turns(
+            rt, pairs, ops, boundary, commands, counts, callers, &mut short,
+        );
         return;
     }
     let mut block = [170u8; 18];
-    turns(pairs, ops, boundary, commands, counts, callers, &mut block);
+    turns(
+        rt, pairs, ops, boundary, commands, counts, callers, &mut block,
+    );
 }
 
 // From a fresh chip.
-pub(crate) fn answer(numbers: &[i32]) {
-    answer_from(numbers, [0u32; 8], false);
+pub(crate) fn answer(rt: &impl Print, numbers: &[i32]) {
+    answer_from(rt, numbers, [0u32; 8], false);
 }
 
 // From a chip with the counts that stand first.
-pub(crate) fn answer_callers(numbers: &[i32]) {
+pub(crate) fn answer_callers(rt: &impl Print, numbers: &[i32]) {
     let counts = [
         word_at(numbers, 0),
         word_at(numbers, 1),
@@ -71,5 +74,5 @@ pub(crate) fn answer_callers(numbers: &[i32]) {
         word_at(numbers, 6),
         word_at(numbers, 7),
     ];
-    answer_from(rest(numbers, 8), counts, true);
+    answer_from(rt, rest(numbers, 8), counts, true);
 }

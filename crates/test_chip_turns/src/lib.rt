@@ -1,5 +1,7 @@
 // One command of the caption chip for test_chip: what it answers and leaves in the block is written, and before it what
 // `step` gives from the chip's state.
+#![tactic(auto)]
+
 ghost use Rattle.std.specs.Prelude.{◌≡◌};
 ghost use Rattle.chips.specs.Commands.{commanded_by};
 
@@ -26,12 +28,12 @@ fn put_block(out: &mut [i32], number: u32, block: &[u8]) -> usize {
     at
 }
 
-fn print(letter: u8, number: u32, block: &[u8]) {
+fn print(rt: &impl Print, letter: u8, number: u32, block: &[u8]) {
     let mut out = [0i32; 32];
     let mut line = [0u8; 256];
     let n = put_block(&mut out, number, block);
     let k = put_line(&mut line, letter, Written::Count(n), &out);
-    io::write_all(libc::STDOUT_FILENO, front(&line, k));
+    let _ = rt.write_all(front(&line, k));
 }
 
 // What the host writes into byte i before a command, of which `four` has the command, its letter, the mask, and what
@@ -77,15 +79,16 @@ fn given(pairs: &[i32], ops: &[i32], boundary: i32, chip: Chip) -> Answer {
 }
 
 // An item shown in a block of its own.
-fn show_beside(answer: Answer) {
+fn show_beside(rt: &impl Print, answer: Answer) {
     let mut block = [0u8; 16];
     show(&mut block, false, 0, answer);
-    print(b'S', 0, &block);
+    print(rt, b'S', 0, &block);
 }
 
 // One command, after what a step would give: its number, and the chip after it, which is as it was where the command is
 // refused.
 pub fn turn(
+    rt: &impl Print,
     pairs: &[i32],
     ops: &[i32],
     boundary: i32,
@@ -95,9 +98,9 @@ pub fn turn(
 ) -> Commanded
     ensures { result ≡ commanded_by result.number result.chip chip }
 {
-    show_beside(given(pairs, ops, boundary, chip));
+    show_beside(rt, given(pairs, ops, boundary, chip));
     put_command(block, four);
     let done = command(pairs, ops, boundary, block, chip);
-    print(b'B', done.number, block);
+    print(rt, b'B', done.number, block);
     done
 }

@@ -1,5 +1,7 @@
 // The words of each caller as test_chip counts them itself: one more at each end that is taken, for the caller of the
 // last begin that was.
+#![tactic(auto)]
+
 ghost use Rattle.std.specs.Prelude.{◌≡◌, ◌≢◌};
 
 use lang::Written;
@@ -9,7 +11,7 @@ use test_requests::write::put_line;
 use words::u8s::u8_at;
 use words::u32s::u32_at;
 
-#[derive(Drop)]
+#[derive(Clone, Copy)]
 pub struct Counted {
     pub caller: usize,
     pub counts: [u32; 8],
@@ -39,13 +41,13 @@ fn shown(block: &[u8]) -> u32 {
 }
 
 // What was counted for the caller, and 1 where the block shows it.
-fn print(count: u32, same: u32) {
+fn print(rt: &impl Print, count: u32, same: u32) {
     let mut out = [0i32; 2];
     let mut line = [0u8; 64];
     let at = put_one(&mut out, 0, count);
     let n = put_one(&mut out, at, same);
     let k = put_line(&mut line, b'W', Written::Count(n), &out);
-    io::write_all(libc::STDOUT_FILENO, front(&line, k));
+    let _ = rt.write_all(front(&line, k));
 }
 
 // What is counted for the caller.
@@ -60,18 +62,24 @@ fn same(a: u32, b: u32) -> u32 {
 
 // After a command: what is counted then, the same as before where it was refused. It is written, where callers are
 // looked at.
-pub fn count_on(callers: bool, number: u32, block: &[u8], before: Counted) -> Counted
+pub fn count_on(
+    rt: &impl Print,
+    callers: bool,
+    number: u32,
+    block: &[u8],
+    before: Counted,
+) -> Counted
     ensures { (number ≢ 0) → result ≡ before }
 {
     if !callers {
         return before;
     }
     if number != 0 {
-        print(own(before), 0);
+        print(rt, own(before), 0);
         return before;
     }
     let after = counted_on(block, before);
     let count = own(after);
-    print(count, same(shown(block), count));
+    print(rt, count, same(shown(block), count));
     after
 }

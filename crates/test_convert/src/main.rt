@@ -3,8 +3,11 @@
 // with what `ligcols_convert` returned is written; where the length was given, what the text became; and then what the
 // program `ligcols_convert` prints when it reads the text (R466). `stdout` beside this crate's source holds the same,
 // made by tools/oracle/conversions from docs/RULES.md alone, and the gate compares the two.
+#![tactic(auto)]
+
 ghost use Rattle.std.specs.Prelude.{◌≡◌, length};
 
+use file_fill::fill_front;
 use test_requests::read::{line_end, numbers_of};
 use test_requests::request::front;
 use text_convert::ligcols_convert;
@@ -68,43 +71,43 @@ fn read_front(text: &[u8], read: &mut [u8]) -> usize {
 }
 
 // Writes what the program prints.
-fn print(text: &[u8]) {
+fn print(rt: &impl Print, text: &[u8]) {
     let mut read = read_room();
     let mut out = print_room();
     let got = read_front(text, &mut read);
     let n = print_converted(&read, got, &mut out);
-    io::write_all(libc::STDOUT_FILENO, front(&out, n));
+    let _ = rt.write_all(front(&out, n));
 }
 
 // Writes what a text is answered with: the length of what it becomes, or minus the number; what it becomes, unless
 // 65,536 bytes were lent, since that is printed; and what is printed.
-fn answer(text: &[u8], out: &mut [u8]) {
+fn answer(rt: &impl Print, text: &[u8], out: &mut [u8]) {
     let w = word_of(ligcols_convert(text, out));
     if w < 2147483648 {
-        io::print_decimal(libc::STDOUT_FILENO, w as u64);
-        io::write_all(libc::STDOUT_FILENO, b"\n");
+        let _ = rt.print(w);
+        let _ = rt.write_all(b"\n");
         if out.len() != 65536 {
-            io::write_all(libc::STDOUT_FILENO, front(out, w as usize));
+            let _ = rt.write_all(front(out, w as usize));
         }
     } else {
-        io::write_all(libc::STDOUT_FILENO, b"-");
-        io::print_decimal(libc::STDOUT_FILENO, 4294967296 - (w as u64));
-        io::write_all(libc::STDOUT_FILENO, b"\n");
+        let _ = rt.write_all(b"-");
+        let _ = rt.print(4294967296 - (w as u64));
+        let _ = rt.write_all(b"\n");
     }
-    print(text);
+    print(rt, text);
 }
 
 // Lends n bytes, or all that there are.
-fn answer_in(text: &[u8], out: &mut [u8], n: usize) {
+fn answer_in(rt: &impl Print, text: &[u8], out: &mut [u8], n: usize) {
     if out.len() < n {
-        answer(text, out);
+        answer(rt, text, out);
     } else {
-        answer(text, &mut out[..n]);
+        answer(rt, text, &mut out[..n]);
     }
 }
 
 // Answers each text, up to one that is cut short.
-fn answer_all(texts: &[u8], out: &mut [u8]) {
+fn answer_all(rt: &impl Print, texts: &[u8], out: &mut [u8]) {
     let mut at = 0;
     while at < texts.len() {
         let end = line_end(texts, at);
@@ -114,14 +117,14 @@ fn answer_all(texts: &[u8], out: &mut [u8]) {
         }
         let from = end + 1;
         let next = from + h.size;
-        answer_in(&texts[from..next], out, h.room);
+        answer_in(rt, &texts[from..next], out, h.room);
         at = next;
     }
 }
 
-fn main() {
+fn main(rt: HostRuntime) {
     let mut input = room();
     let mut out = out_room();
-    let got = io::read_full(libc::STDIN_FILENO, &mut input);
-    answer_all(front(&input, got), &mut out);
+    let got = fill_front(&mut rt.stdin(), &mut input);
+    answer_all(&rt, front(&input, got), &mut out);
 }

@@ -1,8 +1,11 @@
 // Writes fonts as property lists, each into as many bytes as its line says, and prints the length and the text, or the
 // number of the refusal. What is due was made by tools/oracle/displays, by TFtoPL's own way to find decimals, and the
 // gate compares.
+#![tactic(auto)]
+
 ghost use Rattle.std.specs.Prelude.{◌≡◌, length};
 
+use file_fill::fill_front;
 use lang::Written;
 use pl_write::display;
 use test_requests::read::{line_end, numbers_of};
@@ -27,24 +30,24 @@ fn text_room() -> [u8; 65536]
 }
 
 // The length and the text, or the number of a refusal.
-fn print(written: Written, text: &[u8]) {
+fn print(rt: &impl Print, written: Written, text: &[u8]) {
     let mut line = [0u8; 64];
     match written {
         Written::Refused(n) => {
             let k = put_line(&mut line, b'D', Written::Refused(n), &[]);
-            io::write_all(libc::STDOUT_FILENO, front(&line, k));
+            let _ = rt.write_all(front(&line, k));
         }
         Written::Count(n) => {
             let count = [(n % 2147483648) as i32];
             let k = put_line(&mut line, b'D', Written::Count(1), &count);
-            io::write_all(libc::STDOUT_FILENO, front(&line, k));
-            io::write_all(libc::STDOUT_FILENO, front(text, n));
+            let _ = rt.write_all(front(&line, k));
+            let _ = rt.write_all(front(text, n));
         }
     }
 }
 
 // How many bytes are lent of a text, and a font.
-fn answer_font(numbers: &[i32], text: &mut [u8]) {
+fn answer_font(rt: &impl Print, numbers: &[i32], text: &mut [u8]) {
     let font = rest(numbers, 1);
     let end = from_end(font, 2);
     let n = smaller(words::i32s::word_at(numbers, 0) as usize, text.len());
@@ -56,27 +59,27 @@ fn answer_font(numbers: &[i32], text: &mut [u8]) {
         number_at(font, from_end(font, 1)),
         &mut text[..n],
     );
-    print(written, text);
+    print(rt, written, text);
 }
 
-fn answer(line: &[u8]) {
+fn answer(rt: &impl Print, line: &[u8]) {
     let mut numbers = [0i32; 4096];
     let mut text = text_room();
     let n = numbers_of(line, &mut numbers);
-    answer_font(part(&numbers, 0, n), &mut text);
+    answer_font(rt, part(&numbers, 0, n), &mut text);
 }
 
-fn answer_all(text: &[u8]) {
+fn answer_all(rt: &impl Print, text: &[u8]) {
     let mut at = 0;
     while at < text.len() {
         let end = line_end(text, at);
-        answer(&text[at..end]);
+        answer(rt, &text[at..end]);
         at = end + 1;
     }
 }
 
-fn main() {
+fn main(rt: HostRuntime) {
     let mut input = room();
-    let got = io::read_full(libc::STDIN_FILENO, &mut input);
-    answer_all(front(&input, got));
+    let got = fill_front(&mut rt.stdin(), &mut input);
+    answer_all(&rt, front(&input, got));
 }

@@ -1,4 +1,6 @@
 // F roomInstructions roomKerns roomEntries FILE: a file is read into three lists of so many places.
+#![tactic(auto)]
+
 ghost use Rattle.std.specs.Prelude.{◌≤◌, length};
 
 use files::Deserialized;

@@ -2,6 +2,8 @@
 //   runs     lists as runs
 //   bytes    files as numbers
 //   rooms    the lists that are lent
+#![tactic(auto)]
+
 pub mod bytes;
 pub mod rooms;
 pub mod runs;

@@ -1,6 +1,8 @@
 // What a host does on one run: four fonts (boundary character, pairs, ops), and acts of twelve numbers: 1 and a font to
 // ask for, 2 to start a word, 3 to make a step; then whether the left boundary is left out, the override, the length of
 // the word, and its letters, at most eight.
+#![tactic(auto)]
+
 ghost use Rattle.std.specs.Prelude.{◌≡◌};
 ghost use Rattle.test_font_acts.specs.Acts.{past_of, acts_of, act_count};
 
@@ -45,7 +47,7 @@ fn low(run: &[u64], i: usize) -> u32 {
 }
 
 // A line: the number, the fonts in force and asked for, and the item of a step.
-fn print(letter: u8, number: u32, run: &[u64], item: &[i32]) {
+fn print(rt: &impl Print, letter: u8, number: u32, run: &[u64], item: &[i32]) {
     let mut out = [0i32; 16];
     let mut line = [0u8; 256];
     let a = put_one(&mut out, 0, number);
@@ -54,7 +56,7 @@ fn print(letter: u8, number: u32, run: &[u64], item: &[i32]) {
     let d = put_one(&mut out, c, low(run, 11));
     let n = put_item(&mut out, d, item);
     let k = put_line(&mut line, letter, Written::Count(n), &out);
-    io::write_all(libc::STDOUT_FILENO, front(&line, k));
+    let _ = rt.write_all(front(&line, k));
 }
 
 fn put_item(out: &mut [i32], at: usize, item: &[i32]) -> usize {
@@ -84,15 +86,15 @@ fn first(letters: &[u32], n: usize) -> &[u32] {
     &letters[..n]
 }
 
-fn ask(numbers: &[i32], act: &[i32], run: &mut [u64]) {
+fn ask(rt: &impl Print, numbers: &[i32], act: &[i32], run: &mut [u64]) {
     let number = word_at(act, 1);
     let f = font(numbers, number as u64);
     let refusal = ligkern_ask_font(number, pairs(f), ops(f), number_at(f, 0), run);
     let none = [0i32; 0];
-    print(b'A', refusal, run, &none);
+    print(rt, b'A', refusal, run, &none);
 }
 
-fn start(numbers: &[i32], act: &[i32], word: &[u32], run: &mut [u64]) {
+fn start(rt: &impl Print, numbers: &[i32], act: &[i32], word: &[u32], run: &mut [u64]) {
     let f = font(numbers, u64_at(run, 9));
     let g = font(numbers, u64_at(run, 11));
     let refusal = ligkern_start_word(
@@ -108,10 +110,10 @@ fn start(numbers: &[i32], act: &[i32], word: &[u32], run: &mut [u64]) {
         run,
     );
     let none = [0i32; 0];
-    print(b'W', refusal, run, &none);
+    print(rt, b'W', refusal, run, &none);
 }
 
-fn step(numbers: &[i32], act: &[i32], word: &[u32], run: &mut [u64]) {
+fn step(rt: &impl Print, numbers: &[i32], act: &[i32], word: &[u32], run: &mut [u64]) {
     let mut item = [0i32; 7];
     let f = font(numbers, u64_at(run, 9));
     let g = font(numbers, u64_at(run, 11));
@@ -128,37 +130,35 @@ fn step(numbers: &[i32], act: &[i32], word: &[u32], run: &mut [u64]) {
         run,
         &mut item,
     );
-    print(b'T', refusal, run, &item);
+    print(rt, b'T', refusal, run, &item);
 }
 
-fn act(numbers: &[i32], act: &[i32], run: &mut [u64]) {
+fn act(rt: &impl Print, numbers: &[i32], act: &[i32], run: &mut [u64]) {
     let mut letters = [0u32; 8];
     copy_letters(act, &mut letters);
     let word = first(&letters, word_at(act, 3) as usize);
     match word_at(act, 0) {
-        1 => ask(numbers, act, run),
-        2 => start(numbers, act, word, run),
-        _ => step(numbers, act, word, run),
+        1 => ask(rt, numbers, act, run),
+        2 => start(rt, numbers, act, word, run),
+        _ => step(rt, numbers, act, word, run),
     }
 }
 
 // All of them; how many there are.
-fn acts(numbers: &[i32], all: &[i32], run: &mut [u64]) -> usize
+fn acts(rt: &impl Print, numbers: &[i32], all: &[i32], run: &mut [u64]) -> usize
     ensures { result ≡ act_count all.now }
 {
-    let mut i = 0;
-    while i < all.len() / 12 {
-        act(numbers, rest(all, 12 * i), run);
-        i += 1;
+    for i in 0..all.len() / 12 {
+        act(rt, numbers, rest(all, 12 * i), run);
     }
     all.len() / 12
 }
 
 // The acts that stand after four fonts, made on a run of zeros, each with a line of what it left. Answers how many
 // there are.
-pub fn answer(numbers: &[i32]) -> usize
+pub fn answer(rt: &impl Print, numbers: &[i32]) -> usize
     ensures { result ≡ act_count (acts_of numbers.now) }
 {
     let mut run = [0u64; 12];
-    acts(numbers, past(past(past(past(numbers)))), &mut run)
+    acts(rt, numbers, past(past(past(past(numbers)))), &mut run)
 }

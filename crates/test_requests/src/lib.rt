@@ -4,6 +4,8 @@
 //   answer   the numbers of an answer
 //   sets     a set of indices, listed
 //   write    an answer as a line of text
+#![tactic(auto)]
+
 pub mod answer;
 pub mod read;
 pub mod request;

@@ -2,7 +2,7 @@
 ghost use Rattle.std.specs.Prelude.{◌<◌, ◌≤◌, length};
 
 // A number that was read, as its 32 bits, and the place after it.
-#[derive(Drop)]
+#[derive(Clone, Copy)]
 struct Number {
     word: u32,
     next: usize,

@@ -1,8 +1,11 @@
 // Reads texts as property lists, each into lists of as many places as its line says, and prints the font, or the number
 // of the refusal, and the lists. What is due was made by tools/oracle/sources, by PLtoTF's own way of reading, and the
 // gate compares.
+#![tactic(auto)]
+
 ghost use Rattle.std.specs.Prelude.{◌≡◌, ◌≤◌, length};
 
+use file_fill::fill_front;
 use lang::Written;
 use pl_share::from_pl_source_code;
 use property_lists::Listed;
@@ -65,7 +68,7 @@ fn put_kerns(out: &mut [i32], at: usize, listed: Listed, kerns: &[i32]) -> usize
 }
 
 // An answer and the lists.
-fn print(listed: Listed, instructions: &[i32], kerns: &[i32], entries: &[i32]) {
+fn print(rt: &impl Print, listed: Listed, instructions: &[i32], kerns: &[i32], entries: &[i32]) {
     let mut numbers = [0i32; 1024];
     let a = put_listed(&mut numbers, listed);
     let b = put_list(&mut numbers, a, instructions);
@@ -73,11 +76,12 @@ fn print(listed: Listed, instructions: &[i32], kerns: &[i32], entries: &[i32]) {
     let d = put_kerns(&mut numbers, c, listed, kerns);
     let mut line = [0u8; 8192];
     let k = put_line(&mut line, b'S', Written::Count(d), &numbers);
-    io::write_all(libc::STDOUT_FILENO, front(&line, k));
+    let _ = rt.write_all(front(&line, k));
 }
 
 // A text, to so many places of three lists.
 fn read_within(
+    rt: &impl Print,
     text: &[u8],
     rooms: &[i32],
     instructions: &mut [i32],
@@ -94,6 +98,7 @@ fn read_within(
         &mut entries[..e],
     );
     print(
+        rt,
         listed,
         part(instructions, 0, n),
         part(kerns, 0, k),
@@ -124,6 +129,7 @@ fn stretch(text: &[u8], m: usize, out: &mut [u8]) {
 
 // A text stretched to so many bytes.
 fn read_stretched(
+    rt: &impl Print,
     text: &[u8],
     bytes: usize,
     rooms: &[i32],
@@ -133,11 +139,11 @@ fn read_stretched(
 ) {
     let mut long = long_room();
     stretch(text, bytes, &mut long);
-    read_within(front(&long, bytes), rooms, instructions, kerns, entries);
+    read_within(rt, front(&long, bytes), rooms, instructions, kerns, entries);
 }
 
 // The lists have numbers that are not 0 before a text is read.
-fn answer(header: &[u8], text: &[u8]) {
+fn answer(rt: &impl Print, header: &[u8], text: &[u8]) {
     let mut rooms = [0i32; 4];
     numbers_of(header, &mut rooms);
     let mut instructions = [-7i32; 640];
@@ -145,10 +151,18 @@ fn answer(header: &[u8], text: &[u8]) {
     let mut entries = [-7i32; 64];
     let bytes = word_at(&rooms, 3) as usize;
     if bytes == 0 {
-        read_within(text, &rooms, &mut instructions, &mut kerns, &mut entries);
+        read_within(
+            rt,
+            text,
+            &rooms,
+            &mut instructions,
+            &mut kerns,
+            &mut entries,
+        );
         return;
     }
     read_stretched(
+        rt,
         text,
         bytes,
         &rooms,
@@ -158,19 +172,19 @@ fn answer(header: &[u8], text: &[u8]) {
     );
 }
 
-fn answer_all(text: &[u8]) {
+fn answer_all(rt: &impl Print, text: &[u8]) {
     let mut at = 0;
     while at < text.len() {
         let body = line_end(text, at);
         let from = smaller(body + 1, text.len());
         let end = text_end(text, from);
-        answer(&text[at..body], &text[from..end]);
+        answer(rt, &text[at..body], &text[from..end]);
         at = end + 2;
     }
 }
 
-fn main() {
+fn main(rt: HostRuntime) {
     let mut input = room();
-    let got = io::read_full(libc::STDIN_FILENO, &mut input);
-    answer_all(front(&input, got));
+    let got = fill_front(&mut rt.stdin(), &mut input);
+    answer_all(&rt, front(&input, got));
 }

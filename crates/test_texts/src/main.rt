@@ -6,8 +6,11 @@
 // with 16 by `ligcols_convert`, or with another number as they ought to be; and how many were not: none. `stdout`
 // beside this crate's source holds the same, made by tools/oracle/texts from docs/RULES.md and the Rust's answers, and
 // the gate compares the two.
+#![tactic(auto)]
+
 ghost use Rattle.std.specs.Prelude.{◌≡◌, length};
 
+use file_fill::fill_front;
 use test_requests::read::{line_end, numbers_of};
 use test_requests::request::front;
 use text_answer::ligcols;
@@ -81,12 +84,12 @@ fn read_front(text: &[u8], read: &mut [u8]) -> usize {
 }
 
 // Writes what the program prints.
-fn print(text: &[u8]) {
+fn print(rt: &impl Print, text: &[u8]) {
     let mut read = read_room();
     let mut out = print_room();
     let got = read_front(text, &mut read);
     let n = print_answer(&read, got, &mut out);
-    io::write_all(libc::STDOUT_FILENO, front(&out, n));
+    let _ = rt.write_all(front(&out, n));
 }
 
 // The second list begins with the first.
@@ -173,51 +176,51 @@ fn one_more(counts: Counts, kind: u32) -> Counts {
 }
 
 // Writes a number after a blank.
-fn print_count(n: u32) {
-    io::write_all(libc::STDOUT_FILENO, b" ");
-    io::print_decimal(libc::STDOUT_FILENO, n as u64);
+fn print_count(rt: &impl Print, n: u32) {
+    let _ = rt.write_all(b" ");
+    let _ = rt.print(n);
 }
 
 // The last line.
-fn print_counts(counts: Counts) {
-    io::write_all(libc::STDOUT_FILENO, b"C");
-    print_count(counts.same);
-    print_count(counts.sixteen);
-    print_count(counts.refused);
-    print_count(counts.different);
-    io::write_all(libc::STDOUT_FILENO, b"\n");
+fn print_counts(rt: &impl Print, counts: Counts) {
+    let _ = rt.write_all(b"C");
+    print_count(rt, counts.same);
+    print_count(rt, counts.sixteen);
+    print_count(rt, counts.refused);
+    print_count(rt, counts.different);
+    let _ = rt.write_all(b"\n");
 }
 
 // Writes what a text is answered with: the length of the reply, or minus the number; the reply, unless it was lent
 // 65,536 bytes, since that one is printed; and what is printed. Answers what comes of it when it is written anew.
-fn answer(text: &[u8], reply: &mut [u8]) -> u32 {
+fn answer(rt: &impl Print, text: &[u8], reply: &mut [u8]) -> u32 {
     let w = word_of(ligcols(text, reply));
     if w < 2147483648 {
-        io::print_decimal(libc::STDOUT_FILENO, w as u64);
-        io::write_all(libc::STDOUT_FILENO, b"\n");
+        let _ = rt.print(w);
+        let _ = rt.write_all(b"\n");
         if reply.len() != 65536 {
-            io::write_all(libc::STDOUT_FILENO, front(reply, w as usize));
+            let _ = rt.write_all(front(reply, w as usize));
         }
     } else {
-        io::write_all(libc::STDOUT_FILENO, b"-");
-        io::print_decimal(libc::STDOUT_FILENO, 4294967296 - (w as u64));
-        io::write_all(libc::STDOUT_FILENO, b"\n");
+        let _ = rt.write_all(b"-");
+        let _ = rt.print(4294967296 - (w as u64));
+        let _ = rt.write_all(b"\n");
     }
-    print(text);
+    print(rt, text);
     kind_again(text, w, reply)
 }
 
 // Lends a reply of n bytes, or of all that there are.
-fn answer_in(text: &[u8], reply: &mut [u8], n: usize) -> u32 {
+fn answer_in(rt: &impl Print, text: &[u8], reply: &mut [u8], n: usize) -> u32 {
     if reply.len() < n {
-        answer(text, reply)
+        answer(rt, text, reply)
     } else {
-        answer(text, &mut reply[..n])
+        answer(rt, text, &mut reply[..n])
     }
 }
 
 // Answers each text, up to one that is cut short. Answers how many there were of each kind.
-fn answer_all(texts: &[u8], reply: &mut [u8]) -> Counts {
+fn answer_all(rt: &impl Print, texts: &[u8], reply: &mut [u8]) -> Counts {
     let mut counts = no_counts();
     let mut at = 0;
     while at < texts.len() {
@@ -228,15 +231,15 @@ fn answer_all(texts: &[u8], reply: &mut [u8]) -> Counts {
         }
         let from = end + 1;
         let next = from + h.size;
-        counts = one_more(counts, answer_in(&texts[from..next], reply, h.room));
+        counts = one_more(counts, answer_in(rt, &texts[from..next], reply, h.room));
         at = next;
     }
     counts
 }
 
-fn main() {
+fn main(rt: HostRuntime) {
     let mut input = room();
     let mut reply = reply_room();
-    let got = io::read_full(libc::STDIN_FILENO, &mut input);
-    print_counts(answer_all(front(&input, got), &mut reply));
+    let got = fill_front(&mut rt.stdin(), &mut input);
+    print_counts(&rt, answer_all(&rt, front(&input, got), &mut reply));
 }

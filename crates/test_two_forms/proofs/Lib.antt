@@ -1,7 +1,5 @@
 -- The laws of test_two_forms, all for walks by hand.
 --   LentArray    an array in a local, lent by `&` as a slice for one call
 --   RecordArray  the six records of the font, lent so
---   ReaderCalls  the calls of `run_iter` and `next` on a reader in a local
 pub mod LentArray
 pub mod RecordArray
-pub mod ReaderCalls

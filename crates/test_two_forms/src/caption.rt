@@ -45,8 +45,9 @@ fn options() -> RunOptions {
     }
 }
 
-// By a reader that is made for the word: `next` until the end, at most `most` times. The proof is a walk by hand.
+// By a reader that is made for the word: `next` until the end, at most `most` times.
 fn by_reader(
+    rt: &impl Print,
     pairs: &[i32],
     ops: &[i32],
     boundary: i32,
@@ -58,12 +59,13 @@ fn by_reader(
     let mut reader = run_iter(word, state);
     let mut left = most;
     while 0 < left {
-        left = print::item(next(&mut reader, pairs, ops, boundary, options), left);
+        left = print::item(rt, next(&mut reader, pairs, ops, boundary, options), left);
     }
 }
 
 // By steps, each from the state that the last one left.
 fn by_steps(
+    rt: &impl Print,
     pairs: &[i32],
     ops: &[i32],
     boundary: i32,
@@ -79,22 +81,22 @@ fn by_steps(
         let on = given.state;
         now = on;
         let answer = given.answer;
-        left = print::item(answer, left);
+        left = print::item(rt, answer, left);
     }
 }
 
 // Both ways, from the state of a fresh run.
-fn set(pairs: &[i32], ops: &[i32], boundary: i32, word: &[u32], state: State) {
-    print::text(b"reader:");
-    by_reader(pairs, ops, boundary, word, options(), state, 64);
-    print::text(b"steps:");
-    by_steps(pairs, ops, boundary, word, options(), state, 64);
+fn set(rt: &impl Print, pairs: &[i32], ops: &[i32], boundary: i32, word: &[u32], state: State) {
+    print::text(rt, b"reader:");
+    by_reader(rt, pairs, ops, boundary, word, options(), state, 64);
+    print::text(rt, b"steps:");
+    by_steps(rt, pairs, ops, boundary, word, options(), state, 64);
 }
 
-fn begun(pairs: &[i32], ops: &[i32], boundary: i32, word: &[u32]) {
+fn begun(rt: &impl Print, pairs: &[i32], ops: &[i32], boundary: i32, word: &[u32]) {
     match begin(pairs, ops, boundary, word, options()) {
-        Begun::Run(state) => set(pairs, ops, boundary, word, state),
-        Begun::Refused(n) => print::refused(n),
+        Begun::Run(state) => set(rt, pairs, ops, boundary, word, state),
+        Begun::Refused(n) => print::refused(rt, n),
     }
 }
 
@@ -119,16 +121,17 @@ fn compiled(pairs: &mut [i32], ops: &mut [i32]) -> Compiled {
     )
 }
 
-pub(crate) fn both() {
+pub(crate) fn both(rt: &impl Print) {
     let mut pairs = table();
     let mut ops = list();
     match compiled(&mut pairs, &mut ops) {
         Compiled::Tables(p, o, _) => begun(
+            rt,
             part(&pairs, 0, p % 4294967296 * 6),
             part(&ops, 0, o % 4294967296 * 2),
             font::BOUNDARY,
             &word(),
         ),
-        Compiled::Refused(n) => print::refused(n),
+        Compiled::Refused(n) => print::refused(rt, n),
     }
 }

@@ -22,29 +22,29 @@ fn rule_of_records(program: [Instruction; 6], entry: usize, right: u8) -> FoundR
     program_records::rule_index(&program, entry, right)
 }
 
-fn over_records(program: [Instruction; 6]) {
+fn over_records(rt: &impl Print, program: [Instruction; 6]) {
     let mut out = [0u32; 6];
     let written = chain_of_records(program, 0, &mut out);
-    print::text(b"records:");
-    print::chain(written, &out);
-    print::rule(102, rule_of_records(program, 0, 102));
-    print::rule(120, rule_of_records(program, 0, 120));
-    print::text(b"\n");
+    print::text(rt, b"records:");
+    print::chain(rt, written, &out);
+    print::rule(rt, 102, rule_of_records(program, 0, 102));
+    print::rule(rt, 120, rule_of_records(program, 0, 120));
+    print::text(rt, b"\n");
 }
 
-fn over_numbers(program: &[i32]) {
+fn over_numbers(rt: &impl Print, program: &[i32]) {
     let mut out = [0u32; 6];
     let written = program_chain::instructions_for_entrypoint(program, 0, &mut out);
-    print::text(b"numbers:");
-    print::chain(written, &out);
-    print::rule(102, program_chain::rule_index(program, 0, 102));
-    print::rule(120, program_chain::rule_index(program, 0, 120));
-    print::text(b"\n");
+    print::text(rt, b"numbers:");
+    print::chain(rt, written, &out);
+    print::rule(rt, 102, program_chain::rule_index(program, 0, 102));
+    print::rule(rt, 120, program_chain::rule_index(program, 0, 120));
+    print::text(rt, b"\n");
 }
 
-pub(crate) fn both() {
+pub(crate) fn both(rt: &impl Print) {
     let mut numbers = [0i32; 24];
     font::put_numbers(&mut numbers);
-    over_records(font::records());
-    over_numbers(&numbers);
+    over_records(rt, font::records());
+    over_numbers(rt, &numbers);
 }

@@ -5,12 +5,14 @@
 //   chains   the chain of an entry, and the rules of two right characters
 //   caption  a word in the compiled font
 //   print    what the lines are made of
+#![tactic(auto)]
+
 mod caption;
 mod chains;
 mod font;
 mod print;
 
-fn main() {
-    chains::both();
-    caption::both();
+fn main(rt: HostRuntime) {
+    chains::both(&rt);
+    caption::both(&rt);
 }

@@ -5,118 +5,116 @@ use captions::Answer;
 use lang::Written;
 use program_chain::FoundRule;
 
-pub(crate) fn text(s: &[u8]) {
-    io::write_all(libc::STDOUT_FILENO, s);
+pub(crate) fn text(rt: &impl Print, s: &[u8]) {
+    let _ = rt.write_all(s);
 }
 
-fn number(n: u64) {
-    io::print_decimal(libc::STDOUT_FILENO, n);
+fn number(rt: &impl Print, n: u64) {
+    let _ = rt.print(n);
 }
 
 // A signed number, from its bits.
-fn signed(word: u32) {
+fn signed(rt: &impl Print, word: u32) {
     if word < 2147483648 {
-        number(word as u64);
+        number(rt, word as u64);
     } else {
-        text(b"-");
-        number(4294967296 - (word as u64));
+        text(rt, b"-");
+        number(rt, 4294967296 - (word as u64));
     }
 }
 
 // A number after a space.
-fn spaced(n: u64) {
-    text(b" ");
-    number(n);
+fn spaced(rt: &impl Print, n: u64) {
+    text(rt, b" ");
+    number(rt, n);
 }
 
 // A word and a number, each after a space.
-fn said(name: &[u8], n: u64) {
-    text(b" ");
-    text(name);
-    spaced(n);
+fn said(rt: &impl Print, name: &[u8], n: u64) {
+    text(rt, b" ");
+    text(rt, name);
+    spaced(rt, n);
 }
 
 // The number of a refusal, which ends the line.
-pub(crate) fn refused(n: u32) {
-    said(b"refused", n as u64);
-    text(b"\n");
+pub(crate) fn refused(rt: &impl Print, n: u32) {
+    said(rt, b"refused", n as u64);
+    text(rt, b"\n");
 }
 
 // The first n indices of a list.
-fn indices(list: &[u32], n: usize) {
-    let mut i = 0;
-    while i < n {
-        spaced(words::u32s::u32_at(list, i) as u64);
-        i += 1;
+fn indices(rt: &impl Print, list: &[u32], n: usize) {
+    for i in 0..n {
+        spaced(rt, words::u32s::u32_at(list, i) as u64);
     }
 }
 
 // The indices of a chain, as many as were written.
-pub(crate) fn chain(written: Written, list: &[u32]) {
+pub(crate) fn chain(rt: &impl Print, written: Written, list: &[u32]) {
     match written {
-        Written::Count(n) => indices(list, n),
-        Written::Refused(n) => said(b"refused", n as u64),
+        Written::Count(n) => indices(rt, list, n),
+        Written::Refused(n) => said(rt, b"refused", n as u64),
     }
 }
 
 // The rule of a right character.
-pub(crate) fn rule(right: u8, found: FoundRule) {
-    text(b";");
-    said(b"rule of", right as u64);
+pub(crate) fn rule(rt: &impl Print, right: u8, found: FoundRule) {
+    text(rt, b";");
+    said(rt, b"rule of", right as u64);
     match found {
-        FoundRule::Rule(i) => said(b"at", i as u64),
-        FoundRule::Nothing => text(b" nowhere"),
+        FoundRule::Rule(i) => said(rt, b"at", i as u64),
+        FoundRule::Nothing => text(rt, b" nowhere"),
     }
 }
 
-fn character(code: u32, at: usize) {
-    said(b"character", code as u64);
-    said(b"at", at as u64);
+fn character(rt: &impl Print, code: u32, at: usize) {
+    said(rt, b"character", code as u64);
+    said(rt, b"at", at as u64);
 }
 
-fn flag(set: bool, name: &[u8]) {
+fn flag(rt: &impl Print, set: bool, name: &[u8]) {
     if set {
-        text(name);
+        text(rt, name);
     }
 }
 
 // A ligature with its original, and which boundaries it took in.
-fn ligature(code: u32, start: usize, length: usize, left: bool, right: bool) {
-    said(b"ligature", code as u64);
-    said(b"of", length as u64);
-    said(b"from", start as u64);
-    flag(left, b" left");
-    flag(right, b" right");
+fn ligature(rt: &impl Print, code: u32, start: usize, length: usize, left: bool, right: bool) {
+    said(rt, b"ligature", code as u64);
+    said(rt, b"of", length as u64);
+    said(rt, b"from", start as u64);
+    flag(rt, left, b" left");
+    flag(rt, right, b" right");
 }
 
-fn kern(scaled: i32) {
-    text(b" kern ");
-    signed(words::word_of(scaled));
+fn kern(rt: &impl Print, scaled: i32) {
+    text(rt, b" kern ");
+    signed(rt, words::word_of(scaled));
 }
 
 // An answer; whether others come after it.
-fn answered(answer: Answer) -> bool {
+fn answered(rt: &impl Print, answer: Answer) -> bool {
     match answer {
-        Answer::Char(code, at) => character(code, at),
-        Answer::Ligature(code, start, length, l, r) => ligature(code, start, length, l, r),
-        Answer::Kern(scaled) => kern(scaled),
+        Answer::Char(code, at) => character(rt, code, at),
+        Answer::Ligature(code, start, length, l, r) => ligature(rt, code, start, length, l, r),
+        Answer::Kern(scaled) => kern(rt, scaled),
         Answer::End => {
-            text(b" end\n");
+            text(rt, b" end\n");
             return false;
         }
         Answer::Refused(n) => {
-            refused(n);
+            refused(rt, n);
             return false;
         }
     }
-    text(b";");
+    text(rt, b";");
     true
 }
 
 // An item of a word, of which at most `left` are to come. Answers how many are to come after it: none after the end.
-pub(crate) fn item(answer: Answer, left: usize) -> usize
+pub(crate) fn item(rt: &impl Print, answer: Answer, left: usize) -> usize
     requires { 0 < left }
     ensures { result < left }
 {
-    if answered(answer) { left - 1 } else { 0 }
+    if answered(rt, answer) { left - 1 } else { 0 }
 }

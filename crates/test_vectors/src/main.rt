@@ -6,8 +6,11 @@
 // F and G, whose answers are those of tools/files, then those of which a chain reaches a redirect: there the Rust was
 // asked on the chains without their redirects. Then come words with letters beyond the font, and last the requests Y,
 // whose lists of warnings the Rust does not take: they are answered by what it warns of and repairs.
+#![tactic(auto)]
+
 ghost use Rattle.std.specs.Prelude.{◌≡◌, length};
 
+use file_fill::fill_front;
 use lang::Written;
 use test_requests::read::{line_end, numbers_of};
 use test_requests::request::{front, part};
@@ -34,7 +37,7 @@ fn answer_by(letter: u8, numbers: &[i32], out: &mut [i32]) -> Written {
 }
 
 // Writes the answer to the request of a line; an empty line has none.
-fn answer(request: &[u8]) {
+fn answer(rt: &impl Print, request: &[u8]) {
     if request.len() == 0 {
         return;
     }
@@ -45,21 +48,21 @@ fn answer(request: &[u8]) {
     let n = numbers_of(request, &mut numbers);
     let answer = answer_by(letter, part(&numbers, 0, n), &mut out);
     let k = put_line(&mut line, letter, answer, &out);
-    io::write_all(libc::STDOUT_FILENO, front(&line, k));
+    let _ = rt.write_all(front(&line, k));
 }
 
 // Writes the answer to each line.
-fn answer_all(text: &[u8]) {
+fn answer_all(rt: &impl Print, text: &[u8]) {
     let mut at = 0;
     while at < text.len() {
         let end = line_end(text, at);
-        answer(&text[at..end]);
+        answer(rt, &text[at..end]);
         at = end + 1;
     }
 }
 
-fn main() {
+fn main(rt: HostRuntime) {
     let mut input = room();
-    let got = io::read_full(libc::STDIN_FILENO, &mut input);
-    answer_all(front(&input, got));
+    let got = fill_front(&mut rt.stdin(), &mut input);
+    answer_all(&rt, front(&input, got));
 }

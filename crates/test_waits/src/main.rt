@@ -1,6 +1,8 @@
 // A font of 65,536 pairs in one chain of waits, compiled; and the same chain closed to a cycle. A line for each: how
 // many pairs, ops and loops there are. It is what compiling is timed on (docs/PROOFS.md): the search goes as deep as a
 // font of characters allows.
+#![tactic(auto)]
+
 ghost use Rattle.std.specs.Prelude.{◌≡◌, length};
 
 use compile::compile;
@@ -44,28 +46,28 @@ fn rows() -> [u32; 1048576]
 }
 
 // The three counts, or a refusal.
-fn print(answer: Compiled) {
+fn print(rt: &impl Print, answer: Compiled) {
     match answer {
         Compiled::Tables(pairs, ops, loops) => {
-            io::print_decimal(libc::STDOUT_FILENO, pairs as u64);
-            io::write_all(libc::STDOUT_FILENO, b" ");
-            io::print_decimal(libc::STDOUT_FILENO, ops as u64);
-            io::write_all(libc::STDOUT_FILENO, b" ");
-            io::print_decimal(libc::STDOUT_FILENO, loops as u64);
+            let _ = rt.print(pairs);
+            let _ = rt.write_all(b" ");
+            let _ = rt.print(ops);
+            let _ = rt.write_all(b" ");
+            let _ = rt.print(loops);
         }
         Compiled::Refused(n) => {
-            io::write_all(libc::STDOUT_FILENO, b"? ");
-            io::print_decimal(libc::STDOUT_FILENO, n as u64);
+            let _ = rt.write_all(b"? ");
+            let _ = rt.print(n);
         }
     }
-    io::write_all(libc::STDOUT_FILENO, b"\n");
+    let _ = rt.write_all(b"\n");
 }
 
 // Compiles the font of a program, and writes what is answered.
-fn report(program: &[i32], entries: &[i32], pairs: &mut [i32], work: &mut [u32]) {
+fn report(rt: &impl Print, program: &[i32], entries: &[i32], pairs: &mut [i32], work: &mut [u32]) {
     let mut ops = one();
     let mut loops = one();
-    print(compile(
+    let answer = compile(
         program,
         &program[..0],
         entries,
@@ -78,10 +80,11 @@ fn report(program: &[i32], entries: &[i32], pairs: &mut [i32], work: &mut [u32])
         &mut ops,
         &mut loops,
         work,
-    ));
+    );
+    print(rt, answer);
 }
 
-fn main() {
+fn main(rt: HostRuntime) {
     let mut chain = program();
     let mut entries = entry_list();
     let mut pairs = table();
@@ -89,7 +92,7 @@ fn main() {
     font::put_entries(&mut entries);
     font::put_instructions(&mut chain);
     font::open(&mut chain);
-    report(&chain, &entries, &mut pairs, &mut work);
+    report(&rt, &chain, &entries, &mut pairs, &mut work);
     font::put_instructions(&mut chain);
-    report(&chain, &entries, &mut pairs, &mut work);
+    report(&rt, &chain, &entries, &mut pairs, &mut work);
 }

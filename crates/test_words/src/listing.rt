@@ -11,25 +11,23 @@ use test_requests::write::put_line;
 use words::i32s::word_at;
 
 // A line of the first numbers of a list.
-fn print(letter: u8, numbers: &[i32], n: usize) {
+fn print(rt: &impl Print, letter: u8, numbers: &[i32], n: usize) {
     let mut line = [0u8; 128];
     let k = put_line(&mut line, letter, Written::Count(n), numbers);
-    io::write_all(libc::STDOUT_FILENO, front(&line, k));
+    let _ = rt.write_all(front(&line, k));
 }
 
-fn print_word(word: &[u32]) {
+fn print_word(rt: &impl Print, word: &[u32]) {
     let mut out = [0i32; 8];
     let n = put_words(&mut out, 0, word, word.len());
-    print(b'W', &out, n);
+    print(rt, b'W', &out, n);
 }
 
-fn print_items(list: &[i32], count: usize) {
-    let mut i = 0;
-    while i < list.len() / 6 {
+fn print_items(rt: &impl Print, list: &[i32], count: usize) {
+    for i in 0..list.len() / 6 {
         if i < count {
-            print(b'T', rest(list, 6 * i), 6);
+            print(rt, b'T', rest(list, 6 * i), 6);
         }
-        i += 1;
     }
 }
 
@@ -41,25 +39,25 @@ fn letters(places: &[u32], n: usize) -> &[u32] {
     &places[..n]
 }
 
-fn print_short(word: ShortWord) {
+fn print_short(rt: &impl Print, word: ShortWord) {
     let all = word.letters;
-    print_word(letters(&all, word.length));
+    print_word(rt, letters(&all, word.length));
 }
 
 // What a turn answered.
-fn print_next(told: SetNext, list: &[i32]) {
+fn print_next(rt: &impl Print, told: SetNext, list: &[i32]) {
     let answer = told.answer;
     match answer {
         NextAnswer::Word => {
             let word = told.word;
-            print_short(word);
-            print_items(list, told.count);
+            print_short(rt, word);
+            print_items(rt, list, told.count);
         }
-        NextAnswer::End => print(b'E', list, 0),
+        NextAnswer::End => print(rt, b'E', list, 0),
         NextAnswer::Refused(n) => {
             let mut out = [0i32; 1];
             put_one(&mut out, 0, n);
-            print(b'N', &out, 1);
+            print(rt, b'N', &out, 1);
         }
     }
 }
@@ -73,13 +71,13 @@ fn is_word(answer: NextAnswer) -> bool {
 }
 
 // How many letters and how many words, the second as millions and the rest.
-fn print_counts(set: &[u64; 4]) {
+fn print_counts(rt: &impl Print, set: &[u64; 4]) {
     let mut out = [0i32; 3];
     put_one(&mut out, 0, alphabet_size(set));
     let n = word_count(set);
     put_one(&mut out, 1, ((n / 1000000) % 4294967296) as u32);
     put_one(&mut out, 2, (n % 1000000) as u32);
-    print(b'C', &out, 3);
+    print(rt, b'C', &out, 3);
 }
 
 // A character of the set, if it is below 256.
@@ -106,6 +104,7 @@ fn set_of(list: &[i32]) -> [u64; 4] {
 
 // The word after a word that was answered.
 fn turn(
+    rt: &impl Print,
     set: &[u64; 4],
     pairs: &[i32],
     ops: &[i32],
@@ -115,12 +114,13 @@ fn turn(
 ) -> SetNext {
     let all = word.letters;
     let told = set_next(set, pairs, ops, boundary, letters(&all, word.length), list);
-    print_next(told, list);
+    print_next(rt, told, list);
     told
 }
 
 // So many turns from a word on, unless the end or a refusal comes first.
 fn turns(
+    rt: &impl Print,
     set: &[u64; 4],
     pairs: &[i32],
     ops: &[i32],
@@ -130,23 +130,22 @@ fn turns(
     list: &mut [i32],
 ) {
     let first = set_next(set, pairs, ops, boundary, word, list);
-    print_next(first, list);
+    print_next(rt, first, list);
     let mut told = first;
-    let mut i = 1;
-    while i < n {
+    for _ in 1..n {
         let answer = told.answer;
         if !is_word(answer) {
             return;
         }
         let found = told.word;
-        let next = turn(set, pairs, ops, boundary, found, list);
+        let next = turn(rt, set, pairs, ops, boundary, found, list);
         told = next;
-        i += 1;
     }
 }
 
 // The word handed in, from the numbers of a list.
 fn list_from(
+    rt: &impl Print,
     set: &[u64; 4],
     pairs: &[i32],
     ops: &[i32],
@@ -156,25 +155,24 @@ fn list_from(
     list: &mut [i32],
 ) {
     let mut places = [0u32; 8];
-    let mut i = 0;
-    while i < 8 {
+    for i in 0..8 {
         places[i] = word_at(word, i);
-        i += 1;
     }
     let handed = letters(&places, word.len());
-    print_word(handed);
-    turns(set, pairs, ops, boundary, handed, n, list);
+    print_word(rt, handed);
+    turns(rt, set, pairs, ops, boundary, handed, n, list);
 }
 
 // The boundary character, how many turns, the pairs, the ops, the word, and the set.
-pub(crate) fn answer(numbers: &[i32]) {
+pub(crate) fn answer(rt: &impl Print, numbers: &[i32]) {
     let ops_at = after(numbers, 2, 6);
     let handed_at = after(numbers, ops_at, 2);
     let set_at = after(numbers, handed_at, 1);
     let set = set_of(items(numbers, set_at, 1));
-    print_counts(&set);
+    print_counts(rt, &set);
     let mut list = [0i32; 96];
     list_from(
+        rt,
         &set,
         items(numbers, 2, 6),
         items(numbers, ops_at, 2),

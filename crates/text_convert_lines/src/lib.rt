@@ -1,5 +1,7 @@
 // The lines of a column text written anew (R464): a line that begins with I has the numbers of the next instruction,
 // the lines of what is added stand before the line that begins with W, or at the end, and any other line stays.
+#![tactic(auto)]
+
 ghost use Rattle.std.specs.Prelude.{◌≡◌, [], ◌∷◌, ◌++◌, ◌*◌, ◌≤◌, length, take, drop};
 ghost use Rattle.columns.specs.Converting.{instruction_line, kern_lines};
 ghost use Rattle.columns.specs.Lines.{lines_of, text_of};

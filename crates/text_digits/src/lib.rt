@@ -1,5 +1,7 @@
 // The digits of numbers that have many, written from the right at the end of a field of 12 columns. Two digits are one
 // number of two bytes, which the compiler stores at once.
+#![tactic(auto)]
+
 ghost use Rattle.std.specs.Prelude.{◌≡◌, [], ◌∷◌, ◌+◌, ◌/◌, ◌%◌, ◌<◌, ◌≤◌, length};
 ghost use Rattle.std.proofs.lemmas.List.Edits.{sets};
 ghost use Rattle.columns.specs.Numbers.{digits};

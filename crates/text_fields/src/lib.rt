@@ -1,5 +1,7 @@
 // A field of a column text read (R186, R187): blanks, then a number. Most fields are eight blanks and at most three
 // digits in the columns after them: the eight are passed at once, and those digits are read without a loop.
+#![tactic(auto)]
+
 ghost use Rattle.std.specs.Prelude.{◌≡◌};
 ghost use Rattle.std.proofs.Math.Seq.{slice};
 ghost use Rattle.columns.specs.Numbers.{read_field};

@@ -9,7 +9,7 @@ use columns::FieldRead;
 use words::number_of;
 
 // The value of digits, or that there are others.
-#[derive(Drop)]
+#[derive(Clone, Copy)]
 pub(crate) enum Decimal {
     Value(u64),
     Nothing,

@@ -1,5 +1,7 @@
 // Numbers of a list in fields of 12 columns, right-justified (R186), one after the other: blanks, and the numbers over
 // them.
+#![tactic(auto)]
+
 ghost use Rattle.std.specs.Prelude.{◌≡◌, ◌+◌, ◌≤◌, length};
 ghost use Rattle.std.proofs.lemmas.List.Edits.{sets};
 ghost use Rattle.columns.specs.Lines.{fields_of};

@@ -1,5 +1,7 @@
 // The numbers of a line of a column text: fields from the place after its letter on, and a line feed after them (R185).
 // Each public function is total, and takes a line only where all of its numbers have a place.
+#![tactic(auto)]
+
 ghost use Rattle.std.specs.Prelude.{◌≡◌, ◌+◌, ◌*◌, ◌≤◌, map, length, drop};
 ghost use Rattle.words.specs.Words.{word_of};
 ghost use Rattle.columns.specs.Lines.{read_fields};

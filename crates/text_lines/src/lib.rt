@@ -1,5 +1,7 @@
 // Lines of a column text, written in place: a letter, so many numbers in fields of 12 columns, a line feed (R185,
 // R205).
+#![tactic(auto)]
+
 ghost use Rattle.std.specs.Prelude.{◌≡◌, ◌+◌, ◌*◌, ◌^◌, ◌<◌, ◌≤◌, length};
 ghost use Rattle.columns.specs.Replying.{line_of, pair_line, bytes_of};
 ghost use Rattle.text_justify.specs.InFields.{numbers_from};

@@ -1,5 +1,7 @@
 // Lists for what a column text says, within its limits, and how many of the last one's numbers are letters. Each list
 // is zeros.
+#![tactic(auto)]
+
 ghost use Rattle.std.specs.Prelude.{◌≡◌, pos};
 ghost use Rattle.font_room.specs.Rooms.{ZeroRoom};
 ghost use Rattle.columns.specs.Scanned.{letters_in};

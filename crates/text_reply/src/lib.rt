@@ -1,5 +1,7 @@
 // The reply to a column text, written (R204 to R210). First its length is decided (size), then its parts are written,
 // each line once and in place (parts), and zeros after the last.
+#![tactic(auto)]
+
 ghost use Rattle.std.specs.Prelude.{◌≡◌, leb};
 ghost use Rattle.lang.specs.Every.{both};
 ghost use Rattle.columns.specs.Replying.{reply_bytes, WritesReply};

@@ -1,5 +1,7 @@
 // A column text read (R185 to R199). Its numbers go to lists that have room for as many as its limits allow; of entries
 // a text of 65,536 bytes has no more than 5,040 numbers.
+#![tactic(auto)]
+
 ghost use Rattle.columns.specs.Scanned.{ReadsText};
 ghost use Rattle.text_scan.specs.Standing.{Zeroed, ReadsLists};
 

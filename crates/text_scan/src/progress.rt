@@ -9,7 +9,7 @@ use words::number_of;
 
 // The place of the next line; the numbers of D, R and L, as words (that of -1 where R or L is absent), and whether R
 // and L were read; how many numbers of instructions, kerns and entries.
-#[derive(Drop)]
+#[derive(Clone, Copy)]
 pub(crate) struct TextProgress {
     pub(crate) at: usize,
     pub(crate) design: u32,
@@ -23,7 +23,7 @@ pub(crate) struct TextProgress {
 }
 
 // After a line: where the next one stands, or 16.
-#[derive(Drop)]
+#[derive(Clone, Copy)]
 pub(crate) enum NextLine {
     At(TextProgress),
     Unreadable,

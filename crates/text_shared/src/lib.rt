@@ -1,5 +1,7 @@
 // A column text read, and its kern values shared: these, and indices past the K lines, become indices to kerns that
 // stand once. A text has 512 K lines and 512 instructions at most, so there is room for 1,024 kerns.
+#![tactic(auto)]
+
 ghost use Rattle.std.specs.Prelude.{◌≡◌, ◌++◌, ◌≤◌, length, take, drop};
 ghost use Rattle.columns.specs.Scanned.{ReadsShared};
 ghost use Rattle.text_shared.specs.Fronts.{SharesFront, SharesText, heads_with};

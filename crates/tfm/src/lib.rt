@@ -1,16 +1,18 @@
 // The numbers of a TFM file that lig/kern programs use, after lib.rs: `FixWord` (lines 1701 to 1778) and `Char` (1029
 // to 1091). Scaling is TeX's own arithmetic: TeX 568 for z, 572 for alpha and beta, 571 for the bytes.
+#![tactic(auto)]
+
 ghost use Rattle.std.specs.Prelude.{◌≡◌, ◌<◌, ◌^◌, ◌/◌, ◌%◌, leb};
 ghost use Rattle.tfm.specs.Scaled.{scaled_reply, to_scaled, z_of_design, multiplier, Below, low_bytes, scaled_from};
 ghost use Rattle.tfm.specs.Scaled.{z_refusal, magnified, words_refusal, z_at, is_asked, design_word};
 ghost use Rattle.tfm.specs.Scaled.{asked_refusal, design_at, sized, scaled_at, scaled_at_reply};
 
 // A fix_word: a number in units of 2^-20.
-#[derive(Drop)]
+#[derive(Clone, Copy)]
 pub struct FixWord(pub i32);
 
 // What scaling answers: the scaled value, or why there is none.
-#[derive(Drop)]
+#[derive(Clone, Copy)]
 pub enum ToScaled {
     Scaled(i32),
     // The design size is negative.
@@ -20,7 +22,7 @@ pub enum ToScaled {
 }
 
 // What scaling at a size answers: the scaled value, or why there is none.
-#[derive(Drop)]
+#[derive(Clone, Copy)]
 pub enum ScaledAt {
     Scaled(i32),
     // The design size is negative.
@@ -166,7 +168,7 @@ fn magnify(design: u32, magnification: u32) -> u64
 }
 
 // z below 2^23, and alpha before it is multiplied by z.
-#[derive(Drop)]
+#[derive(Clone, Copy)]
 pub struct Multiplier {
     pub z: u32,
     pub alpha: u32,
@@ -226,7 +228,7 @@ fn scaled_from(z: u32, word: u32) -> ToScaled
 }
 
 // A character of a TFM file: one byte.
-#[derive(Drop)]
+#[derive(Clone, Copy)]
 pub struct Char(pub u8);
 
 impl Char {

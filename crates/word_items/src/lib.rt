@@ -1,5 +1,7 @@
 // A list of items, six numbers each as a T line has them (R132, R133): one item written, and what is answered where a
 // run stops (R134). Each function is total.
+#![tactic(auto)]
+
 ghost use Rattle.std.specs.Prelude.{◌≡◌};
 ghost use Rattle.words.specs.Words.{number_of};
 ghost use Rattle.captions.specs.Replies.{bit_number, answer_reply};

@@ -2,6 +2,8 @@
 // often. A letter that has no pair with the character left of it lets that stand, and a kern pair (crate
 // step_quick_pair) gives its character and its kern. After the loop over what `run_with_options` of ligkern/mod.rs
 // returns. Each function is as specs/PlainLetters.antt says.
+#![tactic(auto)]
+
 ghost use Rattle.std.specs.Prelude.{◌≡◌, ◌+◌, ◌<◌, ◌≤◌, [], ◌∷◌, length, slice_set};
 ghost use Rattle.std.proofs.lemmas.List.Edits.{sets};
 ghost use Rattle.words.specs.Words.{number_of};
@@ -20,7 +22,7 @@ use words::number_of;
 use words::sizes::{minus, smaller};
 
 // What is given of a kern pair: the op after its two items, and the code that is then next; 0 where nothing is.
-#[derive(Drop)]
+#[derive(Clone, Copy)]
 pub struct PairGiven {
     pub op: usize,
     pub next: u32,
@@ -28,7 +30,7 @@ pub struct PairGiven {
 
 // Where letters that stand end: the left that is next (one more than its code), how many were given, and the pair that
 // stopped them; the number of pairs where none did.
-#[derive(Drop)]
+#[derive(Clone, Copy)]
 struct PlainEnd {
     left: u32,
     count: usize,
@@ -37,7 +39,7 @@ struct PlainEnd {
 
 // The state after letters, how many items were given, and the pair that stopped them; the number of pairs where none
 // did.
-#[derive(Drop)]
+#[derive(Clone, Copy)]
 pub struct LettersGiven {
     pub state: State,
     pub count: usize,

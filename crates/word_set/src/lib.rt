@@ -1,5 +1,7 @@
 // A word set whole (R131 to R134): a run from its begin to its end, each item as the six numbers of a T line; after the
 // loop over what `run_with_options` of ligkern/mod.rs returns.
+#![tactic(auto)]
+
 ghost use Rattle.std.specs.Prelude.{◌≡◌, ◌/◌, length, replicate, pos};
 ghost use Rattle.captions.specs.Begin.{fresh_state};
 ghost use Rattle.captions.specs.Steps.{step_of};

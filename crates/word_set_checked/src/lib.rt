@@ -1,6 +1,8 @@
 // A word set whole over a table that was checked once (R412, R413): begin's numbers but that of the table's form, and
 // then the run from the fresh state, in which a step checks what it reads. On a table that `table_refusal` of crate
 // table_form takes this is `set_word` of crate word_set.
+#![tactic(auto)]
+
 ghost use Rattle.std.specs.Prelude.{◌≡◌, length};
 ghost use Rattle.word_set.specs.Writing.{Tells};
 ghost use Rattle.word_set_checked.specs.Checked.{checked_refusal, checked_word_reply};

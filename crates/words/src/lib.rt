@@ -1,6 +1,8 @@
 // Numbers as they are lent: i32 as its 32 bits and back, and slices, a file for each type of element. Nothing here has
 // a `requires`: an index past the end reads 0, and a store there does nothing.
 //   i32s, u32s, u64s, u8s   an element read, stored, and zeroing      sizes   the smaller of two, and what is left
+#![tactic(auto)]
+
 ghost use Rattle.std.specs.Prelude.{◌≡◌};
 ghost use Rattle.words.specs.Words.{word_of, number_of};
 

@@ -11,48 +11,41 @@ use Rattle.captions.specs.Begin.{begin_refusal}
 use Rattle.blame_numbers.proofs.blame_number.Statement.{statement}
 use Rattle.blame_numbers.proofs.blame_number.Tie as tie
 
-loop-number-requires : tie.Need-loop-number-requires
+loop-number-requires : tie.Need-loop_number-of_font-requires
 loop-number-requires c κs = search rules
 
-word-number-requires : tie.Need-word-number-requires
+word-number-requires : tie.Need-word_number-of_word-requires
 word-number-requires c κs = search rules
 
-room-refusal-requires : tie.Need-room-refusal-requires
+room-refusal-requires : tie.Need-room_refusal-of_room-requires
 room-refusal-requires c κs = search rules
 
-asked-refusal-requires : tie.Need-asked-refusal-requires
+asked-refusal-requires : tie.Need-asked_refusal-of_size-requires
 asked-refusal-requires c κs = search rules
 
-lower-of-requires : tie.Need-lower-of-requires
+lower-of-requires : tie.Need-lower_of-requires
 lower-of-requires c κs = search rules
 
-lower-of-requires-2 : tie.Need-lower-of-requires-2
+lower-of-requires-2 : tie.Need-lower_of-requires-2
 lower-of-requires-2 c κs = search rules
 
-lower-of-requires-3 : tie.Need-lower-of-requires-3
+lower-of-requires-3 : tie.Need-lower_of-requires-3
 lower-of-requires-3 c κs = search rules
 
 returns : tie.Need-returns
 returns c =
-    let l2 = c.before in
-    let l1 = c.before.before in
-    let q = l1.before in
-    let r = q.before.before.before.before in
-    let w = r.before in
-    let f = w.before.before in
-    let a = f.before.before.args in
-    let t = w.before.struct_told.given in
-    let of_word = w.word_number.ensures
-    ∙ ap (λ (z : ℤ). begin_refusal [] [] z a.word.now a.options) (number_word a.numbers.boundary (record { sfits = t.0.1 })) in
-    let of_size = q.asked-refusal.ensures ∙ (λ i. asked_refusal (number_word a.numbers.design_size (record { sfits = t.1.1.0.1 }) i)
-    (number_word a.numbers.size (record { sfits = t.1.1.1.0.1 }) i) (number_word a.numbers.magnification
-    (record { sfits = t.1.1.1.1.0.1 }) i)) in
-    let low = l1.lower_of.ensures ∙ (λ i. lower (r.room-refusal.ensures i) (of_size i)) in
-    let mid = l2.lower-of2.ensures ∙ (λ i. lower (of_word i) (low i)) in
-    c.lower-of3.ensures ∙ (λ i. lower (f.loop-number.ensures i) (mid i))
+    let a = c.args in
+    let of_word = c.word_number-of_word.ensures
+    ∙ ap (λ (z : ℤ). begin_refusal [] [] z a.word.now a.options) (number_word a.numbers.boundary (record { sfits = c.struct_told-1.given.0.1 })) in
+    let of_size = c.asked_refusal-of_size.ensures ∙ (λ i. asked_refusal (number_word a.numbers.design_size (record { sfits = c.struct_told-1.given.1.1.0.1 }) i)
+    (number_word a.numbers.size (record { sfits = c.struct_told-1.given.1.1.1.0.1 }) i) (number_word a.numbers.magnification
+    (record { sfits = c.struct_told-1.given.1.1.1.1.0.1 }) i)) in
+    let low = c.lower_of.ensures ∙ (λ i. lower (c.room_refusal-of_room.ensures i) (of_size i)) in
+    let mid = c.lower_of-2.ensures ∙ (λ i. lower (of_word i) (low i)) in
+    c.lower_of-3.ensures ∙ (λ i. lower (c.loop_number-of_font.ensures i) (mid i))
 
-pub blame-number-spec : {M : Type 1} → statement M
-blame-number-spec =
+pub blame_number_spec : {M : Type 1} → statement M
+blame_number_spec =
     tie.close
     (tie.spec
     loop-number-requires

@@ -14,45 +14,41 @@ use Rattle.blame_numbers.proofs.Replies.{begun_number}
 use Rattle.blame_numbers.proofs.word_number.Statement.{statement}
 use Rattle.blame_numbers.proofs.word_number.Tie as tie
 
-array-share-prefix-no-pairs : tie.Need-array-share-prefix-no-pairs
+array-share-prefix-no-pairs : tie.Need-slice_bounds-no_pairs-end
 array-share-prefix-no-pairs c = search rules
 
-slice-aggregate-begin : tie.Need-slice-aggregate-begin
+slice-aggregate-begin : tie.Need-slice_bounds-begin-end
 slice-aggregate-begin c = search rules
 
-array-share-prefix-no-ops : tie.Need-array-share-prefix-no-ops
+array-share-prefix-no-ops : tie.Need-slice_bounds-no_ops-end
 array-share-prefix-no-ops c = search rules
 
-slice-aggregate-begin-2 : tie.Need-slice-aggregate-begin-2
+slice-aggregate-begin-2 : tie.Need-slice_bounds-begin-end-2
 slice-aggregate-begin-2 c = search rules
 
 begin-requires : tie.Need-begin-requires
 begin-requires c κs = search rules
 
-enum-known-n : tie.Need-enum-known-n
+enum-known-n : tie.Need-enum_known-n
 enum-known-n c = search rules
 
-enum_told : tie.Need-enum-told
+enum_told : tie.Need-enum_told-1
 enum_told c = search rules
 
-returns : tie.Need-returns
+returns : tie.Need-returns-in-Refused
 returns c =
-    let b = c.before.before.before in
-    let s = b.before.before.before.before in
-    ap (λ (x : Begun). (begun_reply x).number) (sym c.before.n.given.1) ∙ begun_number [] [] (number_of (word_of s.args.boundary))
-    s.args.word.now s.args.options b.begin.result b.begin.ensures
-    ∙ ap (λ (z : ℤ). begin_refusal [] [] z s.args.word.now s.args.options) (number_word s.args.boundary s.ranges.boundary)
+    ap (λ (x : Begun). (begun_reply x).number) (sym c.in-Refused.is) ∙ begun_number [] [] (number_of (word_of c.args.boundary))
+    c.args.word.now c.args.options c.begin.result c.begin.ensures
+    ∙ ap (λ (z : ℤ). begin_refusal [] [] z c.args.word.now c.args.options) (number_word c.args.boundary c.ranges.boundary)
 
-returns-2 : tie.Need-returns-2
+returns-2 : tie.Need-returns-in-Run
 returns-2 c =
-    let b = c.before.before in
-    let s = b.before.before.before.before in
-    ap (λ (x : Begun). (begun_reply x).number) (sym c.enum_told.given.1) ∙ begun_number [] [] (number_of (word_of s.args.boundary))
-    s.args.word.now s.args.options b.begin.result b.begin.ensures
-    ∙ ap (λ (z : ℤ). begin_refusal [] [] z s.args.word.now s.args.options) (number_word s.args.boundary s.ranges.boundary)
+    ap (λ (x : Begun). (begun_reply x).number) (sym c.in-Run.is) ∙ begun_number [] [] (number_of (word_of c.args.boundary))
+    c.args.word.now c.args.options c.begin.result c.begin.ensures
+    ∙ ap (λ (z : ℤ). begin_refusal [] [] z c.args.word.now c.args.options) (number_word c.args.boundary c.ranges.boundary)
 
-pub word-number-spec : {M : Type 1} → statement M
-word-number-spec =
+pub word_number_spec : {M : Type 1} → statement M
+word_number_spec =
     tie.close
     (tie.spec
     array-share-prefix-no-pairs

@@ -8,41 +8,38 @@ use borrow.Author.Rules.{rules}
 use Rattle.blame_search.proofs.write_without.Statement.{statement}
 use Rattle.blame_search.proofs.write_without.Tie as tie
 
-copy-numbers-requires : tie.Need-copy-numbers-requires
+copy-numbers-requires : tie.Need-copy_numbers-requires
 copy-numbers-requires c κs = search rules
 
-mul-put-word : tie.Need-overflow-mul-put-word
+mul-put-word : tie.Need-overflow_mul-i
 mul-put-word c = search rules
 
-add-put-word : tie.Need-overflow-add-put-word
+add-put-word : tie.Need-overflow_add-i
 add-put-word c = search rules
 
-put-word-requires : tie.Need-put-word-requires
+put-word-requires : tie.Need-put_word-requires
 put-word-requires c κs = search rules
 
-mul-put-word-2 : tie.Need-overflow-mul-put-word-2
+mul-put-word-2 : tie.Need-overflow_mul-i-2
 mul-put-word-2 c = search rules
 
-add-put-word-2 : tie.Need-overflow-add-put-word-2
+add-put-word-2 : tie.Need-overflow_add-i-2
 add-put-word-2 c = search rules
 
-put-word-requires-2 : tie.Need-put-word-requires-2
+put-word-requires-2 : tie.Need-put_word-requires-2
 put-word-requires-2 c κs = search rules
 
-same_length : tie.Need-same-length
+same_length : tie.Need-shape_of-edited
 same_length c = search rules
 
 returns : tie.Need-returns
 returns c =
-    let p = c.before in
-    let q = p.before.before.before in
-    let n = q.before.before.before in
-    let i = n.before.before.args.i in
-    p.put-word2.ensures
-    ∙ (λ j. set ((q.put_word.ensures ∙ (λ k. set (n.copy-numbers.ensures k) (4 * i + 2) (pos 3))) j) (4 * i + 3) (pos 0))
+    let i = c.args.i in
+    c.put_word-2.ensures
+    ∙ (λ j. set ((c.put_word.ensures ∙ (λ k. set (c.copy_numbers.ensures k) (4 * i + 2) (pos 3))) j) (4 * i + 3) (pos 0))
 
-pub write-without-spec : {M : Type 1} → statement M
-write-without-spec =
+pub write_without_spec : {M : Type 1} → statement M
+write_without_spec =
     tie.close
     (tie.spec
     copy-numbers-requires

@@ -4,44 +4,44 @@ use borrow.Author.Rules.{rules}
 use Rattle.c_blame_write.proofs.tell_blamed.Statement.{statement}
 use Rattle.c_blame_write.proofs.tell_blamed.Tie as tie
 
-enum-known-answer : tie.Need-enum-known-answer
+enum-known-answer : tie.Need-enum_known-answer
 enum-known-answer c = search rules
 
-tell-two-requires : tie.Need-tell-two-requires
+tell-two-requires : tie.Need-tell_two-requires
 tell-two-requires c κs = search rules
 
-enum_told : tie.Need-enum-told
+enum_told : tie.Need-enum_told-1
 enum_told c = search rules
 
-tell-two-requires-2 : tie.Need-tell-two-requires-2
+tell-two-requires-2 : tie.Need-tell_two-requires-in-Nothing
 tell-two-requires-2 c κs = search rules
 
-enum-known-answer-2 : tie.Need-enum-known-answer-2
+enum-known-answer-2 : tie.Need-enum_known-answer-in-Refused-1
 enum-known-answer-2 c = search rules
 
-tell-number-requires : tie.Need-tell-number-requires
+tell-number-requires : tie.Need-tell_number-requires
 tell-number-requires c κs = search rules
 
-same_length : tie.Need-same-length
+same_length : tie.Need-shape_of-values-in-At
 same_length c = search rules
 
-returns : tie.Need-returns
-returns c = rw c.before.before.before.before.before.answer.given.1 c.before.before.tell-two.ensures
+returns : tie.Need-returns-in-At
+returns c = rw c.in-At.is c.tell_two.ensures
 
-same-length-2 : tie.Need-same-length-2
+same-length-2 : tie.Need-shape_of-values-in-Nothing
 same-length-2 c = search rules
 
-returns-2 : tie.Need-returns-2
-returns-2 c = rw c.before.before.before.before.enum_told.given.1 c.before.before.tell-two2.ensures
+returns-2 : tie.Need-returns-in-Nothing
+returns-2 c = rw c.in-Nothing.is c.tell_two-in-Nothing.ensures
 
-same-length-3 : tie.Need-same-length-3
+same-length-3 : tie.Need-shape_of-values-in-Refused
 same-length-3 c = search rules
 
-returns-3 : tie.Need-returns-3
-returns-3 c = rw c.before.before.before.before.before.answer2.given.1 c.before.before.tell-number.ensures
+returns-3 : tie.Need-returns-in-Refused
+returns-3 c = rw c.in-Refused.is c.tell_number.ensures
 
-pub tell-blamed-spec : {M : Type 1} → statement M
-tell-blamed-spec =
+pub tell_blamed_spec : {M : Type 1} → statement M
+tell_blamed_spec =
     tie.close
     (tie.spec
     enum-known-answer

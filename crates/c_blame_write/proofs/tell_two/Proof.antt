@@ -6,35 +6,33 @@ use Rattle.c_blame_write.proofs.Laws.{told_short, told_two}
 use Rattle.c_blame_write.proofs.tell_two.Statement.{statement}
 use Rattle.c_blame_write.proofs.tell_two.Tie as tie
 
-zero-u64-requires : tie.Need-zero-u64-requires
+zero-u64-requires : tie.Need-zero_u64-requires
 zero-u64-requires c κs = search rules
 
-same_length : tie.Need-same-length
+same_length : tie.Need-shape_of-values-then-values-lt2
 same_length c = search rules
 
-returns : tie.Need-returns
+returns : tie.Need-returns-then-values-lt2
 returns c =
-    let z = c.before.before.before in
-    let a = z.before.before.before.args in
-    told_short a.values.now z.zero-u64.ensures a.found a.index c.if1.true
+    let a = c.args in
+    told_short a.values.now c.zero_u64.ensures a.found a.index c.if-values-lt2.true
 
-slice-write-values : tie.Need-slice-write-values
+slice-write-values : tie.Need-bounds-values-0
 slice-write-values c = search rules
 
-slice-write-values-2 : tie.Need-slice-write-values-2
+slice-write-values-2 : tie.Need-bounds-values-1
 slice-write-values-2 c = search rules
 
-same-length-2 : tie.Need-same-length-2
+same-length-2 : tie.Need-shape_of-values
 same-length-2 c = search rules
 
-returns-2 : tie.Need-returns-2
+returns-2 : tie.Need-returns
 returns-2 c =
-    let z = c.before.before.before in
-    let a = z.before.before.before.args in
-    told_two a.values.now z.zero-u64.ensures a.found a.index c.if1.false refl
+    let a = c.args in
+    told_two a.values.now c.zero_u64.ensures a.found a.index c.if-values-lt2.false refl
 
-pub tell-two-spec : {M : Type 1} → statement M
-tell-two-spec =
+pub tell_two_spec : {M : Type 1} → statement M
+tell_two_spec =
     tie.close
     (tie.spec
     zero-u64-requires

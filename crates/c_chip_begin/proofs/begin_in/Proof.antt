@@ -20,24 +20,24 @@ use Rattle.c_chip_begin.proofs.begin_in.Statement.{statement}
 use Rattle.c_chip_begin.proofs.begin_in.Tie as tie
 
 -- what is lent, and begin's number and chip
-module _ (c : tie.After-begin-run) where
+module _ (c : tie.After-begin_run) where
   abbrev boundary : ℤ
-  boundary = c.before.before.before.args.boundary
+  boundary = c.args.boundary
 
   abbrev pairs : List ℤ
-  pairs = c.before.before.before.args.pairs.now
+  pairs = c.args.pairs.now
 
   abbrev ops : List ℤ
-  ops = c.before.before.before.args.ops.now
+  ops = c.args.ops.now
 
   abbrev block : List ℕ
-  block = c.before.before.before.args.block.now
+  block = c.args.block.now
 
   abbrev ns : List ℕ
-  ns = c.before.before.before.args.list.now
+  ns = c.args.list.now
 
   lent : number_of (word_of boundary) ≡ boundary
-  lent = number_word boundary c.before.before.before.ranges.boundary
+  lent = number_word boundary c.ranges.boundary
 
   abbrev number : ℕ
   number = in_turn (may_begin (get_or block 1 0) (chip_read ns)) (caller_refusal (get_or block 1 0))
@@ -48,61 +48,53 @@ module _ (c : tie.After-begin-run) where
   abbrev refusal : ℕ
   refusal = begin_refusal pairs ops boundary [] plain_options
 
-  run : c.begin-run.result ≡ begin_of pairs ops boundary [] plain_options
-  run = c.begin-run.ensures ∙ ap (λ (z : ℤ). begin_of pairs ops z [] plain_options) lent
+  run : c.begin_run.result ≡ begin_of pairs ops boundary [] plain_options
+  run = c.begin_run.ensures ∙ ap (λ (z : ℤ). begin_of pairs ops z [] plain_options) lent
 
-begin-run-requires : tie.Need-begin-run-requires
+begin-run-requires : tie.Need-begin_run-requires
 begin-run-requires c κs = search rules
 
-enum-known-n : tie.Need-enum-known-n
+enum-known-n : tie.Need-enum_known-n
 enum-known-n c = search rules
 
-list-refusal-requires : tie.Need-list-refusal-requires
+list-refusal-requires : tie.Need-list_refusal-requires
 list-refusal-requires c κs = search rules
 
-same_length : tie.Need-same-length
+same_length : tie.Need-shape_of-list-then-block-lt16
 same_length c = search rules
 
-returns : tie.Need-returns
+returns : tie.Need-returns-then-block-lt16
 returns c =
-    let u = c.before.before.before.before.before.before in
-    let e = c.list-refusal.ensures ∙ ap (λ (z : ℤ). after_early z (chip_read (ns u)) (length (block u)) 0) (lent u) in
-    short_moves (boundary u) (ns u) (block u) (or_else (table_refusal (pairs u) (ops u)) (number u)) (after u) c.before.before.if1.true e
+    let e = c.list_refusal.ensures ∙ ap (λ (z : ℤ). after_early z (chip_read (ns (c.before.before.before))) (length (block (c.before.before.before))) 0) (lent (c.before.before.before)) in
+    short_moves (boundary (c.before.before.before)) (ns (c.before.before.before)) (block (c.before.before.before)) (or_else (table_refusal (pairs (c.before.before.before)) (ops (c.before.before.before))) (number (c.before.before.before))) (after (c.before.before.before)) c.if-block-lt16.true e
 
-enum-known-state : tie.Need-enum-known-state
+enum-known-state : tie.Need-enum_known-state
 enum-known-state c = search rules
 
-begin-with-requires : tie.Need-begin-with-requires
+begin-with-requires : tie.Need-begin_with-requires
 begin-with-requires c κs =
-    let m = c.before.before.before in
-    let u = m.before.before in
-    (run_by (refusal u) m.state.given.0.0 _ (sym m.state.given.1 ∙ run u)).1
+    (run_by (refusal (c.before.before.before)) c.in-Run.state _ (sym c.in-Run.is ∙ run (c.before.before.before))).1
 
-returns-2 : tie.Need-returns-2
+returns-2 : tie.Need-returns-else-block-lt16
 returns-2 c =
-    let m = c.before.before in
-    let u = m.before.before in
-    let q = refused_in (refusal u) m.n.given.0.0 _ (sym m.n.given.1 ∙ run u) in
-    table_moves (pairs u) (ops u) (boundary u) (ns u) (block u) (number u) (after u) c.if1.false q.0 q.1
+    let q = refused_in (refusal (c.before.before)) c.in-Refused.n _ (sym c.in-Refused.is ∙ run (c.before.before)) in
+    table_moves (pairs (c.before.before)) (ops (c.before.before)) (boundary (c.before.before)) (ns (c.before.before)) (block (c.before.before)) (number (c.before.before)) (after (c.before.before)) c.if-block-lt16.false q.0 q.1
 
-same-length-2 : tie.Need-same-length-2
+same-length-2 : tie.Need-shape_of-block
 same-length-2 c = search rules
 
-same-length-3 : tie.Need-same-length-3
+same-length-3 : tie.Need-shape_of-list
 same-length-3 c = search rules
 
-returns-3 : tie.Need-returns-3
+returns-3 : tie.Need-returns-in-Run
 returns-3 c =
-    let w = c.before.before.before.before.begin-with in
-    let m = c.before.before.before.before.before.before.before.before in
-    let u = m.before.before in
-    formed_moves (pairs u) (ops u) (boundary u) (ns u) (block u) (number u) (after u)
-    (run_by (refusal u) m.state.given.0.0 _ (sym m.state.given.1 ∙ run u)).0
-    (subst (λ (z : ℤ). MovesChip (after_early z (chip_read (ns u)) (length (block u)) (number u)) (after u) (block u) (ns u) w.result w.new.1.0
-    w.new.1.1.0) (lent u) w.ensures)
+    formed_moves (pairs (c.before.before.before.before.before.before.before.before)) (ops (c.before.before.before.before.before.before.before.before)) (boundary (c.before.before.before.before.before.before.before.before)) (ns (c.before.before.before.before.before.before.before.before)) (block (c.before.before.before.before.before.before.before.before)) (number (c.before.before.before.before.before.before.before.before)) (after (c.before.before.before.before.before.before.before.before))
+    (run_by (refusal (c.before.before.before.before.before.before.before.before)) c.in-Run.state _ (sym c.in-Run.is ∙ run (c.before.before.before.before.before.before.before.before))).0
+    (subst (λ (z : ℤ). MovesChip (after_early z (chip_read (ns (c.before.before.before.before.before.before.before.before))) (length (block (c.before.before.before.before.before.before.before.before))) (number (c.before.before.before.before.before.before.before.before))) (after (c.before.before.before.before.before.before.before.before)) (block (c.before.before.before.before.before.before.before.before)) (ns (c.before.before.before.before.before.before.before.before)) c.begin_with.result c.begin_with.new.block
+    c.begin_with.new.list) (lent (c.before.before.before.before.before.before.before.before)) c.begin_with.ensures)
 
-pub begin-in-spec : {M : Type 1} → statement M
-begin-in-spec =
+pub begin_in_spec : {M : Type 1} → statement M
+begin_in_spec =
     tie.close
     (tie.spec
     begin-run-requires

@@ -15,15 +15,15 @@ use Rattle.c_chip_begin.proofs.begin_with.Statement.{statement}
 use Rattle.c_chip_begin.proofs.begin_with.Tie as tie
 
 -- what is refused before, for the boundary character as it was lent; and begin's number and chip
-module _ (c : tie.After-list-refusal) where
+module _ (c : tie.After-list_refusal-refusal) where
   abbrev boundary : ℤ
-  boundary = c.before.before.before.before.args.boundary
+  boundary = c.args.boundary
 
   abbrev block : List ℕ
-  block = c.before.before.before.before.args.block.now
+  block = c.args.block.now
 
   abbrev ns : List ℕ
-  ns = c.before.before.before.before.args.list.now
+  ns = c.args.list.now
 
   abbrev number : Chip → ℕ
   number x = in_turn (may_begin (get_or block 1 0) x) (caller_refusal (get_or block 1 0))
@@ -31,46 +31,42 @@ module _ (c : tie.After-list-refusal) where
   abbrev after : Chip → Chip
   after x = chip_begun (get_or block 1 0) x
 
-  early : c.list-refusal.result ≡ after_early boundary (chip_read ns) (length block) 0
+  early : c.list_refusal-refusal.result ≡ after_early boundary (chip_read ns) (length block) 0
   early =
-      c.list-refusal.ensures
-      ∙ ap (λ (z : ℤ). after_early z (chip_read ns) (length block) 0) (number_word boundary c.before.before.before.before.ranges.boundary)
+      c.list_refusal-refusal.ensures
+      ∙ ap (λ (z : ℤ). after_early z (chip_read ns) (length block) 0) (number_word boundary c.ranges.boundary)
 
-  has-stood : c.list-refusal.result ≡ 0 → Stood boundary ns (length block)
+  has-stood : c.list_refusal-refusal.result ≡ 0 → Stood boundary ns (length block)
   has-stood z = stood boundary ns (length block) (sym early ∙ z)
 
-list-refusal-requires : tie.Need-list-refusal-requires
+list-refusal-requires : tie.Need-list_refusal-refusal-requires
 list-refusal-requires c κs = search rules
 
-same_length : tie.Need-same-length
+same_length : tie.Need-shape_of-list-then-refusal-ne0
 same_length c = search rules
 
-returns : tie.Need-returns
+returns : tie.Need-returns-then-refusal-ne0
 returns c =
-    let p = c.before in
-    let x = chip_read (ns p) in
-    early_moves (boundary p) (ns p) (block p) (number p x) (after p x) (early p) c.if1.true
+    let x = chip_read (ns (c.before)) in
+    early_moves (boundary (c.before)) (ns (c.before)) (block (c.before)) (number (c.before) x) (after (c.before) x) (early (c.before)) c.if-refusal-ne0.true
 
-open-word-requires : tie.Need-open-word-requires
+open-word-requires : tie.Need-open_word-requires
 open-word-requires c κs =
-    let p = c.before.before.before in
-    let t = has-stood p c.before.before.if1.false in
-    (t.long, t.is_chip_lem, t.legal, p.before.before.before.before.requires)
+    let t = has-stood (c.before.before.before) c.if-refusal-ne0.false in
+    (t.long, t.is_chip_lem, t.legal, c.requires)
 
-same-length-2 : tie.Need-same-length-2
+same-length-2 : tie.Need-shape_of-block
 same-length-2 c = search rules
 
-same-length-3 : tie.Need-same-length-3
+same-length-3 : tie.Need-shape_of-list
 same-length-3 c = search rules
 
-returns-2 : tie.Need-returns-2
+returns-2 : tie.Need-returns
 returns-2 c =
-    let i = c.before.before.before.before.before.before.before in
-    let p = i.before in
-    late_moves (boundary p) (ns p) (block p) (number p) (after p) (has-stood p i.if1.false) c.before.before.before.before.open-word.ensures
+    late_moves (boundary (c.before.before.before.before.before.before.before.before)) (ns (c.before.before.before.before.before.before.before.before)) (block (c.before.before.before.before.before.before.before.before)) (number (c.before.before.before.before.before.before.before.before)) (after (c.before.before.before.before.before.before.before.before)) (has-stood (c.before.before.before.before.before.before.before.before) c.if-refusal-ne0.false) c.open_word.ensures
 
-pub begin-with-spec : {M : Type 1} → statement M
-begin-with-spec =
+pub begin_with_spec : {M : Type 1} → statement M
+begin_with_spec =
     tie.close
     (tie.spec
     list-refusal-requires

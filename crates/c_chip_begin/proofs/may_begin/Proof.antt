@@ -6,62 +6,49 @@ use borrow.Author.Rules.{rules}
 use Rattle.c_chip_begin.proofs.may_begin.Statement.{statement}
 use Rattle.c_chip_begin.proofs.may_begin.Tie as tie
 
-shared-slice-read-flag-of : tie.Need-shared-slice-read-flag-of
+shared-slice-read-flag-of : tie.Need-bounds-list-0
 shared-slice-read-flag-of c = search rules
 
-flag-of-requires : tie.Need-flag-of-requires
+flag-of-requires : tie.Need-flag_of-requires
 flag-of-requires c κs = search rules
 
-returns : tie.Need-returns
+returns : tie.Need-returns-then-flag_of
 returns c =
-    let s = c.before.before.before.before in
-    let a = s.args in
-    open_waits a.list.now a.caller (sym c.before.flag-of.ensures ∙ c.if1.true)
+    let a = c.args in
+    open_waits a.list.now a.caller (sym c.flag_of.ensures ∙ c.if-flag_of.true)
 
-shared-slice-read-flag-of-2 : tie.Need-shared-slice-read-flag-of-2
+shared-slice-read-flag-of-2 : tie.Need-bounds-list-2
 shared-slice-read-flag-of-2 c = search rules
 
-flag-of-requires-2 : tie.Need-flag-of-requires-2
+flag-of-requires-2 : tie.Need-flag_of-requires-2
 flag-of-requires-2 c κs = search rules
 
-returns-2 : tie.Need-returns-2
+returns-2 : tie.Need-returns-then-flag_of-2
 returns-2 c =
-    let g = c.before in
-    let i = g.before.before in
-    let f = i.before in
-    let a = f.before.before.before.args in
-    ready_waits a.list.now a.caller (sym f.flag-of.ensures ∙ i.if1.false) (sym g.flag-of2.ensures ∙ c.if2.true)
+    let a = c.args in
+    ready_waits a.list.now a.caller (sym c.flag_of.ensures ∙ c.if-flag_of.false) (sym c.flag_of-2.ensures ∙ c.if-flag_of-2.true)
 
-returns-3 : tie.Need-returns-3
+returns-3 : tie.Need-returns-then-caller-gt7
 returns-3 c =
-    let j = c.before in
-    let g = j.before in
-    let i = g.before.before in
-    let f = i.before in
-    let s = f.before.before.before in
-    above_begins s.args.list.now s.args.caller s.requires (sym f.flag-of.ensures ∙ i.if1.false) (sym g.flag-of2.ensures ∙ j.if2.false)
-    c.if3.true
+    above_begins c.args.list.now c.args.caller c.requires (sym c.flag_of.ensures ∙ c.if-flag_of.false) (sym c.flag_of-2.ensures ∙ c.if-flag_of-2.false)
+    c.if-caller-gt7.true
 
-add-result : tie.Need-overflow-add-result
+add-result : tie.Need-overflow_add-result
 add-result c = search rules
 
-mul-result : tie.Need-overflow-mul-result
+mul-result : tie.Need-offset_bounds-list-caller
 mul-result c = search rules
 
-shared-slice-read-result : tie.Need-shared-slice-read-result
+shared-slice-read-result : tie.Need-bounds-list-caller
 shared-slice-read-result c = search rules
 
-returns-4 : tie.Need-returns-4
+returns-4 : tie.Need-returns
 returns-4 c =
-    let j = c.before.before in
-    let g = j.before in
-    let i = g.before.before in
-    let f = i.before in
-    let a = f.before.before.before.args in
-    counted_begins a.list.now a.caller (sym f.flag-of.ensures ∙ i.if1.false) (sym g.flag-of2.ensures ∙ j.if2.false) c.before.if3.false
+    let a = c.args in
+    counted_begins a.list.now a.caller (sym c.flag_of.ensures ∙ c.if-flag_of.false) (sym c.flag_of-2.ensures ∙ c.if-flag_of-2.false) c.if-caller-gt7.false
 
-pub may-begin-spec : {M : Type 1} → statement M
-may-begin-spec =
+pub may_begin_spec : {M : Type 1} → statement M
+may_begin_spec =
     tie.close
     (tie.spec
     shared-slice-read-flag-of

@@ -11,40 +11,38 @@ use Rattle.c_chips.specs.ChipLists.{is_word}
 use Rattle.c_chip_read.proofs.are_words.Statement.{statement}
 use Rattle.c_chip_read.proofs.are_words.Tie as tie
 
-abbrev invariant-loop : tie.invariant-loop
+abbrev invariant-loop : tie.invariant-loop-i
 invariant-loop codes all₀ i₀ all i = (i ≤ length codes) × (is_word all ≡ every i (λ k. is_word (get_or codes k 0)))
 
-abbrev decreases-loop : tie.decreases-loop
+abbrev decreases-loop : tie.decreases-loop-i
 decreases-loop codes all₀ i₀ all i = length codes - i
 
-loop-holds : tie.Need-loop-init invariant-loop decreases-loop
+loop-holds : tie.Need-loop-i-init invariant-loop decreases-loop
 loop-holds c = (omega arith, sym (every_none (λ k. is_word (get_or c.args.codes.now k 0))))
 
-mul-all : tie.Need-overflow-mul-all invariant-loop decreases-loop
+mul-all : tie.Need-offset_bounds-codes-i invariant-loop decreases-loop
 mul-all c = omega arith
 
-shared-slice-read-all : tie.Need-shared-slice-read-all invariant-loop decreases-loop
+shared-slice-read-all : tie.Need-bounds-codes-i invariant-loop decreases-loop
 shared-slice-read-all c = omega arith
 
-add-i : tie.Need-overflow-add-i invariant-loop decreases-loop
+add-i : tie.Need-overflow_add-i invariant-loop decreases-loop
 add-i c = omega arith
 
-loop-less : tie.Need-loop-smaller invariant-loop decreases-loop
+loop-less : tie.Need-loop-i-smaller invariant-loop decreases-loop
 loop-less c = omega arith
 
-loop-again : tie.Need-loop-preserved invariant-loop decreases-loop
+loop-again : tie.Need-loop-i-preserved invariant-loop decreases-loop
 loop-again c =
-    let l = c.before.before in
-    (omega arith, or_more 32 4294967295 (λ _. 4294967296) l.before.args.codes.now l.loop.i l.loop.all l.loop.invariant.1)
+    (omega arith, or_more 32 4294967295 (λ _. 4294967296) c.args.codes.now c.loop-i.i c.loop-i.all c.loop-i.invariant.1)
 
 returns : tie.Need-returns invariant-loop decreases-loop
 returns c =
-    let l = c.before in
-    let e : length l.before.args.codes.now ≡ l.loop.i = omega arith in
-    l.loop.invariant.1 ∙ rw e
+    let e : length c.args.codes.now ≡ c.loop-i.i = omega arith in
+    c.loop-i.invariant.1 ∙ rw e
 
-pub are-words-spec : {M : Type 1} → statement M
-are-words-spec =
+pub are_words_spec : {M : Type 1} → statement M
+are_words_spec =
     tie.close
     (tie.spec
     invariant-loop

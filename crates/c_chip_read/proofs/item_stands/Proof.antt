@@ -7,38 +7,32 @@ use borrow.Author.Rules.{rules}
 use Rattle.c_chip_read.proofs.item_stands.Statement.{statement}
 use Rattle.c_chip_read.proofs.item_stands.Tie as tie
 
-shared-slice-read-flag-of : tie.Need-shared-slice-read-flag-of
+shared-slice-read-flag-of : tie.Need-bounds-list-2
 shared-slice-read-flag-of c = search rules
 
-flag-of-requires : tie.Need-flag-of-requires
+flag-of-requires : tie.Need-flag_of-requires
 flag-of-requires c κs = search rules
 
-returns : tie.Need-returns
+returns : tie.Need-returns-then-not-flag_of
 returns c =
-    let f = c.before in
-    none_stands f.before.before.before.args.list.now (sym f.flag-of.ensures ∙ not-true _ c.if1.true)
+    none_stands c.args.list.now (sym c.flag_of.ensures ∙ c.if-not-flag_of.true)
 
-shared-slice-read-match : tie.Need-shared-slice-read-match
+shared-slice-read-match : tie.Need-bounds-list-3
 shared-slice-read-match c = search rules
 
-shared-slice-read-result : tie.Need-shared-slice-read-result
+shared-slice-read-result : tie.Need-bounds-list-6
 shared-slice-read-result c = search rules
 
-returns-2 : tie.Need-returns-2
+returns-2 : tie.Need-returns-in-1
 returns-2 c =
-    let m = c.before in
-    let i = m.before.before in
-    let f = i.before in
-    ligature_stands f.before.before.before.args.list.now (sym f.flag-of.ensures ∙ not-false _ i.if1.false) m.match.keys1
+    ligature_stands c.args.list.now (sym c.flag_of.ensures ∙ c.if-not-flag_of.false) c.in-1.is
 
-returns-3 : tie.Need-returns-3
+returns-3 : tie.Need-returns-in_default
 returns-3 c =
-    let i = c.before.before in
-    let f = i.before in
-    other_stands f.before.before.before.args.list.now (sym f.flag-of.ensures ∙ not-false _ i.if1.false) c.match.rest
+    other_stands c.args.list.now (sym c.flag_of.ensures ∙ c.if-not-flag_of.false) c.in_default.in_default-own.rest
 
-pub item-stands-spec : {M : Type 1} → statement M
-item-stands-spec =
+pub item_stands_spec : {M : Type 1} → statement M
+item_stands_spec =
     tie.close
     (tie.spec
     shared-slice-read-flag-of

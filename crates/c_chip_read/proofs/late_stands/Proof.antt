@@ -9,39 +9,31 @@ use borrow.Author.Rules.{rules}
 use Rattle.c_chip_read.proofs.late_stands.Statement.{statement}
 use Rattle.c_chip_read.proofs.late_stands.Tie as tie
 
-callers-stand-requires : tie.Need-callers-stand-requires
+callers-stand-requires : tie.Need-callers_stand-requires
 callers-stand-requires c κs = search rules
 
-returns : tie.Need-returns
-returns c = rw (sym c.before.callers-stand.ensures ∙ not-true _ c.if1.true)
+returns : tie.Need-returns-then-not-callers_stand
+returns c = rw (sym c.callers_stand.ensures ∙ c.if-not-callers_stand.true)
 
-item-stands-requires : tie.Need-item-stands-requires
+item-stands-requires : tie.Need-item_stands-requires
 item-stands-requires c κs = search rules
 
-returns-2 : tie.Need-returns-2
+returns-2 : tie.Need-returns-then-not-item_stands
 returns-2 c =
-    let x = c.before in
-    let i = x.before in
-    rw (sym i.before.callers-stand.ensures ∙ not-false _ i.if1.false, sym x.item_stands_lem.ensures ∙ not-true _ c.if2.true)
+    rw (sym c.callers_stand.ensures ∙ c.if-not-callers_stand.false, sym c.item_stands.ensures ∙ c.if-not-item_stands.true)
 
-open-stands-requires : tie.Need-open-stands-requires
+open-stands-requires : tie.Need-open_stands-requires
 open-stands-requires c κs =
-    let i = c.before.before in
-    let w = i.before in
-    let s = w.before.before in
-    let l = s.args.list.now in
-    (s.requires, leb-true (get_or l 90 0) 7 (both_left (leb (get_or l 90 0) 7) _ (sym w.callers-stand.ensures ∙ not-false _ i.if1.false)))
+    let l = c.args.list.now in
+    (c.requires, leb-true (get_or l 90 0) 7 (both_left (leb (get_or l 90 0) 7) _ (sym c.callers_stand.ensures ∙ c.if-not-callers_stand.false)))
 
-returns-3 : tie.Need-returns-3
+returns-3 : tie.Need-returns
 returns-3 c =
-    let j = c.before in
-    let x = j.before in
-    let i = x.before in
-    rw (sym i.before.callers-stand.ensures ∙ not-false _ i.if1.false, sym x.item_stands_lem.ensures ∙ not-false _ j.if2.false)
-    c.open-stands.ensures
+    rw (sym c.callers_stand.ensures ∙ c.if-not-callers_stand.false, sym c.item_stands.ensures ∙ c.if-not-item_stands.false)
+    c.open_stands.ensures
 
-pub late-stands-spec : {M : Type 1} → statement M
-late-stands-spec =
+pub late_stands_spec : {M : Type 1} → statement M
+late_stands_spec =
     tie.close
     (tie.spec
     callers-stand-requires

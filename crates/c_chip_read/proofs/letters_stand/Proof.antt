@@ -8,36 +8,34 @@ use borrow.Author.Rules.{rules}
 use Rattle.c_chip_read.proofs.letters_stand.Statement.{statement}
 use Rattle.c_chip_read.proofs.letters_stand.Tie as tie
 
-shared-slice-read-n : tie.Need-shared-slice-read-n
+shared-slice-read-n : tie.Need-bounds-list-1
 shared-slice-read-n c = search rules
 
-returns : tie.Need-returns
-returns c = let s = c.before.before.before.args.list.now in rw (lt-leb (get_or s 1 0) 64 c.if1.true)
+returns : tie.Need-returns-then-n-gt64
+returns c = let s = c.args.list.now in rw (lt-leb (get_or s 1 0) 64 c.if-n-gt64.true)
 
-add-end : tie.Need-overflow-add-end
+add-end : tie.Need-overflow_add-end
 add-end c = search rules
 
-sub-are-bytes : tie.Need-overflow-sub-are-bytes
+sub-are-bytes : tie.Need-slice_bounds-are_bytes-count
 sub-are-bytes c = search rules
 
-part-are-bytes-start : tie.Need-slice-bounds-are-bytes-start
+part-are-bytes-start : tie.Need-slice_bounds-are_bytes-start
 part-are-bytes-start c = search rules
 
-part-are-bytes-end : tie.Need-slice-bounds-are-bytes-end
+part-are-bytes-end : tie.Need-slice_bounds-are_bytes-end
 part-are-bytes-end c = search rules
 
-are-bytes-requires : tie.Need-are-bytes-requires
+are-bytes-requires : tie.Need-are_bytes-requires
 are-bytes-requires c κs = search rules
 
-returns-2 : tie.Need-returns-2
+returns-2 : tie.Need-returns
 returns-2 c =
-    let i = c.before.before in
-    let t = i.before.before.before in
-    let s = t.args.list.now in
-    rw (le-leb (get_or s 1 0) 64 i.if1.false) (c.are-bytes.ensures ∙ letters_tested s t.requires i.if1.false)
+    let s = c.args.list.now in
+    rw (le-leb (get_or s 1 0) 64 c.if-n-gt64.false) (c.are_bytes.ensures ∙ letters_tested s c.requires c.if-n-gt64.false)
 
-pub letters-stand-spec : {M : Type 1} → statement M
-letters-stand-spec =
+pub letters_stand_spec : {M : Type 1} → statement M
+letters_stand_spec =
     tie.close
     (tie.spec
     shared-slice-read-n

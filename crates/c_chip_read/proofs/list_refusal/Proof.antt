@@ -12,45 +12,45 @@ use Rattle.c_chip_read.proofs.list_refusal.Statement.{statement}
 use Rattle.c_chip_read.proofs.list_refusal.Tie as tie
 
 -- the boundary character as it was lent
-edge : (c : tie.After-absent-refusal) → c.absent-refusal.result ≡ absent_refusal 255 c.before.before.args.boundary
-edge c = c.absent-refusal.ensures ∙ ap (absent_refusal 255) (number_word c.before.before.args.boundary c.before.before.ranges.boundary)
+edge : (c : tie.After-absent_refusal-edge) → c.absent_refusal-edge.result ≡ absent_refusal 255 c.args.boundary
+edge c = c.absent_refusal-edge.ensures ∙ ap (absent_refusal 255) (number_word c.args.boundary c.ranges.boundary)
 
-absent-refusal-requires : tie.Need-absent-refusal-requires
+absent-refusal-requires : tie.Need-absent_refusal-edge-requires
 absent-refusal-requires c κs = search rules
 
-returns : tie.Need-returns
-returns c = first_refusal _ (edge c.before) c.if1.true
+returns : tie.Need-returns-then-edge-ne0
+returns c = first_refusal _ (edge c.before) c.if-edge-ne0.true
 
 stands-requires : tie.Need-stands-requires
 stands-requires c κs = search rules
 
-returns-2 : tie.Need-returns-2
+returns-2 : tie.Need-returns-then-not-stands
 returns-2 c =
-    let t = c.before in
-    let i = t.before in
-    let s = i.before.before.before.args.list.now in
-    later_refusal_lem (edge i.before) i.if1.false
-    (first_refusal _ (ap (unless 7) (sym (not-true _ c.if2.true) ∙ t.stands.ensures) ∙ stands_is s) (λ z. omega (arith, z)))
+    let s = c.args.list.now in
+    later_refusal_lem (edge c.before.before.before) c.if-edge-ne0.false
+    (first_refusal _ (ap (unless 7) (sym (c.if-not-stands.true) ∙ c.stands.ensures) ∙ stands_is s) (λ z. omega (arith, z)))
 
-returns-3 : tie.Need-returns-3
+returns-3 : tie.Need-returns-then-bytes-lt16
 returns-3 c =
-    let t = c.before.before in
-    let i = t.before in
-    let s = i.before.before.before.args.list.now in
-    later_refusal_lem (edge i.before) i.if1.false
-    (later_refusal_lem (ap (unless 7) (sym (not-false _ c.before.if2.false) ∙ t.stands.ensures) ∙ stands_is s) refl
-    (sym (room_short 16 i.before.before.before.args.bytes c.if3.true)))
+    let s = c.args.list.now in
+    later_refusal_lem (edge c.before.before.before.before) c.if-edge-ne0.false
+    (later_refusal_lem (ap (unless 7) (sym (c.if-not-stands.false) ∙ c.stands.ensures) ∙ stands_is s) refl
+    (sym (room_short 16 c.args.bytes c.if-bytes-lt16.true)))
 
-returns-4 : tie.Need-returns-4
+returns-4 : tie.Need-returns-else-bytes-lt16
 returns-4 c =
-    let t = c.before.before in
-    let i = t.before in
-    let s = i.before.before.before.args.list.now in
-    later_refusal_lem (edge i.before) i.if1.false
-    (later_refusal_lem (ap (unless 7) (sym (not-false _ c.before.if2.false) ∙ t.stands.ensures) ∙ stands_is s) refl
-    (sym (room_is 16 i.before.before.before.args.bytes c.if3.false)))
+    let s = c.args.list.now in
+    later_refusal_lem (edge c.before.before.before.before) c.if-edge-ne0.false
+    (later_refusal_lem (ap (unless 7) (sym (c.if-not-stands.false) ∙ c.stands.ensures) ∙ stands_is s) refl
+    (sym (room_is 16 c.args.bytes c.if-bytes-lt16.false)))
 
-pub list-refusal-spec : {M : Type 1} → statement M
-list-refusal-spec =
+pub list_refusal_spec : {M : Type 1} → statement M
+list_refusal_spec =
     tie.close
-    (tie.spec absent-refusal-requires returns stands-requires returns-2 returns-3 returns-4)
+    (tie.spec
+    absent-refusal-requires
+    returns
+    stands-requires
+    returns-2
+    returns-3
+    returns-4)

@@ -10,105 +10,81 @@ use borrow.Author.Rules.{rules}
 use Rattle.c_chip_read.proofs.stands.Statement.{statement}
 use Rattle.c_chip_read.proofs.stands.Tie as tie
 
-returns : tie.Need-returns
-returns c = let s = c.before.before.args.list.now in rw (lt-leb 91 (length s) (omega (arith, c.if1.true)))
+returns : tie.Need-returns-then-list-lt91
+returns c = let s = c.args.list.now in rw (lt-leb 91 (length s) (omega (arith, c.if-list-lt91.true)))
 
-shared-slice-read-if2 : tie.Need-shared-slice-read-if2
+shared-slice-read-if2 : tie.Need-bounds-list-0
 shared-slice-read-if2 c = search rules
 
-returns-2 : tie.Need-returns-2
+returns-2 : tie.Need-returns-then-list-gt1
 returns-2 c =
-    let i = c.before.before in
-    let s = i.before.before.args.list.now in
-    rw (le-leb 91 (length s) i.if1.false, lt-leb (get_or s 0 0) 1 (omega (arith, c.if2.true)))
+    let s = c.args.list.now in
+    rw (le-leb 91 (length s) c.if-list-lt91.false, lt-leb (get_or s 0 0) 1 (omega (arith, c.if-list-gt1.true)))
 
-is-shown-requires : tie.Need-is-shown-requires
+is-shown-requires : tie.Need-is_shown-requires
 is-shown-requires c κs = search rules
 
-returns-3 : tie.Need-returns-3
+returns-3 : tie.Need-returns-then-not-is_shown
 returns-3 c =
-    let x = c.before in
-    let j = x.before in
-    let i = j.before.before in
-    let s = i.before.before.args.list.now in
+    let s = c.args.list.now in
     rw (
-      le-leb 91 (length s) i.if1.false,
-      le-leb (get_or s 0 0) 1 j.if2.false,
-      sym x.is-shown.ensures ∙ not-true _ c.if3.true,
+      le-leb 91 (length s) c.if-list-lt91.false,
+      le-leb (get_or s 0 0) 1 c.if-list-gt1.false,
+      sym c.is_shown.ensures ∙ c.if-not-is_shown.true,
     )
 
-sub-is-state : tie.Need-overflow-sub-is-state
+sub-is-state : tie.Need-slice_bounds-is_state-count
 sub-is-state c = search rules
 
-part-is-state-start : tie.Need-slice-bounds-is-state-start
+part-is-state-start : tie.Need-slice_bounds-is_state-start
 part-is-state-start c = search rules
 
-part-is-state-end : tie.Need-slice-bounds-is-state-end
+part-is-state-end : tie.Need-slice_bounds-is_state-end
 part-is-state-end c = search rules
 
-is-state-requires : tie.Need-is-state-requires
+is-state-requires : tie.Need-is_state-requires
 is-state-requires c κs = search rules
 
-returns-4 : tie.Need-returns-4
+returns-4 : tie.Need-returns-then-not-is_state
 returns-4 c =
-    let y = c.before in
-    let k = y.before.before in
-    let x = k.before in
-    let j = x.before in
-    let i = j.before.before in
-    let s = i.before.before.args.list.now in
+    let s = c.args.list.now in
     rw (
-      le-leb 91 (length s) i.if1.false,
-      le-leb (get_or s 0 0) 1 j.if2.false,
-      sym x.is-shown.ensures ∙ not-false _ k.if3.false,
-      ap is_state (sym (part_rest 9 s)) ∙ sym y.is_state.ensures ∙ not-true _ c.if4.true,
+      le-leb 91 (length s) c.if-list-lt91.false,
+      le-leb (get_or s 0 0) 1 c.if-list-gt1.false,
+      sym c.is_shown.ensures ∙ c.if-not-is_shown.false,
+      ap is_state (sym (part_rest 9 s)) ∙ sym c.is_state.ensures ∙ c.if-not-is_state.true,
     )
 
-letters-stand-requires : tie.Need-letters-stand-requires
+letters-stand-requires : tie.Need-letters_stand-requires
 letters-stand-requires c κs = search rules
 
-returns-5 : tie.Need-returns-5
+returns-5 : tie.Need-returns-then-not-letters_stand
 returns-5 c =
-    let z = c.before in
-    let m = z.before in
-    let y = m.before in
-    let k = y.before.before in
-    let x = k.before in
-    let j = x.before in
-    let i = j.before.before in
-    let s = i.before.before.args.list.now in
+    let s = c.args.list.now in
     rw (
-      le-leb 91 (length s) i.if1.false,
-      le-leb (get_or s 0 0) 1 j.if2.false,
-      sym x.is-shown.ensures ∙ not-false _ k.if3.false,
-      ap is_state (sym (part_rest 9 s)) ∙ sym y.is_state.ensures ∙ not-false _ m.if4.false,
-      sym z.letters_stand.ensures ∙ not-true _ c.if5.true,
+      le-leb 91 (length s) c.if-list-lt91.false,
+      le-leb (get_or s 0 0) 1 c.if-list-gt1.false,
+      sym c.is_shown.ensures ∙ c.if-not-is_shown.false,
+      ap is_state (sym (part_rest 9 s)) ∙ sym c.is_state.ensures ∙ c.if-not-is_state.false,
+      sym c.letters_stand.ensures ∙ c.if-not-letters_stand.true,
     )
 
-late-stands-requires : tie.Need-late-stands-requires
+late-stands-requires : tie.Need-late_stands-requires
 late-stands-requires c κs = search rules
 
-returns-6 : tie.Need-returns-6
+returns-6 : tie.Need-returns
 returns-6 c =
-    let n = c.before in
-    let z = n.before in
-    let m = z.before in
-    let y = m.before in
-    let k = y.before.before in
-    let x = k.before in
-    let j = x.before in
-    let i = j.before.before in
-    let s = i.before.before.args.list.now in
+    let s = c.args.list.now in
     rw (
-      le-leb 91 (length s) i.if1.false,
-      le-leb (get_or s 0 0) 1 j.if2.false,
-      sym x.is-shown.ensures ∙ not-false _ k.if3.false,
-      ap is_state (sym (part_rest 9 s)) ∙ sym y.is_state.ensures ∙ not-false _ m.if4.false,
-      sym z.letters_stand.ensures ∙ not-false _ n.if5.false,
-    ) c.late-stands.ensures
+      le-leb 91 (length s) c.if-list-lt91.false,
+      le-leb (get_or s 0 0) 1 c.if-list-gt1.false,
+      sym c.is_shown.ensures ∙ c.if-not-is_shown.false,
+      ap is_state (sym (part_rest 9 s)) ∙ sym c.is_state.ensures ∙ c.if-not-is_state.false,
+      sym c.letters_stand.ensures ∙ c.if-not-letters_stand.false,
+    ) c.late_stands.ensures
 
-pub stands-spec : {M : Type 1} → statement M
-stands-spec =
+pub stands_spec : {M : Type 1} → statement M
+stands_spec =
     tie.close
     (tie.spec
     returns

@@ -9,41 +9,41 @@ use borrow.Author.Rules.{rules}
 use Rattle.c_chip_step.proofs.count_word.Statement.{statement}
 use Rattle.c_chip_step.proofs.count_word.Tie as tie
 
-returns : tie.Need-returns
-returns c = rw (not-true c.before.args.ends c.if1.true)
+returns : tie.Need-returns-then-not-ends
+returns c = rw (c.if-not-ends.true)
 
-slice-read-place : tie.Need-slice-read-place
+slice-read-place : tie.Need-bounds-list-90
 slice-read-place c = search rules
 
-add-place : tie.Need-overflow-add-place
+add-place : tie.Need-overflow_add-place
 add-place c = search rules
 
-mul-list : tie.Need-overflow-mul-list
+mul-list : tie.Need-offset_bounds-list-place
 mul-list c = search rules
 
-slice-read-list : tie.Need-slice-read-list
+slice-read-list : tie.Need-bounds-list-place
 slice-read-list c = search rules
 
-add-list : tie.Need-overflow-add-list
+add-list : tie.Need-overflow_add-list
 add-list c = search rules
 
-mul-list-2 : tie.Need-overflow-mul-list-2
+mul-list-2 : tie.Need-offset_bounds-list-place-2
 mul-list-2 c = search rules
 
-slice-write-list : tie.Need-slice-write-list
+slice-write-list : tie.Need-bounds-list-place-2
 slice-write-list c = search rules
 
-same_length : tie.Need-same-length
+same_length : tie.Need-shape_of-list
 same_length c = search rules
 
-returns-2 : tie.Need-returns-2
+returns-2 : tie.Need-returns
 returns-2 c =
-    let l = c.before.before.before.args.list.now in
+    let l = c.args.list.now in
     let p = 82 + get_or l 90 0 in
-    rw (not-false c.before.before.before.args.ends c.before.before.if1.false) (ap (λ (m : ℕ). set l p m) (add-one (get_or l p 0)))
+    rw (c.if-not-ends.false) (ap (λ (m : ℕ). set l p m) (add-one (get_or l p 0)))
 
-pub count-word-spec : {M : Type 1} → statement M
-count-word-spec =
+pub count_word_spec : {M : Type 1} → statement M
+count_word_spec =
     tie.close
     (tie.spec
     returns

@@ -6,27 +6,27 @@ use borrow.Author.Rules.{rules}
 use Rattle.c_chip_step.proofs.is_turn.Statement.{statement}
 use Rattle.c_chip_step.proofs.is_turn.Tie as tie
 
-shared-slice-read-flag-of : tie.Need-shared-slice-read-flag-of
+shared-slice-read-flag-of : tie.Need-bounds-list-0
 shared-slice-read-flag-of c = search rules
 
-flag-of-requires : tie.Need-flag-of-requires
+flag-of-requires : tie.Need-flag_of-requires
 flag-of-requires c κs = search rules
 
-returns : tie.Need-returns
-returns c = rw c.before.before.if1.true c.flag-of.ensures
+returns : tie.Need-returns-then-ends
+returns c = rw c.if-ends.true c.flag_of.ensures
 
-shared-slice-read-flag-of-2 : tie.Need-shared-slice-read-flag-of-2
+shared-slice-read-flag-of-2 : tie.Need-bounds-list-2
 shared-slice-read-flag-of-2 c = search rules
 
-flag-of-requires-2 : tie.Need-flag-of-requires-2
+flag-of-requires-2 : tie.Need-flag_of-requires-2
 flag-of-requires-2 c κs = search rules
 
-returns-2 : tie.Need-returns-2
+returns-2 : tie.Need-returns
 returns-2 c =
-    let s = c.before.before.before.before in rw c.before.before.if1.false (c.flag-of2.ensures ∙ sym (ready_is s.args.list.now))
+    rw c.if-ends.false (c.flag_of-2.ensures ∙ sym (ready_is c.args.list.now))
 
-pub is-turn-spec : {M : Type 1} → statement M
-is-turn-spec =
+pub is_turn_spec : {M : Type 1} → statement M
+is_turn_spec =
     tie.close
     (tie.spec
     shared-slice-read-flag-of

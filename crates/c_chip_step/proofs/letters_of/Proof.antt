@@ -12,62 +12,57 @@ use Rattle.c_chip_step.proofs.Laws.{words_read}
 use Rattle.c_chip_step.proofs.letters_of.Statement.{statement}
 use Rattle.c_chip_step.proofs.letters_of.Tie as tie
 
-abbrev invariant-loop : tie.invariant-loop
+abbrev invariant-loop : tie.invariant-loop-i
 invariant-loop codes letters₀ i₀ letters i = (i ≤ length codes) × Filling (λ k. get_or codes k 0) (replicate 64 0) letters i
 
-abbrev decreases-loop : tie.decreases-loop
+abbrev decreases-loop : tie.decreases-loop-i
 decreases-loop codes letters₀ i₀ letters i = length codes - i
 
-loop-holds : tie.Need-loop-init invariant-loop decreases-loop
+loop-holds : tie.Need-loop-i-init invariant-loop decreases-loop
 loop-holds c = (omega arith, filling_none (λ k. get_or c.args.codes.now k 0) (replicate 64 0))
 
-mul-letters : tie.Need-overflow-mul-letters invariant-loop decreases-loop
+mul-letters : tie.Need-offset_bounds-codes-i invariant-loop decreases-loop
 mul-letters c = omega arith
 
-shared-slice-read-letters : tie.Need-shared-slice-read-letters invariant-loop decreases-loop
+shared-slice-read-letters : tie.Need-bounds-codes-i invariant-loop decreases-loop
 shared-slice-read-letters c = omega arith
 
-cast-letters : tie.Need-overflow-cast-letters invariant-loop decreases-loop
+cast-letters : tie.Need-overflow_cast-letters invariant-loop decreases-loop
 cast-letters c =
-    let l = c.before.before in
-    let s = l.before in
-    let w = s.args.codes.now in
+    let w = c.args.codes.now in
     record {
       fits = omega (
         arith,
-        leb-true (get_or w l.loop.i 0) 4294967295 (every_at (length w) l.loop.i (λ k. is_word (get_or w k 0)) s.requires.1
-            c.before.loop-test.true),
+        leb-true (get_or w c.loop-i.i 0) 4294967295 (every_at (length w) c.loop-i.i (λ k. is_word (get_or w k 0)) c.requires.1
+            c.loop-i-test.true),
       );
     }
 
-mul-letters-2 : tie.Need-overflow-mul-letters-2 invariant-loop decreases-loop
-mul-letters-2 c = let s = c.before.before.before in omega (arith, s.requires.0, c.before.loop-test.true)
+mul-letters-2 : tie.Need-offset_bounds-letters-i invariant-loop decreases-loop
+mul-letters-2 c = omega (arith, c.requires.0, c.loop-i-test.true)
 
-array-write-letters : tie.Need-array-write-letters invariant-loop decreases-loop
-array-write-letters c = let s = c.before.before.before in omega (arith, s.requires.0, c.before.loop-test.true)
+array-write-letters : tie.Need-bounds-letters-i invariant-loop decreases-loop
+array-write-letters c = omega (arith, c.requires.0, c.loop-i-test.true)
 
-add-i : tie.Need-overflow-add-i invariant-loop decreases-loop
+add-i : tie.Need-overflow_add-i invariant-loop decreases-loop
 add-i c = omega arith
 
-loop-less : tie.Need-loop-smaller invariant-loop decreases-loop
+loop-less : tie.Need-loop-i-smaller invariant-loop decreases-loop
 loop-less c = omega arith
 
-loop-again : tie.Need-loop-preserved invariant-loop decreases-loop
+loop-again : tie.Need-loop-i-preserved invariant-loop decreases-loop
 loop-again c =
-    let l = c.before.before in
-    let s = l.before in
-    let w = s.args.codes.now in
-    let f = l.loop.invariant.1 in
+    let w = c.args.codes.now in
+    let f = c.loop-i.invariant.1 in
     let n = filling_length (λ k. get_or w k 0) (replicate 64 0) f in
-    (omega arith, filling_more (λ k. get_or w k 0) (replicate 64 0) f (omega (arith, n, s.requires.0, c.before.loop-test.true)))
+    (omega arith, filling_more (λ k. get_or w k 0) (replicate 64 0) f (omega (arith, n, c.requires.0, c.loop-i-test.true)))
 
 returns : tie.Need-returns invariant-loop decreases-loop
 returns c =
-    let l = c.before in
-    words_read 64 l.before.args.codes.now l.loop.letters l.loop.i l.loop.invariant.1 l.loop.invariant.0 c.loop-test.false
+    words_read 64 c.args.codes.now c.loop-i.letters c.loop-i.i c.loop-i.invariant.1 c.loop-i.invariant.0 c.loop-i-test.false
 
-pub letters-of-spec : {M : Type 1} → statement M
-letters-of-spec =
+pub letters_of_spec : {M : Type 1} → statement M
+letters_of_spec =
     tie.close
     (tie.spec
     invariant-loop

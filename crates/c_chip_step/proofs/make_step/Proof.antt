@@ -20,89 +20,77 @@ use Rattle.c_chip_step.proofs.make_step.Statement.{statement}
 use Rattle.c_chip_step.proofs.make_step.Tie as tie
 
 -- the step, for the boundary character as it was lent
-module _ (c : tie.After-step-in) where
+module _ (c : tie.After-step_in-given) where
   abbrev pairs : List ℤ
-  pairs = c.before.before.before.before.before.before.before.args.pairs.now
+  pairs = c.args.pairs.now
 
   abbrev ops : List ℤ
-  ops = c.before.before.before.before.before.before.before.args.ops.now
+  ops = c.args.ops.now
 
   abbrev boundary : ℤ
-  boundary = c.before.before.before.before.before.before.before.args.boundary
+  boundary = c.args.boundary
 
   abbrev chip : Chip
-  chip = chip_at c.before.before.before.before.before.before.before.args.list.now
+  chip = chip_at c.args.list.now
 
-  given : c.step_in.result ≡ chip_step pairs ops boundary chip
+  given : c.step_in-given.result ≡ chip_step pairs ops boundary chip
   given =
-      c.step_in.ensures
-      ∙ ap (λ (z : ℤ). chip_step pairs ops z chip) (number_word boundary c.before.before.before.before.before.before.before.ranges.boundary)
+      c.step_in-given.ensures
+      ∙ ap (λ (z : ℤ). chip_step pairs ops z chip) (number_word boundary c.ranges.boundary)
 
-is-turn-requires : tie.Need-is-turn-requires
-is-turn-requires c κs = let s = c.before.before.before in chip_long s.args.list.now s.requires.1
+is-turn-requires : tie.Need-is_turn-requires
+is-turn-requires c κs = chip_long c.args.list.now c.requires.1
 
-same_length : tie.Need-same-length
+same_length : tie.Need-shape_of-list-then-not-is_turn
 same_length c = search rules
 
-returns : tie.Need-returns
+returns : tie.Need-returns-then-not-is_turn
 returns c =
-    let p = c.before in
-    let a = p.before.before.before.before.args in
+    let a = c.args in
     let ns = a.list.now in
     refused_moves (step_turn_chip a.pairs.now a.ops.now a.boundary a.ends (chip_at ns)) a.block.now ns
-    (rw (sym p.is-turn.ensures ∙ not-true _ c.if1.true)) (λ z. omega (arith, z))
+    (rw (sym c.is_turn.ensures ∙ c.if-not-is_turn.true)) (λ z. omega (arith, z))
 
-step-in-requires : tie.Need-step-in-requires
-step-in-requires c κs = c.before.before.before.before.before.before.requires.1
+step-in-requires : tie.Need-step_in-given-requires
+step-in-requires c κs = c.requires.1
 
-answer-number-requires : tie.Need-answer-number-requires
+answer-number-requires : tie.Need-answer_number-number-requires
 answer-number-requires c κs = search rules
 
-same-length-2 : tie.Need-same-length-2
+same-length-2 : tie.Need-shape_of-list-then-number-ne0
 same-length-2 c = search rules
 
-returns-2 : tie.Need-returns-2
+returns-2 : tie.Need-returns-then-number-ne0
 returns-2 c =
-    let g = c.before.before in
-    let i = g.before.before in
-    let p = i.before in
-    let a = p.before.before.before.before.args in
-    let t = sym p.is-turn.ensures ∙ not-false _ i.if1.false in
-    refused_moves (step_turn_chip a.pairs.now a.ops.now a.boundary a.ends (chip g)) a.block.now a.list.now
-    (rw t (c.before.answer_number_lem.ensures ∙ ap (λ (y : Step). answer_number y.answer) (given g))) c.if2.true
+    let a = c.args in
+    let t = sym c.is_turn.ensures ∙ c.if-not-is_turn.false in
+    refused_moves (step_turn_chip a.pairs.now a.ops.now a.boundary a.ends (chip (c.before.before))) a.block.now a.list.now
+    (rw t (c.answer_number-number.ensures ∙ ap (λ (y : Step). answer_number y.answer) (given (c.before.before)))) c.if-number-ne0.true
 
-count-word-requires : tie.Need-count-word-requires
+count-word-requires : tie.Need-count_word-requires
 count-word-requires c κs =
-    let s = c.before.before.before.before.before.before.before.before.before.before in count_fits s.args.list.now s.requires.1 s.requires.2
+    count_fits c.args.list.now c.requires.1 c.requires.2
 
-show-changes-requires : tie.Need-show-changes-requires
+show-changes-requires : tie.Need-show_changes-requires
 show-changes-requires c κs = search rules
 
-same-length-3 : tie.Need-same-length-3
+same-length-3 : tie.Need-shape_of-block
 same-length-3 c = search rules
 
-same-length-4 : tie.Need-same-length-4
+same-length-4 : tie.Need-shape_of-list
 same-length-4 c = search rules
 
-returns-3 : tie.Need-returns-3
+returns-3 : tie.Need-returns
 returns-3 c =
-    let w = c.before.before.before.before.show-changes in
-    let q = c.before.before.before.before.before.before.before.before.before.before in
-    let j = q.before.before in
-    let n = j.before in
-    let g = n.before in
-    let i = g.before.before in
-    let p = i.before in
-    let s = p.before.before.before.before in
-    let a = s.args in
-    let t = sym p.is-turn.ensures ∙ not-false _ i.if1.false in
-    step_moves a.list.now s.requires.1 s.requires.2 a.pairs.now a.ops.now a.boundary a.ends a.block.now s.requires.0 t
-    (sym (n.answer_number_lem.ensures ∙ ap (λ (y : Step). answer_number y.answer) (given g)) ∙ j.if2.false) q.count_word.ensures
-    (subst (λ (y : Step). ShowsChanges false y.answer y.state a.block.now q.count_word.new.0 w.new.0 w.new.1.0) (given g)
-    w.ensures)
+    let a = c.args in
+    let t = sym c.is_turn.ensures ∙ c.if-not-is_turn.false in
+    step_moves a.list.now c.requires.1 c.requires.2 a.pairs.now a.ops.now a.boundary a.ends a.block.now c.requires.0 t
+    (sym (c.answer_number-number.ensures ∙ ap (λ (y : Step). answer_number y.answer) (given (c.before.before.before.before.before.before.before.before.before.before.before.before.before.before))) ∙ c.if-number-ne0.false) c.count_word.ensures
+    (subst (λ (y : Step). ShowsChanges false y.answer y.state a.block.now c.count_word.new.list c.show_changes.new.block c.show_changes.new.list) (given (c.before.before.before.before.before.before.before.before.before.before.before.before.before.before))
+    c.show_changes.ensures)
 
-pub make-step-spec : {M : Type 1} → statement M
-make-step-spec =
+pub make_step_spec : {M : Type 1} → statement M
+make_step_spec =
     tie.close
     (tie.spec
     is-turn-requires

@@ -16,24 +16,24 @@ use Rattle.c_chip_step.proofs.step_turn.Statement.{statement}
 use Rattle.c_chip_step.proofs.step_turn.Tie as tie
 
 -- what is refused before, for the boundary character as it was lent
-module _ (c : tie.After-list-refusal) where
+module _ (c : tie.After-list_refusal-refusal) where
   abbrev boundary : ℤ
-  boundary = c.before.before.before.before.args.boundary
+  boundary = c.args.boundary
 
   abbrev block : List ℕ
-  block = c.before.before.before.before.args.block.now
+  block = c.args.block.now
 
   abbrev ns : List ℕ
-  ns = c.before.before.before.before.args.list.now
+  ns = c.args.list.now
 
   abbrev pairs : List ℤ
-  pairs = c.before.before.before.before.args.pairs.now
+  pairs = c.args.pairs.now
 
   abbrev ops : List ℤ
-  ops = c.before.before.before.before.args.ops.now
+  ops = c.args.ops.now
 
   abbrev ends : Bool
-  ends = c.before.before.before.before.args.ends
+  ends = c.args.ends
 
   -- the number and the chip after the command, by the boundary character
   abbrev number : ℤ → Chip → ℕ
@@ -42,46 +42,42 @@ module _ (c : tie.After-list-refusal) where
   abbrev after : ℤ → Chip → Chip
   after z x = step_turn_chip pairs ops z ends x
 
-  early : c.list-refusal.result ≡ after_early boundary (chip_read ns) (length block) 0
+  early : c.list_refusal-refusal.result ≡ after_early boundary (chip_read ns) (length block) 0
   early =
-      c.list-refusal.ensures
-      ∙ ap (λ (z : ℤ). after_early z (chip_read ns) (length block) 0) (number_word boundary c.before.before.before.before.ranges.boundary)
+      c.list_refusal-refusal.ensures
+      ∙ ap (λ (z : ℤ). after_early z (chip_read ns) (length block) 0) (number_word boundary c.ranges.boundary)
 
-  has-stood : c.list-refusal.result ≡ 0 → Stood boundary ns (length block)
+  has-stood : c.list_refusal-refusal.result ≡ 0 → Stood boundary ns (length block)
   has-stood z = stood boundary ns (length block) (sym early ∙ z)
 
-list-refusal-requires : tie.Need-list-refusal-requires
+list-refusal-requires : tie.Need-list_refusal-refusal-requires
 list-refusal-requires c κs = search rules
 
-same_length : tie.Need-same-length
+same_length : tie.Need-shape_of-list-then-refusal-ne0
 same_length c = search rules
 
-returns : tie.Need-returns
+returns : tie.Need-returns-then-refusal-ne0
 returns c =
-    let p = c.before in
-    let x = chip_read (ns p) in
-    early_moves (boundary p) (ns p) (block p) (number p (boundary p) x) (after p (boundary p) x) (early p) c.if1.true
+    let x = chip_read (ns (c.before)) in
+    early_moves (boundary (c.before)) (ns (c.before)) (block (c.before)) (number (c.before) (boundary (c.before)) x) (after (c.before) (boundary (c.before)) x) (early (c.before)) c.if-refusal-ne0.true
 
-make-step-requires : tie.Need-make-step-requires
-make-step-requires c κs = let t = has-stood c.before.before.before c.before.before.if1.false in (t.long, t.is_chip_lem, t.legal)
+make-step-requires : tie.Need-make_step-requires
+make-step-requires c κs = let t = has-stood c.before.before.before c.if-refusal-ne0.false in (t.long, t.is_chip_lem, t.legal)
 
-same-length-2 : tie.Need-same-length-2
+same-length-2 : tie.Need-shape_of-block
 same-length-2 c = search rules
 
-same-length-3 : tie.Need-same-length-3
+same-length-3 : tie.Need-shape_of-list
 same-length-3 c = search rules
 
-returns-2 : tie.Need-returns-2
+returns-2 : tie.Need-returns
 returns-2 c =
-    let i = c.before.before.before.before.before.before.before in
-    let p = i.before in
-    let m = c.before.before.before.before.make-step in
-    late_moves (boundary p) (ns p) (block p) (number p (boundary p)) (after p (boundary p)) (has-stood p i.if1.false)
-    (subst (λ (z : ℤ). MovesChip (number p z (chip_at (ns p))) (after p z (chip_at (ns p))) (block p) (ns p) m.result m.new.1.1.1.1.0
-    m.new.1.1.1.1.1.0) (number_word (boundary p) p.before.before.before.before.ranges.boundary) m.ensures)
+    late_moves (boundary (c.before.before.before.before.before.before.before.before)) (ns (c.before.before.before.before.before.before.before.before)) (block (c.before.before.before.before.before.before.before.before)) (number (c.before.before.before.before.before.before.before.before) (boundary (c.before.before.before.before.before.before.before.before))) (after (c.before.before.before.before.before.before.before.before) (boundary (c.before.before.before.before.before.before.before.before))) (has-stood (c.before.before.before.before.before.before.before.before) c.if-refusal-ne0.false)
+    (subst (λ (z : ℤ). MovesChip (number (c.before.before.before.before.before.before.before.before) z (chip_at (ns (c.before.before.before.before.before.before.before.before)))) (after (c.before.before.before.before.before.before.before.before) z (chip_at (ns (c.before.before.before.before.before.before.before.before)))) (block (c.before.before.before.before.before.before.before.before)) (ns (c.before.before.before.before.before.before.before.before)) c.make_step.result c.make_step.new.block
+    c.make_step.new.list) (number_word (boundary (c.before.before.before.before.before.before.before.before)) c.ranges.boundary) c.make_step.ensures)
 
-pub step-turn-spec : {M : Type 1} → statement M
-step-turn-spec =
+pub step_turn_spec : {M : Type 1} → statement M
+step_turn_spec =
     tie.close
     (tie.spec
     list-refusal-requires

@@ -23,27 +23,27 @@ use Rattle.c_chip_turn.proofs.turn_in.Statement.{statement}
 use Rattle.c_chip_turn.proofs.turn_in.Tie as tie
 
 -- what is lent, and what each call leaves, by the boundary character
-module _ (c : tie.After-u8-at) where
+module _ (c : tie.After-u8_at) where
   abbrev pairs : List ℤ
-  pairs = c.before.before.before.before.args.pairs.now
+  pairs = c.args.pairs.now
 
   abbrev ops : List ℤ
-  ops = c.before.before.before.before.args.ops.now
+  ops = c.args.ops.now
 
   abbrev boundary : ℤ
-  boundary = c.before.before.before.before.args.boundary
+  boundary = c.args.boundary
 
   abbrev block : List ℕ
-  block = c.before.before.before.before.args.block.now
+  block = c.args.block.now
 
   abbrev ns : List ℕ
-  ns = c.before.before.before.before.args.list.now
+  ns = c.args.list.now
 
   abbrev chip : Chip
   chip = chip_read ns
 
   lent : number_of (word_of boundary) ≡ boundary
-  lent = number_word boundary c.before.before.before.before.ranges.boundary
+  lent = number_word boundary c.ranges.boundary
 
   abbrev AddLeaves : ℤ → ℕ → List ℕ → List ℕ → Type 0
   AddLeaves z r block' ns' =
@@ -67,101 +67,85 @@ module _ (c : tie.After-u8-at) where
       MovesChip (after_early boundary chip (length block) number) after block ns r block ns
   refused e h = early_moves boundary ns block number after (e ∙ ap early lent) h
 
-  none : {r : ℕ} → r ≡ early (number_of (word_of boundary)) → r ≡ 0 → NoneOf (Unit {0}) c.u8-at.result (2 ∷ 3 ∷ 4 ∷ []) →
+  none : {r : ℕ} → r ≡ early (number_of (word_of boundary)) → r ≡ 0 → NoneOf (Unit {0}) c.u8_at.result (2 ∷ 3 ∷ 4 ∷ []) →
       MovesChip (after_early boundary chip (length block) number) after block ns 21 block ns
   none e z n =
       let t = stood boundary ns (length block) (sym (e ∙ ap early lent) ∙ z) in
       let m : NoneOf (Unit {0}) (block_command block) (2 ∷ 3 ∷ 4 ∷ []) =
-      subst (λ (v : ℕ). NoneOf (Unit {0}) v (2 ∷ 3 ∷ 4 ∷ [])) c.u8-at.ensures n in
+      subst (λ (v : ℕ). NoneOf (Unit {0}) v (2 ∷ 3 ∷ 4 ∷ [])) c.u8_at.ensures n in
       refused_moves after block ns
       (sym (after_is boundary ns (length block) number t ∙ none_does pairs ops boundary block chip m)) (λ q. omega (arith, q))
 
-u8-at-requires : tie.Need-u8-at-requires
+u8-at-requires : tie.Need-u8_at-requires
 u8-at-requires c κs = search rules
 
-add-in-requires : tie.Need-add-in-requires
+add-in-requires : tie.Need-add_in-requires
 add-in-requires c κs = search rules
 
-step-turn-requires : tie.Need-step-turn-requires
+step-turn-requires : tie.Need-step_turn-requires
 step-turn-requires c κs = search rules
 
-step-turn-requires-2 : tie.Need-step-turn-requires-2
+step-turn-requires-2 : tie.Need-step_turn-requires-in-4
 step-turn-requires-2 c κs = search rules
 
-list-refusal-requires : tie.Need-list-refusal-requires
+list-refusal-requires : tie.Need-list_refusal-refusal-requires
 list-refusal-requires c κs = search rules
 
-same_length : tie.Need-same-length
+same_length : tie.Need-shape_of-block-then-refusal-ne0
 same_length c = search rules
 
-same-length-2 : tie.Need-same-length-2
+same-length-2 : tie.Need-shape_of-list-then-refusal-ne0
 same-length-2 c = search rules
 
-returns : tie.Need-returns
+returns : tie.Need-returns-then-refusal-ne0
 returns c =
-    let p = c.before in
-    let u = p.before.before.before in
-    refused u p.list-refusal.ensures c.if1.true
+    refused (c.before.before.before) c.list_refusal-refusal.ensures c.if-refusal-ne0.true
 
-same-length-3 : tie.Need-same-length-3
+same-length-3 : tie.Need-shape_of-block-in-2
 same-length-3 c = search rules
 
-same-length-4 : tie.Need-same-length-4
+same-length-4 : tie.Need-shape_of-list-in-2
 same-length-4 c = search rules
 
-returns-2 : tie.Need-returns-2
+returns-2 : tie.Need-returns-in-2
 returns-2 c =
-    let w = c.before.before.before.before in
-    let m = w.before.before.before in
-    let u = m.before in
-    adds (pairs u) (ops u) (boundary u) (block u) (chip u) (sym u.u8-at.ensures ∙ m.match.keys1)
-    (subst (λ (z : ℤ). AddLeaves u z w.add-in.result w.add-in.new.1.0 w.add-in.new.1.1.0) (lent u) w.add-in.ensures)
+    adds (pairs (c.before.before.before.before.before.before.before.before)) (ops (c.before.before.before.before.before.before.before.before)) (boundary (c.before.before.before.before.before.before.before.before)) (block (c.before.before.before.before.before.before.before.before)) (chip (c.before.before.before.before.before.before.before.before)) (sym c.u8_at.ensures ∙ c.in-2.is)
+    (subst (λ (z : ℤ). AddLeaves (c.before.before.before.before.before.before.before.before) z c.add_in.result c.add_in.new.block c.add_in.new.list) (lent (c.before.before.before.before.before.before.before.before)) c.add_in.ensures)
 
-same-length-5 : tie.Need-same-length-5
+same-length-5 : tie.Need-shape_of-block-in-3
 same-length-5 c = search rules
 
-same-length-6 : tie.Need-same-length-6
+same-length-6 : tie.Need-shape_of-list-in-3
 same-length-6 c = search rules
 
-returns-3 : tie.Need-returns-3
+returns-3 : tie.Need-returns-in-3
 returns-3 c =
-    let w = c.before.before.before.before in
-    let m = w.before.before.before in
-    let u = m.before in
-    let l = w.step-turn.new.1.1.1.1 in
-    ends (pairs u) (ops u) (boundary u) (block u) (chip u) (sym u.u8-at.ensures ∙ m.match.keys2)
-    (subst (λ (z : ℤ). StepLeaves u true z w.step-turn.result l.0 l.1.0) (lent u) w.step-turn.ensures)
+    ends (pairs (c.before.before.before.before.before.before.before.before)) (ops (c.before.before.before.before.before.before.before.before)) (boundary (c.before.before.before.before.before.before.before.before)) (block (c.before.before.before.before.before.before.before.before)) (chip (c.before.before.before.before.before.before.before.before)) (sym c.u8_at.ensures ∙ c.in-3.is)
+    (subst (λ (z : ℤ). StepLeaves (c.before.before.before.before.before.before.before.before) true z c.step_turn.result c.step_turn.new.block c.step_turn.new.list) (lent (c.before.before.before.before.before.before.before.before)) c.step_turn.ensures)
 
-same-length-7 : tie.Need-same-length-7
+same-length-7 : tie.Need-shape_of-block-in-4
 same-length-7 c = search rules
 
-same-length-8 : tie.Need-same-length-8
+same-length-8 : tie.Need-shape_of-list-in-4
 same-length-8 c = search rules
 
-returns-4 : tie.Need-returns-4
+returns-4 : tie.Need-returns-in-4
 returns-4 c =
-    let w = c.before.before.before.before in
-    let m = w.before.before.before in
-    let u = m.before in
-    let l = w.step-turn2.new.1.1.1.1 in
-    takes (pairs u) (ops u) (boundary u) (block u) (chip u) (sym u.u8-at.ensures ∙ m.match.keys3)
-    (subst (λ (z : ℤ). StepLeaves u false z w.step-turn2.result l.0 l.1.0) (lent u) w.step-turn2.ensures)
+    takes (pairs (c.before.before.before.before.before.before.before.before)) (ops (c.before.before.before.before.before.before.before.before)) (boundary (c.before.before.before.before.before.before.before.before)) (block (c.before.before.before.before.before.before.before.before)) (chip (c.before.before.before.before.before.before.before.before)) (sym c.u8_at.ensures ∙ c.in-4.is)
+    (subst (λ (z : ℤ). StepLeaves (c.before.before.before.before.before.before.before.before) false z c.step_turn-in-4.result c.step_turn-in-4.new.block c.step_turn-in-4.new.list) (lent (c.before.before.before.before.before.before.before.before)) c.step_turn-in-4.ensures)
 
-same-length-9 : tie.Need-same-length-9
+same-length-9 : tie.Need-shape_of-block-else-refusal-ne0
 same-length-9 c = search rules
 
-same-length-10 : tie.Need-same-length-10
+same-length-10 : tie.Need-shape_of-list-else-refusal-ne0
 same-length-10 c = search rules
 
-returns-5 : tie.Need-returns-5
+returns-5 : tie.Need-returns-else-refusal-ne0
 returns-5 c =
-    let p = c.before in
-    let m = p.before.before in
-    let u = m.before in
-    none u p.list-refusal.ensures c.if1.false m.match.rest
+    none (c.before.before.before) c.list_refusal-refusal.ensures c.if-refusal-ne0.false c.in_default.in_default-own.rest
 
-pub turn-in-spec : {M : Type 1} → statement M
-turn-in-spec =
+pub turn_in_spec : {M : Type 1} → statement M
+turn_in_spec =
     tie.close
     (tie.spec
     u8-at-requires

@@ -18,66 +18,54 @@ abbrev stored : List ℕ → ℕ → List ℕ → List ℕ
 stored l a vs = sets (set l 0 a) 2 vs
 
 -- the list keeps its length, after the item and the run
-shown-long : (c : tie.After-put-shown) → length c.put-shown.new.0 ≡ length c.before.before.before.before.before.args.list.now
+shown-long : (c : tie.After-put_shown) → length c.put_shown.new.list ≡ length c.args.list.now
 shown-long c =
-    let a = c.before.before.before.before.before.args in
-    one_long a.list.now c.put-shown.new.0 c.before.before.bit.result (shown_numbers a.item) c.put-shown.ensures
+    let a = c.args in
+    one_long a.list.now c.put_shown.new.list c.bit.result (shown_numbers a.item) c.put_shown.ensures
 
-run_long : (c : tie.After-put-run) →
-    length c.put-run.new.0 ≡ length c.before.before.before.before.before.before.before.before.before.args.list.now
+run_long : (c : tie.After-put_run) →
+    length c.put_run.new.list ≡ length c.args.list.now
 run_long c =
-    let p = c.before.before.before.before in
-    let a = p.before.before.before.before.before.args in
-    more_long a.list.now p.put-shown.new.0 c.put-run.new.0 9 (numbers_of a.state) (shown-long p) c.put-run.ensures
+    let a = c.args in
+    more_long a.list.now c.put_shown.new.list c.put_run.new.list 9 (numbers_of a.state) (shown-long (c.before.before.before.before)) c.put_run.ensures
 
-slice-read-n : tie.Need-slice-read-n
+slice-read-n : tie.Need-bounds-list-1
 slice-read-n c = search rules
 
 bit-requires : tie.Need-bit-requires
 bit-requires c κs = search rules
 
-slice-write-list : tie.Need-slice-write-list
+slice-write-list : tie.Need-bounds-list-0
 slice-write-list c = search rules
 
-put-shown-requires : tie.Need-put-shown-requires
+put-shown-requires : tie.Need-put_shown-requires
 put-shown-requires c κs = search rules
 
-put-run-requires : tie.Need-put-run-requires
+put-run-requires : tie.Need-put_run-requires
 put-run-requires c κs =
-    let p = c.before.before.before in
-    let s = c.before.before.before.before.before.before.before.before in
-    omega (arith, shown-long p, s.requires.0)
+    omega (arith, shown-long (c.before.before.before), c.requires.0)
 
-add-put-zeros : tie.Need-overflow-add-put-zeros
+add-put-zeros : tie.Need-overflow_add-n
 add-put-zeros c = search rules
 
-put-zeros-requires : tie.Need-put-zeros-requires
+put-zeros-requires : tie.Need-put_zeros-requires
 put-zeros-requires c κs =
-    let p = c.before.before.before in
-    let s = c.before.before.before.before.before.before.before.before.before.before.before.before in
-    (omega (arith, run_long p, s.requires.0), omega (arith, s.requires.1))
+    (omega (arith, run_long (c.before.before.before), c.requires.0), omega (arith, c.requires.1))
 
-same_length : tie.Need-same-length
+same_length : tie.Need-shape_of-list
 same_length c =
-    let z = c.before.before in
-    let p = z.before.before.before.before in
-    let l = p.before.before.before.before.before.before.before.before.before.args.list.now in
+    let l = c.args.list.now in
     let n = get_or l 1 0 in
-    more_long l p.put-run.new.0 z.put-zeros.new.0 (18 + n) (replicate (82 - (18 + n)) 0) (run_long p) z.put-zeros.ensures
+    more_long l c.put_run.new.list c.put_zeros.new.list (18 + n) (replicate (82 - (18 + n)) 0) (run_long (c.before.before.before.before.before.before)) c.put_zeros.ensures
 
 returns : tie.Need-returns
 returns c =
-    let z = c.before.before in
-    let r = z.before.before.before.before in
-    let p = r.before.before.before.before in
-    let b = p.before.before in
-    let s = b.before.before.before in
-    let a = s.args in
-    changes_put a.list.now a.opened a.item a.state s.requires.0 s.requires.1 p.put-shown.new.0 r.put-run.new.0 z.put-zeros.new.0
-    (p.put-shown.ensures ∙ (λ j. stored a.list.now (b.bit.ensures j) (shown_numbers a.item))) r.put-run.ensures z.put-zeros.ensures
+    let a = c.args in
+    changes_put a.list.now a.opened a.item a.state c.requires.0 c.requires.1 c.put_shown.new.list c.put_run.new.list c.put_zeros.new.list
+    (c.put_shown.ensures ∙ (λ j. stored a.list.now (c.bit.ensures j) (shown_numbers a.item))) c.put_run.ensures c.put_zeros.ensures
 
-pub put-changes-spec : {M : Type 1} → statement M
-put-changes-spec =
+pub put_changes_spec : {M : Type 1} → statement M
+put_changes_spec =
     tie.close
     (tie.spec
     slice-read-n

@@ -5,14 +5,19 @@ use borrow.Author.Rules.{rules}
 use Rattle.c_font_requests.proofs.run_refusal.Statement.{statement}
 use Rattle.c_font_requests.proofs.run_refusal.Tie as tie
 
-is-run-requires : tie.Need-is-run-requires
+is-run-requires : tie.Need-is_run-requires
 is-run-requires c κs = search rules
 
-returns : tie.Need-returns
-returns c = rw (sym c.before.is-run.ensures ∙ c.if1.true)
+returns : tie.Need-returns-then-is_run
+returns c = rw (sym c.is_run.ensures ∙ c.if-is_run.true)
 
-returns-2 : tie.Need-returns-2
-returns-2 c = rw (sym c.before.is-run.ensures ∙ c.if1.false)
+returns-2 : tie.Need-returns-else-is_run
+returns-2 c = rw (sym c.is_run.ensures ∙ c.if-is_run.false)
 
-pub run-refusal-spec : {M : Type 1} → statement M
-run-refusal-spec = tie.close (tie.spec is-run-requires returns returns-2)
+pub run_refusal_spec : {M : Type 1} → statement M
+run_refusal_spec =
+    tie.close
+    (tie.spec
+    is-run-requires
+    returns
+    returns-2)

@@ -5,55 +5,45 @@ use borrow.Author.Rules.{rules}
 use Rattle.c_font_requests.proofs.tell_run.Statement.{statement}
 use Rattle.c_font_requests.proofs.tell_run.Tie as tie
 
-run-refusal-requires : tie.Need-run-refusal-requires
+run-refusal-requires : tie.Need-run_refusal-stands-requires
 run-refusal-requires c κs = search rules
 
-enum-known-requested : tie.Need-enum-known-requested
+enum-known-requested : tie.Need-enum_known-requested
 enum-known-requested c = search rules
 
-lower-of-requires : tie.Need-lower-of-requires
+lower-of-requires : tie.Need-lower_of-requires
 lower-of-requires c κs = search rules
 
-enum-known-requested-2 : tie.Need-enum-known-requested-2
+enum-known-requested-2 : tie.Need-enum_known-requested-in-Taken-1
 enum-known-requested-2 c = search rules
 
-same_length : tie.Need-same-length
+same_length : tie.Need-shape_of-run-then-stands-ne0
 same_length c = search rules
 
-returns : tie.Need-returns
+returns : tie.Need-returns-then-stands-ne0
 returns c =
-    let t = c.before.before in
-    let m = t.before.before in
-    no_run_told m.before.before.before.args.run.now m.run-refusal.ensures t.requested2.given.0.0 t.requested2.given.1 c.if1.true
+    no_run_told c.args.run.now c.run_refusal-stands.ensures c.in-Taken.after c.in-Taken.is c.if-stands-ne0.true
 
-put-run-requires : tie.Need-put-run-requires
+put-run-requires : tie.Need-put_run-requires
 put-run-requires c κs = search rules
 
-same-length-2 : tie.Need-same-length-2
+same-length-2 : tie.Need-shape_of-run-in-Refused
 same-length-2 c = search rules
 
-returns-2 : tie.Need-returns-2
+returns-2 : tie.Need-returns-in-Refused
 returns-2 c =
-    let u = c.before in
-    let t = u.before in
-    let m = t.before.before in
-    let s = m.before.before.before in
-    refused_told s.args.run.now m.run-refusal.ensures t.requested.given.0.0 t.requested.given.1 s.requires c.lower_of.ensures
+    refused_told c.args.run.now c.run_refusal-stands.ensures c.in-Refused.n c.in-Refused.is c.requires c.lower_of.ensures
 
-same-length-3 : tie.Need-same-length-3
+same-length-3 : tie.Need-shape_of-run-else-stands-ne0
 same-length-3 c = search rules
 
-returns-3 : tie.Need-returns-3
+returns-3 : tie.Need-returns-else-stands-ne0
 returns-3 c =
-    let p = c.before.before in
-    let i = p.before.before in
-    let t = i.before.before in
-    let m = t.before.before in
-    taken_told m.before.before.before.args.run.now m.run-refusal.ensures t.requested2.given.0.0 t.requested2.given.1 i.if1.false
-    p.put-run.ensures
+    taken_told c.args.run.now c.run_refusal-stands.ensures c.in-Taken.after c.in-Taken.is c.if-stands-ne0.false
+    c.put_run.ensures
 
-pub tell-run-spec : {M : Type 1} → statement M
-tell-run-spec =
+pub tell_run_spec : {M : Type 1} → statement M
+tell_run_spec =
     tie.close
     (tie.spec
     run-refusal-requires

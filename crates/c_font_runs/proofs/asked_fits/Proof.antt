@@ -5,11 +5,15 @@ use borrow.Author.Rules.{rules}
 use Rattle.c_font_runs.proofs.asked_fits.Statement.{statement}
 use Rattle.c_font_runs.proofs.asked_fits.Tie as tie
 
-returns : tie.Need-returns
+returns : tie.Need-returns-in-0
 returns c = search rules
 
-returns-2 : tie.Need-returns-2
-returns-2 c = fits_other c.before.args.flag c.before.args.number c.match.rest
+returns-2 : tie.Need-returns-in_default
+returns-2 c = fits_other c.args.flag c.args.number c.in_default.in_default-own.rest
 
-pub asked-fits-spec : {M : Type 1} → statement M
-asked-fits-spec = tie.close (tie.spec returns returns-2)
+pub asked_fits_spec : {M : Type 1} → statement M
+asked_fits_spec =
+    tie.close
+    (tie.spec
+    returns
+    returns-2)

@@ -5,11 +5,15 @@ use borrow.Author.Rules.{rules}
 use Rattle.c_font_runs.proofs.asked_of.Statement.{statement}
 use Rattle.c_font_runs.proofs.asked_of.Tie as tie
 
-returns : tie.Need-returns
+returns : tie.Need-returns-in-0
 returns c = search rules
 
-returns-2 : tie.Need-returns-2
-returns-2 c = asked_other c.before.args.flag c.before.args.number c.match.rest
+returns-2 : tie.Need-returns-in_default
+returns-2 c = asked_other c.args.flag c.args.number c.in_default.in_default-own.rest
 
-pub asked-of-spec : {M : Type 1} → statement M
-asked-of-spec = tie.close (tie.spec returns returns-2)
+pub asked_of_spec : {M : Type 1} → statement M
+asked_of_spec =
+    tie.close
+    (tie.spec
+    returns
+    returns-2)

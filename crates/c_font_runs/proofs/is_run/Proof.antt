@@ -8,74 +8,63 @@ use borrow.Author.Rules.{rules}
 use Rattle.c_font_runs.proofs.is_run.Statement.{statement}
 use Rattle.c_font_runs.proofs.is_run.Tie as tie
 
-returns : tie.Need-returns
-returns c = let s = c.before.before.args.list.now in rw (lt-leb 12 (length s) (omega (arith, c.if1.true)))
+returns : tie.Need-returns-then-list-lt12
+returns c = let s = c.args.list.now in rw (lt-leb 12 (length s) (omega (arith, c.if-list-lt12.true)))
 
-is-state-requires : tie.Need-is-state-requires
+is-state-requires : tie.Need-is_state-requires
 is-state-requires c κs = search rules
 
-returns-2 : tie.Need-returns-2
+returns-2 : tie.Need-returns-then-not-is_state
 returns-2 c =
-    let i = c.before in
-    let e = i.before in
-    let s = e.before.before.args.list.now in
-    rw (le-leb 12 (length s) e.if1.false, sym i.is_state.ensures ∙ not-true _ c.if2.true)
+    let s = c.args.list.now in
+    rw (le-leb 12 (length s) c.if-list-lt12.false, sym c.is_state.ensures ∙ c.if-not-is_state.true)
 
-shared-slice-read-if3 : tie.Need-shared-slice-read-if3
+shared-slice-read-if3 : tie.Need-bounds-list-9
 shared-slice-read-if3 c = search rules
 
-returns-3 : tie.Need-returns-3
+returns-3 : tie.Need-returns-then-list-gt4294967295
 returns-3 c =
-    let i = c.before.before.before in
-    let e = i.before in
-    let s = e.before.before.args.list.now in
+    let s = c.args.list.now in
     rw (
-      le-leb 12 (length s) e.if1.false,
-      sym i.is_state.ensures ∙ not-false _ c.before.before.if2.false,
-      lt-leb (get_or s 9 0) 4294967295 (omega (arith, c.if3.true)),
+      le-leb 12 (length s) c.if-list-lt12.false,
+      sym c.is_state.ensures ∙ c.if-not-is_state.false,
+      lt-leb (get_or s 9 0) 4294967295 (omega (arith, c.if-list-gt4294967295.true)),
     )
 
-shared-slice-read-if4 : tie.Need-shared-slice-read-if4
+shared-slice-read-if4 : tie.Need-bounds-list-10
 shared-slice-read-if4 c = search rules
 
-returns-4 : tie.Need-returns-4
+returns-4 : tie.Need-returns-then-list-gt1
 returns-4 c =
-    let t = c.before.before in
-    let i = t.before.before.before in
-    let e = i.before in
-    let s = e.before.before.args.list.now in
+    let s = c.args.list.now in
     rw (
-      le-leb 12 (length s) e.if1.false,
-      sym i.is_state.ensures ∙ not-false _ t.before.before.if2.false,
-      le-leb (get_or s 9 0) 4294967295 t.if3.false,
-      lt-leb (get_or s 10 0) 1 (omega (arith, c.if4.true)),
+      le-leb 12 (length s) c.if-list-lt12.false,
+      sym c.is_state.ensures ∙ c.if-not-is_state.false,
+      le-leb (get_or s 9 0) 4294967295 c.if-list-gt4294967295.false,
+      lt-leb (get_or s 10 0) 1 (omega (arith, c.if-list-gt1.true)),
     )
 
-shared-slice-read-asked-fits : tie.Need-shared-slice-read-asked-fits
+shared-slice-read-asked-fits : tie.Need-bounds-list-10-2
 shared-slice-read-asked-fits c = search rules
 
-shared-slice-read-asked-fits-2 : tie.Need-shared-slice-read-asked-fits-2
+shared-slice-read-asked-fits-2 : tie.Need-bounds-list-11
 shared-slice-read-asked-fits-2 c = search rules
 
-asked-fits-requires : tie.Need-asked-fits-requires
+asked-fits-requires : tie.Need-asked_fits-requires
 asked-fits-requires c κs = search rules
 
-returns-5 : tie.Need-returns-5
+returns-5 : tie.Need-returns
 returns-5 c =
-    let f = c.before.before.before in
-    let t = f.before.before in
-    let i = t.before.before.before in
-    let e = i.before in
-    let s = e.before.before.args.list.now in
+    let s = c.args.list.now in
     rw (
-      le-leb 12 (length s) e.if1.false,
-      sym i.is_state.ensures ∙ not-false _ t.before.before.if2.false,
-      le-leb (get_or s 9 0) 4294967295 t.if3.false,
-      le-leb (get_or s 10 0) 1 f.if4.false,
-    ) c.asked-fits.ensures
+      le-leb 12 (length s) c.if-list-lt12.false,
+      sym c.is_state.ensures ∙ c.if-not-is_state.false,
+      le-leb (get_or s 9 0) 4294967295 c.if-list-gt4294967295.false,
+      le-leb (get_or s 10 0) 1 c.if-list-gt1.false,
+    ) c.asked_fits.ensures
 
-pub is-run-spec : {M : Type 1} → statement M
-is-run-spec =
+pub is_run_spec : {M : Type 1} → statement M
+is_run_spec =
     tie.close
     (tie.spec
     returns

@@ -9,52 +9,49 @@ use borrow.Author.Rules.{rules}
 use Rattle.c_font_runs.proofs.put_run.Statement.{statement}
 use Rattle.c_font_runs.proofs.put_run.Tie as tie
 
-returns : tie.Need-returns
+returns : tie.Need-returns-then-list-lt12
 returns c =
-    let a = c.before.before.args in
-    let e = room_short 12 (length a.list.now) c.if1.true in
+    let a = c.args in
+    let e = room_short 12 (length a.list.now) c.if-list-lt12.true in
     record { number = sym e; stored = rw e }
 
-put-state-requires : tie.Need-put-state-requires
+put-state-requires : tie.Need-put_state-requires
 put-state-requires c κs = search rules
 
-cast-list : tie.Need-overflow-cast-list
+cast-list : tie.Need-overflow_cast-list
 cast-list c = search rules
 
-slice-write-list : tie.Need-slice-write-list
+slice-write-list : tie.Need-bounds-list-9
 slice-write-list c = search rules
 
-asked-flag-requires : tie.Need-asked-flag-requires
+asked-flag-requires : tie.Need-asked_flag-requires
 asked-flag-requires c κs = search rules
 
-slice-write-list-2 : tie.Need-slice-write-list-2
+slice-write-list-2 : tie.Need-bounds-list-10
 slice-write-list-2 c = simp length-set (omega arith)
 
-asked-number-requires : tie.Need-asked-number-requires
+asked-number-requires : tie.Need-asked_number-requires
 asked-number-requires c κs = search rules
 
-cast-list-2 : tie.Need-overflow-cast-list-2
+cast-list-2 : tie.Need-overflow_cast-list-2
 cast-list-2 c = search rules
 
-slice-write-list-3 : tie.Need-slice-write-list-3
+slice-write-list-3 : tie.Need-bounds-list-11
 slice-write-list-3 c = search rules
 
-same_length : tie.Need-same-length
+same_length : tie.Need-shape_of-list
 same_length c = search rules
 
-returns-2 : tie.Need-returns-2
+returns-2 : tie.Need-returns
 returns-2 c =
-    let u = c.before in
-    let p = u.before.before.before.before in
-    let i = p.before.before.before in
-    let a = i.before.before.args in
+    let a = c.args in
     record {
-      number = sym (room_is 12 (length a.list.now) i.if1.false);
-      stored = run_put a.list.now i.if1.false a.run p.put-state.ensures refl u.asked-flag.ensures c.asked-number.ensures;
+      number = sym (room_is 12 (length a.list.now) c.if-list-lt12.false);
+      stored = run_put a.list.now c.if-list-lt12.false a.run c.put_state.ensures refl c.asked_flag.ensures c.asked_number.ensures;
     }
 
-pub put-run-spec : {M : Type 1} → statement M
-put-run-spec =
+pub put_run_spec : {M : Type 1} → statement M
+put_run_spec =
     tie.close
     (tie.spec
     returns

@@ -7,39 +7,32 @@ use borrow.Author.Rules.{rules}
 use Rattle.c_font_runs.proofs.run_in.Statement.{statement}
 use Rattle.c_font_runs.proofs.run_in.Tie as tie
 
-is-run-requires : tie.Need-is-run-requires
+is-run-requires : tie.Need-is_run-requires
 is-run-requires c κs = search rules
 
-state-in-requires : tie.Need-state-in-requires
+state-in-requires : tie.Need-state_in-state-requires
 state-in-requires c κs = search rules
 
-asked-in-requires : tie.Need-asked-in-requires
-asked-in-requires c κs = let i = c.before in sym i.before.is-run.ensures ∙ i.if1.true
+asked-in-requires : tie.Need-asked_in-asked-requires
+asked-in-requires c κs = sym c.is_run.ensures ∙ c.if-is_run.true
 
-shared-slice-read-t7 : tie.Need-shared-slice-read-t7
+shared-slice-read-t7 : tie.Need-bounds-list-9
 shared-slice-read-t7 c =
-    let i = c.before.before.before in
-    let r = i.before in
-    omega (arith, run_long r.before.before.args.list.now (sym r.is-run.ensures ∙ i.if1.true))
+    omega (arith, run_long c.args.list.now (sym c.is_run.ensures ∙ c.if-is_run.true))
 
-cast-t8 : tie.Need-overflow-cast-t8
+cast-t8 : tie.Need-overflow_cast-result
 cast-t8 c =
-    let i = c.before.before.before in
-    let r = i.before in
-    record { fits = omega (arith, run_font r.before.before.args.list.now (sym r.is-run.ensures ∙ i.if1.true)) }
+    record { fits = omega (arith, run_font c.args.list.now (sym c.is_run.ensures ∙ c.if-is_run.true)) }
 
-returns : tie.Need-returns
+returns : tie.Need-returns-then-is_run
 returns c =
-    let t = c.before.before in
-    let i = t.before in
-    let r = i.before in
-    run_read_lem r.before.before.args.list.now (sym r.is-run.ensures ∙ i.if1.true) t.state-in.ensures c.before.asked_in.ensures
+    run_read_lem c.args.list.now (sym c.is_run.ensures ∙ c.if-is_run.true) c.state_in-state.ensures c.asked_in-asked.ensures
 
-returns-2 : tie.Need-returns-2
-returns-2 c = rw (sym c.before.is-run.ensures ∙ c.if1.false)
+returns-2 : tie.Need-returns
+returns-2 c = rw (sym c.is_run.ensures ∙ c.if-is_run.false)
 
-pub run-in-spec : {M : Type 1} → statement M
-run-in-spec =
+pub run_in_spec : {M : Type 1} → statement M
+run_in_spec =
     tie.close
     (tie.spec
     is-run-requires

@@ -20,50 +20,45 @@ abbrev font : tie.Start → LentFont
 font s = lending s.args.pairs.now s.args.ops.now s.args.boundary
 
 abbrev other : tie.Start → LentFont
-other s = lending s.args.«asked-pairs».now s.args.«asked-ops».now s.args.«asked-boundary»
+other s = lending s.args.asked_pairs.now s.args.asked_ops.now s.args.asked_boundary
 
 -- the step from the run in the list, of the boundary characters as they were lent
-stepped : (c : tie.After-font-step) → let s = c.before.before.before.before.before in
-    c.font-step.result ≡ font_step_in (font s) (other s) s.args.word.now s.args.options s.args.run.now
+stepped : (c : tie.After-font_step-stepped) → let s = c.before.before.before.before in
+    c.font_step-stepped.result ≡ font_step_in (font (c.before.before.before.before)) (other (c.before.before.before.before)) c.args.word.now c.args.options c.args.run.now
 stepped c =
-    let f = c.before in
-    let s = f.before.before.before.before in
-    let a = s.args in
-    c.font-step.ensures
-    ∙ (λ j. font_step (lending a.pairs.now a.ops.now (number_word a.boundary s.ranges.boundary j))
-    (lending a.«asked-pairs».now a.«asked-ops».now (number_word a.«asked-boundary» s.ranges.«asked-boundary» j)) a.word.now a.options
-    (f.run_in.ensures j))
+    let s = c.before.before.before.before in
+    let a = c.args in
+    c.font_step-stepped.ensures
+    ∙ (λ j. font_step (lending a.pairs.now a.ops.now (number_word a.boundary c.ranges.boundary j))
+    (lending a.asked_pairs.now a.asked_ops.now (number_word a.asked_boundary c.ranges.asked_boundary j)) a.word.now a.options
+    (c.run_in-from.ensures j))
 
-run-in-requires : tie.Need-run-in-requires
+run-in-requires : tie.Need-run_in-from-requires
 run-in-requires c κs = search rules
 
-font-step-requires : tie.Need-font-step-requires
+font-step-requires : tie.Need-font_step-stepped-requires
 font-step-requires c κs = search rules
 
-tell-step-requires : tie.Need-tell-step-requires
+tell-step-requires : tie.Need-tell_step-requires
 tell-step-requires c κs =
-    let r = c.before.before in
-    let s = r.before.before.before.before.before in
-    let a = s.args in
-    subst (λ (t : FontStep). Small t.answer × ((answer_reply t.answer).number ≡ 0 → 12 ≤ length a.run.now)) (sym (stepped r))
-    (font_small (font s) (other s) a.word.now a.options (run_read a.run.now), taken_long (font s) (other s) a.word.now a.options a.run.now)
+    let a = c.args in
+    subst (λ (t : FontStep). Small t.answer × ((answer_reply t.answer).number ≡ 0 → 12 ≤ length a.run.now)) (sym (stepped (c.before.before)))
+    (font_small (font (c.before.before.before.before.before.before)) (other (c.before.before.before.before.before.before)) a.word.now a.options (run_read a.run.now), taken_long (font (c.before.before.before.before.before.before)) (other (c.before.before.before.before.before.before)) a.word.now a.options a.run.now)
 
-same_length : tie.Need-same-length
+same_length : tie.Need-shape_of-run
 same_length c = search rules
 
-same-length-2 : tie.Need-same-length-2
+same-length-2 : tie.Need-shape_of-item
 same-length-2 c = search rules
 
 returns : tie.Need-returns
 returns c =
-    let t = c.before.before.before in
-    let r = t.before.before.before in
-    let a = r.before.before.before.before.before.args in
-    subst (λ (q : FontStep). TellsStep q a.run.now a.item.now t.tell-step.result t.tell-step.new.0 t.tell-step.new.1.0) (stepped r)
-    t.tell-step.ensures
+    let a = c.args in
+    subst (λ (q : FontStep). TellsStep q a.run.now a.item.now c.tell_step.result c.tell_step.new.run c.tell_step.new.item) (stepped (c.before.before.before.before.before.before))
+    c.tell_step.ensures
 
-pub any-step-spec : {M : Type 1} → statement M
-any-step-spec =
+pub any_step_spec : {M : Type 1} → statement M
+any_step_spec =
     tie.close
     (tie.spec
     run-in-requires

@@ -6,64 +6,52 @@ use borrow.Author.Rules.{rules}
 use Rattle.c_font_step_any.proofs.tell_step.Statement.{statement}
 use Rattle.c_font_step_any.proofs.tell_step.Tie as tie
 
-zero-i32-requires : tie.Need-zero-i32-requires
+zero-i32-requires : tie.Need-zero_i32-requires
 zero-i32-requires c κs = search rules
 
-refusal-of-requires : tie.Need-refusal-of-requires
+refusal-of-requires : tie.Need-refusal_of-number-requires
 refusal-of-requires c κs = search rules
 
-room-refusal-requires : tie.Need-room-refusal-requires
+room-refusal-requires : tie.Need-room_refusal-room-requires
 room-refusal-requires c κs = search rules
 
-lower-of-requires : tie.Need-lower-of-requires
+lower-of-requires : tie.Need-lower_of-refusal-requires
 lower-of-requires c κs = search rules
 
-same_length : tie.Need-same-length
+same_length : tie.Need-shape_of-item-then-refusal-ne0
 same_length c = search rules
 
-returns : tie.Need-returns
+returns : tie.Need-returns-then-refusal-ne0
 returns c =
-    let l = c.before in
-    let r = l.before in
-    let n = r.before in
-    let z = n.before.before in
-    let a = z.before.before.before.args in
-    step_refused a.stepped a.run.now a.item.now z.zero-i32.new.0 z.zero-i32.ensures n.refusal-of.ensures r.room-refusal.ensures
-    l.lower_of.ensures c.if1.true
+    let a = c.args in
+    step_refused a.stepped a.run.now a.item.now c.zero_i32.new.s c.zero_i32.ensures c.refusal_of-number.ensures c.room_refusal-room.ensures
+    c.lower_of-refusal.ensures c.if-refusal-ne0.true
 
 tell-requires : tie.Need-tell-requires
 tell-requires c κs = search rules
 
-put-run-requires : tie.Need-put-run-requires
+put-run-requires : tie.Need-put_run-requires
 put-run-requires c κs = search rules
 
-same-length-2 : tie.Need-same-length-2
+same-length-2 : tie.Need-shape_of-run
 same-length-2 c = search rules
 
-same-length-3 : tie.Need-same-length-3
+same-length-3 : tie.Need-shape_of-item
 same-length-3 c = search rules
 
-returns-2 : tie.Need-returns-2
+returns-2 : tie.Need-returns
 returns-2 c =
-    let p = c.before.before in
-    let t = p.before.before.before.before in
-    let i = t.before.before in
-    let l = i.before in
-    let r = l.before in
-    let n = r.before in
-    let z = n.before.before in
-    let s = z.before.before.before in
-    let a = s.args in
-    let e = step_answered a.stepped a.run.now a.item.now z.zero-i32.new.0 z.zero-i32.ensures n.refusal-of.ensures
-    r.room-refusal.ensures l.lower_of.ensures i.if1.false in
-    let h = has_room a.stepped a.run.now a.item.now z.zero-i32.new.0 z.zero-i32.ensures n.refusal-of.ensures
-    r.room-refusal.ensures l.lower_of.ensures i.if1.false in
-    step_taken a.stepped a.run.now a.item.now z.zero-i32.new.0 z.zero-i32.ensures n.refusal-of.ensures r.room-refusal.ensures
-    l.lower_of.ensures i.if1.false (s.requires.1 e)
-    (told_sets z.zero-i32.new.0 t.tell.new.0 a.stepped.answer s.requires.0 h t.tell.ensures) p.put-run.ensures
+    let a = c.args in
+    let e = step_answered a.stepped a.run.now a.item.now c.zero_i32.new.s c.zero_i32.ensures c.refusal_of-number.ensures
+    c.room_refusal-room.ensures c.lower_of-refusal.ensures c.if-refusal-ne0.false in
+    let h = has_room a.stepped a.run.now a.item.now c.zero_i32.new.s c.zero_i32.ensures c.refusal_of-number.ensures
+    c.room_refusal-room.ensures c.lower_of-refusal.ensures c.if-refusal-ne0.false in
+    step_taken a.stepped a.run.now a.item.now c.zero_i32.new.s c.zero_i32.ensures c.refusal_of-number.ensures c.room_refusal-room.ensures
+    c.lower_of-refusal.ensures c.if-refusal-ne0.false (c.requires.1 e)
+    (told_sets c.zero_i32.new.s c.tell.new.item a.stepped.answer c.requires.0 h c.tell.ensures) c.put_run.ensures
 
-pub tell-step-spec : {M : Type 1} → statement M
-tell-step-spec =
+pub tell_step_spec : {M : Type 1} → statement M
+tell_step_spec =
     tie.close
     (tie.spec
     zero-i32-requires

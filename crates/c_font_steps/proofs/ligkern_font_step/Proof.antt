@@ -28,113 +28,105 @@ abbrev bits : tie.Start → LentFont
 bits s = lending s.args.pairs.now s.args.ops.now (number_of (word_of s.args.boundary))
 
 abbrev otherBits : tie.Start → LentFont
-otherBits s = lending s.args.«asked-pairs».now s.args.«asked-ops».now (number_of (word_of s.args.«asked-boundary»))
+otherBits s = lending s.args.asked_pairs.now s.args.asked_ops.now (number_of (word_of s.args.asked_boundary))
 
 abbrev optionsBits : tie.Start → RunOptions
-optionsBits s = options_of s.args.«disable-left-boundary» (number_of (word_of s.args.«right-boundary-override»))
+optionsBits s = options_of s.args.disable_left_boundary (number_of (word_of s.args.right_boundary_override))
 
 -- .. and as they were lent
 as_lent : (s : tie.Start) {r : ℕ} {ns' : List ℕ} {item' : List ℤ} → let a = s.args in
     TellsStep (font_step_in (bits s) (otherBits s) a.word.now (optionsBits s) a.run.now) a.run.now a.item.now r ns' item' →
     TellsStep
-    (font_step_in (lending a.pairs.now a.ops.now a.boundary) (lending a.«asked-pairs».now a.«asked-ops».now a.«asked-boundary»)
-    a.word.now (options_of a.«disable-left-boundary» a.«right-boundary-override») a.run.now) a.run.now a.item.now r ns' item'
+    (font_step_in (lending a.pairs.now a.ops.now a.boundary) (lending a.asked_pairs.now a.asked_ops.now a.asked_boundary)
+    a.word.now (options_of a.disable_left_boundary a.right_boundary_override) a.run.now) a.run.now a.item.now r ns' item'
 as_lent s {r} {ns'} {item'} h =
     let a = s.args in
     subst (λ (t : FontStep). TellsStep t a.run.now a.item.now r ns' item')
     (λ j. font_step_in (lending a.pairs.now a.ops.now (number_word a.boundary s.ranges.boundary j))
-    (lending a.«asked-pairs».now a.«asked-ops».now (number_word a.«asked-boundary» s.ranges.«asked-boundary» j)) a.word.now
-    (options_of a.«disable-left-boundary» (number_word a.«right-boundary-override» s.ranges.«right-boundary-override» j)) a.run.now) h
+    (lending a.asked_pairs.now a.asked_ops.now (number_word a.asked_boundary s.ranges.asked_boundary j)) a.word.now
+    (options_of a.disable_left_boundary (number_word a.right_boundary_override s.ranges.right_boundary_override j)) a.run.now) h
 
-abbrev start : tie.After-is-kept → tie.Start
-start k = k.before.before.before.before.before.before
+abbrev start : tie.After-is_kept → tie.Start
+start k = k.before.before.before.before
 
 -- the step stays in the font in force
-kept : (c : tie.Else1) → let s = start c.before in
-    cond c.before.before.before.is-idle.result true
-    (is_waiting (number_of (word_of s.args.boundary)) (number_of (word_of s.args.«asked-boundary»)) s.args.pairs.now s.args.word.now
+kept : (c : tie.Else-not-is_kept) → let s = start c.before in
+    cond c.is_idle-idle.result true
+    (is_waiting (number_of (word_of s.args.boundary)) (number_of (word_of s.args.asked_boundary)) s.args.pairs.now s.args.word.now
     s.args.run.now) ≡ true
-kept c = sym c.before.is-kept.ensures ∙ not-false _ c.if1.false
+kept c = sym c.is_kept.ensures ∙ c.if-not-is_kept.false
 
-is-idle-requires : tie.Need-is-idle-requires
+is-idle-requires : tie.Need-is_idle-idle-requires
 is-idle-requires c κs = search rules
 
-is-kept-requires : tie.Need-is-kept-requires
+is-kept-requires : tie.Need-is_kept-requires
 is-kept-requires c κs = search rules
 
-any-step-requires : tie.Need-any-step-requires
+any-step-requires : tie.Need-any_step-requires
 any-step-requires c κs = search rules
 
-same_length : tie.Need-same-length
+same_length : tie.Need-shape_of-run-then-not-is_kept
 same_length c = search rules
 
-same-length-2 : tie.Need-same-length-2
+same-length-2 : tie.Need-shape_of-item-then-not-is_kept
 same-length-2 c = search rules
 
-returns : tie.Need-returns
+returns : tie.Need-returns-then-not-is_kept
 returns c =
-    let g = c.before.before.before in
-    as_lent (start g.before.before.before.before) g.any_step.ensures
+    as_lent (start c.before.before.before.before.before.before.before) c.any_step.ensures
 
-ligkern-step-requires : tie.Need-ligkern-step-requires
+ligkern-step-requires : tie.Need-ligkern_step-number-requires
 ligkern-step-requires c κs = search rules
 
-same-length-3 : tie.Need-same-length-3
+same-length-3 : tie.Need-shape_of-run-then-number-ne0
 same-length-3 c = search rules
 
-same-length-4 : tie.Need-same-length-4
+same-length-4 : tie.Need-shape_of-item-then-number-ne0
 same-length-4 c = search rules
 
-returns-2 : tie.Need-returns-2
+returns-2 : tie.Need-returns-then-number-ne0
 returns-2 c =
-    let g = c.before.before.before.before in
-    let i = g.before.before.before in
-    let s = start i.before in
+    let s = start c.before.before.before.before.before.before.before.before in
     let a = s.args in
     as_lent s
-    (kept_refused (bits s) (otherBits s) a.word.now (optionsBits s) a.run.now a.item.now g.ligkern-step.ensures
-    i.before.before.before.is-idle.result i.before.before.before.is-idle.ensures (kept i) c.if2.true)
+    (kept_refused (bits s) (otherBits s) a.word.now (optionsBits s) a.run.now a.item.now c.ligkern_step-number.ensures
+    c.is_idle-idle.result c.is_idle-idle.ensures (kept (c.before.before.before.before.before.before.before)) c.if-number-ne0.true)
 
-slice-write-run : tie.Need-slice-write-run
+slice-write-run : tie.Need-bounds-run-11
 slice-write-run c =
-    let i = c.before.before.before.before.before.before.before.before in
-    let a = (start i.before).args in
-    omega (arith, run_long a.run.now (idle_run a.run.now (sym i.before.before.before.is-idle.ensures ∙ c.if3.true)))
+    let a = (start c.before.before.before.before.before.before.before.before.before).args in
+    omega (arith, run_long a.run.now (idle_run a.run.now (sym c.is_idle-idle.ensures ∙ c.if-idle.true)))
 
-same-length-5 : tie.Need-same-length-5
+same-length-5 : tie.Need-shape_of-run-then-idle
 same-length-5 c = search rules
 
-same-length-6 : tie.Need-same-length-6
+same-length-6 : tie.Need-shape_of-item-then-idle
 same-length-6 c = search rules
 
-returns-3 : tie.Need-returns-3
+returns-3 : tie.Need-returns-then-idle
 returns-3 c =
-    let g = c.before.before.before.before.before in
-    let i = g.before.before.before in
-    let s = start i.before in
+    let s = start c.before.before.before.before.before.before.before.before.before in
     let a = s.args in
     as_lent s
-    (idle_taken a.run.now (sym i.before.before.before.is-idle.ensures ∙ c.if3.true) (bits s) (otherBits s) a.word.now (optionsBits s)
-    a.item.now g.ligkern-step.ensures c.before.if2.false)
+    (idle_taken a.run.now (sym c.is_idle-idle.ensures ∙ c.if-idle.true) (bits s) (otherBits s) a.word.now (optionsBits s)
+    a.item.now c.ligkern_step-number.ensures c.if-number-ne0.false)
 
-same-length-7 : tie.Need-same-length-7
+same-length-7 : tie.Need-shape_of-run-else-idle
 same-length-7 c = search rules
 
-same-length-8 : tie.Need-same-length-8
+same-length-8 : tie.Need-shape_of-item-else-idle
 same-length-8 c = search rules
 
-returns-4 : tie.Need-returns-4
+returns-4 : tie.Need-returns-else-idle
 returns-4 c =
-    let g = c.before.before.before.before.before in
-    let i = g.before.before.before in
-    let s = start i.before in
+    let s = start c.before.before.before.before.before.before.before.before.before in
     let a = s.args in
     as_lent s
-    (kept_taken (bits s) (otherBits s) a.word.now (optionsBits s) a.run.now a.item.now g.ligkern-step.ensures
-    i.before.before.before.is-idle.result i.before.before.before.is-idle.ensures (kept i) c.if3.false c.before.if2.false)
+    (kept_taken (bits s) (otherBits s) a.word.now (optionsBits s) a.run.now a.item.now c.ligkern_step-number.ensures
+    c.is_idle-idle.result c.is_idle-idle.ensures (kept (c.before.before.before.before.before.before.before.before)) c.if-idle.false c.if-number-ne0.false)
 
-pub ligkern-font-step-spec : {M : Type 1} → statement M
-ligkern-font-step-spec =
+pub ligkern_font_step_spec : {M : Type 1} → statement M
+ligkern_font_step_spec =
     tie.close
     (tie.spec
     is-idle-requires

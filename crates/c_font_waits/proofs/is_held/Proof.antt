@@ -5,17 +5,21 @@ use borrow.Author.Rules.{rules}
 use Rattle.c_font_waits.proofs.is_held.Statement.{statement}
 use Rattle.c_font_waits.proofs.is_held.Tie as tie
 
-returns : tie.Need-returns
-returns c = let a = c.before.before.before.args in some_op a.pairs.now a.word.now a.s c.if1.true
+returns : tie.Need-returns-then-s-ne0
+returns c = let a = c.args in some_op a.pairs.now a.word.now a.s c.if-s-ne0.true
 
-has-pair-requires : tie.Need-has-pair-requires
+has-pair-requires : tie.Need-has_pair-requires
 has-pair-requires c κs = search rules
 
-returns-2 : tie.Need-returns-2
+returns-2 : tie.Need-returns
 returns-2 c =
-    let i = c.before in
-    let a = i.before.before.before.args in
-    no_op a.pairs.now a.word.now a.s i.if1.false c.has_pair_lem.ensures
+    let a = c.args in
+    no_op a.pairs.now a.word.now a.s c.if-s-ne0.false c.has_pair.ensures
 
-pub is-held-spec : {M : Type 1} → statement M
-is-held-spec = tie.close (tie.spec returns has-pair-requires returns-2)
+pub is_held_spec : {M : Type 1} → statement M
+is_held_spec =
+    tie.close
+    (tie.spec
+    returns
+    has-pair-requires
+    returns-2)

@@ -7,21 +7,24 @@ use borrow.Author.Rules.{rules}
 use Rattle.c_font_waits.proofs.is_kept.Statement.{statement}
 use Rattle.c_font_waits.proofs.is_kept.Tie as tie
 
-returns : tie.Need-returns
+returns : tie.Need-returns-then-idle
 returns c = search rules
 
-is-waiting-requires : tie.Need-is-waiting-requires
+is-waiting-requires : tie.Need-is_waiting-requires
 is-waiting-requires c κs = search rules
 
-returns-2 : tie.Need-returns-2
+returns-2 : tie.Need-returns
 returns-2 c =
-    let i = c.before in
-    let s = i.before.before.before in
-    let a = s.args in
-    rw i.if1.false
-    (c.is-waiting.ensures
-    ∙ (λ j. is_waiting (number_word a.boundary s.ranges.boundary j) (number_word a.«asked-boundary» s.ranges.«asked-boundary» j) a.pairs.now
+    let a = c.args in
+    rw c.if-idle.false
+    (c.is_waiting.ensures
+    ∙ (λ j. is_waiting (number_word a.boundary c.ranges.boundary j) (number_word a.asked_boundary c.ranges.asked_boundary j) a.pairs.now
     a.word.now a.run.now))
 
-pub is-kept-spec : {M : Type 1} → statement M
-is-kept-spec = tie.close (tie.spec returns is-waiting-requires returns-2)
+pub is_kept_spec : {M : Type 1} → statement M
+is_kept_spec =
+    tie.close
+    (tie.spec
+    returns
+    is-waiting-requires
+    returns-2)

@@ -9,68 +9,49 @@ use borrow.Author.Rules.{rules}
 use Rattle.c_font_waits.proofs.is_waiting.Statement.{statement}
 use Rattle.c_font_waits.proofs.is_waiting.Tie as tie
 
-is-run-requires : tie.Need-is-run-requires
+is-run-requires : tie.Need-is_run-requires
 is-run-requires c κs = search rules
 
-returns : tie.Need-returns
+returns : tie.Need-returns-then-not-is_run
 returns c =
-    let r = c.before in
-    let a = r.before.before.before.args in
-    no_run a.boundary a.«asked-boundary» a.pairs.now a.word.now a.run.now (sym r.is-run.ensures ∙ not-true _ c.if1.true)
+    let a = c.args in
+    no_run a.boundary a.asked_boundary a.pairs.now a.word.now a.run.now (sym c.is_run.ensures ∙ c.if-not-is_run.true)
 
-absent-refusal-requires : tie.Need-absent-refusal-requires
+absent-refusal-requires : tie.Need-absent_refusal-requires
 absent-refusal-requires c κs = search rules
 
-returns-2 : tie.Need-returns-2
+returns-2 : tie.Need-returns-then-absent_refusal-ne0
 returns-2 c =
-    let e = c.before in
-    let i = e.before in
-    let r = i.before in
-    let s = r.before.before.before in
-    let a = s.args in
-    edge_refused a.boundary a.«asked-boundary» a.pairs.now a.word.now a.run.now (sym r.is-run.ensures ∙ not-false _ i.if1.false)
-    (λ z. c.if2.true (e.absent-refusal.ensures ∙ ap (absent_refusal 255) (number_word a.boundary s.ranges.boundary) ∙ z))
+    let a = c.args in
+    edge_refused a.boundary a.asked_boundary a.pairs.now a.word.now a.run.now (sym c.is_run.ensures ∙ c.if-not-is_run.false)
+    (λ z. c.if-absent_refusal-ne0.true (c.absent_refusal.ensures ∙ ap (absent_refusal 255) (number_word a.boundary c.ranges.boundary) ∙ z))
 
-absent-refusal-requires-2 : tie.Need-absent-refusal-requires-2
+absent-refusal-requires-2 : tie.Need-absent_refusal-requires-2
 absent-refusal-requires-2 c κs = search rules
 
-returns-3 : tie.Need-returns-3
+returns-3 : tie.Need-returns-then-absent_refusal-ne0-2
 returns-3 c =
-    let o = c.before in
-    let j = o.before in
-    let e = j.before in
-    let i = e.before in
-    let r = i.before in
-    let s = r.before.before.before in
-    let a = s.args in
-    other_refused a.boundary a.«asked-boundary» a.pairs.now a.word.now a.run.now (sym r.is-run.ensures ∙ not-false _ i.if1.false)
-    (sym (e.absent-refusal.ensures ∙ ap (absent_refusal 255) (number_word a.boundary s.ranges.boundary)) ∙ j.if2.false)
-    (λ z. c.if3.true (o.absent-refusal2.ensures ∙ ap (absent_refusal 255) (number_word a.«asked-boundary» s.ranges.«asked-boundary») ∙ z))
+    let a = c.args in
+    other_refused a.boundary a.asked_boundary a.pairs.now a.word.now a.run.now (sym c.is_run.ensures ∙ c.if-not-is_run.false)
+    (sym (c.absent_refusal.ensures ∙ ap (absent_refusal 255) (number_word a.boundary c.ranges.boundary)) ∙ c.if-absent_refusal-ne0.false)
+    (λ z. c.if-absent_refusal-ne0-2.true (c.absent_refusal-2.ensures ∙ ap (absent_refusal 255) (number_word a.asked_boundary c.ranges.asked_boundary) ∙ z))
 
-state-in-requires : tie.Need-state-in-requires
+state-in-requires : tie.Need-state_in-from-requires
 state-in-requires c κs = search rules
 
-is-held-requires : tie.Need-is-held-requires
+is-held-requires : tie.Need-is_held-requires
 is-held-requires c κs = search rules
 
-returns-4 : tie.Need-returns-4
+returns-4 : tie.Need-returns
 returns-4 c =
-    let f = c.before in
-    let k = f.before in
-    let o = k.before in
-    let j = o.before in
-    let e = j.before in
-    let i = e.before in
-    let r = i.before in
-    let s = r.before.before.before in
-    let a = s.args in
-    by_state a.boundary a.«asked-boundary» a.pairs.now a.word.now a.run.now (sym r.is-run.ensures ∙ not-false _ i.if1.false)
-    (sym (e.absent-refusal.ensures ∙ ap (absent_refusal 255) (number_word a.boundary s.ranges.boundary)) ∙ j.if2.false)
-    (sym (o.absent-refusal2.ensures ∙ ap (absent_refusal 255) (number_word a.«asked-boundary» s.ranges.«asked-boundary»)) ∙ k.if3.false)
-    f.state-in.ensures c.is_held_lem.ensures
+    let a = c.args in
+    by_state a.boundary a.asked_boundary a.pairs.now a.word.now a.run.now (sym c.is_run.ensures ∙ c.if-not-is_run.false)
+    (sym (c.absent_refusal.ensures ∙ ap (absent_refusal 255) (number_word a.boundary c.ranges.boundary)) ∙ c.if-absent_refusal-ne0.false)
+    (sym (c.absent_refusal-2.ensures ∙ ap (absent_refusal 255) (number_word a.asked_boundary c.ranges.asked_boundary)) ∙ c.if-absent_refusal-ne0-2.false)
+    c.state_in-from.ensures c.is_held.ensures
 
-pub is-waiting-spec : {M : Type 1} → statement M
-is-waiting-spec =
+pub is_waiting_spec : {M : Type 1} → statement M
+is_waiting_spec =
     tie.close
     (tie.spec
     is-run-requires

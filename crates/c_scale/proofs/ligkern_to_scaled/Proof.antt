@@ -9,28 +9,30 @@ use Rattle.c_scale.specs.Scaling.{TellsScaled}
 use Rattle.c_scale.proofs.ligkern_to_scaled.Statement.{statement}
 use Rattle.c_scale.proofs.ligkern_to_scaled.Tie as tie
 
-to-scaled-requires : tie.Need-to-scaled-requires
+to-scaled-requires : tie.Need-to_scaled-answer-requires
 to-scaled-requires c κs = search rules
 
-tell-scaled-requires : tie.Need-tell-scaled-requires
+tell-scaled-requires : tie.Need-tell_scaled-requires
 tell-scaled-requires c κs = search rules
 
-same_length : tie.Need-same-length
+same_length : tie.Need-shape_of-scaled
 same_length c = search rules
 
 returns : tie.Need-returns
 returns c =
-    let w = c.before.tell-scaled in
-    let t = c.before.before.before in
-    let s = t.before in
-    let a = s.args in
-    let f = s.ranges in
-    subst (λ (r : Reply). TellsScaled r a.scaled.now w.result w.new.1.0)
-    (t.to-scaled.ensures
-    ∙ (λ i. scaled_at_reply (scaled_at (number_word a.kern f.kern i) (number_word a.«design-size» f.«design-size» i)
+    let a = c.args in
+    let f = c.ranges in
+    subst (λ (r : Reply). TellsScaled r a.scaled.now c.tell_scaled.result c.tell_scaled.new.scaled)
+    (c.to_scaled-answer.ensures
+    ∙ (λ i. scaled_at_reply (scaled_at (number_word a.kern f.kern i) (number_word a.design_size f.design_size i)
     (number_word a.size f.size i) (number_word a.magnification f.magnification i))))
-    w.ensures
+    c.tell_scaled.ensures
 
-pub ligkern-to-scaled-spec : {M : Type 1} → statement M
-ligkern-to-scaled-spec =
-    tie.close (tie.spec to-scaled-requires tell-scaled-requires same_length returns)
+pub ligkern_to_scaled_spec : {M : Type 1} → statement M
+ligkern_to_scaled_spec =
+    tie.close
+    (tie.spec
+    to-scaled-requires
+    tell-scaled-requires
+    same_length
+    returns)

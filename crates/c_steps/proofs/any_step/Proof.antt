@@ -16,151 +16,131 @@ use Rattle.c_steps.proofs.any_step.Statement.{statement}
 use Rattle.c_steps.proofs.any_step.Tie as tie
 
 -- the step is handed the state that stands in the list, and the boundary character as it was lent
-abbrev entered : tie.After-zero-i32 → tie.After-state-in
+abbrev entered : tie.After-zero_i32 → tie.After-state_in-from
 entered z = z.before.before.before.before
 
-abbrev start : tie.After-state-in → tie.Start
-start e = e.before.before.before.before
+abbrev start : tie.After-state_in-from → tie.Start
+start e = e.before.before.before
 
-stepped : (c : tie.After-kern-step) → let a = (start (entered c.before.before)).args in
-    c.kern_step.result ≡ step_in a.pairs.now a.ops.now a.boundary a.word.now a.options a.state.now
+stepped : (c : tie.After-kern_step-stepped) → let a = (start (entered c.before.before)).args in
+    c.kern_step-stepped.result ≡ step_in a.pairs.now a.ops.now a.boundary a.word.now a.options a.state.now
 stepped c =
     let e = entered c.before.before in
     let s = start e in
     let a = s.args in
-    c.kern_step.ensures
-    ∙ (λ j. step_of a.pairs.now a.ops.now (number_word a.boundary s.fits.boundary j) a.word.now a.options (e.state-in.ensures j))
+    c.kern_step-stepped.ensures
+    ∙ (λ j. step_of a.pairs.now a.ops.now (number_word a.boundary s.ranges.boundary j) a.word.now a.options (e.state_in-from.ensures j))
     ∙ from_is a.pairs.now a.ops.now a.boundary a.word.now a.options (state_read a.state.now)
 
-state-in-requires : tie.Need-state-in-requires
+state-in-requires : tie.Need-state_in-from-requires
 state-in-requires c κs = search rules
 
-is-kern-requires : tie.Need-is-kern-requires
+is-kern-requires : tie.Need-is_kern-requires
 is-kern-requires c κs = search rules
 
-give-kern-requires : tie.Need-give-kern-requires
+give-kern-requires : tie.Need-give_kern-kerned-requires
 give-kern-requires c κs = search rules
 
 tell-requires : tie.Need-tell-requires
 tell-requires c κs = search rules
 
-put-state-requires : tie.Need-put-state-requires
+put-state-requires : tie.Need-put_state-requires
 put-state-requires c κs = search rules
 
-same_length : tie.Need-same-length
+same_length : tie.Need-shape_of-state-then-item-eq7
 same_length c = search rules
 
-same-length-2 : tie.Need-same-length-2
+same-length-2 : tie.Need-shape_of-item-then-item-eq7
 same-length-2 c = search rules
 
-returns : tie.Need-returns
+returns : tie.Need-returns-then-item-eq7
 returns c =
-    let m = c.before.before in
-    let i = m.before.before.before.before in
-    let g = i.before.before in
-    let l = g.before in
-    let k = l.before.before in
-    let e = k.before in
-    let s = start e in
+    let s = start (c.before.before.before.before.before.before.before.before.before.before.before.before) in
     let a = s.args in
     let b = number_of (word_of a.boundary) in
     let given = step_in a.pairs.now a.ops.now b a.word.now a.options a.state.now in
-    let yes = l.before.if1.true in
-    let t : g.give-kern.result ≡ given =
-    kern_given a.ops.now b a.word.now a.options e.state-in.result k.is-kern.ensures yes g.give-kern.ensures a.pairs.now
-    a.state.now e.state-in.ensures in
-    subst (λ (n : ℤ). StepsRun a.pairs.now a.ops.now n a.word.now a.options a.state.now a.item.now m.put-state.result
-    m.put-state.new.0 i.tell.new.0) (number_word a.boundary s.fits.boundary)
-    (told_at_once a.state.now a.item.now given g.give-kern.result t
-    (kern_item_lem a.ops.now b a.word.now a.options e.state-in.result k.is-kern.ensures yes g.give-kern.ensures)
-    (given_long a.pairs.now a.ops.now b a.word.now a.options a.state.now) l.if2.true i.tell.new.0
-    (told_sets a.item.now i.tell.new.0 g.give-kern.result.answer
-    (given_small a.pairs.now a.ops.now b a.word.now a.options a.state.now g.give-kern.result t)
-    (omega (arith, l.if2.true)) i.tell.ensures)
-    m.put-state.result m.put-state.new.0 m.put-state.ensures)
+    let yes = c.if-is_kern.true in
+    let t : c.give_kern-kerned.result ≡ given =
+    kern_given a.ops.now b a.word.now a.options c.state_in-from.result c.is_kern.ensures yes c.give_kern-kerned.ensures a.pairs.now
+    a.state.now c.state_in-from.ensures in
+    subst (λ (n : ℤ). StepsRun a.pairs.now a.ops.now n a.word.now a.options a.state.now a.item.now c.put_state.result
+    c.put_state.new.list c.tell.new.item) (number_word a.boundary s.ranges.boundary)
+    (told_at_once a.state.now a.item.now given c.give_kern-kerned.result t
+    (kern_item_lem a.ops.now b a.word.now a.options c.state_in-from.result c.is_kern.ensures yes c.give_kern-kerned.ensures)
+    (given_long a.pairs.now a.ops.now b a.word.now a.options a.state.now) c.if-item-eq7.true c.tell.new.item
+    (told_sets a.item.now c.tell.new.item c.give_kern-kerned.result.answer
+    (given_small a.pairs.now a.ops.now b a.word.now a.options a.state.now c.give_kern-kerned.result t)
+    (omega (arith, c.if-item-eq7.true)) c.tell.ensures)
+    c.put_state.result c.put_state.new.list c.put_state.ensures)
 
-zero-i32-requires : tie.Need-zero-i32-requires
+zero-i32-requires : tie.Need-zero_i32-requires
 zero-i32-requires c κs = search rules
 
-kern-step-requires : tie.Need-kern-step-requires
+kern-step-requires : tie.Need-kern_step-stepped-requires
 kern-step-requires c κs = search rules
 
-refusal-of-requires : tie.Need-refusal-of-requires
+refusal-of-requires : tie.Need-refusal_of-number-requires
 refusal-of-requires c κs = search rules
 
-room-refusal-requires : tie.Need-room-refusal-requires
+room-refusal-requires : tie.Need-room_refusal-requires
 room-refusal-requires c κs = search rules
 
-lower-of-requires : tie.Need-lower-of-requires
+lower-of-requires : tie.Need-lower_of-requires
 lower-of-requires c κs = search rules
 
-same-length-3 : tie.Need-same-length-3
+same-length-3 : tie.Need-shape_of-state-then-number-ne0
 same-length-3 c = search rules
 
-same-length-4 : tie.Need-same-length-4
+same-length-4 : tie.Need-shape_of-item-then-number-ne0
 same-length-4 c = search rules
 
-returns-2 : tie.Need-returns-2
+returns-2 : tie.Need-returns-then-number-ne0
 returns-2 c =
-    let m = c.before in
-    let i = m.before in
-    let g = i.before.before in
-    let z = g.before.before.zero-i32 in
-    let a = (start (entered g.before.before)).args in
-    let n = i.before.refusal-of in
-    steps_refused a.state.now a.item.now z.new.0 z.ensures
-    (step_in a.pairs.now a.ops.now a.boundary a.word.now a.options a.state.now) g.kern_step.result (stepped g) n.result
-    n.ensures i.if3.true c.lower_of.result
-    (c.lower_of.ensures ∙ ap (lower n.result) m.room-refusal.ensures)
+    let a = (start (entered c.before.before.before.before.before.before)).args in
+    steps_refused a.state.now a.item.now c.zero_i32.new.s c.zero_i32.ensures
+    (step_in a.pairs.now a.ops.now a.boundary a.word.now a.options a.state.now) c.kern_step-stepped.result (stepped (c.before.before.before.before)) c.refusal_of-number.result
+    c.refusal_of-number.ensures c.if-number-ne0.true c.lower_of.result
+    (c.lower_of.ensures ∙ ap (lower c.refusal_of-number.result) c.room_refusal.ensures)
 
-same-length-5 : tie.Need-same-length-5
+same-length-5 : tie.Need-shape_of-state-then-item-lt7
 same-length-5 c = search rules
 
-same-length-6 : tie.Need-same-length-6
+same-length-6 : tie.Need-shape_of-item-then-item-lt7
 same-length-6 c = search rules
 
-returns-3 : tie.Need-returns-3
+returns-3 : tie.Need-returns-then-item-lt7
 returns-3 c =
-    let g = c.before.before.before in
-    let z = g.before.before.zero-i32 in
-    let a = (start (entered g.before.before)).args in
-    let n = c.before.before.refusal-of in
-    steps_short a.state.now a.item.now z.new.0 z.ensures
-    (step_in a.pairs.now a.ops.now a.boundary a.word.now a.options a.state.now) g.kern_step.result (stepped g) n.result
-    n.ensures c.before.if3.false (omega (arith, c.if4.true))
+    let a = (start (entered c.before.before.before.before.before)).args in
+    steps_short a.state.now a.item.now c.zero_i32.new.s c.zero_i32.ensures
+    (step_in a.pairs.now a.ops.now a.boundary a.word.now a.options a.state.now) c.kern_step-stepped.result (stepped (c.before.before.before)) c.refusal_of-number.result
+    c.refusal_of-number.ensures c.if-number-ne0.false (omega (arith, c.if-item-lt7.true))
 
 tell-requires-2 : tie.Need-tell-requires-2
 tell-requires-2 c κs = search rules
 
-put-state-requires-2 : tie.Need-put-state-requires-2
+put-state-requires-2 : tie.Need-put_state-requires-2
 put-state-requires-2 c κs = search rules
 
-same-length-7 : tie.Need-same-length-7
+same-length-7 : tie.Need-shape_of-state
 same-length-7 c = search rules
 
-same-length-8 : tie.Need-same-length-8
+same-length-8 : tie.Need-shape_of-item
 same-length-8 c = search rules
 
-returns-4 : tie.Need-returns-4
+returns-4 : tie.Need-returns
 returns-4 c =
-    let i = c.before.before.before.before.before.before in
-    let u = i.before.before in
-    let g = u.before.before.before in
-    let z = g.before.before.zero-i32 in
-    let a = (start (entered g.before.before)).args in
-    let n = u.before.before.refusal-of in
-    let p = c.before.before.put-state2 in
-    steps_taken a.state.now a.item.now z.new.0 z.ensures
-    (step_in a.pairs.now a.ops.now a.boundary a.word.now a.options a.state.now) g.kern_step.result (stepped g) n.result
-    n.ensures u.before.if3.false
-    (given_long a.pairs.now a.ops.now a.boundary a.word.now a.options a.state.now) u.if4.false i.tell2.new.0
-    (told_sets z.new.0 i.tell2.new.0 g.kern_step.result.answer
-    (given_small a.pairs.now a.ops.now a.boundary a.word.now a.options a.state.now g.kern_step.result (stepped g)) u.if4.false
-    i.tell2.ensures) p.result
-    p.new.0 p.ensures
+    let a = (start (entered c.before.before.before.before.before.before.before.before.before.before.before.before.before)).args in
+    steps_taken a.state.now a.item.now c.zero_i32.new.s c.zero_i32.ensures
+    (step_in a.pairs.now a.ops.now a.boundary a.word.now a.options a.state.now) c.kern_step-stepped.result (stepped (c.before.before.before.before.before.before.before.before.before.before.before)) c.refusal_of-number.result
+    c.refusal_of-number.ensures c.if-number-ne0.false
+    (given_long a.pairs.now a.ops.now a.boundary a.word.now a.options a.state.now) c.if-item-lt7.false c.tell-2.new.item
+    (told_sets c.zero_i32.new.s c.tell-2.new.item c.kern_step-stepped.result.answer
+    (given_small a.pairs.now a.ops.now a.boundary a.word.now a.options a.state.now c.kern_step-stepped.result (stepped (c.before.before.before.before.before.before.before.before.before.before.before))) c.if-item-lt7.false
+    c.tell-2.ensures) c.put_state-2.result
+    c.put_state-2.new.list c.put_state-2.ensures
 
-pub any-step-spec : {M : Type 1} → statement M
-any-step-spec =
+pub any_step_spec : {M : Type 1} → statement M
+any_step_spec =
     tie.close
     (tie.spec
     state-in-requires

@@ -19,120 +19,106 @@ use Rattle.c_steps.proofs.ligkern_step.Tie as tie
 -- what is said of the bits of the boundary character and the override, which are passed on, is said of them as they were lent
 as_lent : (c : tie.Start) {r : ℕ} {state' : List ℕ} {item' : List ℤ} → let a = c.args in
     StepsRun a.pairs.now a.ops.now (number_of (word_of a.boundary)) a.word.now
-    (options_of a.«disable-left-boundary» (number_of (word_of a.«right-boundary-override»))) a.state.now a.item.now r state' item' →
-    StepsRun a.pairs.now a.ops.now a.boundary a.word.now (options_of a.«disable-left-boundary» a.«right-boundary-override»)
+    (options_of a.disable_left_boundary (number_of (word_of a.right_boundary_override))) a.state.now a.item.now r state' item' →
+    StepsRun a.pairs.now a.ops.now a.boundary a.word.now (options_of a.disable_left_boundary a.right_boundary_override)
     a.state.now a.item.now r state' item'
 as_lent c {r} {state'} {item'} h =
     let a = c.args in
-    subst (λ (b : ℤ). StepsRun a.pairs.now a.ops.now b a.word.now (options_of a.«disable-left-boundary» a.«right-boundary-override»)
+    subst (λ (b : ℤ). StepsRun a.pairs.now a.ops.now b a.word.now (options_of a.disable_left_boundary a.right_boundary_override)
     a.state.now a.item.now r state' item') (number_word a.boundary c.ranges.boundary)
-    (subst (λ (o : ℤ). StepsRun a.pairs.now a.ops.now (number_of (word_of a.boundary)) a.word.now (options_of a.«disable-left-boundary» o)
-    a.state.now a.item.now r state' item') (number_word a.«right-boundary-override» c.ranges.«right-boundary-override») h)
+    (subst (λ (o : ℤ). StepsRun a.pairs.now a.ops.now (number_of (word_of a.boundary)) a.word.now (options_of a.disable_left_boundary o)
+    a.state.now a.item.now r state' item') (number_word a.right_boundary_override c.ranges.right_boundary_override) h)
 
 -- the entry can be read
-ready : (q : tie.After-quick-step) → let p = q.before.before.before in
-    is_ready p.before.before.before.before.before.before.before.before.before.args.pairs.now
-    p.before.before.before.before.before.before.before.before.before.args.ops.now p.found_place_lem.result ≡ true
-ready q = sym q.before.before.is-ready.ensures ∙ not-false _ q.before.if3.false
+ready : (q : tie.After-quick_step-stepped) → is_ready q.args.pairs.now
+    q.args.ops.now q.found_place-k.result ≡ true
+ready q = sym q.is_ready.ensures ∙ q.if-not-is_ready.false
 
-any-step-requires : tie.Need-any-step-requires
+any-step-requires : tie.Need-any_step-requires
 any-step-requires c κs = search rules
 
-same_length : tie.Need-same-length
+same_length : tie.Need-shape_of-state-then-item-ne7
 same_length c = search rules
 
-same-length-2 : tie.Need-same-length-2
+same-length-2 : tie.Need-shape_of-item-then-item-ne7
 same-length-2 c = search rules
 
-returns : tie.Need-returns
-returns c = let g = c.before.before.before in as_lent g.before.before.before.before.before.before g.any_step.ensures
+returns : tie.Need-returns-then-item-ne7
+returns c = as_lent c.before.before.before.before.before.before.before.before.before c.any_step.ensures
 
-state-in-requires : tie.Need-state-in-requires
+state-in-requires : tie.Need-state_in-from-requires
 state-in-requires c κs = search rules
 
-quick-left-requires : tie.Need-quick-left-requires
+quick-left-requires : tie.Need-quick_left-left-requires
 quick-left-requires c κs = search rules
 
-any-step-requires-2 : tie.Need-any-step-requires-2
+any-step-requires-2 : tie.Need-any_step-requires-then-left-eq0
 any-step-requires-2 c κs = search rules
 
-same-length-3 : tie.Need-same-length-3
+same-length-3 : tie.Need-shape_of-state-then-left-eq0
 same-length-3 c = search rules
 
-same-length-4 : tie.Need-same-length-4
+same-length-4 : tie.Need-shape_of-item-then-left-eq0
 same-length-4 c = search rules
 
-returns-2 : tie.Need-returns-2
+returns-2 : tie.Need-returns-then-left-eq0
 returns-2 c =
-    let g = c.before.before.before in as_lent g.before.before.before.before.before.before.before.before.before.before g.any-step2.ensures
+    as_lent c.before.before.before.before.before.before.before.before.before.before.before.before c.any_step-then-left-eq0.ensures
 
-u32-at-requires : tie.Need-u32-at-requires
+u32-at-requires : tie.Need-u32_at-requires
 u32-at-requires c κs = search rules
 
-found-place-requires : tie.Need-found-place-requires
+found-place-requires : tie.Need-found_place-k-requires
 found-place-requires c κs = search rules
 
-is-ready-requires : tie.Need-is-ready-requires
+is-ready-requires : tie.Need-is_ready-requires
 is-ready-requires c κs = search rules
 
-any-step-requires-3 : tie.Need-any-step-requires-3
+any-step-requires-3 : tie.Need-any_step-requires-then-not-is_ready
 any-step-requires-3 c κs = search rules
 
-same-length-5 : tie.Need-same-length-5
+same-length-5 : tie.Need-shape_of-state-then-not-is_ready
 same-length-5 c = search rules
 
-same-length-6 : tie.Need-same-length-6
+same-length-6 : tie.Need-shape_of-item-then-not-is_ready
 same-length-6 c = search rules
 
-returns-3 : tie.Need-returns-3
+returns-3 : tie.Need-returns-then-not-is_ready
 returns-3 c =
-    let g = c.before.before.before in
-    as_lent g.before.before.before.before.before.before.before.before.before.before.before.before.before.before g.any-step3.ensures
+    as_lent c.before.before.before.before.before.before.before.before.before.before.before.before.before.before.before.before c.any_step-then-not-is_ready.ensures
 
-quick-step-requires : tie.Need-quick-step-requires
+quick-step-requires : tie.Need-quick_step-stepped-requires
 quick-step-requires c κs = search rules
 
-tell-character-requires : tie.Need-tell-character-requires
+tell-character-requires : tie.Need-tell_character-requires
 tell-character-requires c κs =
-    let q = c.before in
-    let p = q.before.before.before in
-    let u = p.before in
-    let l = u.before.before in
-    let e = l.before in
-    let a = e.before.before.before.before.before.args in
+    let a = c.args in
     told_asks a.pairs.now a.ops.now (number_of (word_of a.boundary)) a.word.now
-    (options_of a.«disable-left-boundary» (number_of (word_of a.«right-boundary-override»))) a.state.now e.state-in.ensures
-    l.quick-left.ensures u.before.if2.false u.u32-at.ensures p.found_place_lem.ensures (ready q) q.quick-step.ensures a.item.now
-    e.before.before.if1.false
+    (options_of a.disable_left_boundary (number_of (word_of a.right_boundary_override))) a.state.now c.state_in-from.ensures
+    c.quick_left-left.ensures c.if-left-eq0.false c.u32_at.ensures c.found_place-k.ensures (ready (c.before)) c.quick_step-stepped.ensures a.item.now
+    c.if-item-ne7.false
 
-put-state-requires : tie.Need-put-state-requires
+put-state-requires : tie.Need-put_state-requires
 put-state-requires c κs = search rules
 
-same-length-7 : tie.Need-same-length-7
+same-length-7 : tie.Need-shape_of-state
 same-length-7 c = search rules
 
-same-length-8 : tie.Need-same-length-8
+same-length-8 : tie.Need-shape_of-item
 same-length-8 c = search rules
 
-returns-4 : tie.Need-returns-4
+returns-4 : tie.Need-returns
 returns-4 c =
-    let m = c.before.before in
-    let i = m.before.before.before.before in
-    let q = i.before.before in
-    let p = q.before.before.before in
-    let u = p.before in
-    let l = u.before.before in
-    let e = l.before in
-    let a = e.before.before.before.before.before.args in
-    as_lent e.before.before.before.before.before
+    let a = c.args in
+    as_lent c.before.before.before.before.before.before.before.before.before.before.before.before.before.before.before.before.before.before.before
     (steps_told a.pairs.now a.ops.now (number_of (word_of a.boundary)) a.word.now
-    (options_of a.«disable-left-boundary» (number_of (word_of a.«right-boundary-override»))) a.state.now e.state-in.ensures
-    l.quick-left.ensures u.before.if2.false u.u32-at.ensures p.found_place_lem.ensures (ready q) q.quick-step.ensures
-    a.item.now e.before.before.if1.false i.tell-character.new.0 i.tell-character.ensures m.put-state.result m.put-state.new.0
-    m.put-state.ensures)
+    (options_of a.disable_left_boundary (number_of (word_of a.right_boundary_override))) a.state.now c.state_in-from.ensures
+    c.quick_left-left.ensures c.if-left-eq0.false c.u32_at.ensures c.found_place-k.ensures (ready (c.before.before.before.before.before.before.before.before)) c.quick_step-stepped.ensures
+    a.item.now c.if-item-ne7.false c.tell_character.new.item c.tell_character.ensures c.put_state.result c.put_state.new.list
+    c.put_state.ensures)
 
-pub ligkern-step-spec : {M : Type 1} → statement M
-ligkern-step-spec =
+pub ligkern_step_spec : {M : Type 1} → statement M
+ligkern_step_spec =
     tie.close
     (tie.spec
     any-step-requires

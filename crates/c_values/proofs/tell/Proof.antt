@@ -9,51 +9,45 @@ use borrow.Author.Rules.{rules}
 use Rattle.c_values.proofs.tell.Statement.{statement}
 use Rattle.c_values.proofs.tell.Tie as tie
 
-zero-u64-requires : tie.Need-zero-u64-requires
+zero-u64-requires : tie.Need-zero_u64-requires
 zero-u64-requires c κs = search rules
 
-enum-known-written : tie.Need-enum-known-written
+enum-known-written : tie.Need-enum_known-written
 enum-known-written c = search rules
 
-enum-known-written-2 : tie.Need-enum-known-written-2
+enum-known-written-2 : tie.Need-enum_known-written-in-Count-1
 enum-known-written-2 c = search rules
 
-same_length : tie.Need-same-length
+same_length : tie.Need-shape_of-values-then-values-eq0
 same_length c = search rules
 
-returns : tie.Need-returns
+returns : tie.Need-returns-then-values-eq0
 returns c =
-    let w = c.before.before in
-    let z = w.before.before.before.before in
-    rw w.written2.given.1
-    (tells_short (pos w.written2.given.0.0 ∷ []) z.before.before.before.args.values.now (omega (arith, c.if1.true, z.zero-u64.auto.0))
-    z.zero-u64.ensures)
+    rw c.in-Count.is
+    (tells_short (pos c.in-Count.n ∷ []) c.args.values.now (omega (arith, c.if-values-eq0.true, c.zero_u64.auto.s))
+    c.zero_u64.ensures)
 
-slice-write-values : tie.Need-slice-write-values
+slice-write-values : tie.Need-bounds-values-0
 slice-write-values c = search rules
 
-same-length-2 : tie.Need-same-length-2
+same-length-2 : tie.Need-shape_of-values-in-Refused
 same-length-2 c = search rules
 
-returns-2 : tie.Need-returns-2
+returns-2 : tie.Need-returns-in-Refused
 returns-2 c =
-    let w = c.before in
-    let z = w.before.before.before.before in
-    rw w.written.given.1 (tells_refused w.written.given.0.0 z.before.before.before.args.values.now z.zero-u64.ensures)
+    rw c.in-Refused.is (tells_refused c.in-Refused.n c.args.values.now c.zero_u64.ensures)
 
-same-length-3 : tie.Need-same-length-3
+same-length-3 : tie.Need-shape_of-values-else-values-eq0
 same-length-3 c = search rules
 
-returns-3 : tie.Need-returns-3
+returns-3 : tie.Need-returns-else-values-eq0
 returns-3 c =
-    let w = c.before.before in
-    let z = w.before.before.before.before in
-    rw w.written2.given.1
-    (tells_taken (pos w.written2.given.0.0 ∷ []) z.before.before.before.args.values.now (omega (arith, c.if1.false, z.zero-u64.auto.0))
-    z.zero-u64.ensures refl)
+    rw c.in-Count.is
+    (tells_taken (pos c.in-Count.n ∷ []) c.args.values.now (omega (arith, c.if-values-eq0.false, c.zero_u64.auto.s))
+    c.zero_u64.ensures refl)
 
-pub tell-spec : {M : Type 1} → statement M
-tell-spec =
+pub tell_spec : {M : Type 1} → statement M
+tell_spec =
     tie.close
     (tie.spec
     zero-u64-requires

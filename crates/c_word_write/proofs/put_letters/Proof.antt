@@ -4,38 +4,38 @@ use borrow.Author.Rules.{rules}
 use Rattle.c_word_write.proofs.put_letters.Statement.{statement}
 use Rattle.c_word_write.proofs.put_letters.Tie as tie
 
-array-read-put-u32 : tie.Need-array-read-put-u32
+array-read-put-u32 : tie.Need-bounds-letters-0
 array-read-put-u32 c = search rules
 
-put-u32-requires : tie.Need-put-u32-requires
+put-u32-requires : tie.Need-put_u32-requires
 put-u32-requires c κs = search rules
 
-array-read-put-u32-2 : tie.Need-array-read-put-u32-2
+array-read-put-u32-2 : tie.Need-bounds-letters-1
 array-read-put-u32-2 c = search rules
 
-put-u32-requires-2 : tie.Need-put-u32-requires-2
+put-u32-requires-2 : tie.Need-put_u32-requires-2
 put-u32-requires-2 c κs = search rules
 
-array-read-put-u32-3 : tie.Need-array-read-put-u32-3
+array-read-put-u32-3 : tie.Need-bounds-letters-2
 array-read-put-u32-3 c = search rules
 
-put-u32-requires-3 : tie.Need-put-u32-requires-3
+put-u32-requires-3 : tie.Need-put_u32-requires-3
 put-u32-requires-3 c κs = search rules
 
-array-read-put-u32-4 : tie.Need-array-read-put-u32-4
+array-read-put-u32-4 : tie.Need-bounds-letters-3
 array-read-put-u32-4 c = search rules
 
-put-u32-requires-4 : tie.Need-put-u32-requires-4
+put-u32-requires-4 : tie.Need-put_u32-requires-4
 put-u32-requires-4 c κs = search rules
 
-same_length : tie.Need-same-length
+same_length : tie.Need-shape_of-next
 same_length c = search rules
 
 returns : tie.Need-returns
 returns c = cc
 
-pub put-letters-spec : {M : Type 1} → statement M
-put-letters-spec =
+pub put_letters_spec : {M : Type 1} → statement M
+put_letters_spec =
     tie.close
     (tie.spec
     array-read-put-u32

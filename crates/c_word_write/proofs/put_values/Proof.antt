@@ -8,28 +8,28 @@ use borrow.Author.Rules.{rules}
 use Rattle.c_word_write.proofs.put_values.Statement.{statement}
 use Rattle.c_word_write.proofs.put_values.Tie as tie
 
-more-number-requires : tie.Need-more-number-requires
+more-number-requires : tie.Need-more_number-requires
 more-number-requires c κs = search rules
 
-slice-write-values : tie.Need-slice-write-values
+slice-write-values : tie.Need-bounds-values-0
 slice-write-values c = search rules
 
-slice-write-values-2 : tie.Need-slice-write-values-2
+slice-write-values-2 : tie.Need-bounds-values-1
 slice-write-values-2 c = simp length-set (omega arith)
 
-slice-write-values-3 : tie.Need-slice-write-values-3
+slice-write-values-3 : tie.Need-bounds-values-2
 slice-write-values-3 c = search rules
 
-same_length : tie.Need-same-length
+same_length : tie.Need-shape_of-values
 same_length c = search rules
 
 returns : tie.Need-returns
 returns c =
-    let a = c.before.before.before.args in
-    ap (λ (n : ℕ). set (set (set a.values.now 0 n) 1 a.told.word.length) 2 a.told.count) c.more-number.ensures
+    let a = c.args in
+    ap (λ (n : ℕ). set (set (set a.values.now 0 n) 1 a.told.word.length) 2 a.told.count) c.more_number.ensures
 
-pub put-values-spec : {M : Type 1} → statement M
-put-values-spec =
+pub put_values_spec : {M : Type 1} → statement M
+put_values_spec =
     tie.close
     (tie.spec
     more-number-requires

@@ -8,105 +8,100 @@ use Rattle.c_word_write.proofs.write_next.Statement.{statement}
 use Rattle.c_word_write.proofs.write_next.Tie as tie
 
 -- the places of the calls
-abbrev kept_at : tie.After-items → tie.After-keep-i32
+abbrev kept_at : tie.After-items-1 → tie.After-keep_i32
 kept_at e = e.before
 
-abbrev values-at : tie.After-items → tie.After-zero-u64
+abbrev values-at : tie.After-items-1 → tie.After-zero_u64
 values-at e = e.before.before.before.before.before.before.before.before.before.before
 
-abbrev next_at : tie.After-items → tie.After-zero-u32
+abbrev next_at : tie.After-items-1 → tie.After-zero_u32
 next_at e = (values-at e).before.before.before.before
 
-abbrev start : tie.After-items → tie.Start
+abbrev start : tie.After-items-1 → tie.Start
 start e = (next_at e).before.before.before.before
 
-course : (e : tie.After-items) →
+course : (e : tie.After-items-1) →
     Course (start e).args.told (start e).args.next.now (start e).args.items.now (start e).args.values.now
-    (next_at e).zero-u32.new.0 (values-at e).zero-u64.new.0 (kept_at e).keep-i32.new.1.0 e.before.before.before.lower-of2.result
+    (next_at e).zero_u32.new.s (values-at e).zero_u64.new.s (kept_at e).keep_i32.new.out e.lower_of-number.result
 course e =
     record {
-      zero_next = (next_at e).zero-u32.ensures;
-      zero_values = (values-at e).zero-u64.ensures;
+      zero_next = (next_at e).zero_u32.ensures;
+      zero_values = (values-at e).zero_u64.ensures;
       number_is =
-          e.before.before.before.lower-of2.ensures
-          ∙ ap₂ lower e.before.before.before.before.answer-refusal.ensures
-          (e.before.before.before.before.before.lower_of.ensures
-          ∙ ap₂ lower e.before.before.before.before.before.before.before.room-refusal.ensures
-          e.before.before.before.before.before.before.room-refusal2.ensures);
-      kept_items_lem = (kept_at e).keep-i32.ensures;
+          e.lower_of-number.ensures
+          ∙ ap₂ lower e.answer_refusal.ensures
+          (e.lower_of-room.ensures
+          ∙ ap₂ lower e.room_refusal.ensures
+          e.room_refusal-2.ensures);
+      kept_items_lem = (kept_at e).keep_i32.ensures;
     }
 
-zero-u32-requires : tie.Need-zero-u32-requires
+zero-u32-requires : tie.Need-zero_u32-requires
 zero-u32-requires c κs = search rules
 
-zero-u64-requires : tie.Need-zero-u64-requires
+zero-u64-requires : tie.Need-zero_u64-requires
 zero-u64-requires c κs = search rules
 
-room-refusal-requires : tie.Need-room-refusal-requires
+room-refusal-requires : tie.Need-room_refusal-requires
 room-refusal-requires c κs = search rules
 
-room-refusal-requires-2 : tie.Need-room-refusal-requires-2
+room-refusal-requires-2 : tie.Need-room_refusal-requires-2
 room-refusal-requires-2 c κs = search rules
 
-lower-of-requires : tie.Need-lower-of-requires
+lower-of-requires : tie.Need-lower_of-room-requires
 lower-of-requires c κs = search rules
 
-answer-refusal-requires : tie.Need-answer-refusal-requires
+answer-refusal-requires : tie.Need-answer_refusal-requires
 answer-refusal-requires c κs = search rules
 
-lower-of-requires-2 : tie.Need-lower-of-requires-2
+lower-of-requires-2 : tie.Need-lower_of-number-requires
 lower-of-requires-2 c κs = search rules
 
-keep-i32-requires : tie.Need-keep-i32-requires
+keep-i32-requires : tie.Need-keep_i32-requires
 keep-i32-requires c κs = search rules
 
-same_length : tie.Need-same-length
+same_length : tie.Need-shape_of-next-then-number-ne0
 same_length c = search rules
 
-same-length-2 : tie.Need-same-length-2
+same-length-2 : tie.Need-shape_of-items-then-number-ne0
 same-length-2 c = search rules
 
-same-length-3 : tie.Need-same-length-3
+same-length-3 : tie.Need-shape_of-values-then-number-ne0
 same-length-3 c = search rules
 
-returns : tie.Need-returns
+returns : tie.Need-returns-then-number-ne0
 returns c =
-    let e = c.before in
-    let a = (start e).args in
-    next_refused a.told a.next.now a.items.now a.values.now (next_at e).zero-u32.new.0 (values-at e).zero-u64.new.0
-    (kept_at e).keep-i32.new.1.0 e.before.before.before.lower-of2.result (course e) c.if1.true
+    let a = (start (c.before)).args in
+    next_refused a.told a.next.now a.items.now a.values.now (next_at (c.before)).zero_u32.new.s (values-at (c.before)).zero_u64.new.s
+    (kept_at (c.before)).keep_i32.new.out c.lower_of-number.result (course (c.before)) c.if-number-ne0.true
 
-put-letters-requires : tie.Need-put-letters-requires
+put-letters-requires : tie.Need-put_letters-requires
 put-letters-requires c κs = search rules
 
-put-values-requires : tie.Need-put-values-requires
+put-values-requires : tie.Need-put_values-requires
 put-values-requires c κs =
-    let i = c.before.before.before.before.before.before in
-    let e = i.before in
-    let a = (start e).args in
-    room_for_values a.told a.next.now a.items.now a.values.now (next_at e).zero-u32.new.0 (values-at e).zero-u64.new.0
-    (kept_at e).keep-i32.new.1.0 e.before.before.before.lower-of2.result (course e) i.if1.false
+    let a = (start (c.before.before.before.before.before.before.before)).args in
+    room_for_values a.told a.next.now a.items.now a.values.now (next_at (c.before.before.before.before.before.before.before)).zero_u32.new.s (values-at (c.before.before.before.before.before.before.before)).zero_u64.new.s
+    (kept_at (c.before.before.before.before.before.before.before)).keep_i32.new.out c.lower_of-number.result (course (c.before.before.before.before.before.before.before)) c.if-number-ne0.false
 
-same-length-4 : tie.Need-same-length-4
+same-length-4 : tie.Need-shape_of-next
 same-length-4 c = search rules
 
-same-length-5 : tie.Need-same-length-5
+same-length-5 : tie.Need-shape_of-items
 same-length-5 c = search rules
 
-same-length-6 : tie.Need-same-length-6
+same-length-6 : tie.Need-shape_of-values
 same-length-6 c = search rules
 
-returns-2 : tie.Need-returns-2
+returns-2 : tie.Need-returns
 returns-2 c =
-    let i = c.before.before.before.before.before.before.before.before.before in
-    let e = i.before in
-    let a = (start e).args in
-    next_taken a.told a.next.now a.items.now a.values.now (next_at e).zero-u32.new.0 (values-at e).zero-u64.new.0
-    (kept_at e).keep-i32.new.1.0 e.before.before.before.lower-of2.result (course e) i.if1.false
-    c.before.before.before.before.before.before.put-letters.ensures c.before.before.put-values.ensures
+    let a = (start (c.before.before.before.before.before.before.before.before.before.before)).args in
+    next_taken a.told a.next.now a.items.now a.values.now (next_at (c.before.before.before.before.before.before.before.before.before.before)).zero_u32.new.s (values-at (c.before.before.before.before.before.before.before.before.before.before)).zero_u64.new.s
+    (kept_at (c.before.before.before.before.before.before.before.before.before.before)).keep_i32.new.out c.lower_of-number.result (course (c.before.before.before.before.before.before.before.before.before.before)) c.if-number-ne0.false
+    c.put_letters.ensures c.put_values.ensures
 
-pub write-next-spec : {M : Type 1} → statement M
-write-next-spec =
+pub write_next_spec : {M : Type 1} → statement M
+write_next_spec =
     tie.close
     (tie.spec
     zero-u32-requires

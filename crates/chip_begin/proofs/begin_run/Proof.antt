@@ -10,10 +10,10 @@ use borrow.Author.Rules.{rules}
 use Rattle.chip_begin.proofs.begin_run.Statement.{statement}
 use Rattle.chip_begin.proofs.begin_run.Tie as tie
 
-array-share-prefix-letters : tie.Need-array-share-prefix-letters
+array-share-prefix-letters : tie.Need-slice_bounds-letters-end
 array-share-prefix-letters c = search rules
 
-slice-aggregate-begin : tie.Need-slice-aggregate-begin
+slice-aggregate-begin : tie.Need-slice_bounds-begin-end
 slice-aggregate-begin c = search rules
 
 begin-requires : tie.Need-begin-requires
@@ -21,11 +21,15 @@ begin-requires c κs = search rules
 
 returns : tie.Need-returns
 returns c =
-    let s = c.before.before in
-    let a = s.args in
+    let a = c.args in
     begin_is a.pairs.now a.ops.now (number_of (word_of a.boundary)) [] plain_options c.begin.result c.begin.ensures
-    ∙ (λ j. begin_of a.pairs.now a.ops.now (number_word a.boundary s.ranges.boundary j) [] plain_options)
+    ∙ (λ j. begin_of a.pairs.now a.ops.now (number_word a.boundary c.ranges.boundary j) [] plain_options)
 
-pub begin-run-spec : {M : Type 1} → statement M
-begin-run-spec =
-    tie.close (tie.spec array-share-prefix-letters slice-aggregate-begin begin-requires returns)
+pub begin_run_spec : {M : Type 1} → statement M
+begin_run_spec =
+    tie.close
+    (tie.spec
+    array-share-prefix-letters
+    slice-aggregate-begin
+    begin-requires
+    returns)

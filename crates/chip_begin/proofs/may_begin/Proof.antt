@@ -4,20 +4,27 @@ use borrow.Author.Rules.{rules}
 use Rattle.chip_begin.proofs.may_begin.Statement.{statement}
 use Rattle.chip_begin.proofs.may_begin.Tie as tie
 
-returns : tie.Need-returns
+returns : tie.Need-returns-then-chip
 returns c = search rules
 
-is-ready-requires : tie.Need-is-ready-requires
+is-ready-requires : tie.Need-is_ready-requires
 is-ready-requires c κs = search rules
 
-returns-2 : tie.Need-returns-2
-returns-2 c = let r = c.before in rw (r.before.if1.false, ← r.is-ready.ensures, c.if2.true)
+returns-2 : tie.Need-returns-then-is_ready
+returns-2 c = rw (c.if-chip.false, ← c.is_ready.ensures, c.if-is_ready.true)
 
-count-of-requires : tie.Need-count-of-requires
+count-of-requires : tie.Need-count_of-requires
 count-of-requires c κs = search rules
 
-returns-3 : tie.Need-returns-3
-returns-3 c = let r = c.before.before in rw (r.before.if1.false, ← r.is-ready.ensures, c.before.if2.false, ← c.count_of.ensures)
+returns-3 : tie.Need-returns
+returns-3 c = rw (c.if-chip.false, ← c.is_ready.ensures, c.if-is_ready.false, ← c.count_of.ensures)
 
-pub may-begin-spec : {M : Type 1} → statement M
-may-begin-spec = tie.close (tie.spec returns is-ready-requires returns-2 count-of-requires returns-3)
+pub may_begin_spec : {M : Type 1} → statement M
+may_begin_spec =
+    tie.close
+    (tie.spec
+    returns
+    is-ready-requires
+    returns-2
+    count-of-requires
+    returns-3)

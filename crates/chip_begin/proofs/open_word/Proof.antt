@@ -30,32 +30,34 @@ begun_from caller chip s =
       };
     }
 
-may-begin-requires : tie.Need-may-begin-requires
+may-begin-requires : tie.Need-may_begin-requires
 may-begin-requires c κs = search rules
 
-returns : tie.Need-returns
+returns : tie.Need-returns-then-not-may_begin
 returns c =
-    let t = c.before in
-    let a = t.before.args in
-    out_of_turn (caller_refusal a.caller) (chip_begun a.caller a.chip) a.chip (sym t.may-begin.ensures ∙ not-true _ c.if1.true)
+    let a = c.args in
+    out_of_turn (caller_refusal a.caller) (chip_begun a.caller a.chip) a.chip (sym c.may_begin.ensures ∙ c.if-not-may_begin.true)
 
-returns-2 : tie.Need-returns-2
+returns-2 : tie.Need-returns-then-caller-gt7
 returns-2 c =
-    let i = c.before in
-    let m = i.before in
-    let a = m.before.args in
+    let a = c.args in
     let e : 26 ≡ in_turn (may_begin a.caller a.chip) (caller_refusal a.caller) =
-    rw (sym m.may-begin.ensures ∙ not-false _ i.if1.false, lt-leb a.caller 7 c.if2.true) in
+    rw (sym c.may_begin.ensures ∙ c.if-not-may_begin.false, lt-leb a.caller 7 c.if-caller-gt7.true) in
     refused_by (chip_begun a.caller a.chip) a.chip e (λ z. omega (arith, z))
 
-returns-3 : tie.Need-returns-3
+returns-3 : tie.Need-returns
 returns-3 c =
-    let i = c.before in
-    let m = i.before in
-    let a = m.before.args in
-    (λ j. begun_from a.caller a.chip (m.before.requires j))
+    let m = c.before.before in
+    let a = c.args in
+    (λ j. begun_from a.caller a.chip (c.requires j))
     ∙ taken_by (chip_begun a.caller a.chip) a.chip {m = in_turn (may_begin a.caller a.chip) (caller_refusal a.caller)}
-    (rw (sym m.may-begin.ensures ∙ not-false _ i.if1.false, le-leb a.caller 7 c.if2.false))
+    (rw (sym c.may_begin.ensures ∙ c.if-not-may_begin.false, le-leb a.caller 7 c.if-caller-gt7.false))
 
-pub open-word-spec : {M : Type 1} → statement M
-open-word-spec = tie.close (tie.spec may-begin-requires returns returns-2 returns-3)
+pub open_word_spec : {M : Type 1} → statement M
+open_word_spec =
+    tie.close
+    (tie.spec
+    may-begin-requires
+    returns
+    returns-2
+    returns-3)

@@ -13,55 +13,46 @@ use borrow.Author.Rules.{rules}
 use Rattle.chip_block.proofs.show.Statement.{statement}
 use Rattle.chip_block.proofs.show.Tie as tie
 
-returns : tie.Need-returns
-returns c = let a = c.before.before.args in rw (lt-leb 16 (length a.block.now) c.if1.true)
+returns : tie.Need-returns-then-block-lt16
+returns c = let a = c.args in rw (lt-leb 16 (length a.block.now) c.if-block-lt16.true)
 
-is-ready-requires : tie.Need-is-ready-requires
+is-ready-requires : tie.Need-is_ready-ready-requires
 is-ready-requires c κs = search rules
 
-slice-read-status : tie.Need-slice-read-status
+slice-read-status : tie.Need-bounds-block-3
 slice-read-status c = search rules
 
 status-requires : tie.Need-status-requires
 status-requires c κs = search rules
 
-slice-write-block : tie.Need-slice-write-block
+slice-write-block : tie.Need-bounds-block-2
 slice-write-block c = search rules
 
-put-number-requires : tie.Need-put-number-requires
+put-number-requires : tie.Need-put_number-requires
 put-number-requires c κs = simp length-set (omega arith)
 
-show-item-requires : tie.Need-show-item-requires
+show-item-requires : tie.Need-show_item-requires
 show-item-requires c κs =
-    let p = c.before.before.before in
-    let s = p.before.before in
-    let a = s.before.before.before.before.before.args in
-    let l : length p.put-number.new.0 ≡ length a.block.now = ap length p.put-number.ensures ∙ simp (length-sets, length-set) in
+    let a = c.args in
+    let l : length c.put_number.new.block ≡ length a.block.now = ap length c.put_number.ensures ∙ simp (length-sets, length-set) in
     omega (arith, l)
 
-same_length : tie.Need-same-length
+same_length : tie.Need-shape_of-block
 same_length c =
-    let i = c.before.before in
-    let p = i.before.before.before.before in
-    let s = p.before.before in
-    let a = s.before.before.before.before.before.args in
-    kept_length a.block.now p.put-number.new.0 i.show-item.new.0 s.status.result (high_first a.count) (item_bytes a.item)
-    p.put-number.ensures i.show-item.ensures
+    let a = c.args in
+    kept_length a.block.now c.put_number.new.block c.show_item.new.block c.status.result (high_first a.count) (item_bytes a.item)
+    c.put_number.ensures c.show_item.ensures
 
-returns-2 : tie.Need-returns-2
+returns-2 : tie.Need-returns
 returns-2 c =
-    let i = c.before.before in
-    let p = i.before.before.before.before in
-    let s = p.before.before in
-    let r = s.before.before in
-    let a = r.before.before.before.args in
-    rw (le-leb 16 (length a.block.now) r.before.if1.false)
-    (i.show-item.ensures ∙ rw (p.put-number.ensures, s.status.ensures, r.is-ready.ensures)
+    let a = c.args in
+    rw (le-leb 16 (length a.block.now) c.if-block-lt16.false)
+    (c.show_item.ensures ∙ rw (c.put_number.ensures, c.status.ensures, c.is_ready-ready.ensures)
     (stored a.block.now (status_byte a.block.now (chip_showing a.opened a.count a.item)) a.count (item_bytes a.item)
-    r.before.if1.false (item_eight a.item)))
+    c.if-block-lt16.false (item_eight a.item)))
 
-pub show-spec : {M : Type 1} → statement M
-show-spec =
+pub show_spec : {M : Type 1} → statement M
+show_spec =
     tie.close
     (tie.spec
     returns

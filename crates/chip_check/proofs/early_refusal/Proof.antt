@@ -9,39 +9,39 @@ use Rattle.chip_check.proofs.early_refusal.Statement.{statement}
 use Rattle.chip_check.proofs.early_refusal.Tie as tie
 
 -- the boundary character as it was lent
-edge : (c : tie.After-absent-refusal) → c.absent-refusal.result ≡ absent_refusal 255 c.before.args.boundary
-edge c = c.absent-refusal.ensures ∙ ap (absent_refusal 255) (number_word c.before.args.boundary c.before.ranges.boundary)
+edge : (c : tie.After-absent_refusal-edge) → c.absent_refusal-edge.result ≡ absent_refusal 255 c.args.boundary
+edge c = c.absent_refusal-edge.ensures ∙ ap (absent_refusal 255) (number_word c.args.boundary c.ranges.boundary)
 
-absent-refusal-requires : tie.Need-absent-refusal-requires
+absent-refusal-requires : tie.Need-absent_refusal-edge-requires
 absent-refusal-requires c κs = search rules
 
-returns : tie.Need-returns
-returns c = first_refusal _ (edge c.before) c.if1.true
+returns : tie.Need-returns-then-edge-ne0
+returns c = first_refusal _ (edge c.before) c.if-edge-ne0.true
 
-chip-refusal-requires : tie.Need-chip-refusal-requires
+chip-refusal-requires : tie.Need-chip_refusal-stands-requires
 chip-refusal-requires c κs = search rules
 
-returns-2 : tie.Need-returns-2
+returns-2 : tie.Need-returns-then-stands-ne0
 returns-2 c =
-    let r = c.before in
-    let i = r.before in
-    later_refusal_lem (edge i.before) i.if1.false (first_refusal _ r.chip-refusal.ensures c.if2.true)
+    later_refusal_lem (edge c.before.before.before) c.if-edge-ne0.false (first_refusal _ c.chip_refusal-stands.ensures c.if-stands-ne0.true)
 
-returns-3 : tie.Need-returns-3
+returns-3 : tie.Need-returns-then-bytes-lt16
 returns-3 c =
-    let r = c.before.before in
-    let i = r.before in
-    later_refusal_lem (edge i.before) i.if1.false
-    (later_refusal_lem r.chip-refusal.ensures c.before.if2.false (sym (room_short 16 i.before.before.args.bytes c.if3.true)))
+    later_refusal_lem (edge c.before.before.before.before) c.if-edge-ne0.false
+    (later_refusal_lem c.chip_refusal-stands.ensures c.if-stands-ne0.false (sym (room_short 16 c.args.bytes c.if-bytes-lt16.true)))
 
-returns-4 : tie.Need-returns-4
+returns-4 : tie.Need-returns-else-bytes-lt16
 returns-4 c =
-    let r = c.before.before in
-    let i = r.before in
-    later_refusal_lem (edge i.before) i.if1.false
-    (later_refusal_lem r.chip-refusal.ensures c.before.if2.false (sym (room_is 16 i.before.before.args.bytes c.if3.false)))
+    later_refusal_lem (edge c.before.before.before.before) c.if-edge-ne0.false
+    (later_refusal_lem c.chip_refusal-stands.ensures c.if-stands-ne0.false (sym (room_is 16 c.args.bytes c.if-bytes-lt16.false)))
 
-pub early-refusal-spec : {M : Type 1} → statement M
-early-refusal-spec =
+pub early_refusal_spec : {M : Type 1} → statement M
+early_refusal_spec =
     tie.close
-    (tie.spec absent-refusal-requires returns chip-refusal-requires returns-2 returns-3 returns-4)
+    (tie.spec
+    absent-refusal-requires
+    returns
+    chip-refusal-requires
+    returns-2
+    returns-3
+    returns-4)

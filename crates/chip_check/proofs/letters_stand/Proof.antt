@@ -12,40 +12,47 @@ use Rattle.chip_check.proofs.Laws.{or_more}
 use Rattle.chip_check.proofs.letters_stand.Statement.{statement}
 use Rattle.chip_check.proofs.letters_stand.Tie as tie
 
-abbrev invariant-loop : tie.invariant-loop
+abbrev invariant-loop : tie.invariant-loop-i
 invariant-loop word all₀ i₀ all i = (i ≤ length word) × (leb all 255 ≡ every i (λ j. leb (get_or word j 0) 255))
 
-abbrev decreases-loop : tie.decreases-loop
+abbrev decreases-loop : tie.decreases-loop-i
 decreases-loop word all₀ i₀ all i = length word - i
 
-loop-holds : tie.Need-loop-init invariant-loop decreases-loop
+loop-holds : tie.Need-loop-i-init invariant-loop decreases-loop
 loop-holds c = (omega arith, sym (every_none (λ j. leb (get_or c.args.word.now j 0) 255)))
 
-mul-all : tie.Need-overflow-mul-all invariant-loop decreases-loop
+mul-all : tie.Need-offset_bounds-word-i invariant-loop decreases-loop
 mul-all c = omega arith
 
-shared-slice-read-all : tie.Need-shared-slice-read-all invariant-loop decreases-loop
+shared-slice-read-all : tie.Need-bounds-word-i invariant-loop decreases-loop
 shared-slice-read-all c = omega arith
 
-add-i : tie.Need-overflow-add-i invariant-loop decreases-loop
+add-i : tie.Need-overflow_add-i invariant-loop decreases-loop
 add-i c = omega arith
 
-loop-less : tie.Need-loop-smaller invariant-loop decreases-loop
+loop-less : tie.Need-loop-i-smaller invariant-loop decreases-loop
 loop-less c = omega arith
 
-loop-again : tie.Need-loop-preserved invariant-loop decreases-loop
+loop-again : tie.Need-loop-i-preserved invariant-loop decreases-loop
 loop-again c =
-    let l = c.before.before in
-    (omega arith, or_more 8 255 (λ _. 256) l.before.args.word.now l.loop.i l.loop.all l.loop.invariant.1)
+    (omega arith, or_more 8 255 (λ _. 256) c.args.word.now c.loop-i.i c.loop-i.all c.loop-i.invariant.1)
 
 returns : tie.Need-returns invariant-loop decreases-loop
 returns c =
-    let l = c.before in
-    let w = l.before.args.word.now in
-    let e : length w ≡ l.loop.i = omega arith in
-    l.loop.invariant.1 ∙ rw e
+    let w = c.args.word.now in
+    let e : length w ≡ c.loop-i.i = omega arith in
+    c.loop-i.invariant.1 ∙ rw e
 
-pub letters-stand-spec : {M : Type 1} → statement M
-letters-stand-spec =
+pub letters_stand_spec : {M : Type 1} → statement M
+letters_stand_spec =
     tie.close
-    (tie.spec invariant-loop decreases-loop loop-holds mul-all shared-slice-read-all add-i loop-less loop-again returns)
+    (tie.spec
+    invariant-loop
+    decreases-loop
+    loop-holds
+    mul-all
+    shared-slice-read-all
+    add-i
+    loop-less
+    loop-again
+    returns)

@@ -10,33 +10,35 @@ use Rattle.captions.specs.Begin.{plain_options}
 use Rattle.captions.specs.Steps.{step_of}
 use Rattle.captions.proofs.Replies.{stepped_is}
 use Rattle.chips.specs.Commands.{chip_word}
-use Rattle.chip_check.proofs.Laws.{array_long}
 use borrow.Author.Rules.{rules}
 use Rattle.chip_turn.proofs.chip_step.Statement.{statement}
 use Rattle.chip_turn.proofs.chip_step.Tie as tie
 
 -- the chip has 64 letters
 long : (c : tie.Start) → length c.args.chip.letters ≡ 64
-long c = array_long 64 c.args.chip.letters c.well-formed.1.1.1.0.1.1.1.1.0.1.0.1
+long c = c.well_formed.1.1.1.0.1.1.1.1.0.1.0.1
 
-array-share-prefix-letters : tie.Need-array-share-prefix-letters
-array-share-prefix-letters c = let s = c.before.before in omega (arith, long s, s.requires)
+array-share-prefix-letters : tie.Need-slice_bounds-letters-end
+array-share-prefix-letters c = omega (arith, long (c.before.before), c.requires)
 
-slice-aggregate-step : tie.Need-slice-aggregate-step
+slice-aggregate-step : tie.Need-slice_bounds-step-end
 slice-aggregate-step c =
-    let s = c.before.before.before in
-    sym (length-take-le s.args.chip.length s.args.chip.letters (omega (arith, long s, s.requires)))
+    sym (length-take-le c.args.chip.length c.args.chip.letters (omega (arith, long (c.before.before.before), c.requires)))
 
 step-requires : tie.Need-step-requires
 step-requires c κs = search rules
 
 returns : tie.Need-returns
 returns c =
-    let s = c.before.before.before.before in
-    let a = s.args in
+    let a = c.args in
     stepped_is a.pairs.now a.ops.now (number_of (word_of a.boundary)) (chip_word a.chip) plain_options a.chip.state c.step.ensures
-    ∙ (λ j. step_of a.pairs.now a.ops.now (number_word a.boundary s.ranges.boundary j) (chip_word a.chip) plain_options a.chip.state)
+    ∙ (λ j. step_of a.pairs.now a.ops.now (number_word a.boundary c.ranges.boundary j) (chip_word a.chip) plain_options a.chip.state)
 
-pub chip-step-spec : {M : Type 1} → statement M
-chip-step-spec =
-    tie.close (tie.spec array-share-prefix-letters slice-aggregate-step step-requires returns)
+pub chip_step_spec : {M : Type 1} → statement M
+chip_step_spec =
+    tie.close
+    (tie.spec
+    array-share-prefix-letters
+    slice-aggregate-step
+    step-requires
+    returns)

@@ -11,41 +11,42 @@ use Rattle.chip_turn.proofs.commanded.Statement.{statement}
 use Rattle.chip_turn.proofs.commanded.Tie as tie
 
 -- what was refused before, of the boundary character as it was lent
-early : (c : tie.After-early-refusal) → let a = c.before.args in c.early-refusal.result ≡ early_refusal a.boundary a.chip a.bytes
+early : (c : tie.After-early_refusal-refusal) → let a = c.args in c.early_refusal-refusal.result ≡ early_refusal a.boundary a.chip a.bytes
 early c =
-    let s = c.before in
-    let a = s.args in
-    c.early-refusal.ensures ∙ ap (λ (b : ℤ). early_refusal b a.chip a.bytes) (number_word a.boundary s.ranges.boundary)
+    let a = c.args in
+    c.early_refusal-refusal.ensures ∙ ap (λ (b : ℤ). early_refusal b a.chip a.bytes) (number_word a.boundary c.ranges.boundary)
 
 -- nothing was
-none : (c : tie.Else1) → let a = c.before.before.args in early_refusal a.boundary a.chip a.bytes ≡ 0
-none c = sym (early c.before) ∙ c.if1.false
+none : (c : tie.Else-refusal-ne0) → let a = c.args in early_refusal a.boundary a.chip a.bytes ≡ 0
+none c = sym (early c.before) ∙ c.if-refusal-ne0.false
 
-early-refusal-requires : tie.Need-early-refusal-requires
+early-refusal-requires : tie.Need-early_refusal-refusal-requires
 early-refusal-requires c κs = search rules
 
-returns : tie.Need-returns
+returns : tie.Need-returns-then-refusal-ne0
 returns c =
-    let e = c.before in
-    let a = e.before.args in
-    early_whole a.pairs.now a.ops.now a.boundary a.bytes (a.command ∷ a.letter ∷ []) a.chip (early e) c.if1.true
+    let a = c.args in
+    early_whole a.pairs.now a.ops.now a.boundary a.bytes (a.command ∷ a.letter ∷ []) a.chip (early (c.before)) c.if-refusal-ne0.true
 
 turned-requires : tie.Need-turned-requires
 turned-requires c κs =
-    let s = c.before.before in
-    let a = s.args in (
-      rw (number_word a.boundary s.ranges.boundary) (edge_passed a.boundary a.chip a.bytes (none c)),
+    let a = c.args in (
+      rw (number_word a.boundary c.ranges.boundary) (edge_passed a.boundary a.chip a.bytes (none c)),
       chip_passed a.boundary a.chip a.bytes (none c),
     )
 
-returns-2 : tie.Need-returns-2
+returns-2 : tie.Need-returns
 returns-2 c =
-    let i = c.before in
-    let s = i.before.before in
-    let a = s.args in
+    let a = c.args in
     c.turned.ensures
-    ∙ ap (λ (b : ℤ). turned_of a.pairs.now a.ops.now b (a.command ∷ a.letter ∷ []) a.chip) (number_word a.boundary s.ranges.boundary)
-    ∙ turned_whole a.pairs.now a.ops.now a.boundary a.bytes (a.command ∷ a.letter ∷ []) a.chip (none i)
+    ∙ ap (λ (b : ℤ). turned_of a.pairs.now a.ops.now b (a.command ∷ a.letter ∷ []) a.chip) (number_word a.boundary c.ranges.boundary)
+    ∙ turned_whole a.pairs.now a.ops.now a.boundary a.bytes (a.command ∷ a.letter ∷ []) a.chip (none (c.before))
 
-pub commanded-spec : {M : Type 1} → statement M
-commanded-spec = tie.close (tie.spec early-refusal-requires returns turned-requires returns-2)
+pub commanded_spec : {M : Type 1} → statement M
+commanded_spec =
+    tie.close
+    (tie.spec
+    early-refusal-requires
+    returns
+    turned-requires
+    returns-2)

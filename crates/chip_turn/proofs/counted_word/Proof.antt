@@ -9,29 +9,29 @@ use borrow.Author.Rules.{rules}
 use Rattle.chip_turn.proofs.counted_word.Statement.{statement}
 use Rattle.chip_turn.proofs.counted_word.Tie as tie
 
-cast-caller : tie.Need-overflow-cast-caller
+cast-caller : tie.Need-overflow_cast-caller
 cast-caller c = search rules
 
-mul-counts : tie.Need-overflow-mul-counts
+mul-counts : tie.Need-offset_bounds-counts-caller
 mul-counts c = search rules
 
-array-read-counts : tie.Need-array-read-counts
-array-read-counts c = let s = c.before.before in omega (arith, low_caller s.args.chip s.requires.0)
+array-read-counts : tie.Need-bounds-counts-caller
+array-read-counts c = omega (arith, low_caller c.args.chip c.requires.0)
 
-add-counts : tie.Need-overflow-add-counts
-add-counts c = let s = c.before.before in omega (arith, can_count_lem s.args.chip s.requires.0 s.requires.1)
+add-counts : tie.Need-overflow_add-counts
+add-counts c = omega (arith, can_count_lem c.args.chip c.requires.0 c.requires.1)
 
-mul-counts-2 : tie.Need-overflow-mul-counts-2
+mul-counts-2 : tie.Need-offset_bounds-counts-caller-2
 mul-counts-2 c = search rules
 
-array-write-counts : tie.Need-array-write-counts
-array-write-counts c = let s = c.before.before in omega (arith, low_caller s.args.chip s.requires.0)
+array-write-counts : tie.Need-bounds-counts-caller-2
+array-write-counts c = omega (arith, low_caller c.args.chip c.requires.0)
 
 returns : tie.Need-returns
-returns c = let x = c.before.before.args.chip in λ j. set x.counts x.caller (add-one (caller_count x.caller x) j)
+returns c = let x = c.args.chip in λ j. set x.counts x.caller (add-one (caller_count x.caller x) j)
 
-pub counted-word-spec : {M : Type 1} → statement M
-counted-word-spec =
+pub counted_word_spec : {M : Type 1} → statement M
+counted_word_spec =
     tie.close
     (tie.spec
     cast-caller

@@ -10,30 +10,32 @@ use borrow.Author.Rules.{rules}
 use Rattle.chip_turn.proofs.end_word.Statement.{statement}
 use Rattle.chip_turn.proofs.end_word.Tie as tie
 
-chip-step-requires : tie.Need-chip-step-requires
-chip-step-requires c κs = let s = c.before in few_letters s.args.chip s.requires
+chip-step-requires : tie.Need-chip_step-given-requires
+chip-step-requires c κs = few_letters c.args.chip c.requires
 
-counted-word-requires : tie.Need-counted-word-requires
+counted-word-requires : tie.Need-counted_word-requires
 counted-word-requires c κs = search rules
 
-show-step-requires : tie.Need-show-step-requires
+show-step-requires : tie.Need-show_step-requires
 show-step-requires c κs = search rules
 
-returns : tie.Need-returns
+returns : tie.Need-returns-then-chip
 returns c =
-    let w = c.before in
-    let t = w.before in
-    let i = t.before in
-    let s = i.before in
-    let a = s.args in
-    c.show-step.ensures
-    ∙ (λ j. stepped_by a.chip (w.counted-word.ensures j) (t.chip-step.ensures j))
-    ∙ (λ j. stepped_by a.chip (counted_word a.chip) (chip_step a.pairs.now a.ops.now (number_word a.boundary s.ranges.boundary j) a.chip))
-    ∙ in_turn_lem _ _ a.chip i.if1.true
+    let a = c.args in
+    c.show_step.ensures
+    ∙ (λ j. stepped_by a.chip (c.counted_word.ensures j) (c.chip_step-given.ensures j))
+    ∙ (λ j. stepped_by a.chip (counted_word a.chip) (chip_step a.pairs.now a.ops.now (number_word a.boundary c.ranges.boundary j) a.chip))
+    ∙ in_turn_lem _ _ a.chip c.if-chip.true
 
-returns-2 : tie.Need-returns-2
-returns-2 c = out_of_turn _ _ c.before.args.chip c.if1.false
+returns-2 : tie.Need-returns
+returns-2 c = out_of_turn _ _ c.args.chip c.if-chip.false
 
-pub end-word-spec : {M : Type 1} → statement M
-end-word-spec =
-    tie.close (tie.spec chip-step-requires counted-word-requires show-step-requires returns returns-2)
+pub end_word_spec : {M : Type 1} → statement M
+end_word_spec =
+    tie.close
+    (tie.spec
+    chip-step-requires
+    counted-word-requires
+    show-step-requires
+    returns
+    returns-2)

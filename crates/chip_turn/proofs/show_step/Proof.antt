@@ -7,21 +7,23 @@ use borrow.Author.Rules.{rules}
 use Rattle.chip_turn.proofs.show_step.Statement.{statement}
 use Rattle.chip_turn.proofs.show_step.Tie as tie
 
-answer-number-requires : tie.Need-answer-number-requires
+answer-number-requires : tie.Need-answer_number-number-requires
 answer-number-requires c κs = search rules
 
-returns : tie.Need-returns
+returns : tie.Need-returns-then-number-ne0
 returns c =
-    let n = c.before in
-    let a = n.before.args in
-    refused_by (chip_stepped a.counts a.given a.chip) a.chip n.answer_number_lem.ensures c.if1.true
+    let a = c.args in
+    refused_by (chip_stepped a.counts a.given a.chip) a.chip c.answer_number-number.ensures c.if-number-ne0.true
 
-returns-2 : tie.Need-returns-2
+returns-2 : tie.Need-returns
 returns-2 c =
-    let i = c.before.before in
-    let n = i.before in
-    let a = n.before.args in
-    taken_by (chip_stepped a.counts a.given a.chip) a.chip (sym n.answer_number_lem.ensures ∙ i.if1.false)
+    let a = c.args in
+    taken_by (chip_stepped a.counts a.given a.chip) a.chip (sym c.answer_number-number.ensures ∙ c.if-number-ne0.false)
 
-pub show-step-spec : {M : Type 1} → statement M
-show-step-spec = tie.close (tie.spec answer-number-requires returns returns-2)
+pub show_step_spec : {M : Type 1} → statement M
+show_step_spec =
+    tie.close
+    (tie.spec
+    answer-number-requires
+    returns
+    returns-2)

@@ -10,30 +10,32 @@ use borrow.Author.Rules.{rules}
 use Rattle.chip_turn.proofs.take_item.Statement.{statement}
 use Rattle.chip_turn.proofs.take_item.Tie as tie
 
-is-ready-requires : tie.Need-is-ready-requires
+is-ready-requires : tie.Need-is_ready-requires
 is-ready-requires c κs = search rules
 
-chip-step-requires : tie.Need-chip-step-requires
-chip-step-requires c κs = let s = c.before.before in few_letters s.args.chip s.requires
+chip-step-requires : tie.Need-chip_step-given-requires
+chip-step-requires c κs = few_letters c.args.chip c.requires
 
-show-step-requires : tie.Need-show-step-requires
+show-step-requires : tie.Need-show_step-requires
 show-step-requires c κs = search rules
 
-returns : tie.Need-returns
+returns : tie.Need-returns-then-is_ready
 returns c =
-    let t = c.before.before in
-    let i = t.before in
-    let r = i.before in
-    let s = r.before in
-    let a = s.args in
-    c.show-step.ensures
-    ∙ ap (stepped_by a.chip a.chip.counts) t.chip-step.ensures
-    ∙ (λ j. stepped_by a.chip a.chip.counts (chip_step a.pairs.now a.ops.now (number_word a.boundary s.ranges.boundary j) a.chip))
-    ∙ in_turn_lem _ _ a.chip (sym r.is-ready.ensures ∙ i.if1.true)
+    let a = c.args in
+    c.show_step.ensures
+    ∙ ap (stepped_by a.chip a.chip.counts) c.chip_step-given.ensures
+    ∙ (λ j. stepped_by a.chip a.chip.counts (chip_step a.pairs.now a.ops.now (number_word a.boundary c.ranges.boundary j) a.chip))
+    ∙ in_turn_lem _ _ a.chip (sym c.is_ready.ensures ∙ c.if-is_ready.true)
 
-returns-2 : tie.Need-returns-2
-returns-2 c = let r = c.before in out_of_turn _ _ r.before.args.chip (sym r.is-ready.ensures ∙ c.if1.false)
+returns-2 : tie.Need-returns
+returns-2 c = out_of_turn _ _ c.args.chip (sym c.is_ready.ensures ∙ c.if-is_ready.false)
 
-pub take-item-spec : {M : Type 1} → statement M
-take-item-spec =
-    tie.close (tie.spec is-ready-requires chip-step-requires show-step-requires returns returns-2)
+pub take_item_spec : {M : Type 1} → statement M
+take_item_spec =
+    tie.close
+    (tie.spec
+    is-ready-requires
+    chip-step-requires
+    show-step-requires
+    returns
+    returns-2)

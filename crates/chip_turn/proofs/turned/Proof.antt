@@ -22,55 +22,52 @@ use Rattle.chip_turn.proofs.turned.Tie as tie
 abbrev begun_by : ℕ → ℕ → Chip → Commanded
 begun_by n caller chip = commanded_by (or_else n (in_turn (may_begin caller chip) (caller_refusal caller))) (chip_begun caller chip) chip
 
-begin-word-requires : tie.Need-begin-word-requires
+begin-word-requires : tie.Need-begin_word-requires
 begin-word-requires c κs = search rules
 
-add-letter-requires : tie.Need-add-letter-requires
+add-letter-requires : tie.Need-add_letter-requires
 add-letter-requires c κs = search rules
 
-end-word-requires : tie.Need-end-word-requires
+end-word-requires : tie.Need-end_word-requires
 end-word-requires c κs = search rules
 
-take-item-requires : tie.Need-take-item-requires
+take-item-requires : tie.Need-take_item-requires
 take-item-requires c κs = search rules
 
-returns : tie.Need-returns
+returns : tie.Need-returns-in-1
 returns c =
-    let s = c.before.before in
-    let a = s.args in
-    c.begin-word.ensures
+    let a = c.args in
+    c.begin_word.ensures
     ∙ ap (λ (z : ℤ). begun_by (begin_refusal a.pairs.now a.ops.now z [] plain_options) a.letter a.chip)
-    (number_word a.boundary s.ranges.boundary)
-    ∙ ap (λ (n : ℕ). begun_by n a.letter a.chip) (none_refusal a.pairs.now a.ops.now a.boundary s.requires.0)
-    ∙ rw c.before.match.keys1
+    (number_word a.boundary c.ranges.boundary)
+    ∙ ap (λ (n : ℕ). begun_by n a.letter a.chip) (none_refusal a.pairs.now a.ops.now a.boundary c.requires.0)
+    ∙ rw c.in-1.is
 
-returns-2 : tie.Need-returns-2
-returns-2 c = c.add-letter.ensures ∙ rw c.before.match.keys2
+returns-2 : tie.Need-returns-in-2
+returns-2 c = c.add_letter.ensures ∙ rw c.in-2.is
 
-returns-3 : tie.Need-returns-3
+returns-3 : tie.Need-returns-in-3
 returns-3 c =
-    let s = c.before.before in
-    let a = s.args in
-    c.end-word.ensures
-    ∙ ap (turn_at a.pairs.now a.ops.now a.chip a.chip.opened (counted_word a.chip)) (number_word a.boundary s.ranges.boundary)
-    ∙ rw c.before.match.keys3
+    let a = c.args in
+    c.end_word.ensures
+    ∙ ap (turn_at a.pairs.now a.ops.now a.chip a.chip.opened (counted_word a.chip)) (number_word a.boundary c.ranges.boundary)
+    ∙ rw c.in-3.is
 
-returns-4 : tie.Need-returns-4
+returns-4 : tie.Need-returns-in-4
 returns-4 c =
-    let s = c.before.before in
-    let a = s.args in
-    c.take-item.ensures
-    ∙ ap (turn_at a.pairs.now a.ops.now a.chip (item_ready a.chip) a.chip.counts) (number_word a.boundary s.ranges.boundary)
-    ∙ rw c.before.match.keys4
+    let a = c.args in
+    c.take_item.ensures
+    ∙ ap (turn_at a.pairs.now a.ops.now a.chip (item_ready a.chip) a.chip.counts) (number_word a.boundary c.ranges.boundary)
+    ∙ rw c.in-4.is
 
-returns-5 : tie.Need-returns-5
+returns-5 : tie.Need-returns-in_default
 returns-5 c =
-    let x = c.before.args.command in
-    let n = c.match.rest in
+    let x = c.args.command in
+    let n = c.in_default.in_default-own.rest in
     rw (ne_eqb x 1 n.0.0.0.1, ne_eqb x 2 n.0.0.1, ne_eqb x 3 n.0.1, ne_eqb x 4 n.1)
 
-pub turned-spec : {M : Type 1} → statement M
-turned-spec =
+pub turned_spec : {M : Type 1} → statement M
+turned_spec =
     tie.close
     (tie.spec
     begin-word-requires

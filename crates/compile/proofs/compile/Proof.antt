@@ -22,126 +22,110 @@ use Rattle.compile.proofs.compile.Tie as tie
 font : (s : tie.Start) → Font
 font s =
     let a = s.args in
-    font_of a.instructions.now a.kerns.now a.entries.now a.boundary a.«left_entry_lem» (design_at a.«design-size» a.size a.magnification)
+    font_of a.instructions.now a.kerns.now a.entries.now a.boundary a.left_entry (design_at a.design_size a.size a.magnification)
 
 late : (s : tie.Start) → ℕ
-late s = let a = s.args in asked_refusal a.«design-size» a.size a.magnification
+late s = let a = s.args in asked_refusal a.design_size a.size a.magnification
 
 -- the number of 1 to 5, of that font
-early : (c : tie.After-font-refusal) → c.font-refusal.result ≡ font_refusal (font c.before.before.before)
+early : (c : tie.After-font_refusal-number) → c.font_refusal-number.result ≡ font_refusal (font c.before.before.before)
 unfolding font
 early c =
-    let s = c.before.before.before in
-    let a = s.args in
-    let f = s.ranges in
-    let z = design_as a.«design-size» a.size a.magnification f.«design-size» f.size f.magnification c.before.design-at.ensures in
-    number_as a.instructions.now a.kerns.now a.entries.now _ a.boundary _ a.«left_entry_lem» _
-    (design_at a.«design-size» a.size a.magnification) c.font-refusal.result c.font-refusal.ensures
-    (number_word a.boundary f.boundary) (number_word a.«left_entry_lem» f.«left_entry_lem») z
+    let a = c.args in
+    let f = c.ranges in
+    let z = design_as a.design_size a.size a.magnification f.design_size f.size f.magnification c.design_at-design.ensures in
+    number_as a.instructions.now a.kerns.now a.entries.now _ a.boundary _ a.left_entry _
+    (design_at a.design_size a.size a.magnification) c.font_refusal-number.result c.font_refusal-number.ensures
+    (number_word a.boundary f.boundary) (number_word a.left_entry f.left_entry) z
 
-design-at-requires : tie.Need-design-at-requires
+design-at-requires : tie.Need-design_at-design-requires
 design-at-requires c κs = search rules
 
-font-refusal-requires : tie.Need-font-refusal-requires
+font-refusal-requires : tie.Need-font_refusal-number-requires
 font-refusal-requires c κs = search rules
 
-zero-i32-requires : tie.Need-zero-i32-requires
+zero-i32-requires : tie.Need-zero_i32-requires
 zero-i32-requires c κs = search rules
 
-zero-i32-requires-2 : tie.Need-zero-i32-requires-2
+zero-i32-requires-2 : tie.Need-zero_i32-requires-then-number-ne0
 zero-i32-requires-2 c κs = search rules
 
-zero-i32-requires-3 : tie.Need-zero-i32-requires-3
+zero-i32-requires-3 : tie.Need-zero_i32-requires-then-number-ne0-2
 zero-i32-requires-3 c κs = search rules
 
-zero-u32-requires : tie.Need-zero-u32-requires
+zero-u32-requires : tie.Need-zero_u32-requires
 zero-u32-requires c κs = search rules
 
-same_length : tie.Need-same-length
+same_length : tie.Need-shape_of-pairs-then-number-ne0
 same_length c = search rules
 
-same-length-2 : tie.Need-same-length-2
+same-length-2 : tie.Need-shape_of-ops-then-number-ne0
 same-length-2 c = search rules
 
-same-length-3 : tie.Need-same-length-3
+same-length-3 : tie.Need-shape_of-loops-then-number-ne0
 same-length-3 c = search rules
 
-same-length-4 : tie.Need-same-length-4
+same-length-4 : tie.Need-shape_of-work-then-number-ne0
 same-length-4 c = search rules
 
-returns : tie.Need-returns
+returns : tie.Need-returns-then-number-ne0
 unfolding font late
 returns c =
-    let v = c.before.before.zero-u32 in
-    let zl = c.before.before.before.before.before.zero-i323 in
-    let zo = c.before.before.before.before.before.before.before.before.zero-i322 in
-    let p = c.before.before.before.before.before.before.before.before.before.before.before in
-    let k = p.before.before.before in
-    let s = k.before.before.before in
-    let a = s.args in
-    refused (font s) (late s) a.pairs.now a.ops.now a.loops.now a.work.now k.font-refusal.result (early k) p.before.before.if1.true
-    p.zero-i32.new.0 zo.new.0 zl.new.0 v.new.0 p.zero-i32.ensures zo.ensures zl.ensures v.ensures
+    let a = c.args in
+    refused (font (c.before.before.before.before.before.before.before.before.before.before.before.before.before.before.before.before.before)) (late (c.before.before.before.before.before.before.before.before.before.before.before.before.before.before.before.before.before)) a.pairs.now a.ops.now a.loops.now a.work.now c.font_refusal-number.result (early (c.before.before.before.before.before.before.before.before.before.before.before.before.before.before)) c.if-number-ne0.true
+    c.zero_i32.new.s c.zero_i32-then-number-ne0.new.s c.zero_i32-then-number-ne0-2.new.s c.zero_u32.new.s c.zero_i32.ensures c.zero_i32-then-number-ne0.ensures c.zero_i32-then-number-ne0-2.ensures c.zero_u32.ensures
 
-write-lists-requires : tie.Need-write-lists-requires
+write-lists-requires : tie.Need-write_lists-compiled-requires
 write-lists-requires c κs = search rules
 
-asked-refusal-requires : tie.Need-asked-refusal-requires
+asked-refusal-requires : tie.Need-asked_refusal-late-requires
 asked-refusal-requires c κs = search rules
 
-keep-i32-requires : tie.Need-keep-i32-requires
+keep-i32-requires : tie.Need-keep_i32-requires
 keep-i32-requires c κs = search rules
 
-keep-i32-requires-2 : tie.Need-keep-i32-requires-2
+keep-i32-requires-2 : tie.Need-keep_i32-requires-2
 keep-i32-requires-2 c κs = search rules
 
-keep-i32-requires-3 : tie.Need-keep-i32-requires-3
+keep-i32-requires-3 : tie.Need-keep_i32-requires-3
 keep-i32-requires-3 c κs = search rules
 
-late-answer-requires : tie.Need-late-answer-requires
+late-answer-requires : tie.Need-late_answer-requires
 late-answer-requires c κs = search rules
 
-same-length-5 : tie.Need-same-length-5
+same-length-5 : tie.Need-shape_of-pairs
 same-length-5 c = search rules
 
-same-length-6 : tie.Need-same-length-6
+same-length-6 : tie.Need-shape_of-ops
 same-length-6 c = search rules
 
-same-length-7 : tie.Need-same-length-7
+same-length-7 : tie.Need-shape_of-loops
 same-length-7 c = search rules
 
-same-length-8 : tie.Need-same-length-8
+same-length-8 : tie.Need-shape_of-work
 same-length-8 c = search rules
 
-returns-2 : tie.Need-returns-2
+returns-2 : tie.Need-returns
 unfolding font late
 returns-2 c =
-    let zl = c.before.before.keep-i323 in
-    let zo = c.before.before.before.before.before.keep-i322 in
-    let zp = c.before.before.before.before.before.before.before.before.keep-i32 in
-    let q = c.before.before.before.before.before.before.before.before.before.before in
-    let t = q.before.before.before.before.before.before in
-    let i = t.before.before.before.before.before in
-    let s = i.before.before.before.before in
-    let a = s.args in
-    let f = s.ranges in
-    let y = number_word a.«left_entry_lem» f.«left_entry_lem» in
-    let z = design_as a.«design-size» a.size a.magnification f.«design-size» f.size f.magnification i.before.before.design-at.ensures in
-    let n = refusal_as a.«design-size» a.size a.magnification f.«design-size» f.size f.magnification q.asked-refusal.ensures in
-    let o = t.write-lists.new.1.1.1.1.1 in
-    let k = t.write-lists.auto.1.1.1.1.1 in
+    let a = c.args in
+    let f = c.ranges in
+    let y = number_word a.left_entry f.left_entry in
+    let z = design_as a.design_size a.size a.magnification f.design_size f.size f.magnification c.design_at-design.ensures in
+    let n = refusal_as a.design_size a.size a.magnification f.design_size f.size f.magnification c.asked_refusal-late.ensures in
     let b = lent_as
-    (λ (g : Font) (r : Compiled). Builds g a.pairs.now a.ops.now a.loops.now a.work.now r o.0 o.1.0 o.1.1.0 o.1.1.1.0)
-    a.instructions.now a.kerns.now a.entries.now a.boundary _ a.«left_entry_lem» _ (design_at a.«design-size» a.size a.magnification)
-    t.write-lists.result t.write-lists.result (t.write-lists.ensures a.boundary) refl y z in
-    compiled (font s) (late s) a.pairs.now a.ops.now a.loops.now a.work.now t.write-lists.result o.0 o.1.0 o.1.1.0
-    k.0 k.1.0 k.1.1.0 o.1.1.1.0 (sym i.if1.false ∙ early i.before) b c.late-answer.result
-    (c.late-answer.ensures ∙ ap (λ (j : ℕ). late_answer j t.write-lists.result) n)
-    zp.new.1.0 zo.new.1.0 zl.new.1.0
-    (zp.ensures ∙ ap (λ (j : ℕ). kept j (pos 0) o.0) n) (zo.ensures ∙ ap (λ (j : ℕ). kept j (pos 0) o.1.0) n)
-    (zl.ensures ∙ ap (λ (j : ℕ). kept j (pos 0) o.1.1.0) n)
+    (λ (g : Font) (r : Compiled). Builds g a.pairs.now a.ops.now a.loops.now a.work.now r c.write_lists-compiled.new.pairs c.write_lists-compiled.new.ops c.write_lists-compiled.new.loops c.write_lists-compiled.new.work)
+    a.instructions.now a.kerns.now a.entries.now a.boundary _ a.left_entry _ (design_at a.design_size a.size a.magnification)
+    c.write_lists-compiled.result c.write_lists-compiled.result (c.write_lists-compiled.ensures a.boundary) refl y z in
+    compiled (font (c.before.before.before.before.before.before.before.before.before.before.before.before.before.before.before.before.before.before.before.before.before.before.before.before.before)) (late (c.before.before.before.before.before.before.before.before.before.before.before.before.before.before.before.before.before.before.before.before.before.before.before.before.before)) a.pairs.now a.ops.now a.loops.now a.work.now c.write_lists-compiled.result c.write_lists-compiled.new.pairs c.write_lists-compiled.new.ops c.write_lists-compiled.new.loops
+    c.write_lists-compiled.auto.pairs c.write_lists-compiled.auto.ops c.write_lists-compiled.auto.loops c.write_lists-compiled.new.work (sym c.if-number-ne0.false ∙ early c.before.before.before.before.before.before.before.before.before.before.before.before.before.before.before.before.before.before.before.before.before.before) b c.late_answer.result
+    (c.late_answer.ensures ∙ ap (λ (j : ℕ). late_answer j c.write_lists-compiled.result) n)
+    c.keep_i32.new.out c.keep_i32-2.new.out c.keep_i32-3.new.out
+    (c.keep_i32.ensures ∙ ap (λ (j : ℕ). kept j (pos 0) c.write_lists-compiled.new.pairs) n) (c.keep_i32-2.ensures ∙ ap (λ (j : ℕ). kept j (pos 0) c.write_lists-compiled.new.ops) n)
+    (c.keep_i32-3.ensures ∙ ap (λ (j : ℕ). kept j (pos 0) c.write_lists-compiled.new.loops) n)
 
-pub compile-spec : {M : Type 1} → statement M
-compile-spec =
+pub compile_spec : {M : Type 1} → statement M
+compile_spec =
     tie.close
     (tie.spec
     design-at-requires

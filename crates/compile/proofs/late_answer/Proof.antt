@@ -20,26 +20,29 @@ before : (n : ℕ) (r : Compiled) (k : ℕ) → (n ≡ 0 → ⊥) → r ≡ Refu
 before zero r k h e = absurd (h refl)
 before (suc n) r k h e = rw e
 
-returns : tie.Need-returns
-returns c = none-late c.before.args.number c.before.args.compiled c.if1.true
+returns : tie.Need-returns-then-number-eq0
+returns c = none-late c.args.number c.args.compiled c.if-number-eq0.true
 
-enum_told : tie.Need-enum-told
+enum_told : tie.Need-enum_told-1
 enum_told c = search rules
 
-enum-known-compiled : tie.Need-enum-known-compiled
+enum-known-compiled : tie.Need-enum_known-compiled
 enum-known-compiled c = search rules
 
-returns-2 : tie.Need-returns-2
+returns-2 : tie.Need-returns-in-Tables
 returns-2 c =
-    let e = c.before.before in
-    let g = c.enum_told.given in
-    taken e.before.args.number e.before.args.compiled g.0.0 g.0.1.0 g.0.1.1.0 e.if1.false g.1
+    taken c.args.number c.args.compiled c.in-Tables.field-0 c.in-Tables.field-1 c.in-Tables.field-2 c.if-number-eq0.false c.in-Tables.is
 
-returns-3 : tie.Need-returns-3
+returns-3 : tie.Need-returns-in-Refused
 returns-3 c =
-    let e = c.before.before.before in
-    let g = c.before.compiled.given in
-    before e.before.args.number e.before.args.compiled g.0.0 e.if1.false g.1
+    before c.args.number c.args.compiled c.in-Refused.n c.if-number-eq0.false c.in-Refused.is
 
-pub late-answer-spec : {M : Type 1} → statement M
-late-answer-spec = tie.close (tie.spec returns enum_told enum-known-compiled returns-2 returns-3)
+pub late_answer_spec : {M : Type 1} → statement M
+late_answer_spec =
+    tie.close
+    (tie.spec
+    returns
+    enum_told
+    enum-known-compiled
+    returns-2
+    returns-3)

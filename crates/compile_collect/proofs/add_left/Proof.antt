@@ -7,64 +7,54 @@ use borrow.Author.Rules.{rules}
 use Rattle.compile_collect.proofs.add_left.Statement.{statement}
 use Rattle.compile_collect.proofs.add_left.Tie as tie
 
-entry-of-requires : tie.Need-entry-of-requires
+entry-of-requires : tie.Need-entry_of-entry-requires
 entry-of-requires c κs = search rules
 
-returns : tie.Need-returns
+returns : tie.Need-returns-then-entry-ge2147483648
 returns c =
-    let n = c.before in
-    let a = n.before.before in
-    adds_none a.args.instructions.now a.args.table.now a.args.left n.entry_of.result n.entry_of.ensures a.args.n a.args.cap
-    a.args.work.now a.requires c.if1.true
+    adds_none c.args.instructions.now c.args.table.now c.args.left c.entry_of-entry.result c.entry_of-entry.ensures c.args.n c.args.cap
+    c.args.work.now c.requires c.if-entry-ge2147483648.true
 
-cast-survey : tie.Need-overflow-cast-survey
+cast-survey : tie.Need-overflow_cast-entry
 cast-survey c = search rules
 
-survey-requires : tie.Need-survey-requires
+survey-requires : tie.Need-survey-m-requires
 survey-requires c κs = search rules
 
-sub-if2 : tie.Need-overflow-sub-if2
+sub-if2 : tie.Need-overflow_sub-cap
 sub-if2 c = search rules
 
-returns-2 : tie.Need-returns-2
+returns-2 : tie.Need-returns-then-cap-n
 returns-2 c =
-    let y = c.before in
-    let x = y.before.before.before.before in
-    let n = x.before in
-    let a = n.before.before in
-    let f = y.survey.ensures in
-    adds_over a.args.instructions.now a.args.table.now a.args.left a.args.n y.survey.result a.args.cap n.entry_of.result
-    f.first f.order a.args.work.now a.requires n.entry_of.ensures x.if1.false f.surveyed c.if2.true
+    let f = c.survey-m.ensures in
+    adds_over c.args.instructions.now c.args.table.now c.args.left c.args.n c.survey-m.result c.args.cap c.entry_of-entry.result
+    f.first f.order c.args.work.now c.requires c.entry_of-entry.ensures c.if-entry-ge2147483648.false f.surveyed c.if-cap-n.true
 
-cast-add-rows : tie.Need-overflow-cast-add-rows
+cast-add-rows : tie.Need-overflow_cast-n
 cast-add-rows c = search rules
 
-cast-add-rows-2 : tie.Need-overflow-cast-add-rows-2
+cast-add-rows-2 : tie.Need-overflow_cast-left
 cast-add-rows-2 c = search rules
 
-add-rows-requires : tie.Need-add-rows-requires
+add-rows-requires : tie.Need-add_rows-requires
 add-rows-requires c κs = search rules
 
-add-t13 : tie.Need-overflow-add-t13
+add-t13 : tie.Need-overflow_add-result
 add-t13 c = search rules
 
-same_length : tie.Need-same-length
+same_length : tie.Need-shape_of-work
 same_length c = search rules
 
-returns-3 : tie.Need-returns-3
+returns-3 : tie.Need-returns
 returns-3 c =
-    let y = c.before.before.before.before.before.before.before.before in
-    let x = y.before.before.before.before in
-    let n = x.before in
-    let a = n.before.before in
-    let o = y.survey.new.1.1 in
-    adds_left a.args.instructions.now a.args.table.now a.args.left a.args.n y.survey.result a.args.cap n.entry_of.result
-    a.args.places.now a.args.indices.now o.0 o.1.0 o.1.1.0 a.args.work.now a.requires n.entry_of.ensures x.if1.false
-    y.survey.ensures c.before.before.add-rows.new.0 c.before.before.before.before.before.before.before.if2.false
-    c.before.before.add-rows.ensures
+    let o = c.survey-m.new in
+    adds_left c.args.instructions.now c.args.table.now c.args.left c.args.n c.survey-m.result c.args.cap c.entry_of-entry.result
+    c.args.places.now c.args.indices.now o.places o.indices o.rights c.args.work.now c.requires c.entry_of-entry.ensures c.if-entry-ge2147483648.false
+    c.survey-m.ensures c.add_rows.new.work c.if-cap-n.false
+    c.add_rows.ensures
 
-pub add-left-spec : {M : Type 1} → statement M
-add-left-spec =
+pub add_left_spec : {M : Type 1} → statement M
+add_left_spec =
     tie.close
     (tie.spec
     entry-of-requires

@@ -10,88 +10,68 @@ use Rattle.compile_collect.proofs.Lefts.{Lefts, lefts_long, lefts_adding, lefts_
 use Rattle.compile_collect.proofs.collect_rows.Statement.{statement}
 use Rattle.compile_collect.proofs.collect_rows.Tie as tie
 
-abbrev invariant-loop : tie.invariant-loop
+abbrev invariant-loop : tie.invariant-loop-left
 invariant-loop instructions table work₀ cap places₀ indices₀ n₀ e₀ left₀ work places indices n e left = Lefts instructions table cap e work₀ work left n
 
-abbrev decreases-loop : tie.decreases-loop
+abbrev decreases-loop : tie.decreases-loop-left
 decreases-loop instructions table work₀ cap places₀ indices₀ n₀ e₀ left₀ work places indices n e left = 257 - left
 
-loop-holds : tie.Need-loop-init invariant-loop decreases-loop
+loop-holds : tie.Need-loop-left-init invariant-loop decreases-loop
 loop-holds c = (refl, refl)
 
-add-left-requires : tie.Need-add-left-requires invariant-loop decreases-loop
+add-left-requires : tie.Need-add_left-requires invariant-loop decreases-loop
 add-left-requires c κs =
-    let i = c.before.before.before in
-    let l = i.before in
-    let a = l.before.before in
-    lefts_adding a.args.instructions.now a.args.table.now a.args.cap a.args.work.now l.loop.e l.loop.left l.loop.n
-    l.loop.work l.loop.invariant a.requires.0 a.requires.1 a.requires.2 i.loop-test.true
+    lefts_adding c.args.instructions.now c.args.table.now c.args.cap c.args.work.now c.loop-left.e c.loop-left.left c.loop-left.n
+    c.loop-left.work c.loop-left.invariant c.requires.0 c.requires.1 c.requires.2 c.loop-left-test.true
 
-enum-known-m : tie.Need-enum-known-m invariant-loop decreases-loop
+enum-known-m : tie.Need-enum_known-m invariant-loop decreases-loop
 enum-known-m c = search rules
 
-enum_told : tie.Need-enum-told invariant-loop decreases-loop
+enum_told : tie.Need-enum_told-1 invariant-loop decreases-loop
 enum_told c = search rules
 
-same_length : tie.Need-same-length invariant-loop decreases-loop
+same_length : tie.Need-shape_of-work-in_default invariant-loop decreases-loop
 same_length c =
-    let m = c.before.before.before.before in
-    let i = m.before.before.before.before in
-    let l = i.before in
-    let a = l.before.before in
-    m.add_left.auto.1.1.0
-    ∙ lefts_long a.args.instructions.now a.args.table.now a.args.cap a.args.work.now l.loop.e l.loop.left l.loop.n
-    l.loop.work l.loop.invariant
+    c.add_left.auto.work
+    ∙ lefts_long c.args.instructions.now c.args.table.now c.args.cap c.args.work.now c.loop-left.e c.loop-left.left c.loop-left.n
+    c.loop-left.work c.loop-left.invariant
 
-returns : tie.Need-returns invariant-loop decreases-loop
-returns c =
-    let m = c.before.before.before.before in
-    let i = m.before.before.before.before in
-    let l = i.before in
-    let a = l.before.before in (
-      refl,
-      over_is a.args.instructions.now a.args.table.now l.loop.left l.loop.n a.args.cap l.loop.work m.add_left.new.1.1.0
-          m.add_left.result m.add_left.ensures i.loop-test.true c.enum_told.given.1,
-    )
+returns : tie.Need-returns-in_default invariant-loop decreases-loop
+returns c = (
+  refl,
+  over_is c.args.instructions.now c.args.table.now c.loop-left.left c.loop-left.n c.args.cap c.loop-left.work c.add_left.new.work
+      c.add_left.result c.add_left.ensures c.loop-left-test.true c.in_default.is,
+)
 
-edge-rows-requires : tie.Need-edge-rows-requires invariant-loop decreases-loop
+edge-rows-requires : tie.Need-edge_rows-e-requires invariant-loop decreases-loop
 edge-rows-requires c κs = search rules
 
-add_left : tie.Need-overflow-add-left invariant-loop decreases-loop
-add_left c = omega (arith, c.before.before.before.before.before.before.before.before.before.before.loop-test.true)
+add_left : tie.Need-overflow_add-left invariant-loop decreases-loop
+add_left c = omega (arith, c.loop-left-test.true)
 
-loop-less : tie.Need-loop-smaller invariant-loop decreases-loop
-loop-less c = omega (arith, c.before.before.before.before.before.before.before.before.before.before.loop-test.true)
+loop-less : tie.Need-loop-left-smaller invariant-loop decreases-loop
+loop-less c = omega (arith, c.loop-left-test.true)
 
-loop-again : tie.Need-loop-preserved invariant-loop decreases-loop
+loop-again : tie.Need-loop-left-preserved invariant-loop decreases-loop
 loop-again c =
-    let g = c.before.before.m.given in
-    let m = c.before.before.before.before.before.before in
-    let i = m.before.before.before.before in
-    let l = i.before in
-    let a = l.before.before in
-    rw c.edge-rows.ensures
-    (lefts_more a.args.instructions.now a.args.table.now a.args.cap a.args.work.now l.loop.e l.loop.left l.loop.n
-    g.0.0 l.loop.work m.add_left.new.1.1.0 l.loop.invariant i.loop-test.true m.add_left.auto.1.1.0
-    (upto_is a.args.instructions.now a.args.table.now l.loop.left l.loop.n a.args.cap l.loop.work
-    m.add_left.new.1.1.0 m.add_left.result m.add_left.ensures g.0.0 g.1))
+    rw c.edge_rows-e.ensures
+    (lefts_more c.args.instructions.now c.args.table.now c.args.cap c.args.work.now c.loop-left.e c.loop-left.left c.loop-left.n
+    c.in-Upto.m c.loop-left.work c.add_left.new.work c.loop-left.invariant c.loop-left-test.true c.add_left.auto.work
+    (upto_is c.args.instructions.now c.args.table.now c.loop-left.left c.loop-left.n c.args.cap c.loop-left.work
+    c.add_left.new.work c.add_left.result c.add_left.ensures c.in-Upto.m c.in-Upto.is))
 
-same-length-2 : tie.Need-same-length-2 invariant-loop decreases-loop
+same-length-2 : tie.Need-shape_of-work invariant-loop decreases-loop
 same-length-2 c =
-    let l = c.before in
-    let a = l.before.before in
-    lefts_long a.args.instructions.now a.args.table.now a.args.cap a.args.work.now l.loop.e l.loop.left l.loop.n
-    l.loop.work l.loop.invariant
+    lefts_long c.args.instructions.now c.args.table.now c.args.cap c.args.work.now c.loop-left.e c.loop-left.left c.loop-left.n
+    c.loop-left.work c.loop-left.invariant
 
-returns-2 : tie.Need-returns-2 invariant-loop decreases-loop
+returns-2 : tie.Need-returns invariant-loop decreases-loop
 returns-2 c =
-    let l = c.before in
-    let a = l.before.before in
-    lefts_all a.args.instructions.now a.args.table.now a.args.cap a.args.work.now l.loop.e l.loop.left l.loop.n
-    l.loop.work l.loop.invariant c.loop-test.false
+    lefts_all c.args.instructions.now c.args.table.now c.args.cap c.args.work.now c.loop-left.e c.loop-left.left c.loop-left.n
+    c.loop-left.work c.loop-left.invariant c.loop-left-test.false
 
-pub collect-rows-spec : {M : Type 1} → statement M
-collect-rows-spec =
+pub collect_rows_spec : {M : Type 1} → statement M
+collect_rows_spec =
     tie.close
     (tie.spec
     invariant-loop

@@ -4,15 +4,19 @@ use Rattle.compile_collect.proofs.Lefts.{edge_first, edge_later}
 use Rattle.compile_collect.proofs.edge_rows.Statement.{statement}
 use Rattle.compile_collect.proofs.edge_rows.Tie as tie
 
-returns : tie.Need-returns
+returns : tie.Need-returns-then-left-eq0
 returns c =
-    let a = c.before.args in
-    edge_first a.left a.n a.e c.if1.true
+    let a = c.args in
+    edge_first a.left a.n a.e c.if-left-eq0.true
 
-returns-2 : tie.Need-returns-2
+returns-2 : tie.Need-returns-else-left-eq0
 returns-2 c =
-    let a = c.before.args in
-    edge_later a.left a.n a.e c.if1.false
+    let a = c.args in
+    edge_later a.left a.n a.e c.if-left-eq0.false
 
-pub edge-rows-spec : {M : Type 1} → statement M
-edge-rows-spec = tie.close (tie.spec returns returns-2)
+pub edge_rows_spec : {M : Type 1} → statement M
+edge_rows_spec =
+    tie.close
+    (tie.spec
+    returns
+    returns-2)

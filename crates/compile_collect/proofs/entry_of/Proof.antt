@@ -5,17 +5,21 @@ use borrow.Author.Rules.{rules}
 use Rattle.compile_collect.proofs.entry_of.Statement.{statement}
 use Rattle.compile_collect.proofs.entry_of.Tie as tie
 
-place-of-requires : tie.Need-place-of-requires
+place-of-requires : tie.Need-place_of-requires
 place-of-requires c κs = search rules
 
-word-at-requires : tie.Need-word-at-requires
+word-at-requires : tie.Need-word_at-requires
 word-at-requires c κs = search rules
 
 returns : tie.Need-returns
 returns c =
-    let a = c.before.before.before in
-    entry_word a.args.table.now a.args.left c.before.place_of.result c.word_at.result c.before.before.word-at-arg.given.0 a.requires
-    c.before.place_of.ensures c.word_at.ensures
+    entry_word c.args.table.now c.args.left c.place_of.result c.word_at.result c.word_at-arg-1.given c.requires
+    c.place_of.ensures c.word_at.ensures
 
-pub entry-of-spec : {M : Type 1} → statement M
-entry-of-spec = tie.close (tie.spec place-of-requires word-at-requires returns)
+pub entry_of_spec : {M : Type 1} → statement M
+entry_of_spec =
+    tie.close
+    (tie.spec
+    place-of-requires
+    word-at-requires
+    returns)

@@ -5,14 +5,19 @@ use borrow.Author.Rules.{rules}
 use Rattle.compile_collect.proofs.place_of.Statement.{statement}
 use Rattle.compile_collect.proofs.place_of.Tie as tie
 
-sub-result : tie.Need-overflow-sub-result
+sub-result : tie.Need-overflow_sub-result
 sub-result c = search rules
 
-returns : tie.Need-returns
+returns : tie.Need-returns-then-left-eq0
 returns c = search rules
 
-returns-2 : tie.Need-returns-2
-returns-2 c = place_is c.before.args.left c.if1.false
+returns-2 : tie.Need-returns-else-left-eq0
+returns-2 c = place_is c.args.left c.if-left-eq0.false
 
-pub place-of-spec : {M : Type 1} → statement M
-place-of-spec = tie.close (tie.spec sub-result returns returns-2)
+pub place_of_spec : {M : Type 1} → statement M
+place_of_spec =
+    tie.close
+    (tie.spec
+    sub-result
+    returns
+    returns-2)

@@ -9,14 +9,19 @@ use borrow.Author.Rules.{rules}
 use Rattle.compile_lists.proofs.left_word.Statement.{statement}
 use Rattle.compile_lists.proofs.left_word.Tie as tie
 
-sub-result : tie.Need-overflow-sub-result
+sub-result : tie.Need-overflow_sub-result
 sub-result c = search rules
 
-returns : tie.Need-returns
-returns c = sym (ap (λ (x : ℕ). left_number (left_of x)) c.if1.true)
+returns : tie.Need-returns-then-left-eq0
+returns c = sym (ap (λ (x : ℕ). left_number (left_of x)) c.if-left-eq0.true)
 
-returns-2 : tie.Need-returns-2
-returns-2 c = left_word c.before.args.left c.before.requires c.if1.false
+returns-2 : tie.Need-returns-else-left-eq0
+returns-2 c = left_word c.args.left c.requires c.if-left-eq0.false
 
-pub left-word-spec : {M : Type 1} → statement M
-left-word-spec = tie.close (tie.spec sub-result returns returns-2)
+pub left_word_spec : {M : Type 1} → statement M
+left_word_spec =
+    tie.close
+    (tie.spec
+    sub-result
+    returns
+    returns-2)

@@ -10,87 +10,74 @@ use Rattle.compiling.proofs.LoopLaws.{listed_pair, left_small, loops_none, loops
 use Rattle.compile_lists.proofs.write_loops.Statement.{statement}
 use Rattle.compile_lists.proofs.write_loops.Tie as tie
 
-abbrev invariant-loop : tie.invariant-loop
+abbrev invariant-loop : tie.invariant-loop-i
 invariant-loop work r out₀ i₀ out i = (i ≤ r) × Appending (loop_numbers (tabulate i (listed_pair work))) out₀ out
 
-abbrev decreases-loop : tie.decreases-loop
+abbrev decreases-loop : tie.decreases-loop-i
 decreases-loop work r out₀ i₀ out i = r - i
 
-loop-holds : tie.Need-loop-init invariant-loop decreases-loop
-loop-holds c = (omega arith, loops_none c.before.args.work.now c.before.args.out.now)
+loop-holds : tie.Need-loop-i-init invariant-loop decreases-loop
+loop-holds c = (omega arith, loops_none c.args.work.now c.args.out.now)
 
-get-requires : tie.Need-get-requires invariant-loop decreases-loop
+get-requires : tie.Need-get-k-requires invariant-loop decreases-loop
 get-requires c κs = search rules
 
-cast-k : tie.Need-overflow-cast-k invariant-loop decreases-loop
+cast-k : tie.Need-overflow_cast-k invariant-loop decreases-loop
 cast-k c = search rules
 
-get-requires-2 : tie.Need-get-requires-2 invariant-loop decreases-loop
+get-requires-2 : tie.Need-get-requires invariant-loop decreases-loop
 get-requires-2 c κs = search rules
 
-left-word-requires : tie.Need-left-word-requires invariant-loop decreases-loop
+left-word-requires : tie.Need-left_word-left-requires invariant-loop decreases-loop
 left-word-requires c κs =
-    let g = c.before in
-    let l = g.before.before in
-    let s = l.before.before in
-    left_small s.args.work.now s.args.r l.loop.i g.get.result c.get2.result s.requires.3 g.before.loop-test.true g.get.ensures
-    c.get2.ensures
+    left_small c.args.work.now c.args.r c.loop-i.i c.get-k.result c.get.result c.requires.3 c.loop-i-test.true c.get-k.ensures
+    c.get.ensures
 
-get-requires-3 : tie.Need-get-requires-3 invariant-loop decreases-loop
+get-requires-3 : tie.Need-get-right-requires invariant-loop decreases-loop
 get-requires-3 c κs = search rules
 
-mul-put-word : tie.Need-overflow-mul-put-word invariant-loop decreases-loop
-mul-put-word c = let l = c.before.before.before.before.before.before in omega (arith, l.loop.invariant.0, l.before.before.requires.0)
+mul-put-word : tie.Need-overflow_mul-i invariant-loop decreases-loop
+mul-put-word c = omega (arith, c.loop-i.invariant.0, c.requires.0)
 
-put-word-requires : tie.Need-put-word-requires invariant-loop decreases-loop
+put-word-requires : tie.Need-put_word-requires invariant-loop decreases-loop
 put-word-requires c κs = tt
 
-mul-put-word-2 : tie.Need-overflow-mul-put-word-2 invariant-loop decreases-loop
+mul-put-word-2 : tie.Need-overflow_mul-i-in-loop-i invariant-loop decreases-loop
 mul-put-word-2 c =
-    let l = c.before.before.before.before.before.before.before.before.before in omega (arith, l.loop.invariant.0, l.before.before.requires.0)
+    omega (arith, c.loop-i.invariant.0, c.requires.0)
 
-add-put-word : tie.Need-overflow-add-put-word invariant-loop decreases-loop
-add-put-word c = let l = c.before.before.before.before.before.before.before.before.before in omega (arith, l.loop.invariant.0, l.before.before.requires.0)
+add-put-word : tie.Need-overflow_add-i invariant-loop decreases-loop
+add-put-word c = omega (arith, c.loop-i.invariant.0, c.requires.0)
 
-put-word-requires-2 : tie.Need-put-word-requires-2 invariant-loop decreases-loop
+put-word-requires-2 : tie.Need-put_word-requires-in-loop-i invariant-loop decreases-loop
 put-word-requires-2 c κs = tt
 
-add-i : tie.Need-overflow-add-i invariant-loop decreases-loop
+add-i : tie.Need-overflow_step-i invariant-loop decreases-loop
 add-i c =
-    let l = c.before.before.before.before.before.before.before.before.before.before.before in
-    omega (arith, l.loop.invariant.0, l.before.before.requires.0)
+    omega (arith, c.loop-i.invariant.0, c.requires.0)
 
-loop-less : tie.Need-loop-smaller invariant-loop decreases-loop
-loop-less c = let t = c.before.before.before.before.before.before.before.before.before.before in omega (arith, t.loop-test.true)
+loop-less : tie.Need-loop-i-smaller invariant-loop decreases-loop
+loop-less c = omega (arith, c.loop-i-test.true)
 
-loop-again : tie.Need-loop-preserved invariant-loop decreases-loop
-loop-again c =
-    let q = c.before in
-    let p = q.before.before.before in
-    let d = p.before.before in
-    let v = d.before in
-    let g = v.before.before in
-    let l = g.before.before in
-    let s = l.before.before in (
-      omega (arith, g.before.loop-test.true),
-      loops_more s.args.work.now s.args.r s.args.out.now l.loop.out p.put_word.new.0 q.put-word2.new.0 l.loop.i
-          g.get.result v.before.get2.result v.left_word.result d.get3.result s.requires.3 g.before.loop-test.true s.requires.1
-          g.get.ensures v.before.get2.ensures v.left_word.ensures d.get3.ensures p.put_word.ensures q.put-word2.ensures
-          l.loop.invariant.1,
-    )
+loop-again : tie.Need-loop-i-preserved invariant-loop decreases-loop
+loop-again c = (
+  omega (arith, c.loop-i-test.true),
+  loops_more c.args.work.now c.args.r c.args.out.now c.loop-i.out c.put_word.new.s c.put_word-in-loop-i.new.s c.loop-i.i
+      c.get-k.result c.get.result c.left_word-left.result c.get-right.result c.requires.3 c.loop-i-test.true c.requires.1
+      c.get-k.ensures c.get.ensures c.left_word-left.ensures c.get-right.ensures c.put_word.ensures c.put_word-in-loop-i.ensures
+      c.loop-i.invariant.1,
+)
 
-same_length : tie.Need-same-length invariant-loop decreases-loop
-same_length c = appending_length c.before.before.before.args.out.now c.before.loop.invariant.1
+same_length : tie.Need-shape_of-out invariant-loop decreases-loop
+same_length c = appending_length c.args.out.now c.loop-i.invariant.1
 
 returns : tie.Need-returns invariant-loop decreases-loop
 returns c =
-    let l = c.before in
-    let s = l.before.before in
-    loops_all s.args.work.now s.args.r l.loop.i s.args.out.now l.loop.out s.requires.2 l.loop.invariant.0 c.loop-test.false
-    l.loop.invariant.1
+    loops_all c.args.work.now c.args.r c.loop-i.i c.args.out.now c.loop-i.out c.requires.2 c.loop-i.invariant.0 c.loop-i-test.false
+    c.loop-i.invariant.1
 
-pub write-loops-spec : {M : Type 1} → statement M
-write-loops-spec =
+pub write_loops_spec : {M : Type 1} → statement M
+write_loops_spec =
     tie.close
     (tie.spec
     invariant-loop

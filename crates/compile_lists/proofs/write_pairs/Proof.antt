@@ -2,7 +2,6 @@
 -- it was.
 -- Assumes nothing.
 use mathlib.Core.Path.{sym, ◌∙◌}
-use mathlib.Core.Logic.{⊎_elim}
 use Prim.Native.Nat.{◌-◌}
 use native.Mathlib.Omega.{arith}
 use Rattle.words.proofs.Lists.{appending_length}
@@ -10,70 +9,65 @@ use Rattle.compiling.proofs.OpTables.{WritingPairs, pairs_none, pairs_room, pair
 use borrow.Author.Rules.{rules}
 use Rattle.compile_lists.proofs.write_pairs.Statement.{statement}
 use Rattle.compile_lists.proofs.write_pairs.Tie as tie
+use Rattle.compile_lists.proofs.write_pairs.Lts.{then-get-eq2, else-get-eq2}
 
-abbrev invariant-loop : tie.invariant-loop
+abbrev invariant-loop : tie.invariant-loop-k
 invariant-loop work n m pairs₀ end₀ k₀ pairs end k = WritingPairs n work pairs₀ pairs end k
 
-abbrev decreases-loop : tie.decreases-loop
+abbrev decreases-loop : tie.decreases-loop-k
 decreases-loop work n m pairs₀ end₀ k₀ pairs end k = n - k
 
-loop-holds : tie.Need-loop-init invariant-loop decreases-loop
+loop-holds : tie.Need-loop-k-init invariant-loop decreases-loop
 loop-holds c =
-    let a = c.before.args in
+    let a = c.args in
     pairs_none a.n a.work.now a.pairs.now
 
 get-requires : tie.Need-get-requires invariant-loop decreases-loop
 get-requires c κs = search rules
 
-put-pair-requires : tie.Need-put-pair-requires invariant-loop decreases-loop
+put-pair-requires : tie.Need-put_pair-requires invariant-loop decreases-loop
 put-pair-requires c κs =
-    let l = c.before.before.before.before in
-    let s = l.before.before in
-    let h = c.before.before.before.loop-test.true in (
-      omega (arith, s.requires.0.encoded.ascending.few),
-      s.requires.0.encoded.ascending.left l.loop.k h,
-      pairs_room s.args.n s.args.m s.args.work.now s.requires.0 s.args.pairs.now l.loop.pairs l.loop.end l.loop.k l.loop.invariant
-          h s.requires.1,
+    let h = c.loop-k-test.true in (
+      omega (arith, c.requires.0.encoded.ascending.few),
+      c.requires.0.encoded.ascending.left c.loop-k.k h,
+      pairs_room c.args.n c.args.m c.args.work.now c.requires.0 c.args.pairs.now c.loop-k.pairs c.loop-k.end c.loop-k.k c.loop-k.invariant
+          h c.requires.1,
     )
 
-add-end : tie.Need-overflow-add-end invariant-loop decreases-loop
+add-end : tie.Need-overflow_add-end invariant-loop decreases-loop
 add-end c =
-    let l = c.before.before.before.before.before.before in
-    let s = l.before.before in
-    omega (arith, l.loop.invariant.few, c.before.before.before.before.before.loop-test.true, s.requires.0.encoded.ascending.few)
+    omega (arith, c.loop-k.invariant.few, c.loop-k-test.true, c.requires.0.encoded.ascending.few)
 
-add-k : tie.Need-overflow-add-k invariant-loop decreases-loop
-add-k c = omega (arith, c.before.before.loop-test.true, c.before.before.before.before.before.ranges.n)
+add-k : tie.Need-overflow_step-k invariant-loop decreases-loop
+add-k c = omega (arith, c.loop-k-test.true, c.ranges.n)
 
-loop-less : tie.Need-loop-smaller invariant-loop decreases-loop
-loop-less c = omega (arith, c.before.before.loop-test.true)
+loop-less : tie.Need-loop-k-smaller invariant-loop decreases-loop
+loop-less c = omega (arith, c.loop-k-test.true)
 
-loop-again : tie.Need-loop-preserved invariant-loop decreases-loop
+loop-again : tie.Need-loop-k-preserved invariant-loop decreases-loop
 loop-again c =
-    let l = c.before.before.before in
-    let s = l.before.before in
-    let h = c.before.before.loop-test.true in
-    let g = c.before.get.ensures in
-    ⊎_elim
-    (λ x. pairs_finished s.args.n s.args.m s.args.work.now s.requires.0 s.args.pairs.now l.loop.pairs l.loop.end l.loop.k
-    l.loop.invariant h s.requires.1 c.if1.pairs c.if1.end (sym g ∙ x.0.taken) (x.4 ∙ x.2.ensures) x.5)
-    (λ x. pairs_never s.args.n s.args.m s.args.work.now s.requires.0 s.args.pairs.now l.loop.pairs l.loop.end l.loop.k
-    l.loop.invariant h c.if1.pairs c.if1.end (λ e. x.0.left (g ∙ e)) x.1 x.2)
-    c.if1.branch
+    let h = c.loop-k-test.true in
+    let g = c.get.ensures in
+    elim c.if-get-eq2.branch [
+      | then-get-eq2 w ↦
+          pairs_finished c.args.n c.args.m c.args.work.now c.requires.0 c.args.pairs.now c.loop-k.pairs c.loop-k.end c.loop-k.k
+          c.loop-k.invariant h c.requires.1 c.if-get-eq2.pairs c.if-get-eq2.end (sym g ∙ w.if-get-eq2.true) (w.pairs-is ∙ w.put_pair.ensures) w.end-is
+      | else-get-eq2 w ↦
+          pairs_never c.args.n c.args.m c.args.work.now c.requires.0 c.args.pairs.now c.loop-k.pairs c.loop-k.end c.loop-k.k
+          c.loop-k.invariant h c.if-get-eq2.pairs c.if-get-eq2.end (λ e. w.if-get-eq2.false (g ∙ e)) w.pairs-is w.end-is
+    ]
 
-same_length : tie.Need-same-length invariant-loop decreases-loop
+same_length : tie.Need-shape_of-pairs invariant-loop decreases-loop
 same_length c =
-    let s = c.before.before.before in
-    appending_length s.args.pairs.now c.before.loop.invariant.appended
+    appending_length c.args.pairs.now c.loop-k.invariant.appended
 
 returns : tie.Need-returns invariant-loop decreases-loop
 returns c =
-    let s = c.before.before.before in
-    pairs_all s.args.n s.args.m s.args.work.now s.requires.0 s.args.pairs.now c.before.loop.pairs c.before.loop.end
-    c.before.loop.k c.before.loop.invariant c.loop-test.false s.requires.2
+    pairs_all c.args.n c.args.m c.args.work.now c.requires.0 c.args.pairs.now c.loop-k.pairs c.loop-k.end
+    c.loop-k.k c.loop-k.invariant c.loop-k-test.false c.requires.2
 
-pub write-pairs-spec : {M : Type 1} → statement M
-write-pairs-spec =
+pub write_pairs_spec : {M : Type 1} → statement M
+write_pairs_spec =
     tie.close
     (tie.spec
     invariant-loop

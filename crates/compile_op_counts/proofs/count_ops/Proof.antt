@@ -9,40 +9,40 @@ use borrow.Author.Rules.{rules}
 use Rattle.compile_op_counts.proofs.count_ops.Statement.{statement}
 use Rattle.compile_op_counts.proofs.count_ops.Tie as tie
 
-zero-counts-requires : tie.Need-zero-counts-requires
+zero-counts-requires : tie.Need-zero_counts-requires
 zero-counts-requires c κs = search rules
 
-count-rows-requires : tie.Need-count-rows-requires
+count-rows-requires : tie.Need-count_rows-requires
 count-rows-requires c κs =
-    let s = c.before.before.before.before.before.before in
-    let z = c.before.before.before.zero-counts in
-    let o = z.ensures.only in (
-      encoded_still s.args.n s.args.m s.args.work.now s.requires.0 s.requires.1 z.new.0 o,
-      settled_still s.args.n s.args.m s.args.work.now s.requires.0 s.requires.1 z.new.0 o,
-      z.ensures.stored,
+    let o = c.zero_counts.ensures.only in (
+      encoded_still c.args.n c.args.m c.args.work.now c.requires.0 c.requires.1 c.zero_counts.new.work o,
+      settled_still c.args.n c.args.m c.args.work.now c.requires.0 c.requires.1 c.zero_counts.new.work o,
+      c.zero_counts.ensures.stored,
     )
 
-total-count-requires : tie.Need-total-count-requires
+total-count-requires : tie.Need-total_count-requires
 total-count-requires c κs = search rules
 
-same_length : tie.Need-same-length
+same_length : tie.Need-shape_of-work
 same_length c = search rules
 
 returns : tie.Need-returns
 returns c =
-    let s = c.before.before.before.before.before.before.before.before.before.before.before in
-    let w = s.args.work.now in
-    let n = s.args.n in
-    let z = c.before.before.before.before.before.before.before.before.zero-counts in
-    let o = z.ensures.only in
-    let x = c.before.before.before.before.count-rows in
+    let w = c.args.work.now in
+    let n = c.args.n in
+    let o = c.zero_counts.ensures.only in
     record {
-      only = only_more w z.new.0 x.new.0 o x.ensures.only;
-      counts = λ k h. x.ensures.counts k h ∙ ap capped (count_still n s.args.m w s.requires.0 s.requires.1 z.new.0 o k h);
-      total = c.total-count.ensures ∙ total_is n z.new.0 x.new.0 x.ensures.counts n (omega arith) ∙ ap capped (total_still n w z.new.0 o);
+      only = only_more w c.zero_counts.new.work c.count_rows.new.work o c.count_rows.ensures.only;
+      counts = λ k h. c.count_rows.ensures.counts k h ∙ ap capped (count_still n c.args.m w c.requires.0 c.requires.1 c.zero_counts.new.work o k h);
+      total = c.total_count.ensures ∙ total_is n c.zero_counts.new.work c.count_rows.new.work c.count_rows.ensures.counts n (omega arith) ∙ ap capped (total_still n w c.zero_counts.new.work o);
     }
 
-pub count-ops-spec : {M : Type 1} → statement M
-count-ops-spec =
+pub count_ops_spec : {M : Type 1} → statement M
+count_ops_spec =
     tie.close
-    (tie.spec zero-counts-requires count-rows-requires total-count-requires same_length returns)
+    (tie.spec
+    zero-counts-requires
+    count-rows-requires
+    total-count-requires
+    same_length
+    returns)

@@ -8,65 +8,58 @@ use borrow.Author.Rules.{rules}
 use Rattle.compile_op_counts.proofs.count_rows.Statement.{statement}
 use Rattle.compile_op_counts.proofs.count_rows.Tie as tie
 
-abbrev invariant-loop : tie.invariant-loop
+abbrev invariant-loop : tie.invariant-loop-i
 invariant-loop work₀ n m i₀ work i = Counting n work₀ work i
 
-abbrev decreases-loop : tie.decreases-loop
+abbrev decreases-loop : tie.decreases-loop-i
 decreases-loop work₀ n m i₀ work i = m - i
 
-loop-holds : tie.Need-loop-init invariant-loop decreases-loop
+loop-holds : tie.Need-loop-i-init invariant-loop decreases-loop
 loop-holds c =
-    let s = c.before in
-    counting_none s.args.n s.args.m s.args.work.now s.requires.0 s.requires.1 s.requires.2
+    counting_none c.args.n c.args.m c.args.work.now c.requires.0 c.requires.1 c.requires.2
 
-get-requires : tie.Need-get-requires invariant-loop decreases-loop
+get-requires : tie.Need-get-k-requires invariant-loop decreases-loop
 get-requires c κs = search rules
 
-cast-k : tie.Need-overflow-cast-k invariant-loop decreases-loop
+cast-k : tie.Need-overflow_cast-k invariant-loop decreases-loop
 cast-k c = search rules
 
-row-count-requires : tie.Need-row-count-requires invariant-loop decreases-loop
+row-count-requires : tie.Need-row_count-count-requires invariant-loop decreases-loop
 row-count-requires c κs =
-    let l = c.before.before.before.before in
-    let s = l.before.before in
-    turn_needs s.args.n s.args.m s.args.work.now s.requires.0 s.requires.1 l.loop.work l.loop.i l.loop.invariant
-    c.before.before.before.loop-test.true c.before.get.result c.before.get.ensures
+    turn_needs c.args.n c.args.m c.args.work.now c.requires.0 c.requires.1 c.loop-i.work c.loop-i.i c.loop-i.invariant
+    c.loop-i-test.true c.get-k.result c.get-k.ensures
 
 put-requires : tie.Need-put-requires invariant-loop decreases-loop
 put-requires c κs = search rules
 
-add-i : tie.Need-overflow-add-i invariant-loop decreases-loop
+add-i : tie.Need-overflow_step-i invariant-loop decreases-loop
 add-i c =
     omega (
       arith,
-      c.before.before.before.before.before.before.before.before.loop-test.true,
-      c.before.before.before.before.before.before.before.before.before.before.before.ranges.m,
+      c.loop-i-test.true,
+      c.ranges.m,
     )
 
-loop-less : tie.Need-loop-smaller invariant-loop decreases-loop
-loop-less c = omega (arith, c.before.before.before.before.before.before.before.before.loop-test.true)
+loop-less : tie.Need-loop-i-smaller invariant-loop decreases-loop
+loop-less c = omega (arith, c.loop-i-test.true)
 
-loop-again : tie.Need-loop-preserved invariant-loop decreases-loop
+loop-again : tie.Need-loop-i-preserved invariant-loop decreases-loop
 loop-again c =
-    let l = c.before.before.before.before.before.before.before.before.before in
-    let s = l.before.before in
-    let g = c.before.before.before.before.before.before in
-    counting_more s.args.n s.args.m s.args.work.now s.requires.0 s.requires.1 l.loop.work l.loop.i l.loop.invariant
-    c.before.before.before.before.before.before.before.before.loop-test.true g.get.result
-    c.before.before.before.before.row_count.result c.before.before.put.new.0 g.get.ensures
-    c.before.before.before.before.row_count.ensures c.before.before.put.ensures
+    counting_more c.args.n c.args.m c.args.work.now c.requires.0 c.requires.1 c.loop-i.work c.loop-i.i c.loop-i.invariant
+    c.loop-i-test.true c.get-k.result
+    c.row_count-count.result c.put.new.work c.get-k.ensures
+    c.row_count-count.ensures c.put.ensures
 
-same_length : tie.Need-same-length invariant-loop decreases-loop
-same_length c = c.before.loop.invariant.only.same_length
+same_length : tie.Need-shape_of-work invariant-loop decreases-loop
+same_length c = c.loop-i.invariant.only.same_length
 
 returns : tie.Need-returns invariant-loop decreases-loop
 returns c =
-    let s = c.before.before.before in
-    counting_all s.args.n s.args.m s.args.work.now s.requires.0 s.requires.1 c.before.loop.work c.before.loop.i c.before.loop.invariant
-    c.loop-test.false
+    counting_all c.args.n c.args.m c.args.work.now c.requires.0 c.requires.1 c.loop-i.work c.loop-i.i c.loop-i.invariant
+    c.loop-i-test.false
 
-pub count-rows-spec : {M : Type 1} → statement M
-count-rows-spec =
+pub count_rows_spec : {M : Type 1} → statement M
+count_rows_spec =
     tie.close
     (tie.spec
     invariant-loop

@@ -11,64 +11,57 @@ use borrow.Author.Rules.{rules}
 use Rattle.compile_op_counts.proofs.first_ops.Statement.{statement}
 use Rattle.compile_op_counts.proofs.first_ops.Tie as tie
 
-abbrev invariant-loop : tie.invariant-loop
+abbrev invariant-loop : tie.invariant-loop-k
 invariant-loop work₀ n m total₀ k₀ work total k = (FieldStored 13 n (ops_up_to n work₀) work₀ work k) × (total ≡ ops_up_to n work₀ k)
 
-abbrev decreases-loop : tie.decreases-loop
+abbrev decreases-loop : tie.decreases-loop-k
 decreases-loop work₀ n m total₀ k₀ work total k = n - k
 
-loop-holds : tie.Need-loop-init invariant-loop decreases-loop
+loop-holds : tie.Need-loop-k-init invariant-loop decreases-loop
 loop-holds c =
-    let s = c.before in
-    (stored_none 13 s.args.n (ops_up_to s.args.n s.args.work.now) s.args.work.now, before_none s.args.n s.args.work.now)
+    (stored_none 13 c.args.n (ops_up_to c.args.n c.args.work.now) c.args.work.now, before_none c.args.n c.args.work.now)
 
 put-requires : tie.Need-put-requires invariant-loop decreases-loop
 put-requires c κs = search rules
 
-get-requires : tie.Need-get-requires invariant-loop decreases-loop
+get-requires : tie.Need-get-count-requires invariant-loop decreases-loop
 get-requires c κs = search rules
 
-add_total : tie.Need-overflow-add-total invariant-loop decreases-loop
+add_total : tie.Need-overflow_add-total invariant-loop decreases-loop
 add_total c =
-    let p = c.before.before.before.before in
-    let l = p.before.before.before in
-    let s = l.before.before in
     omega (
       arith,
-      s.requires.3,
-      first_within s.args.n s.args.work.now s.requires.0.ascending.room s.requires.2 l.loop.work p.put.new.0 l.loop.k l.loop.total
-          c.get.result p.before.before.loop-test.true l.loop.invariant.0 l.loop.invariant.1 p.put.ensures c.get.ensures,
+      c.requires.3,
+      first_within c.args.n c.args.work.now c.requires.0.ascending.room c.requires.2 c.loop-k.work c.put.new.work c.loop-k.k c.loop-k.total
+          c.get-count.result c.loop-k-test.true c.loop-k.invariant.0 c.loop-k.invariant.1 c.put.ensures c.get-count.ensures,
     )
 
-add-k : tie.Need-overflow-add-k invariant-loop decreases-loop
+add-k : tie.Need-overflow_step-k invariant-loop decreases-loop
 add-k c =
     omega (
       arith,
-      c.before.before.before.before.before.before.loop-test.true,
-      c.before.before.before.before.before.before.before.before.before.ranges.n,
+      c.loop-k-test.true,
+      c.ranges.n,
     )
 
-loop-less : tie.Need-loop-smaller invariant-loop decreases-loop
-loop-less c = omega (arith, c.before.before.before.before.before.before.loop-test.true)
+loop-less : tie.Need-loop-k-smaller invariant-loop decreases-loop
+loop-less c = omega (arith, c.loop-k-test.true)
 
-loop-again : tie.Need-loop-preserved invariant-loop decreases-loop
+loop-again : tie.Need-loop-k-preserved invariant-loop decreases-loop
 loop-again c =
-    let p = c.before.before.before.before in
-    let l = p.before.before.before in
-    let s = l.before.before in
-    first_again s.args.n s.args.work.now s.requires.0.ascending.room s.requires.2 l.loop.work p.put.new.0 l.loop.k l.loop.total
-    c.get.result p.before.before.loop-test.true l.loop.invariant.0 l.loop.invariant.1 p.put.ensures c.get.ensures
+    first_again c.args.n c.args.work.now c.requires.0.ascending.room c.requires.2 c.loop-k.work c.put.new.work c.loop-k.k c.loop-k.total
+    c.get-count.result c.loop-k-test.true c.loop-k.invariant.0 c.loop-k.invariant.1 c.put.ensures c.get-count.ensures
 
-same_length : tie.Need-same-length invariant-loop decreases-loop
-same_length c = c.before.loop.invariant.0.only.same_length
+same_length : tie.Need-shape_of-work invariant-loop decreases-loop
+same_length c = c.loop-k.invariant.0.only.same_length
 
 returns : tie.Need-returns invariant-loop decreases-loop
 returns c =
-    let x = c.before.loop.invariant.0 in
-    record { only = x.only; firsts = λ k h. x.stored k (omega (arith, c.loop-test.false)) }
+    let x = c.loop-k.invariant.0 in
+    record { only = x.only; firsts = λ k h. x.stored k (omega (arith, c.loop-k-test.false)) }
 
-pub first-ops-spec : {M : Type 1} → statement M
-first-ops-spec =
+pub first_ops_spec : {M : Type 1} → statement M
+first_ops_spec =
     tie.close
     (tie.spec
     invariant-loop

@@ -5,31 +5,38 @@ use Rattle.compile_op_counts.proofs.Totals.{too_many, no_room, no_loop_room, tak
 use Rattle.compile_op_counts.proofs.sizes_refusal.Statement.{statement}
 use Rattle.compile_op_counts.proofs.sizes_refusal.Tie as tie
 
-returns : tie.Need-returns
-returns c = let a = c.before.args in rw (not-true a.scaled c.if1.true)
+returns : tie.Need-returns-then-not-scaled
+returns c = let a = c.args in rw (c.if-not-scaled.true)
 
-returns-2 : tie.Need-returns-2
+returns-2 : tie.Need-returns-then-total-gt2147483647
 returns-2 c =
-    let a = c.before.before.args in
-    rw (not-false a.scaled c.before.if1.false) (too_many a.total a.loops a.«op_room» a.«loop_room» c.if2.true)
+    let a = c.args in
+    rw (c.if-not-scaled.false) (too_many a.total a.loops a.op_room a.loop_room c.if-total-gt2147483647.true)
 
-returns-3 : tie.Need-returns-3
+returns-3 : tie.Need-returns-then-op_room-total
 returns-3 c =
-    let a = c.before.before.before.args in
-    rw (not-false a.scaled c.before.before.if1.false)
-    (no_room a.total a.loops a.«op_room» a.«loop_room» c.before.if2.false c.if3.true)
+    let a = c.args in
+    rw (c.if-not-scaled.false)
+    (no_room a.total a.loops a.op_room a.loop_room c.if-total-gt2147483647.false c.if-op_room-total.true)
 
-returns-4 : tie.Need-returns-4
+returns-4 : tie.Need-returns-then-loop_room-loops
 returns-4 c =
-    let a = c.before.before.before.before.args in
-    rw (not-false a.scaled c.before.before.before.if1.false)
-    (no_loop_room a.total a.loops a.«op_room» a.«loop_room» c.before.before.if2.false c.before.if3.false c.if4.true)
+    let a = c.args in
+    rw (c.if-not-scaled.false)
+    (no_loop_room a.total a.loops a.op_room a.loop_room c.if-total-gt2147483647.false c.if-op_room-total.false c.if-loop_room-loops.true)
 
-returns-5 : tie.Need-returns-5
+returns-5 : tie.Need-returns
 returns-5 c =
-    let a = c.before.before.before.before.args in
-    rw (not-false a.scaled c.before.before.before.if1.false)
-    (taken a.total a.loops a.«op_room» a.«loop_room» c.before.before.if2.false c.before.if3.false c.if4.false)
+    let a = c.args in
+    rw (c.if-not-scaled.false)
+    (taken a.total a.loops a.op_room a.loop_room c.if-total-gt2147483647.false c.if-op_room-total.false c.if-loop_room-loops.false)
 
-pub sizes-refusal-spec : {M : Type 1} → statement M
-sizes-refusal-spec = tie.close (tie.spec returns returns-2 returns-3 returns-4 returns-5)
+pub sizes_refusal_spec : {M : Type 1} → statement M
+sizes_refusal_spec =
+    tie.close
+    (tie.spec
+    returns
+    returns-2
+    returns-3
+    returns-4
+    returns-5)

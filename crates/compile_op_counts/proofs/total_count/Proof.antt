@@ -10,44 +10,42 @@ use borrow.Author.Rules.{rules}
 use Rattle.compile_op_counts.proofs.total_count.Statement.{statement}
 use Rattle.compile_op_counts.proofs.total_count.Tie as tie
 
-abbrev invariant-loop : tie.invariant-loop
+abbrev invariant-loop : tie.invariant-loop-k
 invariant-loop work n total₀ k₀ total k = (total ≡ capped (counts_before work k)) × (k ≤ n)
 
-abbrev decreases-loop : tie.decreases-loop
+abbrev decreases-loop : tie.decreases-loop-k
 decreases-loop work n total₀ k₀ total k = n - k
 
-loop-holds : tie.Need-loop-init invariant-loop decreases-loop
-loop-holds c = (counts_none c.before.args.work.now, omega arith)
+loop-holds : tie.Need-loop-k-init invariant-loop decreases-loop
+loop-holds c = (counts_none c.args.work.now, omega arith)
 
-get-requires : tie.Need-get-requires invariant-loop decreases-loop
+get-requires : tie.Need-get-count-requires invariant-loop decreases-loop
 get-requires c κs = search rules
 
-capped-sum-requires : tie.Need-capped-sum-requires invariant-loop decreases-loop
+capped-sum-requires : tie.Need-capped_sum-total-requires invariant-loop decreases-loop
 capped-sum-requires c κs = tt
 
-add-k : tie.Need-overflow-add-k invariant-loop decreases-loop
+add-k : tie.Need-overflow_step-k invariant-loop decreases-loop
 add-k c = omega arith
 
-loop-less : tie.Need-loop-smaller invariant-loop decreases-loop
+loop-less : tie.Need-loop-k-smaller invariant-loop decreases-loop
 loop-less c = omega arith
 
-loop-again : tie.Need-loop-preserved invariant-loop decreases-loop
+loop-again : tie.Need-loop-k-preserved invariant-loop decreases-loop
 loop-again c =
-    let l = c.before.before.before in
-    let w = l.before.before.args.work.now in (
-      c.capped-sum.ensures ∙ ap (λ (x : ℕ). capped (l.loop.total + x)) c.before.get.ensures
-          ∙ counts_more w l.loop.k l.loop.total l.loop.invariant.0,
-      omega (arith, c.before.before.loop-test.true),
+    let w = c.args.work.now in (
+      c.capped_sum-total.ensures ∙ ap (λ (x : ℕ). capped (c.loop-k.total + x)) c.get-count.ensures
+          ∙ counts_more w c.loop-k.k c.loop-k.total c.loop-k.invariant.0,
+      omega (arith, c.loop-k-test.true),
     )
 
 returns : tie.Need-returns invariant-loop decreases-loop
 returns c =
-    let s = c.before.before.before in
-    let e : c.before.loop.k ≡ s.args.n = omega (arith, c.before.loop.invariant.1, c.loop-test.false) in
-    c.before.loop.invariant.0 ∙ ap (λ (x : ℕ). capped (counts_before s.args.work.now x)) e
+    let e : c.loop-k.k ≡ c.args.n = omega (arith, c.loop-k.invariant.1, c.loop-k-test.false) in
+    c.loop-k.invariant.0 ∙ ap (λ (x : ℕ). capped (counts_before c.args.work.now x)) e
 
-pub total-count-spec : {M : Type 1} → statement M
-total-count-spec =
+pub total_count_spec : {M : Type 1} → statement M
+total_count_spec =
     tie.close
     (tie.spec
     invariant-loop

@@ -9,41 +9,38 @@ use borrow.Author.Rules.{rules}
 use Rattle.compile_op_counts.proofs.zero_counts.Statement.{statement}
 use Rattle.compile_op_counts.proofs.zero_counts.Tie as tie
 
-abbrev invariant-loop : tie.invariant-loop
+abbrev invariant-loop : tie.invariant-loop-k
 invariant-loop work₀ n k₀ work k = FieldStored 12 n (λ (_ : ℕ). 0) work₀ work k
 
-abbrev decreases-loop : tie.decreases-loop
+abbrev decreases-loop : tie.decreases-loop-k
 decreases-loop work₀ n k₀ work k = n - k
 
-loop-holds : tie.Need-loop-init invariant-loop decreases-loop
-loop-holds c = stored_none 12 c.before.args.n (λ (_ : ℕ). 0) c.before.args.work.now
+loop-holds : tie.Need-loop-k-init invariant-loop decreases-loop
+loop-holds c = stored_none 12 c.args.n (λ (_ : ℕ). 0) c.args.work.now
 
 put-requires : tie.Need-put-requires invariant-loop decreases-loop
 put-requires c κs = search rules
 
-add-k : tie.Need-overflow-add-k invariant-loop decreases-loop
+add-k : tie.Need-overflow_step-k invariant-loop decreases-loop
 add-k c = omega arith
 
-loop-less : tie.Need-loop-smaller invariant-loop decreases-loop
+loop-less : tie.Need-loop-k-smaller invariant-loop decreases-loop
 loop-less c = omega arith
 
-loop-again : tie.Need-loop-preserved invariant-loop decreases-loop
+loop-again : tie.Need-loop-k-preserved invariant-loop decreases-loop
 loop-again c =
-    let l = c.before.before.before.before.before in
-    let s = l.before.before in
-    stored_more 12 s.args.n (λ (_ : ℕ). 0) s.args.work.now l.loop.work c.before.before.put.new.0 l.loop.k 0 (omega arith)
-    c.before.before.before.before.loop-test.true s.requires.room refl l.loop.invariant c.before.before.put.ensures
+    stored_more 12 c.args.n (λ (_ : ℕ). 0) c.args.work.now c.loop-k.work c.put.new.work c.loop-k.k 0 (omega arith)
+    c.loop-k-test.true c.requires.room refl c.loop-k.invariant c.put.ensures
 
-same_length : tie.Need-same-length invariant-loop decreases-loop
-same_length c = c.before.loop.invariant.only.same_length
+same_length : tie.Need-shape_of-work invariant-loop decreases-loop
+same_length c = c.loop-k.invariant.only.same_length
 
 returns : tie.Need-returns invariant-loop decreases-loop
 returns c =
-    let s = c.before.before.before in
-    stored_all 12 s.args.n (λ (_ : ℕ). 0) s.args.work.now c.before.loop.work c.before.loop.k c.loop-test.false c.before.loop.invariant
+    stored_all 12 c.args.n (λ (_ : ℕ). 0) c.args.work.now c.loop-k.work c.loop-k.k c.loop-k-test.false c.loop-k.invariant
 
-pub zero-counts-spec : {M : Type 1} → statement M
-zero-counts-spec =
+pub zero_counts_spec : {M : Type 1} → statement M
+zero_counts_spec =
     tie.close
     (tie.spec
     invariant-loop

@@ -11,30 +11,35 @@ use Rattle.compile_op_parts.proofs.last_code.Tie as tie
 find-requires : tie.Need-find-requires
 find-requires c κs = search rules
 
-enum-known-k : tie.Need-enum-known-k
+enum-known-k : tie.Need-enum_known-k
 enum-known-k c = search rules
 
 get-requires : tie.Need-get-requires
 get-requires c κs = search rules
 
-enum_told : tie.Need-enum-told
+enum_told : tie.Need-enum_told-1
 enum_told c = search rules
 
-returns : tie.Need-returns
+returns : tie.Need-returns-in-Found
 returns c =
-    let f = c.before.before.before.before in
-    let a = f.before.before.args in
+    let a = c.args in
     c.get.ensures
     ∙ sym (ap (last_by a.work.now a.right)
-    (found_some (search_row a.work.now a.n a.left a.right) f.find.ensures c.before.before.k.given.1))
+    (found_some (search_row a.work.now a.n a.left a.right) c.find.ensures c.in-Found.is))
 
-returns-2 : tie.Need-returns-2
+returns-2 : tie.Need-returns-in-Missing
 returns-2 c =
-    let f = c.before.before in
-    let a = f.before.before.args in
+    let a = c.args in
     sym (ap (last_by a.work.now a.right)
-    (missing_none (search_row a.work.now a.n a.left a.right) f.find.ensures c.enum_told.given.1))
+    (missing_none (search_row a.work.now a.n a.left a.right) c.find.ensures c.in-Missing.is))
 
-pub last-code-spec : {M : Type 1} → statement M
-last-code-spec =
-    tie.close (tie.spec find-requires enum-known-k get-requires enum_told returns returns-2)
+pub last_code_spec : {M : Type 1} → statement M
+last_code_spec =
+    tie.close
+    (tie.spec
+    find-requires
+    enum-known-k
+    get-requires
+    enum_told
+    returns
+    returns-2)

@@ -5,14 +5,19 @@ use borrow.Author.Rules.{rules}
 use Rattle.compile_op_parts.proofs.left_part.Statement.{statement}
 use Rattle.compile_op_parts.proofs.left_part.Tie as tie
 
-sub-t4 : tie.Need-overflow-sub-t4
+sub-t4 : tie.Need-overflow_sub-result
 sub-t4 c = search rules
 
-returns : tie.Need-returns
+returns : tie.Need-returns-then-left-eq0
 returns c = search rules
 
-returns-2 : tie.Need-returns-2
-returns-2 c = left_is c.before.args.left c.if1.false
+returns-2 : tie.Need-returns-else-left-eq0
+returns-2 c = left_is c.args.left c.if-left-eq0.false
 
-pub left-part-spec : {M : Type 1} → statement M
-left-part-spec = tie.close (tie.spec sub-t4 returns returns-2)
+pub left_part_spec : {M : Type 1} → statement M
+left_part_spec =
+    tie.close
+    (tie.spec
+    sub-t4
+    returns
+    returns-2)

@@ -11,29 +11,34 @@ use Rattle.compile_op_parts.proofs.pair_part.Tie as tie
 find-requires : tie.Need-find-requires
 find-requires c κs = search rules
 
-enum-known-k : tie.Need-enum-known-k
+enum-known-k : tie.Need-enum_known-k
 enum-known-k c = search rules
 
-enum_told : tie.Need-enum-told
+enum_told : tie.Need-enum_told-1
 enum_told c = search rules
 
-left-part-requires : tie.Need-left-part-requires
+left-part-requires : tie.Need-left_part-requires
 left-part-requires c κs = search rules
 
-returns : tie.Need-returns
+returns : tie.Need-returns-in-Found
 returns c =
-    let f = c.before.before.before in
-    let a = f.before.before.args in
-    sym (ap (part_by a.left) (found_some (search_row a.work.now a.n a.left a.right) f.find.ensures c.before.k.given.1))
+    let a = c.args in
+    sym (ap (part_by a.left) (found_some (search_row a.work.now a.n a.left a.right) c.find.ensures c.in-Found.is))
 
-returns-2 : tie.Need-returns-2
+returns-2 : tie.Need-returns-in-Missing
 returns-2 c =
-    let f = c.before.before.before in
-    let a = f.before.before.args in
-    c.left-part.ensures
+    let a = c.args in
+    c.left_part.ensures
     ∙ sym (ap (part_by a.left)
-    (missing_none (search_row a.work.now a.n a.left a.right) f.find.ensures c.before.enum_told.given.1))
+    (missing_none (search_row a.work.now a.n a.left a.right) c.find.ensures c.in-Missing.is))
 
-pub pair-part-spec : {M : Type 1} → statement M
-pair-part-spec =
-    tie.close (tie.spec find-requires enum-known-k enum_told left-part-requires returns returns-2)
+pub pair_part_spec : {M : Type 1} → statement M
+pair_part_spec =
+    tie.close
+    (tie.spec
+    find-requires
+    enum-known-k
+    enum_told
+    left-part-requires
+    returns
+    returns-2)

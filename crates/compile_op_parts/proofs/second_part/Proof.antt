@@ -8,84 +8,78 @@ use borrow.Author.Rules.{rules}
 use Rattle.compile_op_parts.proofs.second_part.Statement.{statement}
 use Rattle.compile_op_parts.proofs.second_part.Tie as tie
 
-get-requires : tie.Need-get-requires
+get-requires : tie.Need-get-op-requires
 get-requires c κs = search rules
 
-get-requires-2 : tie.Need-get-requires-2
+get-requires-2 : tie.Need-get-left-requires
 get-requires-2 c κs = search rules
 
-get-requires-3 : tie.Need-get-requires-3
+get-requires-3 : tie.Need-get-right-requires
 get-requires-3 c κs = search rules
 
-get-requires-4 : tie.Need-get-requires-4
+get-requires-4 : tie.Need-get-value-requires
 get-requires-4 c κs = search rules
 
-place-of-requires : tie.Need-place-of-requires
+place-of-requires : tie.Need-place_of-requires
 place-of-requires c κs = search rules
 
-pair-part-requires : tie.Need-pair-part-requires
+pair-part-requires : tie.Need-pair_part-requires
 pair-part-requires c κs = search rules
 
-last-code-requires : tie.Need-last-code-requires
+last-code-requires : tie.Need-last_code-requires
 last-code-requires c κs = search rules
 
-place-of-requires-2 : tie.Need-place-of-requires-2
+place-of-requires-2 : tie.Need-place_of-requires-in-3
 place-of-requires-2 c κs = search rules
 
-pair-part-requires-2 : tie.Need-pair-part-requires-2
+pair-part-requires-2 : tie.Need-pair_part-requires-in-3
 pair-part-requires-2 c κs = search rules
 
-returns : tie.Need-returns
+returns : tie.Need-returns-in-128
 returns c =
-    let g = c.before in
-    let a = g.before.before.before.before.before.args in
-    second_is a.n a.work.now a.k g.before.before.before.get.ensures g.before.before.get2.ensures g.get4.ensures
-    g.before.get3.ensures
-    (second_kern a.n a.work.now g.before.before.before.get.result g.before.before.get2.result g.get4.result
-    g.before.get3.result c.match.keys1)
+    let a = c.args in
+    second_is a.n a.work.now a.k c.get-op.ensures c.get-left.ensures c.get-value.ensures
+    c.get-right.ensures
+    (second_kern a.n a.work.now c.get-op.result c.get-left.result c.get-value.result
+    c.get-right.result c.in-128.is)
 
-returns-2 : tie.Need-returns-2
+returns-2 : tie.Need-returns-in-5
 returns-2 c =
-    let g = c.before in
-    let a = g.before.before.before.before.before.args in
-    second_is a.n a.work.now a.k g.before.before.before.get.ensures g.before.before.get2.ensures g.get4.ensures
-    g.before.get3.ensures
-    (second_ligature a.n a.work.now g.before.before.before.get.result g.before.before.get2.result g.get4.result
-    g.before.get3.result c.match.keys2)
+    let a = c.args in
+    second_is a.n a.work.now a.k c.get-op.ensures c.get-left.ensures c.get-value.ensures
+    c.get-right.ensures
+    (second_ligature a.n a.work.now c.get-op.result c.get-left.result c.get-value.result
+    c.get-right.result c.in-5.is)
 
-returns-3 : tie.Need-returns-3
+returns-3 : tie.Need-returns-in-1
 returns-3 c =
-    let g = c.before.before.before in
-    let a = g.before.before.before.before.before.args in
-    second_is a.n a.work.now a.k g.before.before.before.get.ensures g.before.before.get2.ensures g.get4.ensures
-    g.before.get3.ensures
-    (c.pair-part.ensures ∙ ap (λ (x : ℕ). pair_found a.n a.work.now x g.before.get3.result) c.before.place_of.ensures
-    ∙ second_inserted a.n a.work.now g.before.before.before.get.result g.before.before.get2.result g.get4.result
-    g.before.get3.result c.before.before.match.keys3)
+    let a = c.args in
+    second_is a.n a.work.now a.k c.get-op.ensures c.get-left.ensures c.get-value.ensures
+    c.get-right.ensures
+    (c.pair_part.ensures ∙ ap (λ (x : ℕ). pair_found a.n a.work.now x c.get-right.result) c.place_of.ensures
+    ∙ second_inserted a.n a.work.now c.get-op.result c.get-left.result c.get-value.result
+    c.get-right.result c.in-1.is)
 
-returns-4 : tie.Need-returns-4
+returns-4 : tie.Need-returns-in-3
 returns-4 c =
-    let l = c.before.before in
-    let g = l.before.before in
-    let a = g.before.before.before.before.before.args in
-    second_is a.n a.work.now a.k g.before.before.before.get.ensures g.before.before.get2.ensures g.get4.ensures
-    g.before.get3.ensures
-    (c.pair-part2.ensures
-    ∙ ap (λ (x : ℕ). pair_found a.n a.work.now x g.before.get3.result) (c.before.place-of2.ensures ∙ ap place_of l.last_code.ensures)
-    ∙ second_last a.n a.work.now g.before.before.before.get.result g.before.before.get2.result g.get4.result
-    g.before.get3.result l.before.match.keys4)
+    let a = c.args in
+    second_is a.n a.work.now a.k c.get-op.ensures c.get-left.ensures c.get-value.ensures
+    c.get-right.ensures
+    (c.pair_part-in-3.ensures
+    ∙ ap (λ (x : ℕ). pair_found a.n a.work.now x c.get-right.result) (c.place_of-in-3.ensures ∙ ap place_of c.last_code.ensures)
+    ∙ second_last a.n a.work.now c.get-op.result c.get-left.result c.get-value.result
+    c.get-right.result c.in-3.is)
 
-returns-5 : tie.Need-returns-5
+returns-5 : tie.Need-returns-in_default
 returns-5 c =
-    let g = c.before in
-    let a = g.before.before.before.before.before.args in
-    second_is a.n a.work.now a.k g.before.before.before.get.ensures g.before.before.get2.ensures g.get4.ensures
-    g.before.get3.ensures
-    (second_none a.n a.work.now g.before.before.before.get.result g.before.before.get2.result g.get4.result
-    g.before.get3.result c.match.rest.0.0.0.1 c.match.rest.0.0.1 c.match.rest.0.1 c.match.rest.1)
+    let a = c.args in
+    second_is a.n a.work.now a.k c.get-op.ensures c.get-left.ensures c.get-value.ensures
+    c.get-right.ensures
+    (second_none a.n a.work.now c.get-op.result c.get-left.result c.get-value.result
+    c.get-right.result c.in_default.in_default-own.rest.0.0.0.1 c.in_default.in_default-own.rest.0.0.1 c.in_default.in_default-own.rest.0.1 c.in_default.in_default-own.rest.1)
 
-pub second-part-spec : {M : Type 1} → statement M
-second-part-spec =
+pub second_part_spec : {M : Type 1} → statement M
+second_part_spec =
     tie.close
     (tie.spec
     get-requires

@@ -10,63 +10,61 @@ use Rattle.compiling.proofs.OpTables.{copy_more}
 use Rattle.compile_ops.proofs.copy_numbers.Statement.{statement}
 use Rattle.compile_ops.proofs.copy_numbers.Tie as tie
 
-abbrev invariant-loop : tie.invariant-loop
+abbrev invariant-loop : tie.invariant-loop-i
 invariant-loop ops₀ from to count i₀ ops i = (ops ≡ sets ops₀ to (take i (drop from ops₀))) × (i ≤ count)
 
-abbrev decreases-loop : tie.decreases-loop
+abbrev decreases-loop : tie.decreases-loop-i
 decreases-loop ops₀ from to count i₀ ops i = count - i
 
-loop-holds : tie.Need-loop-init invariant-loop decreases-loop
+loop-holds : tie.Need-loop-i-init invariant-loop decreases-loop
 loop-holds c = (refl, omega arith)
 
-add-word-at : tie.Need-overflow-add-word-at invariant-loop decreases-loop
-add-word-at c = omega (arith, c.before.before.before.requires.0, c.before.before.before.well-formed.0.0, c.before.loop-test.true)
+add-word-at : tie.Need-overflow_add-from invariant-loop decreases-loop
+add-word-at c = omega (arith, c.requires.0, c.well_formed.0.0, c.loop-i-test.true)
 
-word-at-requires : tie.Need-word-at-requires invariant-loop decreases-loop
+word-at-requires : tie.Need-word_at-word-requires invariant-loop decreases-loop
 word-at-requires c κs = tt
 
-add-put-word : tie.Need-overflow-add-put-word invariant-loop decreases-loop
+add-put-word : tie.Need-overflow_add-to invariant-loop decreases-loop
 add-put-word c =
     omega (
       arith,
-      c.before.before.before.before.before.requires.1,
-      c.before.before.before.before.before.well-formed.0.0,
-      c.before.before.before.loop-test.true,
+      c.requires.1,
+      c.well_formed.0.0,
+      c.loop-i-test.true,
     )
 
-put-word-requires : tie.Need-put-word-requires invariant-loop decreases-loop
+put-word-requires : tie.Need-put_word-requires invariant-loop decreases-loop
 put-word-requires c κs = tt
 
-add-i : tie.Need-overflow-add-i invariant-loop decreases-loop
-add-i c = omega (arith, c.before.before.before.before.before.loop-test.true, c.before.before.before.before.before.before.before.ranges.count)
+add-i : tie.Need-overflow_step-i invariant-loop decreases-loop
+add-i c = omega (arith, c.loop-i-test.true, c.ranges.count)
 
-loop-less : tie.Need-loop-smaller invariant-loop decreases-loop
-loop-less c = omega (arith, c.before.before.before.before.before.loop-test.true)
+loop-less : tie.Need-loop-i-smaller invariant-loop decreases-loop
+loop-less c = omega (arith, c.loop-i-test.true)
 
-loop-again : tie.Need-loop-preserved invariant-loop decreases-loop
+loop-again : tie.Need-loop-i-preserved invariant-loop decreases-loop
 loop-again c =
-    let l = c.before.before.before.before.before.before in
-    let s = l.before in
-    let a = s.args in (
-      copy_more a.ops.now a.from a.to a.count s.requires.0 s.requires.2 l.loop.ops c.before.put_word.new.0 l.loop.i
-          c.before.before.before.word_at.result c.before.before.before.before.before.loop-test.true l.loop.invariant.0
-          c.before.before.before.word_at.ensures c.before.put_word.ensures,
-      omega (arith, c.before.before.before.before.before.loop-test.true),
+    let a = c.args in (
+      copy_more a.ops.now a.from a.to a.count c.requires.0 c.requires.2 c.loop-i.ops c.put_word.new.s c.loop-i.i
+          c.word_at-word.result c.loop-i-test.true c.loop-i.invariant.0
+          c.word_at-word.ensures c.put_word.ensures,
+      omega (arith, c.loop-i-test.true),
     )
 
-same_length : tie.Need-same-length invariant-loop decreases-loop
+same_length : tie.Need-shape_of-ops invariant-loop decreases-loop
 same_length c =
-    let a = c.before.before.args in
-    ap length c.before.loop.invariant.0 ∙ length-sets a.ops.now a.to (take c.before.loop.i (drop a.from a.ops.now))
+    let a = c.args in
+    ap length c.loop-i.invariant.0 ∙ length-sets a.ops.now a.to (take c.loop-i.i (drop a.from a.ops.now))
 
 returns : tie.Need-returns invariant-loop decreases-loop
 returns c =
-    let a = c.before.before.args in
-    let e : c.before.loop.i ≡ a.count = omega (arith, c.before.loop.invariant.1, c.loop-test.false) in
-    c.before.loop.invariant.0 ∙ ap (λ (x : ℕ). sets a.ops.now a.to (take x (drop a.from a.ops.now))) e
+    let a = c.args in
+    let e : c.loop-i.i ≡ a.count = omega (arith, c.loop-i.invariant.1, c.loop-i-test.false) in
+    c.loop-i.invariant.0 ∙ ap (λ (x : ℕ). sets a.ops.now a.to (take x (drop a.from a.ops.now))) e
 
-pub copy-numbers-spec : {M : Type 1} → statement M
-copy-numbers-spec =
+pub copy_numbers_spec : {M : Type 1} → statement M
+copy_numbers_spec =
     tie.close
     (tie.spec
     invariant-loop

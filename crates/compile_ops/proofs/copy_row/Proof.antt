@@ -9,44 +9,41 @@ use Rattle.compile_ops.proofs.copy_row.Tie as tie
 get-requires : tie.Need-get-requires
 get-requires c κs = search rules
 
-cast-from : tie.Need-overflow-cast-from
+cast-from : tie.Need-overflow_cast-from
 cast-from c = search rules
 
-mul-from : tie.Need-overflow-mul-from
+mul-from : tie.Need-overflow_mul-from
 mul-from c = search rules
 
 get-requires-2 : tie.Need-get-requires-2
 get-requires-2 c κs = search rules
 
-cast-count : tie.Need-overflow-cast-count
+cast-count : tie.Need-overflow_cast-count
 cast-count c = search rules
 
-mul-count : tie.Need-overflow-mul-count
+mul-count : tie.Need-overflow_mul-count
 mul-count c = search rules
 
-copy-numbers-requires : tie.Need-copy-numbers-requires
+copy-numbers-requires : tie.Need-copy_numbers-requires
 copy-numbers-requires c κs =
-    let s = c.before.before.before.before in
-    let x = c.before.before.get.ensures in
-    let y = c.before.get2.ensures in
-    (omega (arith, s.requires.there, x, y), omega (arith, s.requires.room, y), copies_apart s.args.work.now s.args.p s.args.k x y s.requires.apart)
+    let x = c.get.ensures in
+    let y = c.get-2.ensures in
+    (omega (arith, c.requires.there, x, y), omega (arith, c.requires.room, y), copies_apart c.args.work.now c.args.p c.args.k x y c.requires.apart)
 
-add-result : tie.Need-overflow-add-result
+add-result : tie.Need-overflow_add-result
 add-result c = search rules
 
-same_length : tie.Need-same-length
+same_length : tie.Need-shape_of-ops
 same_length c = search rules
 
 returns : tie.Need-returns
 returns c =
-    let a = c.before.before.before.before.before.before.args in
-    let x = c.before.before.before.before.get in
-    let y = c.before.before.before.get2 in
-    copied_row a.work.now a.k a.p x.result y.result a.ops.now c.before.copy-numbers.new.0 x.ensures y.ensures
-    c.before.copy-numbers.ensures
+    let a = c.args in
+    copied_row a.work.now a.k a.p c.get.result c.get-2.result a.ops.now c.copy_numbers.new.ops c.get.ensures c.get-2.ensures
+    c.copy_numbers.ensures
 
-pub copy-row-spec : {M : Type 1} → statement M
-copy-row-spec =
+pub copy_row_spec : {M : Type 1} → statement M
+copy_row_spec =
     tie.close
     (tie.spec
     get-requires

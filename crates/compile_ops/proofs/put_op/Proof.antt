@@ -7,30 +7,36 @@ use borrow.Author.Rules.{rules}
 use Rattle.compile_ops.proofs.put_op.Statement.{statement}
 use Rattle.compile_ops.proofs.put_op.Tie as tie
 
-put-word-requires : tie.Need-put-word-requires
+put-word-requires : tie.Need-put_word-requires
 put-word-requires c κs = search rules
 
-add-put-word : tie.Need-overflow-add-put-word
+add-put-word : tie.Need-overflow_add-p
 add-put-word c = search rules
 
-put-word-requires-2 : tie.Need-put-word-requires-2
+put-word-requires-2 : tie.Need-put_word-requires-2
 put-word-requires-2 c κs = search rules
 
-add-result : tie.Need-overflow-add-result
+add-result : tie.Need-overflow_add-result
 add-result c = search rules
 
-same_length : tie.Need-same-length
+same_length : tie.Need-shape_of-ops
 same_length c = search rules
 
 returns : tie.Need-returns
 returns c =
-    let a = c.before.before.before.before.before.before.args in (
+    let a = c.args in (
       refl,
-      put_two a.ops.now c.before.before.before.before.put_word.new.0 c.before.put-word2.new.0 a.p (number_of a.kind)
-          (number_of a.value) c.before.before.before.before.put_word.ensures c.before.put-word2.ensures,
+      put_two a.ops.now c.put_word.new.s c.put_word-2.new.s a.p (number_of a.kind)
+          (number_of a.value) c.put_word.ensures c.put_word-2.ensures,
     )
 
-pub put-op-spec : {M : Type 1} → statement M
-put-op-spec =
+pub put_op_spec : {M : Type 1} → statement M
+put_op_spec =
     tie.close
-    (tie.spec put-word-requires add-put-word put-word-requires-2 add-result same_length returns)
+    (tie.spec
+    put-word-requires
+    add-put-word
+    put-word-requires-2
+    add-result
+    same_length
+    returns)

@@ -12,65 +12,55 @@ use Rattle.compile_ops.proofs.write_first.Tie as tie
 get-requires : tie.Need-get-requires
 get-requires c κs = search rules
 
-first-part-requires : tie.Need-first-part-requires
+first-part-requires : tie.Need-first_part-requires
 first-part-requires c κs = search rules
 
-write-part-requires : tie.Need-write-part-requires
+write-part-requires : tie.Need-write_part-requires
 write-part-requires c κs =
-    let s = c.before.before.before.before.before in
-    let a = s.args in
-    subst (PartFits a.work.now a.ops.now a.p) (sym (c.before.first_part.ensures ∙ first_written a.n a.work.now a.k s.requires.0 s.requires.1)) s.requires.2
+    let a = c.args in
+    subst (PartFits a.work.now a.ops.now a.p) (sym (c.first_part.ensures ∙ first_written a.n a.work.now a.k c.requires.0 c.requires.1)) c.requires.2
 
-same_length : tie.Need-same-length
+same_length : tie.Need-shape_of-ops-then-get-ne128
 same_length c = search rules
 
-returns : tie.Need-returns
+returns : tie.Need-returns-then-get-ne128
 returns c =
-    let s = c.before.before.before.before.before.before.before in
-    let a = s.args in
-    let x = c.before.write-part in
-    subst (PartWritten a.work.now a.ops.now x.new.1.1.0 a.p x.result)
-    (c.before.before.before.first_part.ensures ∙ first_written a.n a.work.now a.k s.requires.0 s.requires.1) x.ensures
+    let a = c.args in
+    subst (PartWritten a.work.now a.ops.now c.write_part.new.ops a.p c.write_part.result)
+    (c.first_part.ensures ∙ first_written a.n a.work.now a.k c.requires.0 c.requires.1) c.write_part.ensures
 
-get-requires-2 : tie.Need-get-requires-2
+get-requires-2 : tie.Need-get-left-requires
 get-requires-2 c κs = search rules
 
-returns-2 : tie.Need-returns-2
+returns-2 : tie.Need-returns-then-left-eq0
 returns-2 c =
-    let s = c.before.before.before.before.before in
-    let a = s.args in
-    let i = c.before.before in
-    let q = kern_edge a.n a.work.now a.k (sym i.before.get.ensures ∙ i.if1.false) c.before.get2.result c.before.get2.ensures
-    c.if2.true in
+    let a = c.args in
+    let q = kern_edge a.n a.work.now a.k (sym c.get.ensures ∙ c.if-get-ne128.false) c.get-left.result c.get-left.ensures
+    c.if-left-eq0.true in
     subst (PartWritten a.work.now a.ops.now a.ops.now a.p a.p) q (nothing_written a.work.now a.ops.now a.p)
 
-sub-put-op : tie.Need-overflow-sub-put-op
+sub-put-op : tie.Need-overflow_sub-left
 sub-put-op c = search rules
 
-put-op-requires : tie.Need-put-op-requires
+put-op-requires : tie.Need-put_op-requires
 put-op-requires c κs =
-    let s = c.before.before.before.before.before.before in
-    let a = s.args in
-    let i = c.before.before.before in
-    let q = kern_left a.n a.work.now a.k (sym i.before.get.ensures ∙ i.if1.false) c.before.before.get2.result
-    c.before.before.get2.ensures c.before.if2.false in
-    subst (PartFits a.work.now a.ops.now a.p) (sym q) s.requires.2
+    let a = c.args in
+    let q = kern_left a.n a.work.now a.k (sym c.get.ensures ∙ c.if-get-ne128.false) c.get-left.result
+    c.get-left.ensures c.if-left-eq0.false in
+    subst (PartFits a.work.now a.ops.now a.p) (sym q) c.requires.2
 
-same-length-2 : tie.Need-same-length-2
+same-length-2 : tie.Need-shape_of-ops
 same-length-2 c = search rules
 
-returns-3 : tie.Need-returns-3
+returns-3 : tie.Need-returns
 returns-3 c =
-    let s = c.before.before.before.before.before.before.before.before in
-    let a = s.args in
-    let i = c.before.before.before.before.before in
-    let q = kern_left a.n a.work.now a.k (sym i.before.get.ensures ∙ i.if1.false) c.before.before.before.before.get2.result
-    c.before.before.before.before.get2.ensures c.before.before.before.if2.false in
-    let x = c.before.put-op in
-    subst (PartWritten a.work.now a.ops.now x.new.0 a.p x.result) q (record { next = x.ensures.0; written = x.ensures.1 })
+    let a = c.args in
+    let q = kern_left a.n a.work.now a.k (sym c.get.ensures ∙ c.if-get-ne128.false) c.get-left.result
+    c.get-left.ensures c.if-left-eq0.false in
+    subst (PartWritten a.work.now a.ops.now c.put_op.new.ops a.p c.put_op.result) q (record { next = c.put_op.ensures.0; written = c.put_op.ensures.1 })
 
-pub write-first-spec : {M : Type 1} → statement M
-write-first-spec =
+pub write_first_spec : {M : Type 1} → statement M
+write_first_spec =
     tie.close
     (tie.spec
     get-requires

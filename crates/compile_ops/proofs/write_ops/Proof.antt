@@ -13,89 +13,76 @@ use borrow.Author.Rules.{rules}
 use Rattle.compile_ops.proofs.write_ops.Statement.{statement}
 use Rattle.compile_ops.proofs.write_ops.Tie as tie
 
-zero-i32-requires : tie.Need-zero-i32-requires
+zero-i32-requires : tie.Need-zero_i32-requires
 zero-i32-requires c κs = search rules
 
 count-requires : tie.Need-count-requires
 count-requires c κs = search rules
 
-enum-known-number : tie.Need-enum-known-number
+enum-known-number : tie.Need-enum_known-number
 enum-known-number c = search rules
 
-enum-known-n : tie.Need-enum-known-n
+enum-known-n : tie.Need-enum_known-n
 enum-known-n c = search rules
 
-write-rows-requires : tie.Need-write-rows-requires
+write-rows-requires : tie.Need-write_rows-requires
 write-rows-requires c κs =
-    let g = c.before.before.before.n.given in
-    let k = c.before.before.before.before.before.before.before in
-    let z = k.before.before.before.zero-i32 in
-    let o = k.before.before.before.before.before.before in
-    let a = o.args in
-    let w = k.count.new.1.1.1.1.1.0 in
-    let f = font_of a.instructions.now a.kerns.now a.entries.now (pos 0) a.«left_entry_lem» a.«design-size» in
+    let a = c.args in
+    let w = c.count.new.work in
+    let f = font_of a.instructions.now a.kerns.now a.entries.now (pos 0) a.left_entry a.design_size in
     let p =
     (lent_as
-    (λ (x : Font) (r : CountedFont). CountsFont x (room_of a.«pair-room» (length z.new.0) a.«loop_room» (length a.work.now))
-    a.work.now w r) a.instructions.now a.kerns.now a.entries.now (pos 0) _ a.«left_entry_lem» _ a.«design-size»
-    k.count.result _ (k.count.ensures (pos 0)) g.1 (number_word a.«left_entry_lem» o.ranges.«left_entry_lem»)
-    (number_word a.«design-size» o.ranges.«design-size»)).rows in (
+    (λ (x : Font) (r : CountedFont). CountsFont x (room_of a.pair_room (length c.zero_i32.new.s) a.loop_room (length a.work.now))
+    a.work.now w r) a.instructions.now a.kerns.now a.entries.now (pos 0) _ a.left_entry _ a.design_size
+    c.count.result _ (c.count.ensures (pos 0)) c.in-Sizes.is (number_word a.left_entry c.ranges.left_entry)
+    (number_word a.design_size c.ranges.design_size)).rows in (
       p.4.ready,
-      op_room f a.«pair-room» a.«loop_room» a.ops.now z.new.0 a.work.now w z.ensures g.0.0 g.0.1.0 g.0.1.1.0
-          g.0.1.1.1.0 p,
-      blank_still f a.«pair-room» a.«loop_room» a.ops.now z.new.0 a.work.now w z.ensures g.0.0 g.0.1.0 g.0.1.1.0
-          g.0.1.1.1.0 p,
+      op_room f a.pair_room a.loop_room a.ops.now c.zero_i32.new.s a.work.now w c.zero_i32.ensures c.in-Sizes.n c.in-Sizes.m c.in-Sizes.total
+          c.in-Sizes.r p,
+      blank_still f a.pair_room a.loop_room a.ops.now c.zero_i32.new.s a.work.now w c.zero_i32.ensures c.in-Sizes.n c.in-Sizes.m c.in-Sizes.total
+          c.in-Sizes.r p,
     )
 
-same_length : tie.Need-same-length
+same_length : tie.Need-shape_of-ops-in-Refused
 same_length c = search rules
 
-same-length-2 : tie.Need-same-length-2
+same-length-2 : tie.Need-shape_of-work-in-Refused
 same-length-2 c = search rules
 
-returns : tie.Need-returns
+returns : tie.Need-returns-in-Refused
 returns c = λ b.
-    let g = c.before.number.given in
-    let k = c.before.before.before.before.before in
-    let z = k.before.before.before.zero-i32 in
-    let o = k.before.before.before.before.before.before in
-    let a = o.args in
-    let w = k.count.new.1.1.1.1.1.0 in
+    let a = c.args in
+    let w = c.count.new.work in
     let p =
     (lent_as
-    (λ (x : Font) (r : CountedFont). CountsFont x (room_of a.«pair-room» (length z.new.0) a.«loop_room» (length a.work.now))
-    a.work.now w r) a.instructions.now a.kerns.now a.entries.now b _ a.«left_entry_lem» _ a.«design-size» k.count.result _
-    (k.count.ensures b) g.1 (number_word a.«left_entry_lem» o.ranges.«left_entry_lem») (number_word a.«design-size» o.ranges.«design-size»)).rows
+    (λ (x : Font) (r : CountedFont). CountsFont x (room_of a.pair_room (length c.zero_i32.new.s) a.loop_room (length a.work.now))
+    a.work.now w r) a.instructions.now a.kerns.now a.entries.now b _ a.left_entry _ a.design_size c.count.result _
+    (c.count.ensures b) c.in-Refused.is (number_word a.left_entry c.ranges.left_entry) (number_word a.design_size c.ranges.design_size)).rows
     in
-    unfit (font_of a.instructions.now a.kerns.now a.entries.now b a.«left_entry_lem» a.«design-size») a.«pair-room» a.«loop_room»
-    a.ops.now z.new.0 a.work.now w z.ensures g.0.0 p
+    unfit (font_of a.instructions.now a.kerns.now a.entries.now b a.left_entry a.design_size) a.pair_room a.loop_room
+    a.ops.now c.zero_i32.new.s a.work.now w c.zero_i32.ensures c.in-Refused.number p
 
-same-length-3 : tie.Need-same-length-3
+same-length-3 : tie.Need-shape_of-ops-in-Sizes
 same-length-3 c = search rules
 
-same-length-4 : tie.Need-same-length-4
+same-length-4 : tie.Need-shape_of-work-in-Sizes
 same-length-4 c = search rules
 
-returns-2 : tie.Need-returns-2
+returns-2 : tie.Need-returns-in-Sizes
 returns-2 c = λ b.
-    let s = c.before.write-rows in
-    let g = c.before.before.before.before.before.n.given in
-    let k = c.before.before.before.before.before.before.before.before.before in
-    let z = k.before.before.before.zero-i32 in
-    let o = k.before.before.before.before.before.before in
-    let a = o.args in
-    let w = k.count.new.1.1.1.1.1.0 in
+    let a = c.args in
+    let w = c.count.new.work in
     let p =
     (lent_as
-    (λ (x : Font) (r : CountedFont). CountsFont x (room_of a.«pair-room» (length z.new.0) a.«loop_room» (length a.work.now))
-    a.work.now w r) a.instructions.now a.kerns.now a.entries.now b _ a.«left_entry_lem» _ a.«design-size» k.count.result _
-    (k.count.ensures b) g.1 (number_word a.«left_entry_lem» o.ranges.«left_entry_lem») (number_word a.«design-size» o.ranges.«design-size»)).rows
+    (λ (x : Font) (r : CountedFont). CountsFont x (room_of a.pair_room (length c.zero_i32.new.s) a.loop_room (length a.work.now))
+    a.work.now w r) a.instructions.now a.kerns.now a.entries.now b _ a.left_entry _ a.design_size c.count.result _
+    (c.count.ensures b) c.in-Sizes.is (number_word a.left_entry c.ranges.left_entry) (number_word a.design_size c.ranges.design_size)).rows
     in
-    written (font_of a.instructions.now a.kerns.now a.entries.now b a.«left_entry_lem» a.«design-size») a.«pair-room» a.«loop_room»
-    a.ops.now z.new.0 a.work.now w z.ensures g.0.0 g.0.1.0 g.0.1.1.0 g.0.1.1.1.0 p s.new.1.1.1.0 s.ensures
+    written (font_of a.instructions.now a.kerns.now a.entries.now b a.left_entry a.design_size) a.pair_room a.loop_room
+    a.ops.now c.zero_i32.new.s a.work.now w c.zero_i32.ensures c.in-Sizes.n c.in-Sizes.m c.in-Sizes.total c.in-Sizes.r p c.write_rows.new.ops c.write_rows.ensures
 
-pub write-ops-spec : {M : Type 1} → statement M
-write-ops-spec =
+pub write_ops_spec : {M : Type 1} → statement M
+write_ops_spec =
     tie.close
     (tie.spec
     zero-i32-requires

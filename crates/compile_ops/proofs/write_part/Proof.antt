@@ -7,94 +7,81 @@ use borrow.Author.Rules.{rules}
 use Rattle.compile_ops.proofs.write_part.Statement.{statement}
 use Rattle.compile_ops.proofs.write_part.Tie as tie
 
-enum_told : tie.Need-enum-told
+enum_told : tie.Need-enum_told-1
 enum_told c = search rules
 
-enum-known-part : tie.Need-enum-known-part
+enum-known-part : tie.Need-enum_known-part
 enum-known-part c = search rules
 
-put-op-requires : tie.Need-put-op-requires
+put-op-requires : tie.Need-put_op-requires
 put-op-requires c κs =
-    let s = c.before.before.before.before.before in
-    subst (PartFits s.args.work.now s.args.ops.now s.args.p) c.before.before.part.given.1 s.requires
+    subst (PartFits c.args.work.now c.args.ops.now c.args.p) c.in-Character.is c.requires
 
-enum-known-part-2 : tie.Need-enum-known-part-2
+enum-known-part-2 : tie.Need-enum_known-part-in-Ligature-1
 enum-known-part-2 c = search rules
 
-put-op-requires-2 : tie.Need-put-op-requires-2
+put-op-requires-2 : tie.Need-put_op-requires-in-Ligature
 put-op-requires-2 c κs =
-    let s = c.before.before.before.before.before in
-    subst (PartFits s.args.work.now s.args.ops.now s.args.p) c.before.before.part2.given.1 s.requires
+    subst (PartFits c.args.work.now c.args.ops.now c.args.p) c.in-Ligature.is c.requires
 
-enum-known-part-3 : tie.Need-enum-known-part-3
+enum-known-part-3 : tie.Need-enum_known-part-in-Kern-1
 enum-known-part-3 c = search rules
 
-put-op-requires-3 : tie.Need-put-op-requires-3
+put-op-requires-3 : tie.Need-put_op-requires-in-Kern
 put-op-requires-3 c κs =
-    let s = c.before.before.before.before.before in
-    subst (PartFits s.args.work.now s.args.ops.now s.args.p) c.before.before.part3.given.1 s.requires
+    subst (PartFits c.args.work.now c.args.ops.now c.args.p) c.in-Kern.is c.requires
 
-enum-known-part-4 : tie.Need-enum-known-part-4
+enum-known-part-4 : tie.Need-enum_known-part-in-OfRow-1
 enum-known-part-4 c = search rules
 
-copy-row-requires : tie.Need-copy-row-requires
+copy-row-requires : tie.Need-copy_row-requires
 copy-row-requires c κs =
-    let s = c.before.before.before.before.before in
-    subst (PartFits s.args.work.now s.args.ops.now s.args.p) c.before.before.part4.given.1 s.requires
+    subst (PartFits c.args.work.now c.args.ops.now c.args.p) c.in-OfRow.is c.requires
 
-returns : tie.Need-returns
+returns : tie.Need-returns-in-Nothing
 returns c =
-    let s = c.before.before.before in
-    subst (PartWritten s.args.work.now s.args.ops.now s.args.ops.now s.args.p s.args.p) (sym c.enum_told.given.1)
-    (nothing_written s.args.work.now s.args.ops.now s.args.p)
+    subst (PartWritten c.args.work.now c.args.ops.now c.args.ops.now c.args.p c.args.p) (sym c.in-Nothing.is)
+    (nothing_written c.args.work.now c.args.ops.now c.args.p)
 
-same_length : tie.Need-same-length
+same_length : tie.Need-shape_of-ops-in-Character
 same_length c = search rules
 
-returns-2 : tie.Need-returns-2
+returns-2 : tie.Need-returns-in-Character
 returns-2 c =
-    let s = c.before.before.before.before.before.before.before in
-    let x = c.before.put-op in
-    subst (PartWritten s.args.work.now s.args.ops.now x.new.0 s.args.p x.result) (sym c.before.before.before.before.part.given.1)
-    (record { next = x.ensures.0; written = x.ensures.1 })
+    subst (PartWritten c.args.work.now c.args.ops.now c.put_op.new.ops c.args.p c.put_op.result) (sym c.in-Character.is)
+    (record { next = c.put_op.ensures.0; written = c.put_op.ensures.1 })
 
-same-length-2 : tie.Need-same-length-2
+same-length-2 : tie.Need-shape_of-ops-in-Ligature
 same-length-2 c = search rules
 
-returns-3 : tie.Need-returns-3
+returns-3 : tie.Need-returns-in-Ligature
 returns-3 c =
-    let s = c.before.before.before.before.before.before.before in
-    let x = c.before.put-op2 in
-    subst (PartWritten s.args.work.now s.args.ops.now x.new.0 s.args.p x.result)
-    (sym c.before.before.before.before.part2.given.1)
-    (record { next = x.ensures.0; written = x.ensures.1 })
+    subst (PartWritten c.args.work.now c.args.ops.now c.put_op-in-Ligature.new.ops c.args.p c.put_op-in-Ligature.result)
+    (sym c.in-Ligature.is)
+    (record { next = c.put_op-in-Ligature.ensures.0; written = c.put_op-in-Ligature.ensures.1 })
 
-same-length-3 : tie.Need-same-length-3
+same-length-3 : tie.Need-shape_of-ops-in-Kern
 same-length-3 c = search rules
 
-returns-4 : tie.Need-returns-4
+returns-4 : tie.Need-returns-in-Kern
 returns-4 c =
-    let s = c.before.before.before.before.before.before.before in
-    let x = c.before.put-op3 in
-    subst (PartWritten s.args.work.now s.args.ops.now x.new.0 s.args.p x.result)
-    (sym c.before.before.before.before.part3.given.1)
-    (record { next = x.ensures.0; written = x.ensures.1 })
+    subst (PartWritten c.args.work.now c.args.ops.now c.put_op-in-Kern.new.ops c.args.p c.put_op-in-Kern.result)
+    (sym c.in-Kern.is)
+    (record { next = c.put_op-in-Kern.ensures.0; written = c.put_op-in-Kern.ensures.1 })
 
-same-length-4 : tie.Need-same-length-4
+same-length-4 : tie.Need-shape_of-ops-in-OfRow
 same-length-4 c = search rules
 
-returns-5 : tie.Need-returns-5
+returns-5 : tie.Need-returns-in-OfRow
 returns-5 c =
-    let s = c.before.before.before.before.before.before.before in
-    let x = c.before.copy-row in
-    subst (PartWritten s.args.work.now s.args.ops.now x.new.1.1.0 s.args.p x.result)
-    (sym c.before.before.before.before.part4.given.1)
-    (row_copied s.args.work.now s.args.ops.now x.new.1.1.0 s.args.p x.result c.before.before.before.before.part4.given.0.0
-    (subst (PartFits s.args.work.now s.args.ops.now s.args.p) c.before.before.before.before.part4.given.1 s.requires) x.ensures.0
-    x.ensures.1)
+    subst (PartWritten c.args.work.now c.args.ops.now c.copy_row.new.ops c.args.p c.copy_row.result)
+    (sym c.in-OfRow.is)
+    (row_copied c.args.work.now c.args.ops.now c.copy_row.new.ops c.args.p c.copy_row.result c.in-OfRow.k
+    (subst (PartFits c.args.work.now c.args.ops.now c.args.p) c.in-OfRow.is c.requires) c.copy_row.ensures.0
+    c.copy_row.ensures.1)
 
-pub write-part-spec : {M : Type 1} → statement M
-write-part-spec =
+pub write_part_spec : {M : Type 1} → statement M
+write_part_spec =
     tie.close
     (tie.spec
     enum_told

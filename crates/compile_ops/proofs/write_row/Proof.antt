@@ -12,70 +12,58 @@ use Rattle.compile_ops.proofs.write_row.Tie as tie
 get-requires : tie.Need-get-requires
 get-requires c κs = search rules
 
-cast-from : tie.Need-overflow-cast-from
+cast-from : tie.Need-overflow_cast-from
 cast-from c = search rules
 
-mul-from : tie.Need-overflow-mul-from
+mul-from : tie.Need-overflow_mul-from
 mul-from c = search rules
 
-write-first-requires : tie.Need-write-first-requires
+write-first-requires : tie.Need-write_first-next-requires
 write-first-requires c κs =
-    let s = c.before.before.before in
-    let a = s.args in (
-      s.requires.ready.encoded,
-      s.requires.row,
-      first_fits a.n a.work.now a.k a.ops.now s.requires c.before.get.result (first_part a.n a.work.now a.k)
-          c.before.get.ensures refl,
+    let a = c.args in (
+      c.requires.ready.encoded,
+      c.requires.row,
+      first_fits a.n a.work.now a.k a.ops.now c.requires c.get.result (first_part a.n a.work.now a.k)
+          c.get.ensures refl,
     )
 
-write-second-requires : tie.Need-write-second-requires
+write-second-requires : tie.Need-write_second-end-requires
 write-second-requires c κs =
-    let s = c.before.before.before.before.before.before in
-    let a = s.args in
-    let u = c.before.before in
-    let g = u.before.before.get in
-    let done = first_done a.n a.work.now a.k a.ops.now s.requires g.result (first_part a.n a.work.now a.k)
-    u.write-first.new.1.1.1.0 u.write-first.result g.ensures refl u.write-first.ensures in (
-      s.requires.ready.encoded,
-      s.requires.row,
-      last_of a.n s.requires.finished a.work.now s.requires.ready.encoded s.requires.ready.settled a.k s.requires.row s.requires.status,
-      second_fits a.n a.work.now a.k a.ops.now s.requires u.write-first.new.1.1.1.0 u.write-first.result done
+    let a = c.args in
+    let done = first_done a.n a.work.now a.k a.ops.now c.requires c.get.result (first_part a.n a.work.now a.k)
+    c.write_first-next.new.ops c.write_first-next.result c.get.ensures refl c.write_first-next.ensures in (
+      c.requires.ready.encoded,
+      c.requires.row,
+      last_of a.n c.requires.finished a.work.now c.requires.ready.encoded c.requires.ready.settled a.k c.requires.row c.requires.status,
+      second_fits a.n a.work.now a.k a.ops.now c.requires c.write_first-next.new.ops c.write_first-next.result done
           (second_part a.n a.work.now a.k) refl,
     )
 
-raise-first-requires : tie.Need-raise-first-requires
+raise-first-requires : tie.Need-raise_first-requires
 raise-first-requires c κs =
-    let s = c.before.before.before.before.before.before.before.before.before in
-    let a = s.args in
-    let u = c.before.before.before.before.before in
-    let g = u.before.before.get in
-    let done = first_done a.n a.work.now a.k a.ops.now s.requires g.result (first_part a.n a.work.now a.k)
-    u.write-first.new.1.1.1.0 u.write-first.result g.ensures refl u.write-first.ensures in
-    let v = c.before.before.write-second in
-    let more = second_done a.n a.work.now a.k a.ops.now s.requires u.write-first.new.1.1.1.0 u.write-first.result done
-    (second_part a.n a.work.now a.k) v.new.1.1.1.0 v.result refl v.ensures in
-    raise_fits a.n a.work.now a.k a.ops.now s.requires u.write-first.new.1.1.1.0 u.write-first.result done v.new.1.1.1.0
-    v.result more
+    let a = c.args in
+    let done = first_done a.n a.work.now a.k a.ops.now c.requires c.get.result (first_part a.n a.work.now a.k)
+    c.write_first-next.new.ops c.write_first-next.result c.get.ensures refl c.write_first-next.ensures in
+    let more = second_done a.n a.work.now a.k a.ops.now c.requires c.write_first-next.new.ops c.write_first-next.result done
+    (second_part a.n a.work.now a.k) c.write_second-end.new.ops c.write_second-end.result refl c.write_second-end.ensures in
+    raise_fits a.n a.work.now a.k a.ops.now c.requires c.write_first-next.new.ops c.write_first-next.result done c.write_second-end.new.ops
+    c.write_second-end.result more
 
-same_length : tie.Need-same-length
+same_length : tie.Need-shape_of-ops
 same_length c = search rules
 
 returns : tie.Need-returns
 returns c =
-    let s = c.before.before.before.before.before.before.before.before.before.before.before in
-    let a = s.args in
-    let u = c.before.before.before.before.before.before.before in
-    let g = u.before.before.get in
-    let done = first_done a.n a.work.now a.k a.ops.now s.requires g.result (first_part a.n a.work.now a.k)
-    u.write-first.new.1.1.1.0 u.write-first.result g.ensures refl u.write-first.ensures in
-    let v = c.before.before.before.before.write-second in
-    let more = second_done a.n a.work.now a.k a.ops.now s.requires u.write-first.new.1.1.1.0 u.write-first.result done
-    (second_part a.n a.work.now a.k) v.new.1.1.1.0 v.result refl v.ensures in
-    row_done a.n a.work.now a.k a.ops.now s.requires u.write-first.new.1.1.1.0 u.write-first.result done v.new.1.1.1.0
-    v.result more c.before.raise-first.new.0 c.before.raise-first.ensures
+    let a = c.args in
+    let done = first_done a.n a.work.now a.k a.ops.now c.requires c.get.result (first_part a.n a.work.now a.k)
+    c.write_first-next.new.ops c.write_first-next.result c.get.ensures refl c.write_first-next.ensures in
+    let more = second_done a.n a.work.now a.k a.ops.now c.requires c.write_first-next.new.ops c.write_first-next.result done
+    (second_part a.n a.work.now a.k) c.write_second-end.new.ops c.write_second-end.result refl c.write_second-end.ensures in
+    row_done a.n a.work.now a.k a.ops.now c.requires c.write_first-next.new.ops c.write_first-next.result done c.write_second-end.new.ops
+    c.write_second-end.result more c.raise_first.new.ops c.raise_first.ensures
 
-pub write-row-spec : {M : Type 1} → statement M
-write-row-spec =
+pub write_row_spec : {M : Type 1} → statement M
+write_row_spec =
     tie.close
     (tie.spec
     get-requires

@@ -11,52 +11,44 @@ use Rattle.compile_ops.proofs.write_second.Tie as tie
 get-requires : tie.Need-get-requires
 get-requires c κs = search rules
 
-second-part-requires : tie.Need-second-part-requires
+second-part-requires : tie.Need-second_part-requires
 second-part-requires c κs = search rules
 
-write-part-requires : tie.Need-write-part-requires
+write-part-requires : tie.Need-write_part-requires
 write-part-requires c κs =
-    let s = c.before.before.before.before.before in
-    let a = s.args in
-    subst (PartFits a.work.now a.ops.now a.p) (sym (c.before.second-part.ensures ∙ second_written a.n a.work.now a.k s.requires.0 s.requires.1 s.requires.2)) s.requires.3
+    let a = c.args in
+    subst (PartFits a.work.now a.ops.now a.p) (sym (c.second_part.ensures ∙ second_written a.n a.work.now a.k c.requires.0 c.requires.1 c.requires.2)) c.requires.3
 
-same_length : tie.Need-same-length
+same_length : tie.Need-shape_of-ops-then-get-ne128
 same_length c = search rules
 
-returns : tie.Need-returns
+returns : tie.Need-returns-then-get-ne128
 returns c =
-    let s = c.before.before.before.before.before.before.before in
-    let a = s.args in
-    let x = c.before.write-part in
-    subst (PartWritten a.work.now a.ops.now x.new.1.1.0 a.p x.result)
-    (c.before.before.before.second-part.ensures ∙ second_written a.n a.work.now a.k s.requires.0 s.requires.1 s.requires.2) x.ensures
+    let a = c.args in
+    subst (PartWritten a.work.now a.ops.now c.write_part.new.ops a.p c.write_part.result)
+    (c.second_part.ensures ∙ second_written a.n a.work.now a.k c.requires.0 c.requires.1 c.requires.2) c.write_part.ensures
 
-get-requires-2 : tie.Need-get-requires-2
+get-requires-2 : tie.Need-get-value-requires
 get-requires-2 c κs = search rules
 
-put-op-requires : tie.Need-put-op-requires
+put-op-requires : tie.Need-put_op-requires
 put-op-requires c κs =
-    let s = c.before.before.before.before.before in
-    let a = s.args in
-    let i = c.before.before in
-    let q = kern_second a.n a.work.now a.k (sym i.before.get.ensures ∙ i.if1.false) c.before.get2.result c.before.get2.ensures in
-    subst (PartFits a.work.now a.ops.now a.p) (sym q) s.requires.3
+    let a = c.args in
+    let q = kern_second a.n a.work.now a.k (sym c.get.ensures ∙ c.if-get-ne128.false) c.get-value.result c.get-value.ensures in
+    subst (PartFits a.work.now a.ops.now a.p) (sym q) c.requires.3
 
-same-length-2 : tie.Need-same-length-2
+same-length-2 : tie.Need-shape_of-ops
 same-length-2 c = search rules
 
-returns-2 : tie.Need-returns-2
+returns-2 : tie.Need-returns
 returns-2 c =
-    let s = c.before.before.before.before.before.before.before in
-    let a = s.args in
-    let i = c.before.before.before.before in
-    let q = kern_second a.n a.work.now a.k (sym i.before.get.ensures ∙ i.if1.false) c.before.before.before.get2.result
-    c.before.before.before.get2.ensures in
-    let x = c.before.put-op in
-    subst (PartWritten a.work.now a.ops.now x.new.0 a.p x.result) q (record { next = x.ensures.0; written = x.ensures.1 })
+    let a = c.args in
+    let q = kern_second a.n a.work.now a.k (sym c.get.ensures ∙ c.if-get-ne128.false) c.get-value.result
+    c.get-value.ensures in
+    subst (PartWritten a.work.now a.ops.now c.put_op.new.ops a.p c.put_op.result) q (record { next = c.put_op.ensures.0; written = c.put_op.ensures.1 })
 
-pub write-second-spec : {M : Type 1} → statement M
-write-second-spec =
+pub write_second_spec : {M : Type 1} → statement M
+write_second_spec =
     tie.close
     (tie.spec
     get-requires

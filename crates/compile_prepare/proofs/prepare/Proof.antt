@@ -13,61 +13,53 @@ use Rattle.compile_prepare.proofs.prepare.Tie as tie
 collect-requires : tie.Need-collect-requires
 collect-requires c κs = search rules
 
-enum-known-number : tie.Need-enum-known-number
+enum-known-number : tie.Need-enum_known-number
 enum-known-number c = search rules
 
-enum-known-n : tie.Need-enum-known-n
+enum-known-n : tie.Need-enum_known-n
 enum-known-n c = search rules
 
-encode-requires : tie.Need-encode-requires
+encode-requires : tie.Need-encode-scaled-requires
 encode-requires c κs =
-    let k = c.before.before.before.before.before.before in
-    let o = k.before.before.before in
-    let a = o.args in
+    let a = c.args in
     let q =
-    (collects_as a.instructions.now (entries_table a.entries.now) _ a.«left_entry_lem» (min a.room (length a.work.now / 16))
-    a.work.now k.collect.new.1.1.1.0 k.collect.result _ k.collect.ensures c.before.before.n.given.1
-    (number_word a.«left_entry_lem» o.ranges.«left_entry_lem»)).rows in
+    (collects_as a.instructions.now (entries_table a.entries.now) _ a.left_entry (min a.room (length a.work.now / 16))
+    a.work.now c.collect.new.work c.collect.result _ c.collect.ensures c.in-Rows.is
+    (number_word a.left_entry c.ranges.left_entry)).rows in
     q.2.ascending
 
-same_length : tie.Need-same-length
+same_length : tie.Need-shape_of-work-in-Refused
 same_length c = search rules
 
-returns : tie.Need-returns
+returns : tie.Need-returns-in-Refused
 returns c = λ b.
-    let k = c.before.before.before.before.before in
-    let o = k.before.before.before in
-    let a = o.args in
+    let a = c.args in
     let cap = min a.room (length a.work.now / 16) in
     let q =
-    (collects_as a.instructions.now (entries_table a.entries.now) _ a.«left_entry_lem» cap a.work.now k.collect.new.1.1.1.0
-    k.collect.result _ k.collect.ensures c.before.number.given.1 (number_word a.«left_entry_lem» o.ranges.«left_entry_lem»)).rows in
+    (collects_as a.instructions.now (entries_table a.entries.now) _ a.left_entry cap a.work.now c.collect.new.work
+    c.collect.result _ c.collect.ensures c.in-Refused.is (number_word a.left_entry c.ranges.left_entry)).rows in
     prepares _ _ _ _ _
-    (unfit (font_of a.instructions.now a.kerns.now a.entries.now b a.«left_entry_lem» a.«design-size») cap a.work.now
-    c.before.number.given.0.0 k.collect.new.1.1.1.0 q)
+    (unfit (font_of a.instructions.now a.kerns.now a.entries.now b a.left_entry a.design_size) cap a.work.now
+    c.in-Refused.number c.collect.new.work q)
 
-same-length-2 : tie.Need-same-length-2
+same-length-2 : tie.Need-shape_of-work-in-Rows
 same-length-2 c = search rules
 
-returns-2 : tie.Need-returns-2
+returns-2 : tie.Need-returns-in-Rows
 returns-2 c = λ b.
-    let d = c.before.before in
-    let g = d.before.before.before.n.given in
-    let k = d.before.before.before.before.before.before.before in
-    let o = k.before.before.before in
-    let a = o.args in
+    let a = c.args in
     let cap = min a.room (length a.work.now / 16) in
     let q =
-    (collects_as a.instructions.now (entries_table a.entries.now) _ a.«left_entry_lem» cap a.work.now k.collect.new.1.1.1.0
-    k.collect.result _ k.collect.ensures g.1 (number_word a.«left_entry_lem» o.ranges.«left_entry_lem»)).rows in
-    let e = encodes_as a.instructions.now a.kerns.now _ a.«design-size» g.0.0 k.collect.new.1.1.1.0 d.encode.new.1.1.1.0
-    d.encode.result d.encode.ensures (number_word a.«design-size» o.ranges.«design-size») in
+    (collects_as a.instructions.now (entries_table a.entries.now) _ a.left_entry cap a.work.now c.collect.new.work
+    c.collect.result _ c.collect.ensures c.in-Rows.is (number_word a.left_entry c.ranges.left_entry)).rows in
+    let e = encodes_as a.instructions.now a.kerns.now _ a.design_size c.in-Rows.n c.collect.new.work c.encode-scaled.new.work
+    c.encode-scaled.result c.encode-scaled.ensures (number_word a.design_size c.ranges.design_size) in
     prepares _ _ _ _ _
-    (prepared (font_of a.instructions.now a.kerns.now a.entries.now b a.«left_entry_lem» a.«design-size») cap a.work.now g.0.0
-    g.0.1.0 k.collect.new.1.1.1.0 d.encode.new.1.1.1.0 q d.encode.result e)
+    (prepared (font_of a.instructions.now a.kerns.now a.entries.now b a.left_entry a.design_size) cap a.work.now c.in-Rows.n
+    c.in-Rows.e c.collect.new.work c.encode-scaled.new.work q c.encode-scaled.result e)
 
-pub prepare-spec : {M : Type 1} → statement M
-prepare-spec =
+pub prepare_spec : {M : Type 1} → statement M
+prepare_spec =
     tie.close
     (tie.spec
     collect-requires

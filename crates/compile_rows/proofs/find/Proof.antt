@@ -10,83 +10,73 @@ use borrow.Author.Rules.{rules}
 use Rattle.compile_rows.proofs.find.Statement.{statement}
 use Rattle.compile_rows.proofs.find.Tie as tie
 
-abbrev invariant-loop : tie.invariant-loop
+abbrev invariant-loop : tie.invariant-loop-lo
 invariant-loop work n left right wanted lo₀ hi₀ lo hi = Bisecting (row_key work) n (256 * left + right) lo hi
 
-abbrev decreases-loop : tie.decreases-loop
+abbrev decreases-loop : tie.decreases-loop-lo
 decreases-loop work n left right wanted lo₀ hi₀ lo hi = hi - lo
 
-mul-wanted : tie.Need-overflow-mul-wanted invariant-loop decreases-loop
+mul-wanted : tie.Need-overflow_mul-wanted invariant-loop decreases-loop
 mul-wanted c = omega arith
 
-add-wanted : tie.Need-overflow-add-wanted invariant-loop decreases-loop
+add-wanted : tie.Need-overflow_add-wanted invariant-loop decreases-loop
 add-wanted c = omega arith
 
-loop-holds : tie.Need-loop-init invariant-loop decreases-loop
-loop-holds c = let a = c.before.args in bisecting_all (row_key a.work.now) a.n (256 * a.left + a.right)
+loop-holds : tie.Need-loop-lo-init invariant-loop decreases-loop
+loop-holds c = let a = c.args in bisecting_all (row_key a.work.now) a.n (256 * a.left + a.right)
 
-sub-mid : tie.Need-overflow-sub-mid invariant-loop decreases-loop
+sub-mid : tie.Need-overflow_sub-mid invariant-loop decreases-loop
 sub-mid c = omega arith
 
-add-mid : tie.Need-overflow-add-mid invariant-loop decreases-loop
+add-mid : tie.Need-overflow_add-mid invariant-loop decreases-loop
 add-mid c = omega arith
 
 key-requires : tie.Need-key-requires invariant-loop decreases-loop
 key-requires c κs = search rules
 
-add-lo : tie.Need-overflow-add-lo invariant-loop decreases-loop
+add-lo : tie.Need-overflow_add-lo invariant-loop decreases-loop
 add-lo c = omega arith
 
-loop-less : tie.Need-loop-smaller invariant-loop decreases-loop
+loop-less : tie.Need-loop-lo-smaller-then-key-wanted invariant-loop decreases-loop
 loop-less c = omega arith
 
-loop-again : tie.Need-loop-preserved invariant-loop decreases-loop
+loop-again : tie.Need-loop-lo-preserved-then-key-wanted invariant-loop decreases-loop
 loop-again c =
-    let t = c.before.before in
-    let l = t.before in
-    let a = l.before.before.args in
-    bisecting_up (row_key a.work.now) a.n (256 * a.left + a.right) l.loop.lo l.loop.hi l.loop.invariant t.loop-test.true
-    (omega (arith, c.if1.true, c.before.key.ensures))
+    let a = c.args in
+    bisecting_up (row_key a.work.now) a.n (256 * a.left + a.right) c.loop-lo.lo c.loop-lo.hi c.loop-lo.invariant c.loop-lo-test.true
+    (omega (arith, c.if-key-wanted.true, c.key.ensures))
 
-loop-less-2 : tie.Need-loop-smaller-2 invariant-loop decreases-loop
+loop-less-2 : tie.Need-loop-lo-smaller invariant-loop decreases-loop
 loop-less-2 c = omega arith
 
-loop-again-2 : tie.Need-loop-preserved-2 invariant-loop decreases-loop
+loop-again-2 : tie.Need-loop-lo-preserved invariant-loop decreases-loop
 loop-again-2 c =
-    let t = c.before.before in
-    let l = t.before in
-    let a = l.before.before.args in
-    bisecting_down (row_key a.work.now) a.n (256 * a.left + a.right) l.loop.lo l.loop.hi l.loop.invariant t.loop-test.true
-    (omega (arith, c.if1.false, c.before.key.ensures))
+    let a = c.args in
+    bisecting_down (row_key a.work.now) a.n (256 * a.left + a.right) c.loop-lo.lo c.loop-lo.hi c.loop-lo.invariant c.loop-lo-test.true
+    (omega (arith, c.if-key-wanted.false, c.key.ensures))
 
-key-requires-2 : tie.Need-key-requires-2 invariant-loop decreases-loop
+key-requires-2 : tie.Need-key-requires-then-lo-n invariant-loop decreases-loop
 key-requires-2 c κs = search rules
 
-returns : tie.Need-returns invariant-loop decreases-loop
+returns : tie.Need-returns-then-key-wanted-2 invariant-loop decreases-loop
 returns c =
-    let t = c.before.before.before in
-    let l = t.before in
-    let a = l.before.before.args in
+    let a = c.args in
     sym (ap found_row
-    (bisect_found (row_key a.work.now) a.n (256 * a.left + a.right) l.loop.lo l.loop.hi l.loop.invariant t.loop-test.false
-    c.before.before.if2.true (sym c.before.key2.ensures ∙ c.if3.true)))
+    (bisect_found (row_key a.work.now) a.n (256 * a.left + a.right) c.loop-lo.lo c.loop-lo.hi c.loop-lo.invariant c.loop-lo-test.false
+    c.if-lo-n.true (sym c.key-then-lo-n.ensures ∙ c.if-key-wanted-2.true)))
 
-returns-2 : tie.Need-returns-2 invariant-loop decreases-loop
+returns-2 : tie.Need-returns-else-key-wanted-2 invariant-loop decreases-loop
 returns-2 c =
-    let t = c.before.before.before in
-    let l = t.before in
-    let a = l.before.before.args in
+    let a = c.args in
     sym (ap found_row
-    (bisect_other (row_key a.work.now) a.n (256 * a.left + a.right) l.loop.lo l.loop.hi l.loop.invariant t.loop-test.false
-    c.before.before.if2.true (λ e. c.if3.false (c.before.key2.ensures ∙ e))))
+    (bisect_other (row_key a.work.now) a.n (256 * a.left + a.right) c.loop-lo.lo c.loop-lo.hi c.loop-lo.invariant c.loop-lo-test.false
+    c.if-lo-n.true (λ e. c.if-key-wanted-2.false (c.key-then-lo-n.ensures ∙ e))))
 
-returns-3 : tie.Need-returns-3 invariant-loop decreases-loop
+returns-3 : tie.Need-returns-else-lo-n invariant-loop decreases-loop
 returns-3 c =
-    let t = c.before in
-    let l = t.before in
-    let a = l.before.before.args in
+    let a = c.args in
     sym (ap found_row
-    (bisect_past (row_key a.work.now) a.n (256 * a.left + a.right) l.loop.lo l.loop.hi l.loop.invariant t.loop-test.false c.if2.false))
+    (bisect_past (row_key a.work.now) a.n (256 * a.left + a.right) c.loop-lo.lo c.loop-lo.hi c.loop-lo.invariant c.loop-lo-test.false c.if-lo-n.false))
 
 pub find_spec : {M : Type 1} → statement M
 find_spec =

@@ -22,120 +22,88 @@ below_128 x a b (inl i) h l = omega arith
 below_128 x a b (inr i) h l = omega arith
 
 -- the numbers that were read: a left, a right, and the character of a row that is no kern
-left_small : (c : tie.After-get4) → c.before.before.before.get.result < 257
+left_small : (c : tie.After-get) → c.get-left.result < 257
 left_small c =
-    let a = c.before.before.before.before.before in
-    omega (arith, c.before.before.before.get.ensures, a.requires.0.encoded.ascending.left a.args.k a.requires.1)
+    omega (arith, c.get-left.ensures, c.requires.0.encoded.ascending.left c.args.k c.requires.1)
 
-right_small : (c : tie.After-get4) → c.before.before.get2.result < 256
+right_small : (c : tie.After-get) → c.get-right.result < 256
 right_small c =
-    let a = c.before.before.before.before.before in
-    omega (arith, c.before.before.get2.ensures, a.requires.0.encoded.ascending.right a.args.k a.requires.1)
+    omega (arith, c.get-right.ensures, c.requires.0.encoded.ascending.right c.args.k c.requires.1)
 
-character : (c : tie.After-get4) → c.get4.result < 128 → c.before.get3.result < 256
+character : (c : tie.After-get) → c.get.result < 128 → c.get-value.result < 256
 character c h =
-    let a = c.before.before.before.before.before in
     omega (
       arith,
-      c.before.get3.ensures,
-      value_small c.get4.result (at a.args.work.now a.args.k 4) (rw c.get4.ensures (a.requires.0.encoded.ops a.args.k a.requires.1)) h,
+      c.get-value.ensures,
+      value_small c.get.result (at c.args.work.now c.args.k 4) (rw c.get.ensures (c.requires.0.encoded.ops c.args.k c.requires.1)) h,
     )
 
-get-requires : tie.Need-get-requires
+get-requires : tie.Need-get-left-requires
 get-requires c κs = search rules
 
-get-requires-2 : tie.Need-get-requires-2
+get-requires-2 : tie.Need-get-right-requires
 get-requires-2 c κs = search rules
 
-get-requires-3 : tie.Need-get-requires-3
+get-requires-3 : tie.Need-get-value-requires
 get-requires-3 c κs = search rules
 
-get-requires-4 : tie.Need-get-requires-4
+get-requires-4 : tie.Need-get-requires
 get-requires-4 c κs = search rules
 
-add-last-of : tie.Need-overflow-add-last-of
-add-last-of c = let g = c.before in omega (arith, character g (below_128 g.get4.result 1 7 c.match.keys2 (omega arith) (omega arith)))
+add-last-of : tie.Need-overflow_add-value
+add-last-of c = omega (arith, character (c.before) (below_128 c.get.result 1 7 c.in-1.is (omega arith) (omega arith)))
 
-last-of-requires : tie.Need-last-of-requires
+last-of-requires : tie.Need-last_of-requires
 last-of-requires c κs =
-    let g = c.before in
-    let a = g.before.before.before.before.before in
-    (a.requires.0, omega (arith, character g (below_128 g.get4.result 1 7 c.match.keys2 (omega arith) (omega arith))), right_small g)
+    (c.requires.0, omega (arith, character (c.before) (below_128 c.get.result 1 7 c.in-1.is (omega arith) (omega arith))), right_small (c.before))
 
-last-of-requires-2 : tie.Need-last-of-requires-2
+last-of-requires-2 : tie.Need-last_of-requires-in-2
 last-of-requires-2 c κs =
-    let g = c.before in
-    let a = g.before.before.before.before.before in
-    (a.requires.0, left_small g, character g (omega (arith, c.match.keys3)))
+    (c.requires.0, left_small (c.before), character (c.before) (omega (arith, c.in-2.is)))
 
-as-ligature-requires : tie.Need-as-ligature-requires
+as-ligature-requires : tie.Need-as_ligature-requires
 as-ligature-requires c κs = search rules
 
-last-of-requires-3 : tie.Need-last-of-requires-3
+last-of-requires-3 : tie.Need-last_of-requires-in-3
 last-of-requires-3 c κs =
-    let g = c.before in
-    let a = g.before.before.before.before.before in
-    (a.requires.0, left_small g, character g (omega (arith, c.match.keys4)))
+    (c.requires.0, left_small (c.before), character (c.before) (omega (arith, c.in-3.is)))
 
-then-right-requires : tie.Need-then-right-requires
+then-right-requires : tie.Need-then_right-requires
 then-right-requires c κs =
-    let g = c.before.before in
-    let a = g.before.before.before.before.before in
-    (a.requires.0, says_small a.args.n a.args.work.now _ _ c.last-of3.result c.last-of3.ensures, right_small g)
+    (c.requires.0, says_small c.args.n c.args.work.now _ _ c.last_of-in-3.result c.last_of-in-3.ensures, right_small (c.before.before))
 
-returns : tie.Need-returns
+returns : tie.Need-returns-in-0
 returns c =
-    let g = c.before in
-    let a = g.before.before.before.before.before in
-    row_inserted a.args.n a.args.work.now a.args.k g.before.get3.result g.before.get3.ensures
-    (character g (below_128 g.get4.result 0 6 c.match.keys1 (omega arith) (omega arith))) (either_of g.get4.ensures c.match.keys1)
+    row_inserted c.args.n c.args.work.now c.args.k c.get-value.result c.get-value.ensures
+    (character (c.before) (below_128 c.get.result 0 6 c.in-0.is (omega arith) (omega arith))) (either_of c.get.ensures c.in-0.is)
 
-returns-2 : tie.Need-returns-2
+returns-2 : tie.Need-returns-in-1
 returns-2 c =
-    let g = c.before.before in
-    let v = g.before.get3 in
-    let r = g.before.before.get2 in
-    let a = g.before.before.before.before.before in
-    row_left a.args.n a.args.work.now a.args.k v.result r.result c.last_of.result v.ensures r.ensures c.last_of.ensures
-    (either_of g.get4.ensures c.before.match.keys2)
+    row_left c.args.n c.args.work.now c.args.k c.get-value.result c.get-right.result c.last_of.result c.get-value.ensures c.get-right.ensures c.last_of.ensures
+    (either_of c.get.ensures c.in-1.is)
 
-returns-3 : tie.Need-returns-3
+returns-3 : tie.Need-returns-in-2
 returns-3 c =
-    let x = c.before.last-of2 in
-    let g = c.before.before.before in
-    let v = g.before.get3 in
-    let t = g.before.before.before.get in
-    let a = g.before.before.before.before.before in
-    rw c.as-ligature.ensures
-    (row_right a.args.n a.args.work.now a.args.k t.result v.result x.result t.ensures v.ensures x.ensures
-    (sym g.get4.ensures ∙ c.before.before.match.keys3))
+    rw c.as_ligature.ensures
+    (row_right c.args.n c.args.work.now c.args.k c.get-left.result c.get-value.result c.last_of-in-2.result c.get-left.ensures c.get-value.ensures c.last_of-in-2.ensures
+    (sym c.get.ensures ∙ c.in-2.is))
 
-returns-4 : tie.Need-returns-4
+returns-4 : tie.Need-returns-in-3
 returns-4 c =
-    let y = c.before.last-of3 in
-    let g = c.before.before.before in
-    let v = g.before.get3 in
-    let r = g.before.before.get2 in
-    let t = g.before.before.before.get in
-    let a = g.before.before.before.before.before in
-    row_both a.args.n a.args.work.now a.args.k a.requires.0.encoded.ascending t.result r.result v.result y.result
-    c.then-right.result
-    t.ensures r.ensures v.ensures y.ensures c.then-right.ensures (sym g.get4.ensures ∙ c.before.before.match.keys4)
+    row_both c.args.n c.args.work.now c.args.k c.requires.0.encoded.ascending c.get-left.result c.get-right.result c.get-value.result c.last_of-in-3.result
+    c.then_right.result
+    c.get-left.ensures c.get-right.ensures c.get-value.ensures c.last_of-in-3.ensures c.then_right.ensures (sym c.get.ensures ∙ c.in-3.is)
 
-returns-5 : tie.Need-returns-5
+returns-5 : tie.Need-returns-in_default
 returns-5 c =
-    let g = c.before in
-    let o = g.get4 in
-    let r = g.before.before.get2 in
-    let a = g.before.before.before.before.before in
-    let m = c.match.rest in
-    row_plain a.args.n a.args.work.now a.args.k r.result r.ensures (right_small g)
-    (rw o.ensures at
-    (other_op o.result (at a.args.work.now a.args.k 4) (rw o.ensures (a.requires.0.encoded.ops a.args.k a.requires.1)) m.0.0.0.1
+    let m = c.in_default.in_default-own.rest in
+    row_plain c.args.n c.args.work.now c.args.k c.get-right.result c.get-right.ensures (right_small (c.before))
+    (rw c.get.ensures at
+    (other_op c.get.result (at c.args.work.now c.args.k 4) (rw c.get.ensures (c.requires.0.encoded.ops c.args.k c.requires.1)) m.0.0.0.1
     m.0.0.1 m.0.1 m.1))
 
-pub by-rule-spec : {M : Type 1} → statement M
-by-rule-spec =
+pub by_rule_spec : {M : Type 1} → statement M
+by_rule_spec =
     tie.close
     (tie.spec
     get-requires

@@ -17,34 +17,29 @@ put-requires-2 c κs = search rules
 put-requires-3 : tie.Need-put-requires-3
 put-requires-3 c κs = search rules
 
-cast-put : tie.Need-overflow-cast-put
+cast-put : tie.Need-overflow_cast-m
 cast-put c = search rules
 
 put-requires-4 : tie.Need-put-requires-4
 put-requires-4 c κs = search rules
 
-cast-put-2 : tie.Need-overflow-cast-put-2
+cast-put-2 : tie.Need-overflow_cast-k
 cast-put-2 c = search rules
 
 put-requires-5 : tie.Need-put-requires-5
 put-requires-5 c κs = search rules
 
-same_length : tie.Need-same-length
+same_length : tie.Need-shape_of-work
 same_length c = search rules
 
 returns : tie.Need-returns
 returns c =
-    let s5 = c.before.before in
-    let s4 = s5.before.before.before.before in
-    let s3 = s4.before.before.before.before in
-    let s2 = s3.before.before.before.before in
-    let s1 = s2.before.before.before.before in
-    let a = s1.before.before.before.args in
-    s5.put5.ensures
-    ∙ ap (λ (l : List ℕ). set l (16 * a.m + 10) a.k) (s4.put4.ensures
-    ∙ ap (λ (l : List ℕ). set l (16 * a.k + 11) a.m) (s3.put3.ensures
-    ∙ ap (λ (l : List ℕ). set l (16 * a.k + 7) a.flag) (s2.put2.ensures
-    ∙ ap (λ (l : List ℕ). set l (16 * a.k + 6) a.code) s1.put.ensures)))
+    let a = c.args in
+    c.put-5.ensures
+    ∙ ap (λ (l : List ℕ). set l (16 * a.m + 10) a.k) (c.put-4.ensures
+    ∙ ap (λ (l : List ℕ). set l (16 * a.k + 11) a.m) (c.put-3.ensures
+    ∙ ap (λ (l : List ℕ). set l (16 * a.k + 7) a.flag) (c.put-2.ensures
+    ∙ ap (λ (l : List ℕ). set l (16 * a.k + 6) a.code) c.put.ensures)))
 
 pub finish_spec : {M : Type 1} → statement M
 finish_spec =

@@ -12,69 +12,59 @@ use Rattle.compile_settle.proofs.last_of.Statement.{statement}
 use Rattle.compile_settle.proofs.last_of.Tie as tie
 
 -- the row that was found
-found-row : (c : tie.After-known-told) → let a = c.before.before.before.before.before in
-    row_of a.args.work.now a.args.n a.args.left a.args.right ≡ some c.before.j.given.0.0
+found-row : (c : tie.In-Found) →
+    row_of c.args.work.now c.args.n c.args.left c.args.right ≡ some c.in-Found.j
 found-row c =
-    let f = c.before.before.before in
-    let a = f.before.before in
-    found_is (row_of a.args.work.now a.args.n a.args.left a.args.right) f.find.result c.before.j.given.0.0
-    (f.find.ensures ∙ ap found_row (search_row_lem a.args.n a.args.work.now a.requires.0.encoded.ascending a.args.left a.args.right a.requires.2)) c.before.j.given.1
+    found_is (row_of c.args.work.now c.args.n c.args.left c.args.right) c.find.result c.in-Found.j
+    (c.find.ensures ∙ ap found_row (search_row_lem c.args.n c.args.work.now c.requires.0.encoded.ascending c.args.left c.args.right c.requires.2)) c.in-Found.is
 
-row_few : (c : tie.After-known-told) → c.before.j.given.0.0 < 65792
+row_few : (c : tie.In-Found) → c.in-Found.j < 65792
 row_few c =
-    let a = c.before.before.before.before.before in
     omega (
       arith,
-      a.requires.0.encoded.ascending.few,
-      found_less a.args.n a.args.work.now a.requires.0.encoded.ascending a.args.left a.args.right c.before.j.given.0.0
+      c.requires.0.encoded.ascending.few,
+      found_less c.args.n c.args.work.now c.requires.0.encoded.ascending c.args.left c.args.right c.in-Found.j
           (found-row c),
     )
 
 find-requires : tie.Need-find-requires
 find-requires c κs = search rules
 
-enum-known-j : tie.Need-enum-known-j
+enum-known-j : tie.Need-enum_known-j
 enum-known-j c = search rules
 
-enum_told : tie.Need-enum-told
+enum_told : tie.Need-enum_told-1
 enum_told c = search rules
 
-returns : tie.Need-returns
+returns : tie.Need-returns-in_default
 returns c =
-    let f = c.before.before in
-    let a = f.before.before in
-    says_missing a.args.n a.args.work.now a.requires.0.encoded.ascending a.args.left a.args.right a.requires.2
-    (missing_is (row_of a.args.work.now a.args.n a.args.left a.args.right) f.find.result
-    (f.find.ensures ∙ ap found_row (search_row_lem a.args.n a.args.work.now a.requires.0.encoded.ascending a.args.left a.args.right a.requires.2)) c.enum_told.given.1)
+    says_missing c.args.n c.args.work.now c.requires.0.encoded.ascending c.args.left c.args.right c.requires.2
+    (missing_is (row_of c.args.work.now c.args.n c.args.left c.args.right) c.find.result
+    (c.find.ensures ∙ ap found_row (search_row_lem c.args.n c.args.work.now c.requires.0.encoded.ascending c.args.left c.args.right c.requires.2)) c.in_default.is)
 
 get-requires : tie.Need-get-requires
 get-requires c κs = search rules
 
-get-requires-2 : tie.Need-get-requires-2
+get-requires-2 : tie.Need-get-code-requires
 get-requires-2 c κs = search rules
 
-get-requires-3 : tie.Need-get-requires-3
+get-requires-3 : tie.Need-get-flag-requires
 get-requires-3 c κs = search rules
 
-returns-2 : tie.Need-returns-2
+returns-2 : tie.Need-returns-then-get-eq2
 returns-2 c =
-    let g = c.before.before.before in
-    let j = g.before in
-    let a = j.before.before.before.before.before in
-    rw (c.before.get2.ensures, c.get3.ensures)
-    (says_done a.args.n a.args.work.now a.requires.0.encoded.ascending a.args.left a.args.right j.before.j.given.0.0 (found-row j)
-    a.requires.0
-    (sym g.get.ensures ∙ c.before.before.if1.true))
+    rw (c.get-code.ensures, c.get-flag.ensures)
+    (says_done c.args.n c.args.work.now c.requires.0.encoded.ascending c.args.left c.args.right c.in-Found.j (found-row (c.before.before.before.before))
+    c.requires.0
+    (sym c.get.ensures ∙ c.if-get-eq2.true))
 
-returns-3 : tie.Need-returns-3
+returns-3 : tie.Need-returns-else-get-eq2
 returns-3 c =
-    let j = c.before.before in
-    let a = j.before.before.before.before.before in
-    says_open a.args.n a.args.work.now a.requires.0.encoded.ascending a.args.left a.args.right j.before.j.given.0.0 (found-row j)
-    (λ e. c.if1.false (c.before.get.ensures ∙ e))
+    says_open c.args.n c.args.work.now c.requires.0.encoded.ascending c.args.left c.args.right c.in-Found.j (found-row (c.before.before))
+    (λ e. c.if-get-eq2.false (c.get.ensures ∙ e))
 
-pub last-of-spec : {M : Type 1} → statement M
-last-of-spec =
+pub last_of_spec : {M : Type 1} → statement M
+last_of_spec =
     tie.close
     (tie.spec
     find-requires

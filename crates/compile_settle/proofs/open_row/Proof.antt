@@ -11,21 +11,26 @@ use Rattle.compile_settle.proofs.open_row.Tie as tie
 put-requires : tie.Need-put-requires
 put-requires c κs = search rules
 
-cast-put : tie.Need-overflow-cast-put
+cast-put : tie.Need-overflow_cast-j
 cast-put c = search rules
 
 put-requires-2 : tie.Need-put-requires-2
 put-requires-2 c κs = search rules
 
-same_length : tie.Need-same-length
+same_length : tie.Need-shape_of-work
 same_length c = search rules
 
 returns : tie.Need-returns
 returns c =
-    let s2 = c.before.before in
-    let s1 = s2.before.before.before.before in
-    let a = s1.before.before.before.args in
-    s2.put2.ensures ∙ ap (λ (l : List ℕ). set l (16 * a.h + 8) a.j) s1.put.ensures
+    let a = c.args in
+    c.put-2.ensures ∙ ap (λ (l : List ℕ). set l (16 * a.h + 8) a.j) c.put.ensures
 
-pub open-row-spec : {M : Type 1} → statement M
-open-row-spec = tie.close (tie.spec put-requires cast-put put-requires-2 same_length returns)
+pub open_row_spec : {M : Type 1} → statement M
+open_row_spec =
+    tie.close
+    (tie.spec
+    put-requires
+    cast-put
+    put-requires-2
+    same_length
+    returns)

@@ -11,99 +11,77 @@ use borrow.Author.Rules.{rules}
 use Rattle.compile_settle.proofs.search.Statement.{statement}
 use Rattle.compile_settle.proofs.search.Tie as tie
 
-abbrev invariant-loop : tie.invariant-loop
+abbrev invariant-loop : tie.invariant-loop-p
 invariant-loop work₀ n k m p₀ work p = Going n work₀ work k p
 
-abbrev decreases-loop : tie.decreases-loop
+abbrev decreases-loop : tie.decreases-loop-p
 decreases-loop work₀ n k m p₀ work p = remaining n work p.path
 
-open-row-requires : tie.Need-open-row-requires invariant-loop decreases-loop
+open-row-requires : tie.Need-open_row-requires invariant-loop decreases-loop
 open-row-requires c κs =
-    let a = c.before.before in
-    (omega (arith, a.requires.1, a.requires.0.encoded.ascending.few), omega arith)
+    (omega (arith, c.requires.1, c.requires.0.encoded.ascending.few), omega arith)
 
 get-requires : tie.Need-get-requires invariant-loop decreases-loop
 get-requires c κs = search rules
 
-get-requires-2 : tie.Need-get-requires-2 invariant-loop decreases-loop
+get-requires-2 : tie.Need-get-right-requires invariant-loop decreases-loop
 get-requires-2 c κs = search rules
 
 finish-requires : tie.Need-finish-requires invariant-loop decreases-loop
 finish-requires c κs =
-    let o = c.before.before.before.before.before.before.before.before in
-    let a = o.before.before.before in
-    let few = a.requires.0.encoded.ascending.few in (
-      omega (arith, few, a.requires.1),
+    let few = c.requires.0.encoded.ascending.few in (
+      omega (arith, few, c.requires.1),
       omega (
         arith,
         few,
-        kern_few a.args.n a.args.m a.args.k a.args.work.now o.open_row.new.0 a.requires.0 a.requires.1 a.requires.2
-            o.open_row.ensures,
+        kern_few c.args.n c.args.m c.args.k c.args.work.now c.open_row.new.work c.requires.0 c.requires.1 c.requires.2
+            c.open_row.ensures,
       ),
     )
 
-add-result : tie.Need-overflow-add-result invariant-loop decreases-loop
+add-result : tie.Need-overflow_add-result invariant-loop decreases-loop
 add-result c =
-    let o = c.before.before.before.before.before.before.before.before.before.before.before in
-    let a = o.before.before.before in
     omega (
       arith,
-      a.requires.0.encoded.ascending.few,
-      kern_few a.args.n a.args.m a.args.k a.args.work.now o.open_row.new.0 a.requires.0 a.requires.1 a.requires.2 o.open_row.ensures,
+      c.requires.0.encoded.ascending.few,
+      kern_few c.args.n c.args.m c.args.k c.args.work.now c.open_row.new.work c.requires.0 c.requires.1 c.requires.2 c.open_row.ensures,
     )
 
-same_length : tie.Need-same-length invariant-loop decreases-loop
+same_length : tie.Need-shape_of-work-then-get-eq128 invariant-loop decreases-loop
 same_length c =
-    c.before.before.finish.auto.0 ∙ c.before.before.before.before.before.before.before.before.before.before.before.open_row.auto.0
+    c.finish.auto.work ∙ c.open_row.auto.work
 
-returns : tie.Need-returns invariant-loop decreases-loop
+returns : tie.Need-returns-then-get-eq128 invariant-loop decreases-loop
 returns c =
-    let f = c.before.before in
-    let r = f.before.before in
-    let i = r.before.before in
-    let g = i.before in
-    let o = g.before.before.before.before in
-    let a = o.before.before.before in
-    kern_found a.args.n a.args.m a.args.k a.args.work.now o.open_row.new.0 a.requires.0 a.requires.1 a.requires.2 o.open_row.ensures
-    g.get.result r.get2.result f.finish.new.0 g.get.ensures i.if1.true r.get2.ensures f.finish.ensures
+    kern_found c.args.n c.args.m c.args.k c.args.work.now c.open_row.new.work c.requires.0 c.requires.1 c.requires.2 c.open_row.ensures
+    c.get.result c.get-right.result c.finish.new.work c.get.ensures c.if-get-eq128.true c.get-right.ensures c.finish.ensures
 
-loop-holds : tie.Need-loop-init invariant-loop decreases-loop
+loop-holds : tie.Need-loop-p-init invariant-loop decreases-loop
 loop-holds c =
-    let o = c.before.before.before.before.before in
-    let a = o.before.before.before in
-    going_begin a.args.n a.args.m a.args.k a.args.work.now o.open_row.new.0 a.requires.0 a.requires.1 a.requires.2 o.open_row.ensures
+    going_begin c.args.n c.args.m c.args.k c.args.work.now c.open_row.new.work c.requires.0 c.requires.1 c.requires.2 c.open_row.ensures
 
-turn-requires : tie.Need-turn-requires invariant-loop decreases-loop
-turn-requires c κs = (c.before.before.before.loop.invariant.searching, c.before.if2.true)
+turn-requires : tie.Need-turn-p-requires invariant-loop decreases-loop
+turn-requires c κs = (c.loop-p.invariant.searching, c.loop-p-test.true)
 
-loop-less : tie.Need-loop-smaller invariant-loop decreases-loop
-loop-less c = c.before.before.turn.ensures.less
+loop-less : tie.Need-loop-p-smaller invariant-loop decreases-loop
+loop-less c = c.turn-p.ensures.less
 
-loop-again : tie.Need-loop-preserved invariant-loop decreases-loop
+loop-again : tie.Need-loop-p-preserved invariant-loop decreases-loop
 loop-again c =
-    let t = c.before.before in
-    let l = t.before.before.before.before in
-    let o = l.before.before.before.before.before.before in
-    let a = o.before.before.before in
-    going_more a.args.n a.args.k o.open_row.new.0 l.loop.work t.turn.new.0 l.loop.p t.turn.result a.requires.1 l.loop.invariant
-    t.turn.ensures
+    going_more c.args.n c.args.k c.open_row.new.work c.loop-p.work c.turn-p.new.work c.loop-p.p c.turn-p.result c.requires.1 c.loop-p.invariant
+    c.turn-p.ensures
 
-same-length-2 : tie.Need-same-length-2 invariant-loop decreases-loop
+same-length-2 : tie.Need-shape_of-work invariant-loop decreases-loop
 same-length-2 c =
-    let l = c.before.before in
-    let o = l.before.before.before.before.before.before in
-    l.loop.invariant.rows.same_length ∙ ap length o.open_row.ensures ∙ simp length-set
+    c.loop-p.invariant.rows.same_length ∙ ap length c.open_row.ensures ∙ simp length-set
 
-returns-2 : tie.Need-returns-2 invariant-loop decreases-loop
+returns-2 : tie.Need-returns invariant-loop decreases-loop
 returns-2 c =
-    let l = c.before.before in
-    let o = l.before.before.before.before.before.before in
-    let a = o.before.before.before in
-    going_end a.args.n a.args.m a.args.k a.args.work.now o.open_row.new.0 a.requires.0 a.requires.1 a.requires.2 o.open_row.ensures
-    l.loop.work l.loop.p l.loop.invariant c.if2.false
+    going_end c.args.n c.args.m c.args.k c.args.work.now c.open_row.new.work c.requires.0 c.requires.1 c.requires.2 c.open_row.ensures
+    c.loop-p.work c.loop-p.p c.loop-p.invariant c.loop-p-test.false
 
-pub search-spec : {M : Type 1} → statement M
-search-spec =
+pub search_spec : {M : Type 1} → statement M
+search_spec =
     tie.close
     (tie.spec
     invariant-loop

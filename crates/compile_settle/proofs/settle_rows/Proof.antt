@@ -2,64 +2,57 @@
 -- or waits for rows that never do. The measure is what is left of the rows.
 -- Assumes nothing.
 use mathlib.Core.Path.{sym, ◌∙◌}
-use mathlib.Core.Logic.{⊎_elim}
 use Prim.Native.Nat.{◌-◌}
 use native.Mathlib.Omega.{arith}
 use Rattle.compiling.proofs.SettleLaws.{Passed, passed_none, passed_old, passed_new, passed_all}
 use borrow.Author.Rules.{rules}
 use Rattle.compile_settle.proofs.settle_rows.Statement.{statement}
 use Rattle.compile_settle.proofs.settle_rows.Tie as tie
+use Rattle.compile_settle.proofs.settle_rows.Lts.{then-get-eq0, else-get-eq0}
 
-abbrev invariant-loop : tie.invariant-loop
+abbrev invariant-loop : tie.invariant-loop-k
 invariant-loop work₀ n m₀ k₀ work m k = Passed n work₀ work m k
 
-abbrev decreases-loop : tie.decreases-loop
+abbrev decreases-loop : tie.decreases-loop-k
 decreases-loop work₀ n m₀ k₀ work m k = n - k
 
-loop-holds : tie.Need-loop-init invariant-loop decreases-loop
-loop-holds c = let a = c.before in passed_none a.args.n a.args.work.now a.requires.0 a.requires.1
+loop-holds : tie.Need-loop-k-init invariant-loop decreases-loop
+loop-holds c = passed_none c.args.n c.args.work.now c.requires.0 c.requires.1
 
 get-requires : tie.Need-get-requires invariant-loop decreases-loop
 get-requires c κs = search rules
 
-search-requires : tie.Need-search-requires invariant-loop decreases-loop
+search-requires : tie.Need-search-m-requires invariant-loop decreases-loop
 search-requires c κs =
-    let g = c.before.before in
-    let t = g.before.before in
-    (t.before.loop.invariant.searching, t.loop-test.true, sym g.get.ensures ∙ c.before.if1.true)
+    (c.loop-k.invariant.searching, c.loop-k-test.true, sym c.get.ensures ∙ c.if-get-eq0.true)
 
-add-k : tie.Need-overflow-add-k invariant-loop decreases-loop
+add-k : tie.Need-overflow_add-k invariant-loop decreases-loop
 add-k c =
-    let t = c.before.before.before in
-    let a = t.before.before.before in
-    omega (arith, a.requires.0.ascending.few, t.loop-test.true)
+    omega (arith, c.requires.0.ascending.few, c.loop-k-test.true)
 
-loop-less : tie.Need-loop-smaller invariant-loop decreases-loop
-loop-less c = let t = c.before.before.before in omega (arith, t.loop-test.true)
+loop-less : tie.Need-loop-k-smaller invariant-loop decreases-loop
+loop-less c = omega (arith, c.loop-k-test.true)
 
-loop-again : tie.Need-loop-preserved invariant-loop decreases-loop
+loop-again : tie.Need-loop-k-preserved invariant-loop decreases-loop
 loop-again c =
-    let t = c.before.before.before in
-    let l = t.before in
-    let a = l.before.before in
-    ⊎_elim
-    (λ s. passed_new a.args.n l.loop.m l.loop.k a.args.work.now l.loop.work l.loop.invariant t.loop-test.true c.if1.work
-    s.2.last.0 c.if1.m s.2.result s.5 s.6 s.2.ensures)
-    (λ s. passed_old a.args.n l.loop.m l.loop.k a.args.work.now l.loop.work l.loop.invariant t.loop-test.true c.if1.work
-    c.if1.m s.1 s.2 (λ e. s.0.left (c.before.get.ensures ∙ e)))
-    c.if1.branch
+    elim c.if-get-eq0.branch [
+      | then-get-eq0 w ↦
+          passed_new c.args.n c.loop-k.m c.loop-k.k c.args.work.now c.loop-k.work c.loop-k.invariant c.loop-k-test.true c.if-get-eq0.work
+          w.search-m.new.work c.if-get-eq0.m w.search-m.result w.work-is w.m-is w.search-m.ensures
+      | else-get-eq0 w ↦
+          passed_old c.args.n c.loop-k.m c.loop-k.k c.args.work.now c.loop-k.work c.loop-k.invariant c.loop-k-test.true c.if-get-eq0.work
+          c.if-get-eq0.m w.work-is w.m-is (λ e. w.if-get-eq0.false (c.get.ensures ∙ e))
+    ]
 
-same_length : tie.Need-same-length invariant-loop decreases-loop
-same_length c = c.before.loop.invariant.rows.same_length
+same_length : tie.Need-shape_of-work invariant-loop decreases-loop
+same_length c = c.loop-k.invariant.rows.same_length
 
 returns : tie.Need-returns invariant-loop decreases-loop
 returns c =
-    let l = c.before in
-    let a = l.before.before in
-    passed_all a.args.n l.loop.m l.loop.k a.args.work.now l.loop.work l.loop.invariant c.loop-test.false
+    passed_all c.args.n c.loop-k.m c.loop-k.k c.args.work.now c.loop-k.work c.loop-k.invariant c.loop-k-test.false
 
-pub settle-rows-spec : {M : Type 1} → statement M
-settle-rows-spec =
+pub settle_rows_spec : {M : Type 1} → statement M
+settle_rows_spec =
     tie.close
     (tie.spec
     invariant-loop

@@ -7,73 +7,59 @@ use borrow.Author.Rules.{rules}
 use Rattle.compile_settle.proofs.turn.Statement.{statement}
 use Rattle.compile_settle.proofs.turn.Tie as tie
 
-sub-get : tie.Need-overflow-sub-get
+sub-get : tie.Need-overflow_sub-path
 sub-get c = search rules
 
-get-requires : tie.Need-get-requires
+get-requires : tie.Need-get-k-requires
 get-requires c κs = search rules
 
-cast-k : tie.Need-overflow-cast-k
+cast-k : tie.Need-overflow_cast-k
 cast-k c = search rules
 
-by-rule-requires : tie.Need-by-rule-requires
+by-rule-requires : tie.Need-by_rule-requires
 by-rule-requires c κs =
-    let g = c.before in
-    let a = g.before.before.before in
-    (stored a.args.work.now a.requires.0, omega (arith, g.get.ensures, top_row a.args.work.now a.requires.0 a.requires.1))
+    (stored c.args.work.now c.requires.0, omega (arith, c.get-k.ensures, top_row c.args.work.now c.requires.0 c.requires.1))
 
-enum-known-code : tie.Need-enum-known-code
+enum-known-code : tie.Need-enum_known-code
 enum-known-code c = search rules
 
 finish-requires : tie.Need-finish-requires
 finish-requires c κs =
-    let g = c.before.before.before.before.before.before in
-    let a = g.before.before.before in
-    let few = a.requires.0.encoded.ascending.few in (
-      omega (arith, few, g.get.ensures, top_row a.args.work.now a.requires.0 a.requires.1),
-      omega (arith, few, done_few a.args.work.now a.requires.0 a.requires.1),
+    let few = c.requires.0.encoded.ascending.few in (
+      omega (arith, few, c.get-k.ensures, top_row c.args.work.now c.requires.0 c.requires.1),
+      omega (arith, few, done_few c.args.work.now c.requires.0 c.requires.1),
     )
 
-sub-t21 : tie.Need-overflow-sub-t21
+sub-t21 : tie.Need-overflow_sub-result
 sub-t21 c = search rules
 
-add-t22 : tie.Need-overflow-add-t22
+add-t22 : tie.Need-overflow_add-result
 add-t22 c =
-    let a = c.before.before.before.before.before.before.before.before.before.before.before.before in
-    omega (arith, a.requires.0.encoded.ascending.few, done_few a.args.work.now a.requires.0 a.requires.1)
+    omega (arith, c.requires.0.encoded.ascending.few, done_few c.args.work.now c.requires.0 c.requires.1)
 
-enum-known-j : tie.Need-enum-known-j
+enum-known-j : tie.Need-enum_known-j
 enum-known-j c = search rules
 
 wait-requires : tie.Need-wait-requires
-wait-requires c κs =
-    let j = c.before.before.j.given in
-    let r = c.before.before.before.before in
-    let g = r.before.before in
-    let a = g.before.before.before in (
-      a.requires.0,
-      stuck a.args.n a.args.p.done a.args.work.now g.get.result r.by-rule.result r.by-rule.ensures a.args.p.path j.0.0
-          a.requires.1 a.requires.0 g.get.ensures j.1,
-    )
+wait-requires c κs = (
+  c.requires.0,
+  stuck c.args.n c.args.p.done c.args.work.now c.get-k.result c.by_rule.result c.by_rule.ensures c.args.p.path c.in-Waits.j
+      c.requires.1 c.requires.0 c.get-k.ensures c.in-Waits.is,
+)
 
-same_length : tie.Need-same-length
+same_length : tie.Need-shape_of-work-in-Known
 same_length c = search rules
 
-returns : tie.Need-returns
+returns : tie.Need-returns-in-Known
 returns c =
-    let f = c.before.before in
-    let v = f.before.before.before.code.given in
-    let r = f.before.before.before.before.before in
-    let g = r.before.before in
-    let a = g.before.before.before in
-    turned_finish a.args.n a.args.p.done a.args.work.now g.get.result r.by-rule.result r.by-rule.ensures a.args.p.path v.0.0
-    v.0.1.0 f.finish.new.0
-    a.requires.1 a.requires.0 g.get.ensures v.1 f.finish.ensures
+    turned_finish c.args.n c.args.p.done c.args.work.now c.get-k.result c.by_rule.result c.by_rule.ensures c.args.p.path c.in-Known.code
+    c.in-Known.flag c.finish.new.work
+    c.requires.1 c.requires.0 c.get-k.ensures c.in-Known.is c.finish.ensures
 
-same-length-2 : tie.Need-same-length-2
+same-length-2 : tie.Need-shape_of-work-in-Waits
 same-length-2 c = search rules
 
-returns-2 : tie.Need-returns-2
+returns-2 : tie.Need-returns-in-Waits
 returns-2 c = search rules
 
 pub turn_spec : {M : Type 1} → statement M

@@ -10,48 +10,39 @@ use Rattle.compile_settle.proofs.wait.Statement.{statement}
 use Rattle.compile_settle.proofs.wait.Tie as tie
 
 -- the row that is waited for is new
-new : (c : tie.Then1) → let a = c.before.before.before.before.args in status a.work.now a.j ≡ 0
-new c = sym c.before.get.ensures ∙ c.if1.true
+new : (c : tie.Then-get-eq0) → let a = c.args in status a.work.now a.j ≡ 0
+new c = sym c.get.ensures ∙ c.if-get-eq0.true
 
 get-requires : tie.Need-get-requires
 get-requires c κs = search rules
 
-open-row-requires : tie.Need-open-row-requires
+open-row-requires : tie.Need-open_row-requires
 open-row-requires c κs =
-    let a = c.before.before.before.before.before in
-    let few = a.requires.0.encoded.ascending.few in
-    (omega (arith, a.requires.1.row, few), omega (arith, few, path_room a.args.work.now a.requires.0 a.requires.1.row (new c.before)))
+    let few = c.requires.0.encoded.ascending.few in
+    (omega (arith, c.requires.1.row, few), omega (arith, few, path_room c.args.work.now c.requires.0 c.requires.1.row (new c.before)))
 
-add-t15 : tie.Need-overflow-add-t15
+add-t15 : tie.Need-overflow_add-result
 add-t15 c =
-    let t = c.before.before.before.before in
-    let a = t.before.before.before.before in
-    omega (arith, a.requires.0.encoded.ascending.few, path_room a.args.work.now a.requires.0 a.requires.1.row (new t))
+    omega (arith, c.requires.0.encoded.ascending.few, path_room c.args.work.now c.requires.0 c.requires.1.row (new (c.before.before.before.before)))
 
-give-up-requires : tie.Need-give-up-requires
+give-up-requires : tie.Need-give_up-requires
 give-up-requires c κs = search rules
 
-same_length : tie.Need-same-length
+same_length : tie.Need-shape_of-work-then-get-eq0
 same_length c = search rules
 
-returns : tie.Need-returns
+returns : tie.Need-returns-then-get-eq0
 returns c =
-    let o = c.before.before in
-    let t = o.before.before in
-    let a = t.before.before.before.before in
-    turned_open a.args.n a.args.p.path a.args.p.done a.args.j a.args.work.now o.open_row.new.0 a.requires.0 a.requires.1 (new t)
-    o.open_row.ensures
+    turned_open c.args.n c.args.p.path c.args.p.done c.args.j c.args.work.now c.open_row.new.work c.requires.0 c.requires.1 (new (c.before.before.before.before))
+    c.open_row.ensures
 
-same-length-2 : tie.Need-same-length-2
+same-length-2 : tie.Need-shape_of-work-else-get-eq0
 same-length-2 c = search rules
 
-returns-2 : tie.Need-returns-2
+returns-2 : tie.Need-returns-else-get-eq0
 returns-2 c =
-    let o = c.before.before in
-    let t = o.before.before in
-    let a = t.before.before.before.before in
-    turned_given a.args.n a.args.p.path a.args.p.done a.args.j a.args.work.now o.give-up.new.0 a.requires.0 a.requires.1
-    (λ e. t.if1.false (t.before.get.ensures ∙ e)) o.give-up.ensures
+    turned_given c.args.n c.args.p.path c.args.p.done c.args.j c.args.work.now c.give_up.new.work c.requires.0 c.requires.1
+    (λ e. c.if-get-eq0.false (c.get.ensures ∙ e)) c.give_up.ensures
 
 pub wait_spec : {M : Type 1} → statement M
 wait_spec =

@@ -7,37 +7,43 @@ use Rattle.entry_targets.proofs.Targets.{entry_past, entry_plain, entry_followed
 use Rattle.entry_targets.proofs.entry_refusal.Statement.{statement}
 use Rattle.entry_targets.proofs.entry_refusal.Tie as tie
 
-returns : tie.Need-returns
+returns : tie.Need-returns-then-n-entry
 returns c =
-    let a = c.before.args in
-    entry_past a.instructions.now a.entry c.if1.true
+    let a = c.args in
+    entry_past a.instructions.now a.entry c.if-n-entry.true
 
-is-redirect-requires : tie.Need-is-redirect-requires
+is-redirect-requires : tie.Need-is_redirect-requires
 is-redirect-requires c κs = search rules
 
-returns-2 : tie.Need-returns-2
+returns-2 : tie.Need-returns-then-not-is_redirect
 returns-2 c =
-    let a = c.before.before.before.args in
-    entry_plain a.instructions.now a.entry c.before.before.if1.false (sym c.before.is-redirect.ensures ∙ not-true _ c.if2.true)
+    let a = c.args in
+    entry_plain a.instructions.now a.entry c.if-n-entry.false (sym c.is_redirect.ensures ∙ c.if-not-is_redirect.true)
 
-target-at-requires : tie.Need-target-at-requires
+target-at-requires : tie.Need-target_at-requires
 target-at-requires c κs = search rules
 
-returns-3 : tie.Need-returns-3
+returns-3 : tie.Need-returns-then-target_at-n
 returns-3 c =
     let e = c.before.before in
-    let a = e.before.before.before.args in
-    entry_followed a.instructions.now a.entry e.before.before.if1.false (sym e.before.is-redirect.ensures ∙ not-false _ e.if2.false)
-    c.before.target_at.ensures c.if3.true
+    let a = e.args in
+    entry_followed a.instructions.now a.entry e.if-n-entry.false (sym e.is_redirect.ensures ∙ e.if-not-is_redirect.false)
+    c.target_at.ensures c.if-target_at-n.true
 
-returns-4 : tie.Need-returns-4
+returns-4 : tie.Need-returns-else-target_at-n
 returns-4 c =
     let e = c.before.before in
-    let a = e.before.before.before.args in
-    entry_far a.instructions.now a.entry e.before.before.if1.false (sym e.before.is-redirect.ensures ∙ not-false _ e.if2.false)
-    c.before.target_at.ensures c.if3.false
+    let a = e.args in
+    entry_far a.instructions.now a.entry e.if-n-entry.false (sym e.is_redirect.ensures ∙ e.if-not-is_redirect.false)
+    c.target_at.ensures c.if-target_at-n.false
 
-pub entry-refusal-spec : {M : Type 1} → statement M
-entry-refusal-spec =
+pub entry_refusal_spec : {M : Type 1} → statement M
+entry_refusal_spec =
     tie.close
-    (tie.spec returns is-redirect-requires returns-2 target-at-requires returns-3 returns-4)
+    (tie.spec
+    returns
+    is-redirect-requires
+    returns-2
+    target-at-requires
+    returns-3
+    returns-4)

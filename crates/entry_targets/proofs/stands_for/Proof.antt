@@ -6,21 +6,27 @@ use Rattle.entry_targets.proofs.Targets.{stands_target, stands_itself}
 use Rattle.entry_targets.proofs.stands_for.Statement.{statement}
 use Rattle.entry_targets.proofs.stands_for.Tie as tie
 
-is-redirect-requires : tie.Need-is-redirect-requires
+is-redirect-requires : tie.Need-is_redirect-requires
 is-redirect-requires c κs = search rules
 
-target-at-requires : tie.Need-target-at-requires
+target-at-requires : tie.Need-target_at-requires
 target-at-requires c κs = search rules
 
-returns : tie.Need-returns
+returns : tie.Need-returns-then-is_redirect
 returns c =
-    let a = c.before.before.before.args in
-    c.target_at.ensures ∙ stands_target a.instructions.now a.entry (sym c.before.before.is-redirect.ensures ∙ c.before.if1.true)
+    let a = c.args in
+    c.target_at.ensures ∙ stands_target a.instructions.now a.entry (sym c.is_redirect.ensures ∙ c.if-is_redirect.true)
 
-returns-2 : tie.Need-returns-2
+returns-2 : tie.Need-returns-else-is_redirect
 returns-2 c =
-    let a = c.before.before.args in
-    stands_itself a.instructions.now a.entry (sym c.before.is-redirect.ensures ∙ c.if1.false)
+    let a = c.args in
+    stands_itself a.instructions.now a.entry (sym c.is_redirect.ensures ∙ c.if-is_redirect.false)
 
-pub stands-for-spec : {M : Type 1} → statement M
-stands-for-spec = tie.close (tie.spec is-redirect-requires target-at-requires returns returns-2)
+pub stands_for_spec : {M : Type 1} → statement M
+stands_for_spec =
+    tie.close
+    (tie.spec
+    is-redirect-requires
+    target-at-requires
+    returns
+    returns-2)

@@ -14,55 +14,51 @@ use borrow.Author.Rules.{rules}
 use Rattle.entry_unpack.proofs.chain_is_seven_bit.Statement.{statement}
 use Rattle.entry_unpack.proofs.chain_is_seven_bit.Tie as tie
 
-abbrev invariant-loop : tie.invariant-loop
+abbrev invariant-loop : tie.invariant-loop-i
 invariant-loop instructions entry at₀ at = all_seven_bit instructions (chain_of instructions entry) ≡ all_seven_bit instructions (chain_of instructions at)
 
-abbrev decreases-loop : tie.decreases-loop
+abbrev decreases-loop : tie.decreases-loop-i
 decreases-loop instructions entry at₀ at = count instructions - at
 
-step : (c : tie.After-known-told invariant-loop decreases-loop) → let a = c.before.before.before.before in
-    Stepped (count a.before.args.instructions.now) (instruction_at a.before.args.instructions.now) a.loop.at c.before.i.given.0.0
-    c.before.i.given.0.1.0
-step c = step_on _ _ _ _ _ (sym c.before.before.before.next-instruction.ensures ∙ c.before.i.given.1)
+step : (c : tie.In-At invariant-loop decreases-loop) → Stepped (count c.args.instructions.now) (instruction_at c.args.instructions.now) c.loop-i.at c.in-At.i
+    c.in-At.on
+step c = step_on _ _ _ _ _ (sym c.next_instruction.ensures ∙ c.in-At.is)
 
-loop-holds : tie.Need-loop-init invariant-loop decreases-loop
+loop-holds : tie.Need-loop-i-init invariant-loop decreases-loop
 loop-holds c = refl
 
-next-instruction-requires : tie.Need-next-instruction-requires invariant-loop decreases-loop
+next-instruction-requires : tie.Need-next_instruction-requires invariant-loop decreases-loop
 next-instruction-requires c κs = search rules
 
-enum-known-i : tie.Need-enum-known-i invariant-loop decreases-loop
+enum-known-i : tie.Need-enum_known-i invariant-loop decreases-loop
 enum-known-i c = search rules
 
-enum_told : tie.Need-enum-told invariant-loop decreases-loop
+enum_told : tie.Need-enum_told-1 invariant-loop decreases-loop
 enum_told c = search rules
 
-returns : tie.Need-returns invariant-loop decreases-loop
+returns : tie.Need-returns-in_default invariant-loop decreases-loop
 returns c =
-    let e = c.before.before.before in
-    sevens_end e.before.args.instructions.now e.before.args.entry e.loop.at e.loop.invariant
-    (step_end _ _ _ (sym c.before.before.next-instruction.ensures ∙ c.enum_told.given.1))
+    sevens_end c.args.instructions.now c.args.entry c.loop-i.at c.loop-i.invariant
+    (step_end _ _ _ (sym c.next_instruction.ensures ∙ c.in_default.is))
 
-inserts-seven-bit-requires : tie.Need-inserts-seven-bit-requires invariant-loop decreases-loop
+inserts-seven-bit-requires : tie.Need-inserts_seven_bit-requires invariant-loop decreases-loop
 inserts-seven-bit-requires c κs = search rules
 
-returns-2 : tie.Need-returns-2 invariant-loop decreases-loop
+returns-2 : tie.Need-returns-then-not-inserts_seven_bit invariant-loop decreases-loop
 returns-2 c =
-    let e = c.before.before.before.before.before.before in
-    sevens_fail e.before.args.instructions.now e.before.args.entry e.loop.at e.loop.invariant (step c.before.before)
-    c.before.inserts-seven-bit.ensures (not-true _ c.if1.true)
+    sevens_fail c.args.instructions.now c.args.entry c.loop-i.at c.loop-i.invariant (step c.before.before)
+    c.inserts_seven_bit.ensures (c.if-not-inserts_seven_bit.true)
 
-loop-less : tie.Need-loop-smaller invariant-loop decreases-loop
+loop-less : tie.Need-loop-i-smaller invariant-loop decreases-loop
 loop-less c = omega (arith, (step c.before.before).inside, (step c.before.before).ahead)
 
-loop-again : tie.Need-loop-preserved invariant-loop decreases-loop
+loop-again : tie.Need-loop-i-preserved invariant-loop decreases-loop
 loop-again c =
-    let e = c.before.before.before.before.before.before in
-    sevens_more e.before.args.instructions.now e.before.args.entry e.loop.at e.loop.invariant (step c.before.before)
-    c.before.inserts-seven-bit.ensures (not-false _ c.if1.false)
+    sevens_more c.args.instructions.now c.args.entry c.loop-i.at c.loop-i.invariant (step c.before.before)
+    c.inserts_seven_bit.ensures (c.if-not-inserts_seven_bit.false)
 
-pub chain-is-seven-bit-spec : {M : Type 1} → statement M
-chain-is-seven-bit-spec =
+pub chain_is_seven_bit_spec : {M : Type 1} → statement M
+chain_is_seven_bit_spec =
     tie.close
     (tie.spec
     invariant-loop

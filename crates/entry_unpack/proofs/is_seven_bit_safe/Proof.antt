@@ -9,33 +9,32 @@ use borrow.Author.Rules.{rules}
 use Rattle.entry_unpack.proofs.is_seven_bit_safe.Statement.{statement}
 use Rattle.entry_unpack.proofs.is_seven_bit_safe.Tie as tie
 
-program-refusal-requires : tie.Need-program-refusal-requires
+program-refusal-requires : tie.Need-program_refusal-program-requires
 program-refusal-requires c κs = search rules
 
-returns : tie.Need-returns
-returns c = refused_reply _ (first_refusal _ c.before.program-refusal.ensures c.if1.true) c.if1.true
+returns : tie.Need-returns-then-program-ne0
+returns c = refused_reply _ (first_refusal _ c.program_refusal-program.ensures c.if-program-ne0.true) c.if-program-ne0.true
 
-entries-refusal-requires : tie.Need-entries-refusal-requires
+entries-refusal-requires : tie.Need-entries_refusal-listed-requires
 entries-refusal-requires c κs = search rules
 
-returns-2 : tie.Need-returns-2
+returns-2 : tie.Need-returns-then-listed-ne0
 returns-2 c =
-    refused_reply _ (later_refusal_lem c.before.before.before.program-refusal.ensures c.before.before.if1.false c.before.entries-refusal.ensures)
-    c.if2.true
+    refused_reply _ (later_refusal_lem c.program_refusal-program.ensures c.if-program-ne0.false c.entries_refusal-listed.ensures)
+    c.if-listed-ne0.true
 
-all-are-safe-requires : tie.Need-all-are-safe-requires
+all-are-safe-requires : tie.Need-all_are_safe-requires
 all-are-safe-requires c κs = search rules
 
-returns-3 : tie.Need-returns-3
+returns-3 : tie.Need-returns
 returns-3 c =
-    let e = c.before in
-    ap (λ (b : Bool). seven_bit_reply (Safe b)) c.all-are-safe.ensures
+    ap (λ (b : Bool). seven_bit_reply (Safe b)) c.all_are_safe.ensures
     ∙ taken_reply _
-    (sym (later_refusal_lem e.before.before.before.program-refusal.ensures e.before.before.if1.false e.before.entries-refusal.ensures)
-    ∙ e.if2.false)
+    (sym (later_refusal_lem c.program_refusal-program.ensures c.if-program-ne0.false c.entries_refusal-listed.ensures)
+    ∙ c.if-listed-ne0.false)
 
-pub is-seven-bit-safe-spec : {M : Type 1} → statement M
-is-seven-bit-safe-spec =
+pub is_seven_bit_safe_spec : {M : Type 1} → statement M
+is_seven_bit_safe_spec =
     tie.close
     (tie.spec
     program-refusal-requires

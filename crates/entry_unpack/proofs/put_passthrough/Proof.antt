@@ -12,59 +12,58 @@ use borrow.Author.Rules.{rules}
 use Rattle.entry_unpack.proofs.put_passthrough.Statement.{statement}
 use Rattle.entry_unpack.proofs.put_passthrough.Tie as tie
 
-abbrev invariant-loop : tie.invariant-loop
+abbrev invariant-loop : tie.invariant-loop-i
 invariant-loop instructions entry passthrough out₀ i₀ out i = Filling (passthrough_at instructions entry passthrough) out₀ out i × (i ≤ length passthrough)
 
-abbrev decreases-loop : tie.decreases-loop
+abbrev decreases-loop : tie.decreases-loop-i
 decreases-loop instructions entry passthrough out₀ i₀ out i = length passthrough - i
 
-here : (c : tie.After-passthrough-at invariant-loop decreases-loop) → c.before.before.loop.i < length c.before.before.loop.out
+here : (c : tie.After-passthrough_at invariant-loop decreases-loop) → c.loop-i.i < length c.loop-i.out
 here c =
-    let a = c.before.before.before.before.before in
     omega (
       arith,
-      a.requires,
-      filling_length (passthrough_at a.args.instructions.now a.args.entry a.args.passthrough.now) a.args.out.now
-          c.before.before.loop.invariant.0,
-      c.before.loop-test.true,
+      c.requires,
+      filling_length (passthrough_at c.args.instructions.now c.args.entry c.args.passthrough.now) c.args.out.now
+          c.loop-i.invariant.0,
+      c.loop-i-test.true,
     )
 
-loop-holds : tie.Need-loop-init invariant-loop decreases-loop
+loop-holds : tie.Need-loop-i-init invariant-loop decreases-loop
 loop-holds c =
-    let a = c.before.before.args in (filling_none (passthrough_at a.instructions.now a.entry a.passthrough.now) a.out.now, omega arith)
+    let a = c.args in (filling_none (passthrough_at a.instructions.now a.entry a.passthrough.now) a.out.now, omega arith)
 
-passthrough-at-requires : tie.Need-passthrough-at-requires invariant-loop decreases-loop
+passthrough-at-requires : tie.Need-passthrough_at-requires invariant-loop decreases-loop
 passthrough-at-requires c κs = search rules
 
-slice-write-out : tie.Need-slice-write-out invariant-loop decreases-loop
+slice-write-out : tie.Need-bounds-out-i invariant-loop decreases-loop
 slice-write-out c = omega (arith, here c)
 
-add-i : tie.Need-overflow-add-i invariant-loop decreases-loop
+add-i : tie.Need-overflow_add-i invariant-loop decreases-loop
 add-i c = omega arith
 
-loop-less : tie.Need-loop-smaller invariant-loop decreases-loop
+loop-less : tie.Need-loop-i-smaller invariant-loop decreases-loop
 loop-less c = omega arith
 
-loop-again : tie.Need-loop-preserved invariant-loop decreases-loop
+loop-again : tie.Need-loop-i-preserved invariant-loop decreases-loop
 loop-again c =
-    let a = c.before.before.before.before.before.args in (
-      rw c.passthrough-at.ensures
-          (filling_more (passthrough_at a.instructions.now a.entry a.passthrough.now) a.out.now c.before.before.loop.invariant.0 (here c)),
+    let a = c.args in (
+      rw c.passthrough_at.ensures
+          (filling_more (passthrough_at a.instructions.now a.entry a.passthrough.now) a.out.now c.loop-i.invariant.0 (here c)),
       omega arith,
     )
 
-same_length : tie.Need-same-length invariant-loop decreases-loop
+same_length : tie.Need-shape_of-out invariant-loop decreases-loop
 same_length c =
-    let a = c.before.before.before.before.args in
-    filling_length (passthrough_at a.instructions.now a.entry a.passthrough.now) a.out.now c.before.loop.invariant.0
+    let a = c.args in
+    filling_length (passthrough_at a.instructions.now a.entry a.passthrough.now) a.out.now c.loop-i.invariant.0
 
 returns : tie.Need-returns invariant-loop decreases-loop
 returns c =
-    let k : c.before.loop.i ≡ length c.before.before.before.before.args.passthrough.now = omega arith in
-    rw k at c.before.loop.invariant.0.filled
+    let k : c.loop-i.i ≡ length c.args.passthrough.now = omega arith in
+    rw k at c.loop-i.invariant.0.filled
 
-pub put-passthrough-spec : {M : Type 1} → statement M
-put-passthrough-spec =
+pub put_passthrough_spec : {M : Type 1} → statement M
+put_passthrough_spec =
     tie.close
     (tie.spec
     invariant-loop

@@ -9,70 +9,67 @@ use borrow.Author.Rules.{rules}
 use Rattle.file_chars.proofs.char_word.Statement.{statement}
 use Rattle.file_chars.proofs.char_word.Tie as tie
 
-mul-u8-at : tie.Need-overflow-mul-u8-at
+mul-u8-at : tie.Need-overflow_mul-w
 mul-u8-at c = search rules
 
-u8-at-requires : tie.Need-u8-at-requires
+u8-at-requires : tie.Need-u8_at-first-requires
 u8-at-requires c κs = search rules
 
-cast-first : tie.Need-overflow-cast-first
+cast-first : tie.Need-overflow_cast-first
 cast-first c = search rules
 
-mul-u8-at-2 : tie.Need-overflow-mul-u8-at-2
+mul-u8-at-2 : tie.Need-overflow_mul-w-2
 mul-u8-at-2 c = search rules
 
-add-u8-at : tie.Need-overflow-add-u8-at
+add-u8-at : tie.Need-overflow_add-w
 add-u8-at c = search rules
 
-u8-at-requires-2 : tie.Need-u8-at-requires-2
+u8-at-requires-2 : tie.Need-u8_at-second-requires
 u8-at-requires-2 c κs = search rules
 
-cast-second : tie.Need-overflow-cast-second
+cast-second : tie.Need-overflow_cast-second
 cast-second c = search rules
 
-tag-byte-requires : tie.Need-tag-byte-requires
+tag-byte-requires : tie.Need-tag_byte-third-requires
 tag-byte-requires c κs = search rules
 
-cast-third : tie.Need-overflow-cast-third
+cast-third : tie.Need-overflow_cast-third
 cast-third c = search rules
 
-mul-result : tie.Need-overflow-mul-result
+mul-result : tie.Need-overflow_mul-result
 mul-result c = search rules
 
-mul-result-2 : tie.Need-overflow-mul-result-2
+mul-result-2 : tie.Need-overflow_mul-result-2
 mul-result-2 c = search rules
 
-add-result : tie.Need-overflow-add-result
+add-result : tie.Need-overflow_add-result
 add-result c = search rules
 
-mul-result-3 : tie.Need-overflow-mul-result-3
+mul-result-3 : tie.Need-overflow_mul-result-3
 mul-result-3 c = search rules
 
-add-result-2 : tie.Need-overflow-add-result-2
+add-result-2 : tie.Need-overflow_add-result-2
 add-result-2 c = search rules
 
-remainder-byte-requires : tie.Need-remainder-byte-requires
+remainder-byte-requires : tie.Need-remainder_byte-requires
 remainder-byte-requires c κs = search rules
 
-cast-result : tie.Need-overflow-cast-result
+cast-result : tie.Need-overflow_cast-result
 cast-result c = search rules
 
-add-result-3 : tie.Need-overflow-add-result-3
+add-result-3 : tie.Need-overflow_add-result-3
 add-result-3 c = search rules
 
 returns : tie.Need-returns
 returns c =
-    let t = c.before in
-    let v = t.before in
-    let u = v.before in
-    let a = u.before.before.args in
+    let a = c.args in
     let e : 4 * a.w ≡ 4 * a.w + 0 = omega arith in
-    joined_bytes u.u8-at.result v.u8-at2.result t.tag-byte.result c.remainder-byte.result (omega arith) (omega arith) (omega arith)
+    joined_bytes c.u8_at-first.result c.u8_at-second.result c.tag_byte-third.result c.remainder_byte.result (omega arith) (omega arith) (omega arith)
     (omega arith)
-    ∙ rw (u.u8-at.ensures ∙ ap (λ (k : ℕ). get_or a.old.now k 0) e, v.u8-at2.ensures, t.tag-byte.ensures, c.remainder-byte.ensures)
+    ∙ rw (c.u8_at-first.ensures ∙ ap (λ (k : ℕ). get_or a.old.now k 0) e, c.u8_at-second.ensures, c.tag_byte-third.ensures, c.remainder_byte.ensures)
 
-pub char-word-spec : {M : Type 1} → statement M
-char-word-spec =
+pub char_word_spec : {M : Type 1} → statement M
+char_word_spec =
     tie.close
     (tie.spec
     mul-u8-at

@@ -9,15 +9,20 @@ use borrow.Author.Rules.{rules}
 use Rattle.file_chars.proofs.entry_word.Statement.{statement}
 use Rattle.file_chars.proofs.entry_word.Tie as tie
 
-word-at-requires : tie.Need-word-at-requires
+word-at-requires : tie.Need-word_at-requires
 word-at-requires c κs = search rules
 
-returns : tie.Need-returns
+returns : tie.Need-returns-then-place-table
 returns c =
-    let a = c.before.before.args in number_is c.word_at.ensures ∙ default_any a.table.now a.place (pos 0) (negsuc 0) c.before.if1.true
+    let a = c.args in number_is c.word_at.ensures ∙ default_any a.table.now a.place (pos 0) (negsuc 0) c.if-place-table.true
 
-returns-2 : tie.Need-returns-2
-returns-2 c = let a = c.before.args in sym (get_or-eq_default a.table.now (negsuc 0) c.if1.false)
+returns-2 : tie.Need-returns-else-place-table
+returns-2 c = let a = c.args in sym (get_or-eq_default a.table.now (negsuc 0) c.if-place-table.false)
 
-pub entry-word-spec : {M : Type 1} → statement M
-entry-word-spec = tie.close (tie.spec word-at-requires returns returns-2)
+pub entry_word_spec : {M : Type 1} → statement M
+entry_word_spec =
+    tie.close
+    (tie.spec
+    word-at-requires
+    returns
+    returns-2)

@@ -7,47 +7,45 @@ use borrow.Author.Rules.{rules}
 use Rattle.file_chars.proofs.remainder_byte.Statement.{statement}
 use Rattle.file_chars.proofs.remainder_byte.Tie as tie
 
-cast-result : tie.Need-overflow-cast-result
+cast-result : tie.Need-overflow_cast-result
 cast-result c = search rules
 
-returns : tie.Need-returns
-returns c = rw (number_pos c.before.before.args.entry c.if1.true)
+returns : tie.Need-returns-then-entry-lt2147483648
+returns c = rw (number_pos c.args.entry c.if-entry-lt2147483648.true)
 
-mul-u8-at : tie.Need-overflow-mul-u8-at
+mul-u8-at : tie.Need-overflow_mul-w
 mul-u8-at c = search rules
 
-add-u8-at : tie.Need-overflow-add-u8-at
+add-u8-at : tie.Need-overflow_add-w
 add-u8-at c = search rules
 
-u8-at-requires : tie.Need-u8-at-requires
+u8-at-requires : tie.Need-u8_at-requires
 u8-at-requires c κs = search rules
 
-mul-u8-at-2 : tie.Need-overflow-mul-u8-at-2
+mul-u8-at-2 : tie.Need-overflow_mul-w-else-u8_at-eq1
 mul-u8-at-2 c = search rules
 
-add-u8-at-2 : tie.Need-overflow-add-u8-at-2
+add-u8-at-2 : tie.Need-overflow_add-w-else-u8_at-eq1
 add-u8-at-2 c = search rules
 
-u8-at-requires-2 : tie.Need-u8-at-requires-2
+u8-at-requires-2 : tie.Need-u8_at-requires-else-u8_at-eq1
 u8-at-requires-2 c κs = search rules
 
-returns-2 : tie.Need-returns-2
+returns-2 : tie.Need-returns-then-u8_at-eq1
 returns-2 c =
-    let u = c.before in
-    rw (number_neg u.before.before.before.args.entry u.before.if1.false, ← u.u8-at.ensures, c.if2.true)
+    rw (number_neg c.args.entry c.if-entry-lt2147483648.false, ← c.u8_at.ensures, c.if-u8_at-eq1.true)
 
-returns-3 : tie.Need-returns-3
+returns-3 : tie.Need-returns-else-u8_at-eq1
 returns-3 c =
-    let u = c.before.before in
     rw (
-      number_neg u.before.before.before.args.entry u.before.if1.false,
-      ← u.u8-at.ensures,
-      ne_eqb (u.u8-at.result % 4) 1 c.before.if2.false,
-      c.u8-at2.ensures,
+      number_neg c.args.entry c.if-entry-lt2147483648.false,
+      ← c.u8_at.ensures,
+      ne_eqb (c.u8_at.result % 4) 1 c.if-u8_at-eq1.false,
+      c.u8_at-else-u8_at-eq1.ensures,
     )
 
-pub remainder-byte-spec : {M : Type 1} → statement M
-remainder-byte-spec =
+pub remainder_byte_spec : {M : Type 1} → statement M
+remainder_byte_spec =
     tie.close
     (tie.spec
     cast-result

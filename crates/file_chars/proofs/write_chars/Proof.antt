@@ -20,85 +20,78 @@ use Rattle.file_chars.proofs.write_chars.Tie as tie
 abbrev oldByte : List ℕ → List ℤ → ℕ → ℕ → ℕ → ℕ → ℕ
 oldByte old table first start i = char_byte old (get_or table (first + i) (negsuc 0)) (start + i)
 
-abbrev invariant-loop : tie.invariant-loop
+abbrev invariant-loop : tie.invariant-loop-i
 invariant-loop old table out₀ n first start i₀ out i = (i ≤ n) × Appending (section_bytes i (oldByte old table first start)) out₀ out
 
-abbrev decreases-loop : tie.decreases-loop
+abbrev decreases-loop : tie.decreases-loop-i
 decreases-loop old table out₀ n first start i₀ out i = n - i
 
-char-count-requires : tie.Need-char-count-requires invariant-loop decreases-loop
+char-count-requires : tie.Need-char_count-requires invariant-loop decreases-loop
 char-count-requires c κs = search rules
 
-smaller-requires : tie.Need-smaller-requires invariant-loop decreases-loop
+smaller-requires : tie.Need-smaller-n-requires invariant-loop decreases-loop
 smaller-requires c κs = search rules
 
-cast-first : tie.Need-overflow-cast-first invariant-loop decreases-loop
+cast-first : tie.Need-overflow_cast-first invariant-loop decreases-loop
 cast-first c = omega arith
 
-char-start-requires : tie.Need-char-start-requires invariant-loop decreases-loop
+char-start-requires : tie.Need-char_start-start-requires invariant-loop decreases-loop
 char-start-requires c κs = search rules
 
-loop-holds : tie.Need-loop-init invariant-loop decreases-loop
+loop-holds : tie.Need-loop-i-init invariant-loop decreases-loop
 loop-holds c =
-    let a = c.before.before.before.before.before.before.args in
-    (omega arith, words_none (oldByte a.old.now a.table.now a.lengths.bc c.char-start.result) a.out.now)
+    let a = c.args in
+    (omega arith, words_none (oldByte a.old.now a.table.now a.lengths.bc c.char_start-start.result) a.out.now)
 
-add-entry-word : tie.Need-overflow-add-entry-word invariant-loop decreases-loop
+add-entry-word : tie.Need-overflow_add-first invariant-loop decreases-loop
 add-entry-word c = omega arith
 
-entry-word-requires : tie.Need-entry-word-requires invariant-loop decreases-loop
+entry-word-requires : tie.Need-entry_word-entry-requires invariant-loop decreases-loop
 entry-word-requires c κs = search rules
 
-mul-put-four : tie.Need-overflow-mul-put-four invariant-loop decreases-loop
+mul-put-four : tie.Need-overflow_mul-i invariant-loop decreases-loop
 mul-put-four c = omega arith
 
-add-char-word : tie.Need-overflow-add-char-word invariant-loop decreases-loop
+add-char-word : tie.Need-overflow_add-start invariant-loop decreases-loop
 add-char-word c = omega arith
 
-char-word-requires : tie.Need-char-word-requires invariant-loop decreases-loop
+char-word-requires : tie.Need-char_word-requires invariant-loop decreases-loop
 char-word-requires c κs = search rules
 
-put-four-requires : tie.Need-put-four-requires invariant-loop decreases-loop
+put-four-requires : tie.Need-put_four-requires invariant-loop decreases-loop
 put-four-requires c κs = search rules
 
-add-i : tie.Need-overflow-add-i invariant-loop decreases-loop
+add-i : tie.Need-overflow_add-i invariant-loop decreases-loop
 add-i c = omega arith
 
-loop-less : tie.Need-loop-smaller invariant-loop decreases-loop
+loop-less : tie.Need-loop-i-smaller invariant-loop decreases-loop
 loop-less c = omega arith
 
-loop-again : tie.Need-loop-preserved invariant-loop decreases-loop
+loop-again : tie.Need-loop-i-preserved invariant-loop decreases-loop
 loop-again c =
-    let p = c.before.before in
-    let e = p.before.before.before in
-    let l = e.before.before.before in
-    let n = l.before.before.before in
-    let a = n.before.before.before.before.args in
-    let start = l.before.char-start.result in (
+    let a = c.args in
+    let start = c.char_start-start.result in (
       omega arith,
-      words_more (oldByte a.old.now a.table.now a.lengths.bc start) a.out.now n.before.char-count.result p.put_four.new.0
-          (four_bytes (byte_of p.before.char-word.result)) n.smaller.ensures e.before.before.loop-test.true l.loop.invariant.1
-          (p.before.char-word.ensures ∙ ap (λ (z : ℤ). four_bytes (char_byte a.old.now z (start + l.loop.i))) e.entry_word.ensures)
-          p.put_four.ensures,
+      words_more (oldByte a.old.now a.table.now a.lengths.bc start) a.out.now c.char_count.result c.put_four.new.out
+          (four_bytes (byte_of c.char_word.result)) c.smaller-n.ensures c.loop-i-test.true c.loop-i.invariant.1
+          (c.char_word.ensures ∙ ap (λ (z : ℤ). four_bytes (char_byte a.old.now z (start + c.loop-i.i))) c.entry_word-entry.ensures)
+          c.put_four.ensures,
     )
 
-same_length : tie.Need-same-length invariant-loop decreases-loop
+same_length : tie.Need-shape_of-out invariant-loop decreases-loop
 same_length c =
-    let l = c.before in appending_length l.before.before.before.before.before.before.before.args.out.now l.loop.invariant.1
+    appending_length c.args.out.now c.loop-i.invariant.1
 
 returns : tie.Need-returns invariant-loop decreases-loop
 returns c =
-    let l = c.before in
-    let n = l.before.before.before in
-    let a = n.before.before.before.before.args in
-    let start = l.before.char-start in
-    words_all (oldByte a.old.now a.table.now a.lengths.bc start.result) a.out.now n.before.char-count.result n.smaller.result
-    n.smaller.ensures l.loop.invariant.0 c.loop-test.false l.loop.invariant.1
-    ∙ ap (λ (k : ℕ). words_in_front k (oldByte a.old.now a.table.now a.lengths.bc start.result) a.out.now) n.before.char-count.ensures
-    ∙ ap (λ (k : ℕ). words_in_front (char_count a.lengths) (oldByte a.old.now a.table.now a.lengths.bc k) a.out.now) start.ensures
+    let a = c.args in
+    words_all (oldByte a.old.now a.table.now a.lengths.bc c.char_start-start.result) a.out.now c.char_count.result c.smaller-n.result
+    c.smaller-n.ensures c.loop-i.invariant.0 c.loop-i-test.false c.loop-i.invariant.1
+    ∙ ap (λ (k : ℕ). words_in_front k (oldByte a.old.now a.table.now a.lengths.bc c.char_start-start.result) a.out.now) c.char_count.ensures
+    ∙ ap (λ (k : ℕ). words_in_front (char_count a.lengths) (oldByte a.old.now a.table.now a.lengths.bc k) a.out.now) c.char_start-start.ensures
 
-pub write-chars-spec : {M : Type 1} → statement M
-write-chars-spec =
+pub write_chars_spec : {M : Type 1} → statement M
+write_chars_spec =
     tie.close
     (tie.spec
     invariant-loop

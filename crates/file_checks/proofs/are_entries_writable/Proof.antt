@@ -12,49 +12,46 @@ use native.Mathlib.Omega.{arith}
 use Rattle.file_checks.proofs.are_entries_writable.Statement.{statement}
 use Rattle.file_checks.proofs.are_entries_writable.Tie as tie
 
-abbrev invariant-loop : tie.invariant-loop
+abbrev invariant-loop : tie.invariant-loop-i
 invariant-loop old lengths entries n i₀ i = (i ≤ length entries / 2) × (every i (is_entry_writable old entries n) ≡ true)
 
-abbrev decreases-loop : tie.decreases-loop
+abbrev decreases-loop : tie.decreases-loop-i
 decreases-loop old lengths entries n i₀ i = length entries / 2 - i
 
-loop-holds : tie.Need-loop-init invariant-loop decreases-loop
-loop-holds c = let a = c.before.args in (omega arith, every_none (is_entry_writable a.old.now a.entries.now a.n))
+loop-holds : tie.Need-loop-i-init invariant-loop decreases-loop
+loop-holds c = let a = c.args in (omega arith, every_none (is_entry_writable a.old.now a.entries.now a.n))
 
-is-entry-writable-requires : tie.Need-is-entry-writable-requires invariant-loop decreases-loop
-is-entry-writable-requires c κs = (c.before.before.before.requires, c.loop-test.true)
+is-entry-writable-requires : tie.Need-is_entry_writable-requires invariant-loop decreases-loop
+is-entry-writable-requires c κs = (c.requires, c.loop-i-test.true)
 
-returns : tie.Need-returns invariant-loop decreases-loop
+returns : tie.Need-returns-then-not-is_entry_writable invariant-loop decreases-loop
 returns c =
-    let b = c.before.before.before in
-    let a = b.before.before.args in
-    sym (every_fails (length a.entries.now / 2) b.loop.i (is_entry_writable a.old.now a.entries.now a.n) c.before.before.loop-test.true
-    (sym c.before.is-entry-writable.ensures ∙ not-true _ c.if1.true))
+    let a = c.args in
+    sym (every_fails (length a.entries.now / 2) c.loop-i.i (is_entry_writable a.old.now a.entries.now a.n) c.loop-i-test.true
+    (sym c.is_entry_writable.ensures ∙ c.if-not-is_entry_writable.true))
 
-add-i : tie.Need-overflow-add-i invariant-loop decreases-loop
+add-i : tie.Need-overflow_add-i invariant-loop decreases-loop
 add-i c = omega arith
 
-loop-less : tie.Need-loop-smaller invariant-loop decreases-loop
+loop-less : tie.Need-loop-i-smaller invariant-loop decreases-loop
 loop-less c = omega arith
 
-loop-again : tie.Need-loop-preserved invariant-loop decreases-loop
+loop-again : tie.Need-loop-i-preserved invariant-loop decreases-loop
 loop-again c =
-    let b = c.before.before.before in
-    let a = b.before.before.args in (
+    let a = c.args in (
       omega arith,
-      every_more b.loop.i (is_entry_writable a.old.now a.entries.now a.n) b.loop.invariant.1
-          (sym c.before.is-entry-writable.ensures ∙ not-false _ c.if1.false),
+      every_more c.loop-i.i (is_entry_writable a.old.now a.entries.now a.n) c.loop-i.invariant.1
+          (sym c.is_entry_writable.ensures ∙ c.if-not-is_entry_writable.false),
     )
 
-returns-2 : tie.Need-returns-2 invariant-loop decreases-loop
+returns-2 : tie.Need-returns invariant-loop decreases-loop
 returns-2 c =
-    let b = c.before in
-    let a = b.before.before.args in
-    sym (every_to (length a.entries.now / 2) b.loop.i (is_entry_writable a.old.now a.entries.now a.n) b.loop.invariant.1 b.loop.invariant.0
-    c.loop-test.false)
+    let a = c.args in
+    sym (every_to (length a.entries.now / 2) c.loop-i.i (is_entry_writable a.old.now a.entries.now a.n) c.loop-i.invariant.1 c.loop-i.invariant.0
+    c.loop-i-test.false)
 
-pub are-entries-writable-spec : {M : Type 1} → statement M
-are-entries-writable-spec =
+pub are_entries_writable_spec : {M : Type 1} → statement M
+are_entries_writable_spec =
     tie.close
     (tie.spec
     invariant-loop

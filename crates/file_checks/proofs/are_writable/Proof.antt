@@ -13,49 +13,46 @@ use borrow.Author.Rules.{rules}
 use Rattle.file_checks.proofs.are_writable.Statement.{statement}
 use Rattle.file_checks.proofs.are_writable.Tie as tie
 
-abbrev invariant-loop : tie.invariant-loop
+abbrev invariant-loop : tie.invariant-loop-i
 invariant-loop instructions kerns i₀ i = (i ≤ count instructions) × (every i (is_writable instructions kerns) ≡ true)
 
-abbrev decreases-loop : tie.decreases-loop
+abbrev decreases-loop : tie.decreases-loop-i
 decreases-loop instructions kerns i₀ i = count instructions - i
 
-loop-holds : tie.Need-loop-init invariant-loop decreases-loop
+loop-holds : tie.Need-loop-i-init invariant-loop decreases-loop
 loop-holds c = (omega arith, every_none (is_writable c.args.instructions.now c.args.kerns.now))
 
-is-writable-requires : tie.Need-is-writable-requires invariant-loop decreases-loop
+is-writable-requires : tie.Need-is_writable-requires invariant-loop decreases-loop
 is-writable-requires c κs = search rules
 
-returns : tie.Need-returns invariant-loop decreases-loop
+returns : tie.Need-returns-then-not-is_writable invariant-loop decreases-loop
 returns c =
-    let b = c.before.before.before in
-    let a = b.before.args in
-    sym (every_fails (count a.instructions.now) b.loop.i (is_writable a.instructions.now a.kerns.now) c.before.before.loop-test.true
-    (sym c.before.is-writable.ensures ∙ not-true _ c.if1.true))
+    let a = c.args in
+    sym (every_fails (count a.instructions.now) c.loop-i.i (is_writable a.instructions.now a.kerns.now) c.loop-i-test.true
+    (sym c.is_writable.ensures ∙ c.if-not-is_writable.true))
 
-add-i : tie.Need-overflow-add-i invariant-loop decreases-loop
+add-i : tie.Need-overflow_add-i invariant-loop decreases-loop
 add-i c = omega arith
 
-loop-less : tie.Need-loop-smaller invariant-loop decreases-loop
+loop-less : tie.Need-loop-i-smaller invariant-loop decreases-loop
 loop-less c = omega arith
 
-loop-again : tie.Need-loop-preserved invariant-loop decreases-loop
+loop-again : tie.Need-loop-i-preserved invariant-loop decreases-loop
 loop-again c =
-    let b = c.before.before.before in
-    let a = b.before.args in (
+    let a = c.args in (
       omega arith,
-      every_more b.loop.i (is_writable a.instructions.now a.kerns.now) b.loop.invariant.1
-          (sym c.before.is-writable.ensures ∙ not-false _ c.if1.false),
+      every_more c.loop-i.i (is_writable a.instructions.now a.kerns.now) c.loop-i.invariant.1
+          (sym c.is_writable.ensures ∙ c.if-not-is_writable.false),
     )
 
-returns-2 : tie.Need-returns-2 invariant-loop decreases-loop
+returns-2 : tie.Need-returns invariant-loop decreases-loop
 returns-2 c =
-    let b = c.before in
-    let a = b.before.args in
-    sym (every_to (count a.instructions.now) b.loop.i (is_writable a.instructions.now a.kerns.now) b.loop.invariant.1 b.loop.invariant.0
-    c.loop-test.false)
+    let a = c.args in
+    sym (every_to (count a.instructions.now) c.loop-i.i (is_writable a.instructions.now a.kerns.now) c.loop-i.invariant.1 c.loop-i.invariant.0
+    c.loop-i-test.false)
 
-pub are-writable-spec : {M : Type 1} → statement M
-are-writable-spec =
+pub are_writable_spec : {M : Type 1} → statement M
+are_writable_spec =
     tie.close
     (tie.spec
     invariant-loop

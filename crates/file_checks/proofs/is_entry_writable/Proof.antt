@@ -7,43 +7,39 @@ use borrow.Author.Rules.{rules}
 use Rattle.file_checks.proofs.is_entry_writable.Statement.{statement}
 use Rattle.file_checks.proofs.is_entry_writable.Tie as tie
 
-mul-word-at : tie.Need-overflow-mul-word-at
+mul-word-at : tie.Need-overflow_mul-i
 mul-word-at c = search rules
 
-word-at-requires : tie.Need-word-at-requires
+word-at-requires : tie.Need-word_at-requires
 word-at-requires c κs = search rules
 
-is-in-file-requires : tie.Need-is-in-file-requires
+is-in-file-requires : tie.Need-is_in_file-requires
 is-in-file-requires c κs = search rules
 
-returns : tie.Need-returns
+returns : tie.Need-returns-then-not-is_in_file
 returns c =
-    let f = c.before in
-    let w = f.before in
-    let old = w.before.before.args.old.now in
-    rw (sym (f.is-in-file.ensures ∙ ap (is_in_file old) w.word_at.ensures.is) ∙ not-true _ c.if1.true)
+    let old = c.args.old.now in
+    rw (sym (c.is_in_file.ensures ∙ ap (is_in_file old) c.word_at.ensures.is) ∙ c.if-not-is_in_file.true)
 
-mul-word-at-2 : tie.Need-overflow-mul-word-at-2
+mul-word-at-2 : tie.Need-overflow_mul-i-2
 mul-word-at-2 c = search rules
 
-add-word-at : tie.Need-overflow-add-word-at
+add-word-at : tie.Need-overflow_add-i
 add-word-at c = search rules
 
-word-at-requires-2 : tie.Need-word-at-requires-2
+word-at-requires-2 : tie.Need-word_at-requires-2
 word-at-requires-2 c κs = search rules
 
-cast-result : tie.Need-overflow-cast-result
+cast-result : tie.Need-overflow_cast-result
 cast-result c = search rules
 
-returns-2 : tie.Need-returns-2
+returns-2 : tie.Need-returns
 returns-2 c =
-    let f = c.before.before in
-    let w = f.before in
-    let old = w.before.before.args.old.now in
-    rw (sym (f.is-in-file.ensures ∙ ap (is_in_file old) w.word_at.ensures.is) ∙ not-false _ c.before.if1.false, c.word-at2.ensures.is)
+    let old = c.args.old.now in
+    rw (sym (c.is_in_file.ensures ∙ ap (is_in_file old) c.word_at.ensures.is) ∙ c.if-not-is_in_file.false, c.word_at-2.ensures.is)
 
-pub is-entry-writable-spec : {M : Type 1} → statement M
-is-entry-writable-spec =
+pub is_entry_writable_spec : {M : Type 1} → statement M
+is_entry_writable_spec =
     tie.close
     (tie.spec
     mul-word-at

@@ -20,48 +20,41 @@ use Rattle.file_checks.proofs.is_in_file.Tie as tie
 abbrev inFile : List ℕ → ℕ → FileLengths → Bool
 inFile old c l = both (leb l.bc c) (both (leb c l.ec) (not (eqb (word_byte old (char_start l + (c - l.bc)) 0) 0)))
 
-returns : tie.Need-returns
+returns : tie.Need-returns-then-c-lengths
 returns c =
-    let s = c.before.before.before in
-    let l = s.args.lengths in
-    rw (lt-leb l.bc s.args.c c.if1.true) at (ap (inFile s.args.old.now s.args.c) s.requires)
+    let l = c.args.lengths in
+    rw (lt-leb l.bc c.args.c c.if-c-lengths.true) at (ap (inFile c.args.old.now c.args.c) c.requires)
 
-returns-2 : tie.Need-returns-2
+returns-2 : tie.Need-returns-then-lengths-c
 returns-2 c =
-    let e = c.before.before in
-    let s = e.before.before.before in
-    let l = s.args.lengths in
-    rw (le-leb l.bc s.args.c e.if1.false, lt-leb s.args.c l.ec c.if2.true) at (ap (inFile s.args.old.now s.args.c) s.requires)
+    let l = c.args.lengths in
+    rw (le-leb l.bc c.args.c c.if-c-lengths.false, lt-leb c.args.c l.ec c.if-lengths-c.true) at (ap (inFile c.args.old.now c.args.c) c.requires)
 
-char-start-requires : tie.Need-char-start-requires
+char-start-requires : tie.Need-char_start-requires
 char-start-requires c κs = search rules
 
-cast-w : tie.Need-overflow-cast-w
+cast-w : tie.Need-overflow_cast-w
 cast-w c = search rules
 
-add-w : tie.Need-overflow-add-w
+add-w : tie.Need-overflow_add-w
 add-w c = search rules
 
-mul-u8-at : tie.Need-overflow-mul-u8-at
+mul-u8-at : tie.Need-overflow_mul-w
 mul-u8-at c = search rules
 
-u8-at-requires : tie.Need-u8-at-requires
+u8-at-requires : tie.Need-u8_at-requires
 u8-at-requires c κs = search rules
 
-returns-3 : tie.Need-returns-3
+returns-3 : tie.Need-returns
 returns-3 c =
-    let t = c.before.before in
-    let f = t.before in
-    let e = f.before.before in
-    let s = e.before.before.before in
-    let a = s.args in
+    let a = c.args in
     let l = a.lengths in
-    let p : 4 * (t.char-start.result + (a.c - l.bc)) ≡ 4 * (char_start l + (a.c - l.bc)) + 0 = omega (arith, t.char-start.ensures) in
-    ap (λ (b : ℕ). not (eqb b 0)) (c.u8-at.ensures ∙ ap (λ (k : ℕ). get_or a.old.now k 0) p)
-    ∙ rw (le-leb l.bc a.c e.if1.false, le-leb a.c l.ec f.if2.false) at (ap (inFile a.old.now a.c) s.requires)
+    let p : 4 * (c.char_start.result + (a.c - l.bc)) ≡ 4 * (char_start l + (a.c - l.bc)) + 0 = omega (arith, c.char_start.ensures) in
+    ap (λ (b : ℕ). not (eqb b 0)) (c.u8_at.ensures ∙ ap (λ (k : ℕ). get_or a.old.now k 0) p)
+    ∙ rw (le-leb l.bc a.c c.if-c-lengths.false, le-leb a.c l.ec c.if-lengths-c.false) at (ap (inFile a.old.now a.c) c.requires)
 
-pub is-in-file-spec : {M : Type 1} → statement M
-is-in-file-spec =
+pub is_in_file_spec : {M : Type 1} → statement M
+is_in_file_spec =
     tie.close
     (tie.spec
     returns

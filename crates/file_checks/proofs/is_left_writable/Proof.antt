@@ -4,11 +4,15 @@ use Rattle.words.proofs.Bits.{number_pos, number_neg}
 use Rattle.file_checks.proofs.is_left_writable.Statement.{statement}
 use Rattle.file_checks.proofs.is_left_writable.Tie as tie
 
-returns : tie.Need-returns
-returns c = rw (number_pos c.before.args.left c.if1.true)
+returns : tie.Need-returns-then-left-lt2147483648
+returns c = rw (number_pos c.args.left c.if-left-lt2147483648.true)
 
-returns-2 : tie.Need-returns-2
-returns-2 c = rw (number_neg c.before.args.left c.if1.false)
+returns-2 : tie.Need-returns
+returns-2 c = rw (number_neg c.args.left c.if-left-lt2147483648.false)
 
-pub is-left-writable-spec : {M : Type 1} → statement M
-is-left-writable-spec = tie.close (tie.spec returns returns-2)
+pub is_left_writable_spec : {M : Type 1} → statement M
+is_left_writable_spec =
+    tie.close
+    (tie.spec
+    returns
+    returns-2)

@@ -6,11 +6,15 @@ use native.Mathlib.Omega.{arith}
 use Rattle.file_checks.proofs.is_next_writable.Statement.{statement}
 use Rattle.file_checks.proofs.is_next_writable.Tie as tie
 
-returns : tie.Need-returns
-returns c = sym (absent_within 127 c.before.args.next (omega arith) c.if1.true)
+returns : tie.Need-returns-then-next-le127
+returns c = sym (absent_within 127 c.args.next (omega arith) c.if-next-le127.true)
 
-returns-2 : tie.Need-returns-2
-returns-2 c = sym (absent_past 127 c.before.args.next c.if1.false c.before.ranges.next.fits)
+returns-2 : tie.Need-returns-else-next-le127
+returns-2 c = sym (absent_past 127 c.args.next c.if-next-le127.false c.ranges.next.fits)
 
-pub is-next-writable-spec : {M : Type 1} → statement M
-is-next-writable-spec = tie.close (tie.spec returns returns-2)
+pub is_next_writable_spec : {M : Type 1} → statement M
+is_next_writable_spec =
+    tie.close
+    (tie.spec
+    returns
+    returns-2)

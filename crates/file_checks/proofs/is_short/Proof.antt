@@ -10,45 +10,44 @@ use borrow.Author.Rules.{rules}
 use Rattle.file_checks.proofs.is_short.Statement.{statement}
 use Rattle.file_checks.proofs.is_short.Tie as tie
 
-returns : tie.Need-returns
+returns : tie.Need-returns-then-words-gt32767
 returns c =
-    let a = c.before.args in
-    sym (lt-leb (written_lengths a.lengths a.words a.shared).lf 32767 (omega (arith, c.if1.true)))
+    let a = c.args in
+    sym (lt-leb (written_lengths a.lengths a.words a.shared).lf 32767 (omega (arith, c.if-words-gt32767.true)))
 
-returns-2 : tie.Need-returns-2
+returns-2 : tie.Need-returns-then-shared-gt32767
 returns-2 c =
-    let a = c.before.before.args in
-    sym (lt-leb (written_lengths a.lengths a.words a.shared).lf 32767 (omega (arith, c.if2.true)))
+    let a = c.args in
+    sym (lt-leb (written_lengths a.lengths a.words a.shared).lf 32767 (omega (arith, c.if-shared-gt32767.true)))
 
-command-start-requires : tie.Need-command-start-requires
+command-start-requires : tie.Need-command_start-requires
 command-start-requires c κs = search rules
 
-add-result : tie.Need-overflow-add-result
+add-result : tie.Need-overflow_add-result
 add-result c = search rules
 
-add-result-2 : tie.Need-overflow-add-result-2
+add-result-2 : tie.Need-overflow_add-result-2
 add-result-2 c = search rules
 
-cast-result : tie.Need-overflow-cast-result
+cast-result : tie.Need-overflow_cast-result
 cast-result c = search rules
 
-add-result-3 : tie.Need-overflow-add-result-3
+add-result-3 : tie.Need-overflow_add-result-3
 add-result-3 c = search rules
 
-cast-result-2 : tie.Need-overflow-cast-result-2
+cast-result-2 : tie.Need-overflow_cast-result-2
 cast-result-2 c = search rules
 
-add-result-4 : tie.Need-overflow-add-result-4
+add-result-4 : tie.Need-overflow_add-result-4
 add-result-4 c = search rules
 
-returns-3 : tie.Need-returns-3
+returns-3 : tie.Need-returns
 returns-3 c =
-    let s = c.before.before in
-    let a = s.before.before.before.args in
-    ap (λ (k : ℕ). leb (k + a.words + a.shared + a.lengths.ne + a.lengths.np) 32767) s.command-start.ensures
+    let a = c.args in
+    ap (λ (k : ℕ). leb (k + a.words + a.shared + a.lengths.ne + a.lengths.np) 32767) c.command_start.ensures
 
-pub is-short-spec : {M : Type 1} → statement M
-is-short-spec =
+pub is_short_spec : {M : Type 1} → statement M
+is_short_spec =
     tie.close
     (tie.spec
     returns

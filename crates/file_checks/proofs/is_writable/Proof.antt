@@ -7,58 +7,52 @@ use borrow.Author.Rules.{rules}
 use Rattle.file_checks.proofs.is_writable.Statement.{statement}
 use Rattle.file_checks.proofs.is_writable.Tie as tie
 
-field-at-requires : tie.Need-field-at-requires
+field-at-requires : tie.Need-field_at-kind-requires
 field-at-requires c κs = search rules
 
-returns : tie.Need-returns
-returns c = rw (← c.before.field_at.ensures.is, c.if1.true)
+returns : tie.Need-returns-then-kind-eq3
+returns c = rw (← c.field_at-kind.ensures.is, c.if-kind-eq3.true)
 
-field-at-requires-2 : tie.Need-field-at-requires-2
+field-at-requires-2 : tie.Need-field_at-requires
 field-at-requires-2 c κs = search rules
 
-is-next-writable-requires : tie.Need-is-next-writable-requires
+is-next-writable-requires : tie.Need-is_next_writable-requires
 is-next-writable-requires c κs = search rules
 
-returns-2 : tie.Need-returns-2
+returns-2 : tie.Need-returns-then-not-is_next_writable
 returns-2 c =
-    let x = c.before in
-    let k = x.before.before.before in
     rw (
-      ← k.field_at.ensures.is,
-      ne_eqb k.field_at.result 3 x.before.before.if1.false,
-      tested (absent_or 127) x.before.field-at2.ensures x.is-next-writable.ensures (not-true _ c.if2.true),
+      ← c.field_at-kind.ensures.is,
+      ne_eqb c.field_at-kind.result 3 c.if-kind-eq3.false,
+      tested (absent_or 127) c.field_at.ensures c.is_next_writable.ensures (c.if-not-is_next_writable.true),
     )
 
-field-at-requires-3 : tie.Need-field-at-requires-3
+field-at-requires-3 : tie.Need-field_at-requires-then-kind-eq1
 field-at-requires-3 c κs = search rules
 
-cast-result : tie.Need-overflow-cast-result
+cast-result : tie.Need-overflow_cast-result
 cast-result c = search rules
 
-returns-3 : tie.Need-returns-3
+returns-3 : tie.Need-returns-then-kind-eq1
 returns-3 c =
-    let x = c.before.before.before in
-    let k = x.before.before.before in
     rw (
-      ← k.field_at.ensures.is,
-      c.before.if3.true,
-      tested (absent_or 127) x.before.field-at2.ensures x.is-next-writable.ensures (not-false _ c.before.before.if2.false),
-      c.field-at3.ensures.is,
+      ← c.field_at-kind.ensures.is,
+      c.if-kind-eq1.true,
+      tested (absent_or 127) c.field_at.ensures c.is_next_writable.ensures (c.if-not-is_next_writable.false),
+      c.field_at-then-kind-eq1.ensures.is,
     )
 
-returns-4 : tie.Need-returns-4
+returns-4 : tie.Need-returns
 returns-4 c =
-    let x = c.before.before in
-    let k = x.before.before.before in
     rw (
-      ← k.field_at.ensures.is,
-      ne_eqb k.field_at.result 3 x.before.before.if1.false,
-      tested (absent_or 127) x.before.field-at2.ensures x.is-next-writable.ensures (not-false _ c.before.if2.false),
-      ne_eqb k.field_at.result 1 c.if3.false,
+      ← c.field_at-kind.ensures.is,
+      ne_eqb c.field_at-kind.result 3 c.if-kind-eq3.false,
+      tested (absent_or 127) c.field_at.ensures c.is_next_writable.ensures (c.if-not-is_next_writable.false),
+      ne_eqb c.field_at-kind.result 1 c.if-kind-eq1.false,
     )
 
-pub is-writable-spec : {M : Type 1} → statement M
-is-writable-spec =
+pub is_writable_spec : {M : Type 1} → statement M
+is_writable_spec =
     tie.close
     (tie.spec
     field-at-requires

@@ -10,37 +10,40 @@ use borrow.Author.Rules.{rules}
 use Rattle.file_commands.proofs.boundary_of.Statement.{statement}
 use Rattle.file_commands.proofs.boundary_of.Tie as tie
 
-returns : tie.Need-returns
+returns : tie.Need-returns-then-n-eq0
 returns c =
-    let a = c.before.before.args in
-    no_word a.file.now a.w a.n (pos (word_byte a.file.now a.w 1)) c.if1.true
+    let a = c.args in
+    no_word a.file.now a.w a.n (pos (word_byte a.file.now a.w 1)) c.if-n-eq0.true
 
-word-byte-requires : tie.Need-word-byte-requires
+word-byte-requires : tie.Need-word_byte-requires
 word-byte-requires c κs = search rules
 
-word-byte-requires-2 : tie.Need-word-byte-requires-2
+word-byte-requires-2 : tie.Need-word_byte-requires-then-word_byte
 word-byte-requires-2 c κs = search rules
 
-cast-result : tie.Need-overflow-cast-result
+cast-result : tie.Need-overflow_cast-result
 cast-result c = search rules
 
-returns-2 : tie.Need-returns-2
+returns-2 : tie.Need-returns-then-word_byte
 returns-2 c =
-    let t = c.before in
-    let e = t.before.before in
-    let a = e.before.before.args in
-    number_pos c.word-byte2.result (omega arith)
-    ∙ ap pos c.word-byte2.ensures
-    ∙ word_names a.file.now a.w a.n (pos (word_byte a.file.now a.w 1)) e.if1.false (sym t.before.word_byte.ensures ∙ t.if2.true)
+    let a = c.args in
+    number_pos c.word_byte-then-word_byte.result (omega arith)
+    ∙ ap pos c.word_byte-then-word_byte.ensures
+    ∙ word_names a.file.now a.w a.n (pos (word_byte a.file.now a.w 1)) c.if-n-eq0.false (sym c.word_byte.ensures ∙ c.if-word_byte.true)
 
-returns-3 : tie.Need-returns-3
+returns-3 : tie.Need-returns-else-word_byte
 returns-3 c =
-    let e = c.before.before in
-    let a = e.before.before.args in
-    word_names_none a.file.now a.w a.n (pos (word_byte a.file.now a.w 1)) e.if1.false
-    (λ z. c.if2.false (c.before.word_byte.ensures ∙ z))
+    let a = c.args in
+    word_names_none a.file.now a.w a.n (pos (word_byte a.file.now a.w 1)) c.if-n-eq0.false
+    (λ z. c.if-word_byte.false (c.word_byte.ensures ∙ z))
 
-pub boundary-of-spec : {M : Type 1} → statement M
-boundary-of-spec =
+pub boundary_of_spec : {M : Type 1} → statement M
+boundary_of_spec =
     tie.close
-    (tie.spec returns word-byte-requires word-byte-requires-2 cast-result returns-2 returns-3)
+    (tie.spec
+    returns
+    word-byte-requires
+    word-byte-requires-2
+    cast-result
+    returns-2
+    returns-3)

@@ -7,22 +7,27 @@ use borrow.Author.Rules.{rules}
 use Rattle.file_commands.proofs.is_lig_tagged.Statement.{statement}
 use Rattle.file_commands.proofs.is_lig_tagged.Tie as tie
 
-word-byte-requires : tie.Need-word-byte-requires
+word-byte-requires : tie.Need-word_byte-requires
 word-byte-requires c κs = search rules
 
-returns : tie.Need-returns
+returns : tie.Need-returns-then-word_byte-eq0
 returns c =
-    let a = c.before.before.before.args in
-    rw (eq-eqb (word_byte a.file.now a.w 0) 0 (sym c.before.word_byte.ensures ∙ c.if1.true))
+    let a = c.args in
+    rw (eq-eqb (word_byte a.file.now a.w 0) 0 (sym c.word_byte.ensures ∙ c.if-word_byte-eq0.true))
 
-word-byte-requires-2 : tie.Need-word-byte-requires-2
+word-byte-requires-2 : tie.Need-word_byte-requires-2
 word-byte-requires-2 c κs = search rules
 
-returns-2 : tie.Need-returns-2
+returns-2 : tie.Need-returns
 returns-2 c =
-    let e = c.before in
-    let a = e.before.before.before.args in
-    rw (ne_eqb (word_byte a.file.now a.w 0) 0 (λ z. e.if1.false (e.before.word_byte.ensures ∙ z)), c.word-byte2.ensures)
+    let a = c.args in
+    rw (ne_eqb (word_byte a.file.now a.w 0) 0 (λ z. c.if-word_byte-eq0.false (c.word_byte.ensures ∙ z)), c.word_byte-2.ensures)
 
-pub is-lig-tagged-spec : {M : Type 1} → statement M
-is-lig-tagged-spec = tie.close (tie.spec word-byte-requires returns word-byte-requires-2 returns-2)
+pub is_lig_tagged_spec : {M : Type 1} → statement M
+is_lig_tagged_spec =
+    tie.close
+    (tie.spec
+    word-byte-requires
+    returns
+    word-byte-requires-2
+    returns-2)

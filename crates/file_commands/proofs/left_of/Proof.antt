@@ -16,50 +16,46 @@ use Rattle.file_commands.proofs.left_of.Tie as tie
 abbrev entry : List ℕ → ℕ → ℤ
 entry file w = pos (256 * word_byte file w 2 + word_byte file w 3)
 
-returns : tie.Need-returns
+returns : tie.Need-returns-then-n-eq0
 returns c =
-    let a = c.before.before.args in
-    no_word a.file.now a.w a.n (entry a.file.now a.w) c.if1.true
+    let a = c.args in
+    no_word a.file.now a.w a.n (entry a.file.now a.w) c.if-n-eq0.true
 
-word-byte-requires : tie.Need-word-byte-requires
+word-byte-requires : tie.Need-word_byte-requires
 word-byte-requires c κs = search rules
 
-word-byte-requires-2 : tie.Need-word-byte-requires-2
+word-byte-requires-2 : tie.Need-word_byte-requires-then-word_byte
 word-byte-requires-2 c κs = search rules
 
-cast-result : tie.Need-overflow-cast-result
+cast-result : tie.Need-overflow_cast-result
 cast-result c = search rules
 
-mul-result : tie.Need-overflow-mul-result
+mul-result : tie.Need-overflow_mul-result
 mul-result c = search rules
 
-word-byte-requires-3 : tie.Need-word-byte-requires-3
+word-byte-requires-3 : tie.Need-word_byte-requires-then-word_byte-2
 word-byte-requires-3 c κs = search rules
 
-cast-result-2 : tie.Need-overflow-cast-result-2
+cast-result-2 : tie.Need-overflow_cast-result-then-word_byte
 cast-result-2 c = search rules
 
-add-result : tie.Need-overflow-add-result
+add-result : tie.Need-overflow_add-result
 add-result c = search rules
 
-returns-2 : tie.Need-returns-2
+returns-2 : tie.Need-returns-then-word_byte
 returns-2 c =
-    let b = c.before in
-    let t = b.before in
-    let e = t.before.before in
-    let a = e.before.before.args in
-    number_pos (256 * b.word-byte2.result + c.word-byte3.result) (omega arith)
-    ∙ rw (b.word-byte2.ensures, c.word-byte3.ensures)
-    (word_names a.file.now a.w a.n (entry a.file.now a.w) e.if1.false (sym t.before.word_byte.ensures ∙ t.if2.true))
+    let a = c.args in
+    number_pos (256 * c.word_byte-then-word_byte.result + c.word_byte-then-word_byte-2.result) (omega arith)
+    ∙ rw (c.word_byte-then-word_byte.ensures, c.word_byte-then-word_byte-2.ensures)
+    (word_names a.file.now a.w a.n (entry a.file.now a.w) c.if-n-eq0.false (sym c.word_byte.ensures ∙ c.if-word_byte.true))
 
-returns-3 : tie.Need-returns-3
+returns-3 : tie.Need-returns-else-word_byte
 returns-3 c =
-    let e = c.before.before in
-    let a = e.before.before.args in
-    word_names_none a.file.now a.w a.n (entry a.file.now a.w) e.if1.false (λ z. c.if2.false (c.before.word_byte.ensures ∙ z))
+    let a = c.args in
+    word_names_none a.file.now a.w a.n (entry a.file.now a.w) c.if-n-eq0.false (λ z. c.if-word_byte.false (c.word_byte.ensures ∙ z))
 
-pub left-of-spec : {M : Type 1} → statement M
-left-of-spec =
+pub left_of_spec : {M : Type 1} → statement M
+left_of_spec =
     tie.close
     (tie.spec
     returns

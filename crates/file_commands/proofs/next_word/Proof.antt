@@ -6,11 +6,15 @@ use Rattle.words.proofs.Bits.{number_pos}
 use Rattle.file_commands.proofs.next_word.Statement.{statement}
 use Rattle.file_commands.proofs.next_word.Tie as tie
 
-returns : tie.Need-returns
-returns c = let a = c.before.args.a in rw (lt-ltb a 128 c.if1.true) (number_pos a (omega arith))
+returns : tie.Need-returns-then-a-lt128
+returns c = let a = c.args.a in rw (lt-ltb a 128 c.if-a-lt128.true) (number_pos a (omega arith))
 
-returns-2 : tie.Need-returns-2
-returns-2 c = rw (le-ltb c.before.args.a 128 c.if1.false)
+returns-2 : tie.Need-returns-else-a-lt128
+returns-2 c = rw (le-ltb c.args.a 128 c.if-a-lt128.false)
 
-pub next-word-spec : {M : Type 1} → statement M
-next-word-spec = tie.close (tie.spec returns returns-2)
+pub next_word_spec : {M : Type 1} → statement M
+next_word_spec =
+    tie.close
+    (tie.spec
+    returns
+    returns-2)

@@ -26,25 +26,33 @@ module _ (a c d : ℕ) (g : c < 256) (h : d < 256) where
   of-redirect : 128 < a → number_of (256 * c + d) ≡ pos (command_operand a c d)
   of-redirect l = rw (lt-leb a 128 l) (number_pos (256 * c + d) (omega arith))
 
-mul-word : tie.Need-overflow-mul-word
+mul-word : tie.Need-overflow_mul-word
 mul-word c = search rules
 
-add-word : tie.Need-overflow-add-word
+add-word : tie.Need-overflow_add-word
 add-word c = search rules
 
-returns : tie.Need-returns
-returns c = let a = c.before.args in unflagged a.a a.c a.d (omega arith) (omega arith) c.if1.true
+returns : tie.Need-returns-then-c-lt128
+returns c = let a = c.args in unflagged a.a a.c a.d (omega arith) (omega arith) c.if-c-lt128.true
 
-sub-result : tie.Need-overflow-sub-result
+sub-result : tie.Need-overflow_sub-result
 sub-result c = search rules
 
-returns-2 : tie.Need-returns-2
+returns-2 : tie.Need-returns-then-a-le128
 returns-2 c =
-    let a = c.before.before.args in
-    of-kern a.a a.c a.d (omega arith) (omega arith) c.before.if1.false c.if2.true
+    let a = c.args in
+    of-kern a.a a.c a.d (omega arith) (omega arith) c.if-c-lt128.false c.if-a-le128.true
 
-returns-3 : tie.Need-returns-3
-returns-3 c = let a = c.before.before.args in of-redirect a.a a.c a.d (omega arith) (omega arith) c.if2.false
+returns-3 : tie.Need-returns-else-a-le128
+returns-3 c = let a = c.args in of-redirect a.a a.c a.d (omega arith) (omega arith) c.if-a-le128.false
 
-pub operand-word-spec : {M : Type 1} → statement M
-operand-word-spec = tie.close (tie.spec mul-word add-word returns sub-result returns-2 returns-3)
+pub operand_word_spec : {M : Type 1} → statement M
+operand_word_spec =
+    tie.close
+    (tie.spec
+    mul-word
+    add-word
+    returns
+    sub-result
+    returns-2
+    returns-3)

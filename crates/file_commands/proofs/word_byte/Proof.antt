@@ -8,22 +8,29 @@ use borrow.Author.Rules.{rules}
 use Rattle.file_commands.proofs.word_byte.Statement.{statement}
 use Rattle.file_commands.proofs.word_byte.Tie as tie
 
-returns : tie.Need-returns
+returns : tie.Need-returns-then-file-w
 returns c =
-    let a = c.before.before.args in
-    sym (get_or-eq_default a.file.now 0 {n = 4 * a.w + a.j} (omega (arith, c.if1.true)))
+    let a = c.args in
+    sym (get_or-eq_default a.file.now 0 {n = 4 * a.w + a.j} (omega (arith, c.if-file-w.true)))
 
-mul-u8-at : tie.Need-overflow-mul-u8-at
+mul-u8-at : tie.Need-overflow_mul-w
 mul-u8-at c = search rules
 
-add-u8-at : tie.Need-overflow-add-u8-at
+add-u8-at : tie.Need-overflow_add-w
 add-u8-at c = search rules
 
-u8-at-requires : tie.Need-u8-at-requires
+u8-at-requires : tie.Need-u8_at-requires
 u8-at-requires c κs = search rules
 
-returns-2 : tie.Need-returns-2
+returns-2 : tie.Need-returns
 returns-2 c = search rules
 
-pub word-byte-spec : {M : Type 1} → statement M
-word-byte-spec = tie.close (tie.spec returns mul-u8-at add-u8-at u8-at-requires returns-2)
+pub word_byte_spec : {M : Type 1} → statement M
+word_byte_spec =
+    tie.close
+    (tie.spec
+    returns
+    mul-u8-at
+    add-u8-at
+    u8-at-requires
+    returns-2)

@@ -5,39 +5,32 @@ use Rattle.file_font.proofs.Lengths.{short_length, asked_length_lem, whole_lengt
 use Rattle.file_font.proofs.file_length.Statement.{statement}
 use Rattle.file_font.proofs.file_length.Tie as tie
 
-file-half-requires : tie.Need-file-half-requires
+file-half-requires : tie.Need-file_half-requires
 file-half-requires c κs = search rules
 
-cast-asked : tie.Need-overflow-cast-asked
+cast-asked : tie.Need-overflow_cast-asked
 cast-asked c = search rules
 
-mul-asked : tie.Need-overflow-mul-asked
+mul-asked : tie.Need-overflow_mul-asked
 mul-asked c = search rules
 
-returns : tie.Need-returns
+returns : tie.Need-returns-then-bytes-asked
 returns c =
-    let h = c.before in
-    short_length h.before.before.args.bytes.now h.file-half.ensures c.if1.true
+    short_length c.args.bytes.now c.file_half.ensures c.if-bytes-asked.true
 
-zeros-from-requires : tie.Need-zeros-from-requires
+zeros-from-requires : tie.Need-zeros_from-requires
 zeros-from-requires c κs = search rules
 
-returns-2 : tie.Need-returns-2
+returns-2 : tie.Need-returns-then-zeros_from
 returns-2 c =
-    let z = c.before in
-    let i = z.before in
-    let h = i.before in
-    asked_length_lem h.before.before.args.bytes.now h.file-half.ensures i.if1.false z.zeros-from.ensures c.if2.true
+    asked_length_lem c.args.bytes.now c.file_half.ensures c.if-bytes-asked.false c.zeros_from.ensures c.if-zeros_from.true
 
-returns-3 : tie.Need-returns-3
+returns-3 : tie.Need-returns-else-zeros_from
 returns-3 c =
-    let z = c.before in
-    let i = z.before in
-    let h = i.before in
-    whole_length h.before.before.args.bytes.now h.file-half.ensures i.if1.false z.zeros-from.ensures c.if2.false
+    whole_length c.args.bytes.now c.file_half.ensures c.if-bytes-asked.false c.zeros_from.ensures c.if-zeros_from.false
 
-pub file-length-spec : {M : Type 1} → statement M
-file-length-spec =
+pub file_length_spec : {M : Type 1} → statement M
+file_length_spec =
     tie.close
     (tie.spec
     file-half-requires

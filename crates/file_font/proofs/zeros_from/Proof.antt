@@ -19,54 +19,51 @@ use Rattle.file_font.proofs.zeros_from.Tie as tie
 abbrev is_zero : List ℕ → ℕ → ℕ → Bool
 is_zero bytes from i = eqb (file_byte bytes (from + i)) 0
 
-abbrev invariant-loop : tie.invariant-loop
+abbrev invariant-loop : tie.invariant-loop-i
 invariant-loop bytes from i₀ i = (i ≤ length bytes - from) × (every i (is_zero bytes from) ≡ true)
 
-abbrev decreases-loop : tie.decreases-loop
+abbrev decreases-loop : tie.decreases-loop-i
 decreases-loop bytes from i₀ i = length bytes - from - i
 
-loop-holds : tie.Need-loop-init invariant-loop decreases-loop
-loop-holds c = let a = c.before.args in (omega arith, every_none (is_zero a.bytes.now a.from))
+loop-holds : tie.Need-loop-i-init invariant-loop decreases-loop
+loop-holds c = let a = c.args in (omega arith, every_none (is_zero a.bytes.now a.from))
 
-sub-loop : tie.Need-overflow-sub-loop invariant-loop decreases-loop
+sub-loop : tie.Need-overflow_sub-bytes invariant-loop decreases-loop
 sub-loop c = omega arith
 
-add-u8-at : tie.Need-overflow-add-u8-at invariant-loop decreases-loop
+add-u8-at : tie.Need-overflow_add-from invariant-loop decreases-loop
 add-u8-at c = omega arith
 
-u8-at-requires : tie.Need-u8-at-requires invariant-loop decreases-loop
+u8-at-requires : tie.Need-u8_at-requires invariant-loop decreases-loop
 u8-at-requires c κs = search rules
 
-returns : tie.Need-returns invariant-loop decreases-loop
+returns : tie.Need-returns-then-u8_at-ne0 invariant-loop decreases-loop
 returns c =
-    let l = c.before.before.before in
-    let a = l.before.before.args in
-    sym (every_fails (length a.bytes.now - a.from) l.loop.i (is_zero a.bytes.now a.from) c.before.before.loop-test.true
-    (ne_eqb (file_byte a.bytes.now (a.from + l.loop.i)) 0 (λ e. c.if1.true (c.before.u8-at.ensures ∙ e))))
+    let a = c.args in
+    sym (every_fails (length a.bytes.now - a.from) c.loop-i.i (is_zero a.bytes.now a.from) c.loop-i-test.true
+    (ne_eqb (file_byte a.bytes.now (a.from + c.loop-i.i)) 0 (λ e. c.if-u8_at-ne0.true (c.u8_at.ensures ∙ e))))
 
-add-i : tie.Need-overflow-add-i invariant-loop decreases-loop
+add-i : tie.Need-overflow_add-i invariant-loop decreases-loop
 add-i c = omega arith
 
-loop-less : tie.Need-loop-smaller invariant-loop decreases-loop
+loop-less : tie.Need-loop-i-smaller invariant-loop decreases-loop
 loop-less c = omega arith
 
-loop-again : tie.Need-loop-preserved invariant-loop decreases-loop
+loop-again : tie.Need-loop-i-preserved invariant-loop decreases-loop
 loop-again c =
-    let l = c.before.before.before in
-    let a = l.before.before.args in (
+    let a = c.args in (
       omega arith,
-      every_more l.loop.i (is_zero a.bytes.now a.from) l.loop.invariant.1
-          (eq-eqb (file_byte a.bytes.now (a.from + l.loop.i)) 0 (sym c.before.u8-at.ensures ∙ c.if1.false)),
+      every_more c.loop-i.i (is_zero a.bytes.now a.from) c.loop-i.invariant.1
+          (eq-eqb (file_byte a.bytes.now (a.from + c.loop-i.i)) 0 (sym c.u8_at.ensures ∙ c.if-u8_at-ne0.false)),
     )
 
-returns-2 : tie.Need-returns-2 invariant-loop decreases-loop
+returns-2 : tie.Need-returns invariant-loop decreases-loop
 returns-2 c =
-    let l = c.before in
-    let a = l.before.before.args in
-    sym (every_to (length a.bytes.now - a.from) l.loop.i (is_zero a.bytes.now a.from) l.loop.invariant.1 l.loop.invariant.0 c.loop-test.false)
+    let a = c.args in
+    sym (every_to (length a.bytes.now - a.from) c.loop-i.i (is_zero a.bytes.now a.from) c.loop-i.invariant.1 c.loop-i.invariant.0 c.loop-i-test.false)
 
-pub zeros-from-spec : {M : Type 1} → statement M
-zeros-from-spec =
+pub zeros_from_spec : {M : Type 1} → statement M
+zeros_from_spec =
     tie.close
     (tie.spec
     invariant-loop

@@ -7,40 +7,40 @@ use borrow.Author.Rules.{rules}
 use Rattle.file_lengths.proofs.lengths_fit.Statement.{statement}
 use Rattle.file_lengths.proofs.lengths_fit.Tie as tie
 
-cast-if1 : tie.Need-overflow-cast-if1
+cast-if1 : tie.Need-overflow_cast-l
 cast-if1 c = search rules
 
-add-if1 : tie.Need-overflow-add-if1
+add-if1 : tie.Need-overflow_add-l
 add-if1 c = search rules
 
-cast-if1-2 : tie.Need-overflow-cast-if1-2
+cast-if1-2 : tie.Need-overflow_cast-l-2
 cast-if1-2 c = search rules
 
-returns : tie.Need-returns
-returns c = let l = c.before.before.before.args.l in rw (lt-leb l.bc (suc l.ec) (omega (arith, c.if1.true)))
+returns : tie.Need-returns-then-l
+returns c = let l = c.args.l in rw (lt-leb l.bc (suc l.ec) (omega (arith, c.if-l.true)))
 
-returns-2 : tie.Need-returns-2
+returns-2 : tie.Need-returns-then-l-gt255
 returns-2 c =
-    let l = c.before.before.before.before.before.args.l in
-    rw (le-leb l.bc (suc l.ec) (omega (arith, c.before.before.if1.false)), lt-leb l.ec 255 c.if2.true)
+    let l = c.args.l in
+    rw (le-leb l.bc (suc l.ec) (omega (arith, c.if-l.false)), lt-leb l.ec 255 c.if-l-gt255.true)
 
-cast-result : tie.Need-overflow-cast-result
+cast-result : tie.Need-overflow_cast-result
 cast-result c = search rules
 
-file-end-requires : tie.Need-file-end-requires
+file-end-requires : tie.Need-file_end-requires
 file-end-requires c κs = search rules
 
-returns-3 : tie.Need-returns-3
+returns-3 : tie.Need-returns
 returns-3 c =
-    let l = c.before.before.before.before.before.before.before.args.l in
+    let l = c.args.l in
     rw (
-      le-leb l.bc (suc l.ec) (omega (arith, c.before.before.before.before.if1.false)),
-      le-leb l.ec 255 (omega (arith, c.before.before.if2.false)),
-      c.file-end.ensures,
+      le-leb l.bc (suc l.ec) (omega (arith, c.if-l.false)),
+      le-leb l.ec 255 (omega (arith, c.if-l-gt255.false)),
+      c.file_end.ensures,
     )
 
-pub lengths-fit-spec : {M : Type 1} → statement M
-lengths-fit-spec =
+pub lengths_fit_spec : {M : Type 1} → statement M
+lengths_fit_spec =
     tie.close
     (tie.spec
     cast-if1

@@ -10,64 +10,53 @@ use Rattle.files.specs.Lengths.{lengths_of, lengths_fit}
 use Rattle.file_lengths.proofs.lengths_refusal.Statement.{statement}
 use Rattle.file_lengths.proofs.lengths_refusal.Tie as tie
 
-lengths-small-requires : tie.Need-lengths-small-requires
+lengths-small-requires : tie.Need-lengths_small-requires
 lengths-small-requires c κs = search rules
 
-returns : tie.Need-returns
-returns c = rw (sym c.before.lengths-small.ensures ∙ not-true _ c.if1.true)
+returns : tie.Need-returns-then-not-lengths_small
+returns c = rw (sym c.lengths_small.ensures ∙ c.if-not-lengths_small.true)
 
-lengths-of-requires : tie.Need-lengths-of-requires
+lengths-of-requires : tie.Need-lengths_of-l-requires
 lengths-of-requires c κs = search rules
 
-lengths-fit-requires : tie.Need-lengths-fit-requires
+lengths-fit-requires : tie.Need-lengths_fit-requires
 lengths-fit-requires c κs = search rules
 
-returns-2 : tie.Need-returns-2
+returns-2 : tie.Need-returns-then-not-lengths_fit
 returns-2 c =
-    let f = c.before in
-    let o = f.before in
-    let i = o.before in
     rw (
-      sym i.before.lengths-small.ensures ∙ not-false _ i.if1.false,
-      sym (f.lengths-fit.ensures ∙ ap lengths_fit o.lengths-of.ensures) ∙ not-true _ c.if2.true,
+      sym c.lengths_small.ensures ∙ c.if-not-lengths_small.false,
+      sym (c.lengths_fit.ensures ∙ ap lengths_fit c.lengths_of-l.ensures) ∙ c.if-not-lengths_fit.true,
     )
 
-cast-if3 : tie.Need-overflow-cast-if3
+cast-if3 : tie.Need-overflow_cast-l
 cast-if3 c = search rules
 
-mul-if3 : tie.Need-overflow-mul-if3
+mul-if3 : tie.Need-overflow_mul-l
 mul-if3 c = search rules
 
-returns-3 : tie.Need-returns-3
+returns-3 : tie.Need-returns-then-file-l
 returns-3 c =
-    let j = c.before.before in
-    let f = j.before in
-    let o = f.before in
-    let i = o.before in
-    let file = i.before.before.before.args.file.now in
-    let l = o.lengths-of.ensures in
+    let file = c.args.file.now in
+    let l = c.lengths_of-l.ensures in
     rw (
-      sym i.before.lengths-small.ensures ∙ not-false _ i.if1.false,
-      sym (f.lengths-fit.ensures ∙ ap lengths_fit l) ∙ not-false _ j.if2.false,
-      eq-eqb (length file) (4 * (lengths_of file).lf) (c.if3.true ∙ ap (λ (x : FileLengths). 4 * x.lf) l),
+      sym c.lengths_small.ensures ∙ c.if-not-lengths_small.false,
+      sym (c.lengths_fit.ensures ∙ ap lengths_fit l) ∙ c.if-not-lengths_fit.false,
+      eq-eqb (length file) (4 * (lengths_of file).lf) (c.if-file-l.true ∙ ap (λ (x : FileLengths). 4 * x.lf) l),
     )
 
-returns-4 : tie.Need-returns-4
+returns-4 : tie.Need-returns-else-file-l
 returns-4 c =
-    let j = c.before.before in
-    let f = j.before in
-    let o = f.before in
-    let i = o.before in
-    let file = i.before.before.before.args.file.now in
-    let l = o.lengths-of.ensures in
+    let file = c.args.file.now in
+    let l = c.lengths_of-l.ensures in
     rw (
-      sym i.before.lengths-small.ensures ∙ not-false _ i.if1.false,
-      sym (f.lengths-fit.ensures ∙ ap lengths_fit l) ∙ not-false _ j.if2.false,
-      ne_eqb (length file) (4 * (lengths_of file).lf) (λ e. c.if3.false (e ∙ sym (ap (λ (x : FileLengths). 4 * x.lf) l))),
+      sym c.lengths_small.ensures ∙ c.if-not-lengths_small.false,
+      sym (c.lengths_fit.ensures ∙ ap lengths_fit l) ∙ c.if-not-lengths_fit.false,
+      ne_eqb (length file) (4 * (lengths_of file).lf) (λ e. c.if-file-l.false (e ∙ sym (ap (λ (x : FileLengths). 4 * x.lf) l))),
     )
 
-pub lengths-refusal-spec : {M : Type 1} → statement M
-lengths-refusal-spec =
+pub lengths_refusal_spec : {M : Type 1} → statement M
+lengths_refusal_spec =
     tie.close
     (tie.spec
     lengths-small-requires

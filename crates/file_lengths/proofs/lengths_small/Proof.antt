@@ -18,49 +18,46 @@ use Rattle.file_lengths.proofs.lengths_small.Tie as tie
 abbrev is_small : List ℕ → ℕ → Bool
 is_small file i = leb (file_half file i) 32767
 
-abbrev invariant-loop : tie.invariant-loop
+abbrev invariant-loop : tie.invariant-loop-i
 invariant-loop file i₀ i = (i ≤ 12) × (every i (is_small file) ≡ true)
 
-abbrev decreases-loop : tie.decreases-loop
+abbrev decreases-loop : tie.decreases-loop-i
 decreases-loop file i₀ i = 12 - i
 
-loop-holds : tie.Need-loop-init invariant-loop decreases-loop
-loop-holds c = (omega arith, every_none (is_small c.before.args.file.now))
+loop-holds : tie.Need-loop-i-init invariant-loop decreases-loop
+loop-holds c = (omega arith, every_none (is_small c.args.file.now))
 
-file-half-requires : tie.Need-file-half-requires invariant-loop decreases-loop
+file-half-requires : tie.Need-file_half-requires invariant-loop decreases-loop
 file-half-requires c κs = search rules
 
-returns : tie.Need-returns invariant-loop decreases-loop
+returns : tie.Need-returns-then-file_half-gt32767 invariant-loop decreases-loop
 returns c =
-    let l = c.before.before.before in
-    let file = l.before.before.args.file.now in
-    sym (every_fails 12 l.loop.i (is_small file) c.before.before.loop-test.true
-    (lt-leb (file_half file l.loop.i) 32767 (omega (arith, c.if1.true, c.before.file-half.ensures))))
+    let file = c.args.file.now in
+    sym (every_fails 12 c.loop-i.i (is_small file) c.loop-i-test.true
+    (lt-leb (file_half file c.loop-i.i) 32767 (omega (arith, c.if-file_half-gt32767.true, c.file_half.ensures))))
 
-add-i : tie.Need-overflow-add-i invariant-loop decreases-loop
+add-i : tie.Need-overflow_add-i invariant-loop decreases-loop
 add-i c = omega arith
 
-loop-less : tie.Need-loop-smaller invariant-loop decreases-loop
+loop-less : tie.Need-loop-i-smaller invariant-loop decreases-loop
 loop-less c = omega arith
 
-loop-again : tie.Need-loop-preserved invariant-loop decreases-loop
+loop-again : tie.Need-loop-i-preserved invariant-loop decreases-loop
 loop-again c =
-    let l = c.before.before.before in
-    let file = l.before.before.args.file.now in (
+    let file = c.args.file.now in (
       omega arith,
-      every_more l.loop.i (is_small file) l.loop.invariant.1
-          (le-leb (file_half file l.loop.i) 32767 (omega (arith, c.if1.false, c.before.file-half.ensures))),
+      every_more c.loop-i.i (is_small file) c.loop-i.invariant.1
+          (le-leb (file_half file c.loop-i.i) 32767 (omega (arith, c.if-file_half-gt32767.false, c.file_half.ensures))),
     )
 
-returns-2 : tie.Need-returns-2 invariant-loop decreases-loop
+returns-2 : tie.Need-returns invariant-loop decreases-loop
 returns-2 c =
-    let l = c.before in
-    let file = l.before.before.args.file.now in
-    let e : l.loop.i ≡ 12 = omega (arith, l.loop.invariant.0, c.loop-test.false) in
-    sym (ap (λ (n : ℕ). every n (is_small file)) (sym e) ∙ l.loop.invariant.1)
+    let file = c.args.file.now in
+    let e : c.loop-i.i ≡ 12 = omega (arith, c.loop-i.invariant.0, c.loop-i-test.false) in
+    sym (ap (λ (n : ℕ). every n (is_small file)) (sym e) ∙ c.loop-i.invariant.1)
 
-pub lengths-small-spec : {M : Type 1} → statement M
-lengths-small-spec =
+pub lengths_small_spec : {M : Type 1} → statement M
+lengths_small_spec =
     tie.close
     (tie.spec
     invariant-loop

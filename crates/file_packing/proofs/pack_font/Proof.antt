@@ -10,70 +10,63 @@ use Rattle.file_packing.proofs.pack_font.Statement.{statement}
 use Rattle.file_packing.proofs.pack_font.Tie as tie
 
 abbrev font : tie.Start → Writable
-font s = writable s.args.instructions.now s.args.kerns.now s.args.entries.now s.args.boundary s.args.left_entry_lem
+font s = writable s.args.instructions.now s.args.kerns.now s.args.entries.now s.args.boundary s.args.left_entry
 
-asked : (r : tie.After-font-refusal) → let s = r.before in
-    r.font-refusal.result
-    ≡ pack_font_number (font s) (length s.args.out.now) (length s.args.kerns-out.now) (length s.args.entries-out.now)
+asked : (r : tie.After-font_refusal-refusal) → let s = r.before in
+    r.font_refusal-refusal.result
+    ≡ pack_font_number (font (r.before)) (length r.args.out.now) (length r.args.kerns_out.now) (length r.args.entries_out.now)
 asked r =
     let s = r.before in
-    rw (number_word s.args.boundary s.ranges.boundary, number_word s.args.left_entry_lem s.ranges.left_entry_lem) at r.font-refusal.ensures
+    rw (number_word r.args.boundary r.ranges.boundary, number_word r.args.left_entry r.ranges.left_entry) at r.font_refusal-refusal.ensures
 
-font-refusal-requires : tie.Need-font-refusal-requires
+font-refusal-requires : tie.Need-font_refusal-refusal-requires
 font-refusal-requires c κs = search rules
 
-zero-i32-requires : tie.Need-zero-i32-requires
+zero-i32-requires : tie.Need-zero_i32-requires
 zero-i32-requires c κs = search rules
 
-zero-i32-requires-2 : tie.Need-zero-i32-requires-2
+zero-i32-requires-2 : tie.Need-zero_i32-requires-then-refusal-ne0
 zero-i32-requires-2 c κs = search rules
 
-zero-i32-requires-3 : tie.Need-zero-i32-requires-3
+zero-i32-requires-3 : tie.Need-zero_i32-requires-then-refusal-ne0-2
 zero-i32-requires-3 c κs = search rules
 
-same_length : tie.Need-same-length
+same_length : tie.Need-shape_of-out-then-refusal-ne0
 same_length c = search rules
 
-same-length-2 : tie.Need-same-length-2
+same-length-2 : tie.Need-shape_of-kerns_out-then-refusal-ne0
 same-length-2 c = search rules
 
-same-length-3 : tie.Need-same-length-3
+same-length-3 : tie.Need-shape_of-entries_out-then-refusal-ne0
 same-length-3 c = search rules
 
-returns : tie.Need-returns
+returns : tie.Need-returns-then-refusal-ne0
 returns c =
-    let third = c.before in
-    let second = third.before.before.before in
-    let first = second.before.before.before in
-    let i = first.before.before in
-    let r = i.before in
-    let a = r.before.args in
-    font_refused (font r.before) a.out.now a.kerns-out.now a.entries-out.now (asked r) i.if1.true first.zero-i32.ensures
-    second.zero-i322.ensures third.zero-i323.ensures
+    let a = c.args in
+    font_refused (font c.before.before.before.before.before.before.before.before.before.before.before) a.out.now a.kerns_out.now a.entries_out.now (asked (c.before.before.before.before.before.before.before.before.before.before)) c.if-refusal-ne0.true c.zero_i32.ensures
+    c.zero_i32-then-refusal-ne0.ensures c.zero_i32-then-refusal-ne0-2.ensures
 
-slice-aggregate-pack-taken : tie.Need-slice-aggregate-pack-taken
+slice-aggregate-pack-taken : tie.Need-slice_bounds-pack_taken-end
 slice-aggregate-pack-taken c = search rules
 
-pack-taken-requires : tie.Need-pack-taken-requires
+pack-taken-requires : tie.Need-pack_taken-requires
 pack-taken-requires c κs = search rules
 
-same-length-4 : tie.Need-same-length-4
+same-length-4 : tie.Need-shape_of-out
 same-length-4 c = search rules
 
-same-length-5 : tie.Need-same-length-5
+same-length-5 : tie.Need-shape_of-kerns_out
 same-length-5 c = search rules
 
-same-length-6 : tie.Need-same-length-6
+same-length-6 : tie.Need-shape_of-entries_out
 same-length-6 c = search rules
 
-returns-2 : tie.Need-returns-2
+returns-2 : tie.Need-returns
 returns-2 c =
-    let p = c.before.before.before.before in
-    let s = p.before.before.before.before.before.before.before in
-    rw (number_word s.args.boundary s.ranges.boundary, number_word s.args.left_entry_lem s.ranges.left_entry_lem) at p.pack-taken.ensures
+    rw (number_word c.args.boundary c.ranges.boundary, number_word c.args.left_entry c.ranges.left_entry) at c.pack_taken.ensures
 
-pub pack-font-spec : {M : Type 1} → statement M
-pack-font-spec =
+pub pack_font_spec : {M : Type 1} → statement M
+pack_font_spec =
     tie.close
     (tie.spec
     font-refusal-requires

@@ -5,29 +5,29 @@ use borrow.Author.Rules.{rules}
 use Rattle.file_packing.proofs.sizes_of.Statement.{statement}
 use Rattle.file_packing.proofs.sizes_of.Tie as tie
 
-enum-known-shared : tie.Need-enum-known-shared
+enum-known-shared : tie.Need-enum_known-shared
 enum-known-shared c = search rules
 
-enum-known-shared-2 : tie.Need-enum-known-shared-2
+enum-known-shared-2 : tie.Need-enum_known-shared-in-Count-1
 enum-known-shared-2 c = search rules
 
-enum-known-packed : tie.Need-enum-known-packed
+enum-known-packed : tie.Need-enum_known-packed
 enum-known-packed c = search rules
 
-enum-known-packed-2 : tie.Need-enum-known-packed-2
+enum-known-packed-2 : tie.Need-enum_known-packed-in-Count
 enum-known-packed-2 c = search rules
 
-returns : tie.Need-returns
-returns c = let w = c.before in sized_uncounted w.before.before.args.packed w.shared.given.1
+returns : tie.Need-returns-in-Refused
+returns c = sized_uncounted c.args.packed c.in-Refused.is
 
-returns-2 : tie.Need-returns-2
-returns-2 c = let p = c.before in sized_unpacked p.before.before.before.before.before.args.shared p.packed.given.1
+returns-2 : tie.Need-returns-in-Refused-packed
+returns-2 c = sized_unpacked c.args.shared c.in-Refused-packed.is
 
-returns-3 : tie.Need-returns-3
-returns-3 c = let p = c.before in sized p.before.before.before.shared2.given.1 p.packed2.given.1
+returns-3 : tie.Need-returns-in-Sizes
+returns-3 c = sized c.in-Count.is c.in-Sizes.is
 
-pub sizes-of-spec : {M : Type 1} → statement M
-sizes-of-spec =
+pub sizes_of_spec : {M : Type 1} → statement M
+sizes_of_spec =
     tie.close
     (tie.spec
     enum-known-shared

@@ -10,114 +10,101 @@ use Rattle.file_reading.proofs.write_font.Statement.{statement}
 use Rattle.file_reading.proofs.write_font.Tie as tie
 
 -- what is known of a file that is not refused
-known : (l : tie.After-lengths-of) → let a = l.before.before.args in
-    Taken a.file.now l.lengths-of.result (length a.instructions.now) (length a.kerns.now) (length a.entries.now)
+known : (l : tie.After-lengths_of-l) → let a = l.args in
+    Taken a.file.now l.lengths_of-l.result (length a.instructions.now) (length a.kerns.now) (length a.entries.now)
 known l =
-    let t = l.before.before in
-    taken t.args.file.now (length t.args.instructions.now) (length t.args.kerns.now) (length t.args.entries.now) l.lengths-of.ensures
-    t.requires
+    taken l.args.file.now (length l.args.instructions.now) (length l.args.kerns.now) (length l.args.entries.now) l.lengths_of-l.ensures
+    l.requires
 
 -- the lig/kern section and the kerns end with the file
-ends : (s : tie.After-command-start) → let l = s.before.before.before in
-    s.command-start.result + l.lengths-of.result.nl + l.lengths-of.result.nk ≤ 32767
+ends : (s : tie.After-command_start-start) → let l = s.before.before.before in
+    s.command_start-start.result + s.lengths_of-l.result.nl + s.lengths_of-l.result.nk ≤ 32767
 ends s =
     let l = s.before.before.before in
-    omega (arith, s.command-start.ensures, (known l).sections)
+    omega (arith, s.command_start-start.ensures, (known (s.before.before.before)).sections)
 
-lengths-of-requires : tie.Need-lengths-of-requires
+lengths-of-requires : tie.Need-lengths_of-l-requires
 lengths-of-requires c κs = search rules
 
-cast-n : tie.Need-overflow-cast-n
+cast-n : tie.Need-overflow_cast-n
 cast-n c = search rules
 
-cast-kern-count : tie.Need-overflow-cast-kern-count
+cast-kern-count : tie.Need-overflow_cast-kern_count
 cast-kern-count c = search rules
 
-command-start-requires : tie.Need-command-start-requires
+command-start-requires : tie.Need-command_start-start-requires
 command-start-requires c κs = search rules
 
-char-start-requires : tie.Need-char-start-requires
+char-start-requires : tie.Need-char_start-requires
 char-start-requires c κs = search rules
 
-char-count-requires : tie.Need-char-count-requires
+char-count-requires : tie.Need-char_count-requires
 char-count-requires c κs = search rules
 
-write-entries-requires : tie.Need-write-entries-requires
+write-entries-requires : tie.Need-write_entries-count-requires
 write-entries-requires c κs =
-    let n = c.before in
-    let t = known n.before.before.before.before.before in (
-      omega (arith, t.characters, n.char-count.ensures),
+    let t = known c.before.before.before.before.before.before in (
+      omega (arith, t.characters, c.char_count.ensures),
       (
-        omega (arith, t.sections, n.before.char-start.ensures, n.char-count.ensures),
-        rw (n.before.char-start.ensures, n.char-count.ensures) t.entries,
+        omega (arith, t.sections, c.char_start.ensures, c.char_count.ensures),
+        rw (c.char_start.ensures, c.char_count.ensures) t.entries,
       ),
     )
 
-write-commands-requires : tie.Need-write-commands-requires
-write-commands-requires c κs = let s = c.before.before.before.before.before.before in (omega (arith, ends s), (known s.before.before.before).program)
+write-commands-requires : tie.Need-write_commands-requires
+write-commands-requires c κs = (omega (arith, ends (c.before.before.before.before.before.before)), (known c.before.before.before.before.before.before.before.before.before).program)
 
-add-write-kerns : tie.Need-overflow-add-write-kerns
+add-write-kerns : tie.Need-overflow_add-start
 add-write-kerns c = omega (arith, ends c.before.before.before.before.before.before.before.before)
 
-write-kerns-requires : tie.Need-write-kerns-requires
+write-kerns-requires : tie.Need-write_kerns-requires
 write-kerns-requires c κs =
-    let s = c.before.before.before.before.before.before.before.before.before in
-    (omega (arith, ends s), (known s.before.before.before).kerns)
+    (omega (arith, ends (c.before.before.before.before.before.before.before.before.before)), (known c.before.before.before.before.before.before.before.before.before.before.before.before).kerns)
 
-boundary-of-requires : tie.Need-boundary-of-requires
+boundary-of-requires : tie.Need-boundary_of-requires
 boundary-of-requires c κs = search rules
 
-number-of-requires : tie.Need-number-of-requires
+number-of-requires : tie.Need-number_of-boundary-requires
 number-of-requires c κs = search rules
 
-add-left-of : tie.Need-overflow-add-left-of
+add-left-of : tie.Need-overflow_add-start-2
 add-left-of c = omega (arith, ends c.before.before.before.before.before.before.before.before.before.before.before.before.before)
 
-sub-left-of : tie.Need-overflow-sub-left-of
+sub-left-of : tie.Need-overflow_sub-start
 sub-left-of c =
-    let s = c.before.before.before.before.before.before.before.before.before.before.before.before.before in
-    omega (arith, s.command-start.ensures)
+    omega (arith, c.command_start-start.ensures)
 
-left-of-requires : tie.Need-left-of-requires
+left-of-requires : tie.Need-left_of-requires
 left-of-requires c κs = search rules
 
-number-of-requires-2 : tie.Need-number-of-requires-2
+number-of-requires-2 : tie.Need-number_of-left-requires
 number-of-requires-2 c κs = search rules
 
-same_length : tie.Need-same-length
+same_length : tie.Need-shape_of-instructions
 same_length c = search rules
 
-same-length-2 : tie.Need-same-length-2
+same-length-2 : tie.Need-shape_of-kerns
 same-length-2 c = search rules
 
-same-length-3 : tie.Need-same-length-3
+same-length-3 : tie.Need-shape_of-entries
 same-length-3 c = search rules
 
 returns : tie.Need-returns
 returns c =
-    let f = c.before in
-    let o = f.before in
-    let b = o.before in
-    let k = b.before.before in
-    let p = k.before.before.before in
-    let w = p.before.before.before in
-    let n = w.before.before in
-    let s = n.before.before in
-    let l = s.before.before.before in
-    let e = l.lengths-of.ensures in
-    let file = l.before.before.args.file.now in
+    let e = c.lengths_of-l.ensures in
+    let file = c.args.file.now in
     record {
       answer = font_answer file e
-          (entries_counted file e n.before.char-start.ensures n.char-count.ensures w.write_entries.ensures.1)
-          (answered b.boundary-of.result (omega arith) o.number_of_lem.ensures (boundary_read file e s.command-start.ensures b.boundary-of.ensures))
-          (answered f.left_of_lem.result (omega arith) c.number-of2.ensures (left_read file e s.command-start.ensures f.left_of_lem.ensures));
-      program = program_written file e s.command-start.ensures p.write-commands.ensures;
-      kern_list = kerns_written file e s.command-start.ensures k.write-kerns.ensures;
-      entry_list = entries_written file e n.before.char-start.ensures n.char-count.ensures w.write_entries.ensures.0;
+          (entries_counted file e c.char_start.ensures c.char_count.ensures c.write_entries-count.ensures.1)
+          (answered c.boundary_of.result (omega arith) c.number_of-boundary.ensures (boundary_read file e c.command_start-start.ensures c.boundary_of.ensures))
+          (answered c.left_of.result (omega arith) c.number_of-left.ensures (left_read file e c.command_start-start.ensures c.left_of.ensures));
+      program = program_written file e c.command_start-start.ensures c.write_commands.ensures;
+      kern_list = kerns_written file e c.command_start-start.ensures c.write_kerns.ensures;
+      entry_list = entries_written file e c.char_start.ensures c.char_count.ensures c.write_entries-count.ensures.0;
     }
 
-pub write-font-spec : {M : Type 1} → statement M
-write-font-spec =
+pub write_font_spec : {M : Type 1} → statement M
+write_font_spec =
     tie.close
     (tie.spec
     lengths-of-requires

@@ -14,33 +14,32 @@ use borrow.Author.Rules.{rules}
 use Rattle.file_sections.proofs.put_commands.Statement.{statement}
 use Rattle.file_sections.proofs.put_commands.Tie as tie
 
-sub-write-commands : tie.Need-overflow-sub-write-commands
+sub-write-commands : tie.Need-slice_bounds-write_commands-count
 sub-write-commands c = search rules
 
-part-write-commands-start : tie.Need-slice-bounds-write-commands-start
+part-write-commands-start : tie.Need-slice_bounds-write_commands-start
 part-write-commands-start c = search rules
 
-part-write-commands-end : tie.Need-slice-bounds-write-commands-end
+part-write-commands-end : tie.Need-slice_bounds-write_commands-end
 part-write-commands-end c = search rules
 
-write-commands-requires : tie.Need-write-commands-requires
+write-commands-requires : tie.Need-write_commands-requires
 write-commands-requires c κs = search rules
 
-same_length : tie.Need-same-length
+same_length : tie.Need-shape_of-out
 same_length c = search rules
 
 returns : tie.Need-returns
 returns c =
-    let s = c.before.before.before.before.before in
-    let a = s.args in
-    words_part a.at (count a.program.now) (command_byte a.program.now a.boundary) a.out.now c.before.before.write-commands.new.1.1.0
-    s.requires
-    (c.before.before.write-commands.ensures
+    let a = c.args in
+    words_part a.at (count a.program.now) (command_byte a.program.now a.boundary) a.out.now c.write_commands.new.out
+    c.requires
+    (c.write_commands.ensures
     ∙ ap (λ (b : ℤ). words_in_front (count a.program.now) (command_byte a.program.now b) (mid_of a.at (length a.out.now - a.at) a.out.now))
-    (number_word a.boundary s.ranges.boundary))
+    (number_word a.boundary c.ranges.boundary))
 
-pub put-commands-spec : {M : Type 1} → statement M
-put-commands-spec =
+pub put_commands_spec : {M : Type 1} → statement M
+put_commands_spec =
     tie.close
     (tie.spec
     sub-write-commands

@@ -7,30 +7,29 @@ use borrow.Author.Rules.{rules}
 use Rattle.file_sections.proofs.put_kerns.Statement.{statement}
 use Rattle.file_sections.proofs.put_kerns.Tie as tie
 
-sub-write-words : tie.Need-overflow-sub-write-words
+sub-write-words : tie.Need-slice_bounds-write_words-count
 sub-write-words c = search rules
 
-part-write-words-start : tie.Need-slice-bounds-write-words-start
+part-write-words-start : tie.Need-slice_bounds-write_words-start
 part-write-words-start c = search rules
 
-part-write-words-end : tie.Need-slice-bounds-write-words-end
+part-write-words-end : tie.Need-slice_bounds-write_words-end
 part-write-words-end c = search rules
 
-write-words-requires : tie.Need-write-words-requires
+write-words-requires : tie.Need-write_words-requires
 write-words-requires c κs = search rules
 
-same_length : tie.Need-same-length
+same_length : tie.Need-shape_of-out
 same_length c = search rules
 
 returns : tie.Need-returns
 returns c =
-    let s = c.before.before.before.before.before in
-    let a = s.args in
-    words_part a.at (length a.kerns.now) (kern_byte a.kerns.now) a.out.now c.before.before.write-words.new.1.0 s.requires
-    c.before.before.write-words.ensures
+    let a = c.args in
+    words_part a.at (length a.kerns.now) (kern_byte a.kerns.now) a.out.now c.write_words.new.out c.requires
+    c.write_words.ensures
 
-pub put-kerns-spec : {M : Type 1} → statement M
-put-kerns-spec =
+pub put_kerns_spec : {M : Type 1} → statement M
+put_kerns_spec =
     tie.close
     (tie.spec
     sub-write-words

@@ -16,56 +16,53 @@ use borrow.Author.Rules.{rules}
 use Rattle.file_sections.proofs.write_file.Statement.{statement}
 use Rattle.file_sections.proofs.write_file.Tie as tie
 
-abbrev start : tie.After-file-fits → tie.Start
+abbrev start : tie.After-file_fits → tie.Start
 start f = f.before.before.before.before
 
 -- the file can be written
-fitting : (t : tie.Then1) → let a = (start t.before).args in
+fitting : (t : tie.Then-file_fits) → let a = (start t.before).args in
     file_fits a.old.now (count a.program.now) (length a.kerns.now) (length a.out.now) ≡ true
-fitting t = sym t.before.file-fits.ensures ∙ t.if1.true
+fitting t = sym t.file_fits.ensures ∙ t.if-file_fits.true
 
-lengths-of-requires : tie.Need-lengths-of-requires
+lengths-of-requires : tie.Need-lengths_of-l-requires
 lengths-of-requires c κs = search rules
 
-file-fits-requires : tie.Need-file-fits-requires
+file-fits-requires : tie.Need-file_fits-requires
 file-fits-requires c κs = search rules
 
-join-file-requires : tie.Need-join-file-requires
+join-file-requires : tie.Need-join_file-requires
 join-file-requires c κs =
-    let t = c.before in
-    let s = start t.before in
+    let s = start c.before.before in
     let old = s.args.old.now in
     let n = count s.args.program.now in
     let k = length s.args.kerns.now in
     let room = length s.args.out.now in
     subst
     (λ (l : FileLengths). (length old ≡ 4 * file_end l) × (((written_lengths l n k).lf ≤ 32767) × (4 * (written_lengths l n k).lf ≤ room)))
-    (sym t.before.before.lengths-of.ensures)
-    (fits_whole old n k room (fitting t), (fits_small old n k room (fitting t), fits_room old n k room (fitting t)))
+    (sym c.lengths_of-l.ensures)
+    (fits_whole old n k room (fitting (c.before)), (fits_small old n k room (fitting (c.before)), fits_room old n k room (fitting (c.before))))
 
-same_length : tie.Need-same-length
+same_length : tie.Need-shape_of-out
 same_length c = search rules
 
-returns : tie.Need-returns
+returns : tie.Need-returns-then-file_fits
 returns c =
-    let j = c.before.before in
-    let t = j.before.before in
-    let s = start t.before in
+    let s = start c.before.before.before.before.before in
     let a = s.args in
-    in_front_lem a.old.now a.program.now a.kerns.now a.table.now a.boundary a.out.now (fitting t)
-    (j.join-file.ensures
+    in_front_lem a.old.now a.program.now a.kerns.now a.table.now a.boundary a.out.now (fitting (c.before.before.before.before))
+    (c.join_file.ensures
     ∙ (λ i. sets a.out.now 0
-    (joined_file a.old.now (t.before.before.lengths-of.ensures i) a.program.now a.kerns.now a.table.now
-    (number_word a.boundary s.fits.boundary i))))
+    (joined_file a.old.now (c.lengths_of-l.ensures i) a.program.now a.kerns.now a.table.now
+    (number_word a.boundary s.ranges.boundary i))))
 
-returns-2 : tie.Need-returns-2
+returns-2 : tie.Need-returns-else-file_fits
 returns-2 c =
     let a = (start c.before).args in
     left_as_it_came a.old.now a.program.now a.kerns.now a.table.now a.boundary a.out.now
-    (sym c.before.file-fits.ensures ∙ c.if1.false)
+    (sym c.file_fits.ensures ∙ c.if-file_fits.false)
 
-pub write-file-spec : {M : Type 1} → statement M
-write-file-spec =
+pub write_file_spec : {M : Type 1} → statement M
+write_file_spec =
     tie.close
     (tie.spec
     lengths-of-requires

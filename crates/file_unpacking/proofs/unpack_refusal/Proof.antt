@@ -8,50 +8,43 @@ use Rattle.file_unpacking.proofs.Unpacking.{leading_few, long_refused, entries_r
 use Rattle.file_unpacking.proofs.unpack_refusal.Statement.{statement}
 use Rattle.file_unpacking.proofs.unpack_refusal.Tie as tie
 
-few : (n : tie.After-count-leading) → n.count-leading.result ≤ length n.before.before.args.packed.now / 2
+few : (n : tie.After-count_leading-n) → n.count_leading-n.result ≤ length n.args.packed.now / 2
 few n =
-    let a = n.before.before.args in
-    leading_few a.instructions.now a.packed.now (length a.packed.now / 2) n.count-leading.result n.count-leading.ensures
+    let a = n.args in
+    leading_few a.instructions.now a.packed.now (length a.packed.now / 2) n.count_leading-n.result n.count_leading-n.ensures
 
-returns : tie.Need-returns
-returns c = let a = c.before.args in long_refused a.instructions.now a.packed.now a.room a.lost-room c.if1.true
+returns : tie.Need-returns-then-instructions-gt32767
+returns c = let a = c.args in long_refused a.instructions.now a.packed.now a.room a.lost_room c.if-instructions-gt32767.true
 
-count-leading-requires : tie.Need-count-leading-requires
+count-leading-requires : tie.Need-count_leading-n-requires
 count-leading-requires c κs = search rules
 
-mul-room-refusal : tie.Need-overflow-mul-room-refusal
+mul-room-refusal : tie.Need-overflow_mul-n
 mul-room-refusal c = omega (arith, few c)
 
-room-refusal-requires : tie.Need-room-refusal-requires
+room-refusal-requires : tie.Need-room_refusal-entries-requires
 room-refusal-requires c κs = search rules
 
-returns-2 : tie.Need-returns-2
+returns-2 : tie.Need-returns-then-entries-ne0
 returns-2 c =
-    let r = c.before in
-    let n = r.before in
-    let i = n.before in
-    let a = i.before.args in
-    entries_refused a.instructions.now a.packed.now i.if1.false n.count-leading.result n.count-leading.ensures a.room a.lost-room
-    r.room-refusal.ensures c.if2.true
+    let a = c.args in
+    entries_refused a.instructions.now a.packed.now c.if-instructions-gt32767.false c.count_leading-n.result c.count_leading-n.ensures a.room a.lost_room
+    c.room_refusal-entries.ensures c.if-entries-ne0.true
 
-sub-room-refusal : tie.Need-overflow-sub-room-refusal
+sub-room-refusal : tie.Need-overflow_sub-packed
 sub-room-refusal c = few c.before.before
 
-room-refusal-requires-2 : tie.Need-room-refusal-requires-2
+room-refusal-requires-2 : tie.Need-room_refusal-requires
 room-refusal-requires-2 c κs = search rules
 
-returns-3 : tie.Need-returns-3
+returns-3 : tie.Need-returns
 returns-3 c =
-    let j = c.before in
-    let r = j.before in
-    let n = r.before in
-    let i = n.before in
-    let a = i.before.args in
-    lost_refused a.instructions.now a.packed.now i.if1.false n.count-leading.result n.count-leading.ensures a.room a.lost-room
-    r.room-refusal.ensures j.if2.false c.room-refusal2.ensures
+    let a = c.args in
+    lost_refused a.instructions.now a.packed.now c.if-instructions-gt32767.false c.count_leading-n.result c.count_leading-n.ensures a.room a.lost_room
+    c.room_refusal-entries.ensures c.if-entries-ne0.false c.room_refusal.ensures
 
-pub unpack-refusal-spec : {M : Type 1} → statement M
-unpack-refusal-spec =
+pub unpack_refusal_spec : {M : Type 1} → statement M
+unpack_refusal_spec =
     tie.close
     (tie.spec
     returns

@@ -5,39 +5,33 @@ use Rattle.file_unpacking.proofs.Unpacking.{few_instructions, within_refused, wi
 use Rattle.file_unpacking.proofs.unpack_within.Statement.{statement}
 use Rattle.file_unpacking.proofs.unpack_within.Tie as tie
 
-unpack-refusal-requires : tie.Need-unpack-refusal-requires
+unpack-refusal-requires : tie.Need-unpack_refusal-refusal-requires
 unpack-refusal-requires c κs = search rules
 
-returns : tie.Need-returns
+returns : tie.Need-returns-then-refusal-ne0
 returns c =
-    let r = c.before in
-    let a = r.before.args in
-    within_refused a.instructions.now a.packed.now a.entries.now a.lost.now r.unpack-refusal.ensures c.if1.true
+    let a = c.args in
+    within_refused a.instructions.now a.packed.now a.entries.now a.lost.now c.unpack_refusal-refusal.ensures c.if-refusal-ne0.true
 
-unpack-all-requires : tie.Need-unpack-all-requires
+unpack-all-requires : tie.Need-unpack_all-requires
 unpack-all-requires c κs =
-    let e = c.before.before in
-    let r = e.before in
-    let a = r.before.args in
-    few_instructions a.instructions.now a.packed.now a.entries.now a.lost.now r.unpack-refusal.ensures e.if1.false
+    let a = c.args in
+    few_instructions a.instructions.now a.packed.now a.entries.now a.lost.now c.unpack_refusal-refusal.ensures c.if-refusal-ne0.false
 
-same_length : tie.Need-same-length
+same_length : tie.Need-shape_of-entries
 same_length c = search rules
 
-same-length-2 : tie.Need-same-length-2
+same-length-2 : tie.Need-shape_of-lost
 same-length-2 c = search rules
 
-returns-2 : tie.Need-returns-2
+returns-2 : tie.Need-returns
 returns-2 c =
-    let u = c.before.before in
-    let e = u.before.before.before in
-    let r = e.before in
-    let a = r.before.args in
-    within_taken a.instructions.now a.packed.now a.entries.now a.lost.now r.unpack-refusal.ensures e.if1.false
-    u.unpack-all.ensures
+    let a = c.args in
+    within_taken a.instructions.now a.packed.now a.entries.now a.lost.now c.unpack_refusal-refusal.ensures c.if-refusal-ne0.false
+    c.unpack_all.ensures
 
-pub unpack-within-spec : {M : Type 1} → statement M
-unpack-within-spec =
+pub unpack_within_spec : {M : Type 1} → statement M
+unpack_within_spec =
     tie.close
     (tie.spec
     unpack-refusal-requires

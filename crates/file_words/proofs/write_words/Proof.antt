@@ -13,56 +13,53 @@ use borrow.Author.Rules.{rules}
 use Rattle.file_words.proofs.write_words.Statement.{statement}
 use Rattle.file_words.proofs.write_words.Tie as tie
 
-abbrev invariant-loop : tie.invariant-loop
+abbrev invariant-loop : tie.invariant-loop-i
 invariant-loop kerns out₀ n i₀ out i = (i ≤ n) × Appending (section_bytes i (kern_byte kerns)) out₀ out
 
-abbrev decreases-loop : tie.decreases-loop
+abbrev decreases-loop : tie.decreases-loop-i
 decreases-loop kerns out₀ n i₀ out i = n - i
 
-smaller-requires : tie.Need-smaller-requires invariant-loop decreases-loop
+smaller-requires : tie.Need-smaller-n-requires invariant-loop decreases-loop
 smaller-requires c κs = search rules
 
-loop-holds : tie.Need-loop-init invariant-loop decreases-loop
-loop-holds c = let a = c.before.before.args in (omega arith, words_none (kern_byte a.kerns.now) a.out.now)
+loop-holds : tie.Need-loop-i-init invariant-loop decreases-loop
+loop-holds c = let a = c.args in (omega arith, words_none (kern_byte a.kerns.now) a.out.now)
 
-mul-put-four : tie.Need-overflow-mul-put-four invariant-loop decreases-loop
+mul-put-four : tie.Need-overflow_mul-i invariant-loop decreases-loop
 mul-put-four c = omega arith
 
-word-at-requires : tie.Need-word-at-requires invariant-loop decreases-loop
+word-at-requires : tie.Need-word_at-requires invariant-loop decreases-loop
 word-at-requires c κs = search rules
 
-put-four-requires : tie.Need-put-four-requires invariant-loop decreases-loop
+put-four-requires : tie.Need-put_four-requires invariant-loop decreases-loop
 put-four-requires c κs = search rules
 
-add-i : tie.Need-overflow-add-i invariant-loop decreases-loop
+add-i : tie.Need-overflow_add-i invariant-loop decreases-loop
 add-i c = omega arith
 
-loop-less : tie.Need-loop-smaller invariant-loop decreases-loop
+loop-less : tie.Need-loop-i-smaller invariant-loop decreases-loop
 loop-less c = omega arith
 
-loop-again : tie.Need-loop-preserved invariant-loop decreases-loop
+loop-again : tie.Need-loop-i-preserved invariant-loop decreases-loop
 loop-again c =
-    let p = c.before.before in
-    let l = p.before.before.before.before in
-    let a = l.before.before.before.args in (
+    let a = c.args in (
       omega arith,
-      words_more (kern_byte a.kerns.now) a.out.now (length a.kerns.now) p.put_four.new.0
-          (four_bytes (byte_of p.before.word_at.result)) l.before.smaller.ensures p.before.before.before.loop-test.true l.loop.invariant.1
-          (ap (λ (w : ℕ). four_bytes (byte_of w)) p.before.word_at.ensures.is) p.put_four.ensures,
+      words_more (kern_byte a.kerns.now) a.out.now (length a.kerns.now) c.put_four.new.out
+          (four_bytes (byte_of c.word_at.result)) c.smaller-n.ensures c.loop-i-test.true c.loop-i.invariant.1
+          (ap (λ (w : ℕ). four_bytes (byte_of w)) c.word_at.ensures.is) c.put_four.ensures,
     )
 
-same_length : tie.Need-same-length invariant-loop decreases-loop
-same_length c = let l = c.before in appending_length l.before.before.before.args.out.now l.loop.invariant.1
+same_length : tie.Need-shape_of-out invariant-loop decreases-loop
+same_length c = appending_length c.args.out.now c.loop-i.invariant.1
 
 returns : tie.Need-returns invariant-loop decreases-loop
 returns c =
-    let l = c.before in
-    let a = l.before.before.before.args in
-    words_all (kern_byte a.kerns.now) a.out.now (length a.kerns.now) l.before.smaller.result l.before.smaller.ensures l.loop.invariant.0
-    c.loop-test.false l.loop.invariant.1
+    let a = c.args in
+    words_all (kern_byte a.kerns.now) a.out.now (length a.kerns.now) c.smaller-n.result c.smaller-n.ensures c.loop-i.invariant.0
+    c.loop-i-test.false c.loop-i.invariant.1
 
-pub write-words-spec : {M : Type 1} → statement M
-write-words-spec =
+pub write_words_spec : {M : Type 1} → statement M
+write_words_spec =
     tie.close
     (tie.spec
     invariant-loop

@@ -14,78 +14,74 @@ use Rattle.file_writing.proofs.file_refusal.Statement.{statement}
 use Rattle.file_writing.proofs.file_refusal.Tie as tie
 
 -- the function's start, from where 18 is asked
-abbrev start : tie.After-writable-refusal → tie.Start
+abbrev start : tie.After-writable_refusal-font → tie.Start
 start w = w.before.before.before
 
 -- the font that is lent
 abbrev font : tie.Start → Writable
-font s = let a = s.args in writable a.instructions.now a.kerns.now a.entries.now a.boundary a.left_entry_lem
+font s = let a = s.args in writable a.instructions.now a.kerns.now a.entries.now a.boundary a.left_entry
 
-asked : (w : tie.After-writable-refusal) → let s = start w in
-    w.writable-refusal.result ≡ writable_refusal s.args.old.now (font s) s.args.n s.args.k
+asked : (w : tie.After-writable_refusal-font) → let s = start w in
+    w.writable_refusal-font.result ≡ writable_refusal s.args.old.now (font s) s.args.n s.args.k
 asked w =
     let s = start w in
     let a = s.args in
-    w.writable-refusal.ensures
+    w.writable_refusal-font.ensures
     ∙ (λ i. writable_refusal a.old.now
-    (writable a.instructions.now a.kerns.now a.entries.now (number_word a.boundary s.fits.boundary i)
-    (number_word a.left_entry_lem s.fits.left_entry_lem i)) a.n a.k)
+    (writable a.instructions.now a.kerns.now a.entries.now (number_word a.boundary s.ranges.boundary i)
+    (number_word a.left_entry s.ranges.left_entry i)) a.n a.k)
 
 -- where 18 is not answered the file is small enough
-small : (e : tie.Else2) → let a = (start e.before.before).args in written_size a.old.now a.n a.k ≤ 32767
+small : (e : tie.Else-font-ne0) → let a = (start e.before.before).args in written_size a.old.now a.n a.k ≤ 32767
 small e =
     let s = start e.before.before in
-    (font_writes s.args.old.now (font s) s.args.n s.args.k (sym (asked e.before.before) ∙ e.if2.false)).size
+    (font_writes s.args.old.now (font s) s.args.n s.args.k (sym (asked e.before.before) ∙ e.if-font-ne0.false)).size
 
-size : (m : tie.After-written-size) → let a = (start m.before.before.before.before).args in
-    m.written-size.result ≡ written_size a.old.now a.n a.k
+size : (m : tie.After-written_size) → let a = (start m.before.before.before.before).args in
+    m.written_size.result ≡ written_size a.old.now a.n a.k
 size m =
     let a = (start m.before.before.before.before).args in
-    m.written-size.ensures ∙ ap (λ (l : FileLengths). (written_lengths l a.n a.k).lf) m.before.lengths-of.ensures
+    m.written_size.ensures ∙ ap (λ (l : FileLengths). (written_lengths l a.n a.k).lf) m.lengths_of.ensures
 
-lengths-refusal-requires : tie.Need-lengths-refusal-requires
+lengths-refusal-requires : tie.Need-lengths_refusal-lengths-requires
 lengths-refusal-requires c κs = search rules
 
-returns : tie.Need-returns
-returns c = first_refusal _ c.before.before.lengths-refusal.ensures c.if1.true
+returns : tie.Need-returns-then-lengths-ne0
+returns c = first_refusal _ c.lengths_refusal-lengths.ensures c.if-lengths-ne0.true
 
-writable-refusal-requires : tie.Need-writable-refusal-requires
+writable-refusal-requires : tie.Need-writable_refusal-font-requires
 writable-refusal-requires c κs = search rules
 
-returns-2 : tie.Need-returns-2
+returns-2 : tie.Need-returns-then-font-ne0
 returns-2 c =
-    let w = c.before.before in
-    later_refusal_lem w.before.lengths-refusal.ensures c.before.if1.false (first_refusal _ (asked w) c.if2.true)
+    later_refusal_lem c.lengths_refusal-lengths.ensures c.if-lengths-ne0.false (first_refusal _ (asked (c.before.before)) c.if-font-ne0.true)
 
-lengths-of-requires : tie.Need-lengths-of-requires
+lengths-of-requires : tie.Need-lengths_of-requires
 lengths-of-requires c κs = search rules
 
-cast-written-size : tie.Need-overflow-cast-written-size
+cast-written-size : tie.Need-overflow_cast-n
 cast-written-size c = omega (arith, small c.before)
 
-cast-written-size-2 : tie.Need-overflow-cast-written-size-2
+cast-written-size-2 : tie.Need-overflow_cast-k
 cast-written-size-2 c = omega (arith, small c.before)
 
-written-size-requires : tie.Need-written-size-requires
+written-size-requires : tie.Need-written_size-requires
 written-size-requires c κs = search rules
 
-mul-room-refusal : tie.Need-overflow-mul-room-refusal
+mul-room-refusal : tie.Need-overflow_mul-written_size
 mul-room-refusal c = omega (arith, small c.before.before, size c)
 
-room-refusal-requires : tie.Need-room-refusal-requires
+room-refusal-requires : tie.Need-room_refusal-requires
 room-refusal-requires c κs = search rules
 
-returns-3 : tie.Need-returns-3
+returns-3 : tie.Need-returns
 returns-3 c =
-    let m = c.before in
-    let e = m.before.before in
-    let w = e.before.before in
-    later_refusal_lem w.before.lengths-refusal.ensures e.before.if1.false
-    (later_refusal_lem (asked w) e.if2.false
-    (c.room-refusal.ensures ∙ ap (λ (n : ℕ). room_refusal (4 * n) (start w).args.room) (size m)))
+    later_refusal_lem c.lengths_refusal-lengths.ensures c.if-lengths-ne0.false
+    (later_refusal_lem (asked (c.before.before.before.before.before)) c.if-font-ne0.false
+    (c.room_refusal.ensures ∙ ap (λ (n : ℕ). room_refusal (4 * n) (start (c.before.before.before.before.before)).args.room) (size (c.before))))
 
-pub file-refusal-spec : {M : Type 1} → statement M
-file-refusal-spec =
+pub file_refusal_spec : {M : Type 1} → statement M
+file_refusal_spec =
     tie.close
     (tie.spec
     lengths-refusal-requires

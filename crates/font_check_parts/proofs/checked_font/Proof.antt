@@ -20,26 +20,30 @@ module _ {font : FileFont} (p o q : ℕ) where
   answer_refused : {x : ℕ} → font ≡ Read.Refused x → Answer.Refused x ≡ checked_font font p o q
   answer_refused h = rw h
 
-enum-known-font : tie.Need-enum-known-font
+enum-known-font : tie.Need-enum_known-font
 enum-known-font c = search rules
 
-enum-known-font-2 : tie.Need-enum-known-font-2
+enum-known-font-2 : tie.Need-enum_known-font-in-Refused-1
 enum-known-font-2 c = search rules
 
-returns : tie.Need-returns
+returns : tie.Need-returns-in-Font
 returns c =
-    let v = c.before.font.given in
-    let t = c.known_told.given in
-    let a = c.before.before.before.args in
-    answer_font a.pairs a.ops a.loops v.1
-    (number_word v.0.1.1.1.1.0 (record { sfits = t.1.1.1.1.0.1 }))
-    (number_word v.0.1.1.1.1.1.0 (record { sfits = t.1.1.1.1.1.0.1 }))
-    (number_word v.0.1.1.1.1.1.1.0 (record { sfits = t.1.1.1.1.1.1.0.1 }))
+    let a = c.args in
+    answer_font a.pairs a.ops a.loops c.in-Font.is
+    (number_word c.in-Font.boundary (record { sfits = c.in-Font.known_told-1-own.given.1.1.1.1.0.1 }))
+    (number_word c.in-Font.left (record { sfits = c.in-Font.known_told-1-own.given.1.1.1.1.1.0.1 }))
+    (number_word c.in-Font.design (record { sfits = c.in-Font.known_told-1-own.given.1.1.1.1.1.1.0.1 }))
 
-returns-2 : tie.Need-returns-2
+returns-2 : tie.Need-returns-in-Refused
 returns-2 c =
-    let a = c.before.before.before.args in
-    answer_refused a.pairs a.ops a.loops c.before.font2.given.1
+    let a = c.args in
+    answer_refused a.pairs a.ops a.loops c.in-Refused.is
 
-pub checked-font-spec : {M : Type 1} → statement M
-checked-font-spec = tie.close (tie.spec enum-known-font enum-known-font-2 returns returns-2)
+pub checked_font_spec : {M : Type 1} → statement M
+checked_font_spec =
+    tie.close
+    (tie.spec
+    enum-known-font
+    enum-known-font-2
+    returns
+    returns-2)

@@ -9,21 +9,26 @@ use Rattle.font_requests.proofs.ask_refusal.Statement.{statement}
 use Rattle.font_requests.proofs.ask_refusal.Tie as tie
 
 -- the boundary character as it was lent
-edge : (c : tie.After-absent-refusal) → c.absent-refusal.result ≡ absent_refusal 255 c.before.args.boundary
-edge c = c.absent-refusal.ensures ∙ ap (absent_refusal 255) (number_word c.before.args.boundary c.before.ranges.boundary)
+edge : (c : tie.After-absent_refusal-edge) → c.absent_refusal-edge.result ≡ absent_refusal 255 c.args.boundary
+edge c = c.absent_refusal-edge.ensures ∙ ap (absent_refusal 255) (number_word c.args.boundary c.ranges.boundary)
 
-absent-refusal-requires : tie.Need-absent-refusal-requires
+absent-refusal-requires : tie.Need-absent_refusal-edge-requires
 absent-refusal-requires c κs = search rules
 
-returns : tie.Need-returns
-returns c = first_refusal _ (edge c.before) c.if1.true
+returns : tie.Need-returns-then-edge-ne0
+returns c = first_refusal _ (edge c.before) c.if-edge-ne0.true
 
-table-refusal-requires : tie.Need-table-refusal-requires
+table-refusal-requires : tie.Need-table_refusal-requires
 table-refusal-requires c κs = search rules
 
-returns-2 : tie.Need-returns-2
-returns-2 c = let i = c.before in later_refusal_lem (edge i.before) i.if1.false c.table-refusal.ensures
+returns-2 : tie.Need-returns
+returns-2 c = later_refusal_lem (edge c.before.before) c.if-edge-ne0.false c.table_refusal.ensures
 
-pub ask-refusal-spec : {M : Type 1} → statement M
-ask-refusal-spec =
-    tie.close (tie.spec absent-refusal-requires returns table-refusal-requires returns-2)
+pub ask_refusal_spec : {M : Type 1} → statement M
+ask_refusal_spec =
+    tie.close
+    (tie.spec
+    absent-refusal-requires
+    returns
+    table-refusal-requires
+    returns-2)

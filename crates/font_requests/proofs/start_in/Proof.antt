@@ -13,38 +13,40 @@ use Rattle.font_requests.proofs.start_in.Statement.{statement}
 use Rattle.font_requests.proofs.start_in.Tie as tie
 
 -- begin, of the boundary character as it was lent
-begins : (c : tie.After-begin) → let a = c.before.before.args in
+begins : (c : tie.After-begin) → let a = c.args in
     c.begin.result ≡ begin_of a.pairs.now a.ops.now a.boundary a.word.now a.options
 begins c =
-    let s = c.before.before in
-    let a = s.args in
+    let a = c.args in
     begin_is a.pairs.now a.ops.now (number_of (word_of a.boundary)) a.word.now a.options c.begin.result c.begin.ensures
-    ∙ ap (λ (z : ℤ). begin_of a.pairs.now a.ops.now z a.word.now a.options) (number_word a.boundary s.ranges.boundary)
+    ∙ ap (λ (z : ℤ). begin_of a.pairs.now a.ops.now z a.word.now a.options) (number_word a.boundary c.ranges.boundary)
 
 begin-requires : tie.Need-begin-requires
 begin-requires c κs = search rules
 
-enum-known-state : tie.Need-enum-known-state
+enum-known-state : tie.Need-enum_known-state
 enum-known-state c = search rules
 
-enum-known-n : tie.Need-enum-known-n
+enum-known-n : tie.Need-enum_known-n
 enum-known-n c = search rules
 
-returns : tie.Need-returns
+returns : tie.Need-returns-in-Run
 returns c =
-    let t = c.before in
-    let b = t.before.before in
-    let a = b.before.before.args in
-    begun_taken (begin_refusal a.pairs.now a.ops.now a.boundary a.word.now a.options) a.number t.state.given.0.0
-    (fresh_state a.word.now a.options) (sym t.state.given.1 ∙ begins b)
+    let a = c.args in
+    begun_taken (begin_refusal a.pairs.now a.ops.now a.boundary a.word.now a.options) a.number c.in-Run.state
+    (fresh_state a.word.now a.options) (sym c.in-Run.is ∙ begins (c.before))
 
-returns-2 : tie.Need-returns-2
+returns-2 : tie.Need-returns-in-Refused
 returns-2 c =
-    let t = c.before in
-    let b = t.before.before in
-    let a = b.before.before.args in
-    begun_refused (begin_refusal a.pairs.now a.ops.now a.boundary a.word.now a.options) t.n.given.0.0
-    (fresh_state a.word.now a.options) (starting a.number a.word.now a.options) (sym t.n.given.1 ∙ begins b)
+    let a = c.args in
+    begun_refused (begin_refusal a.pairs.now a.ops.now a.boundary a.word.now a.options) c.in-Refused.n
+    (fresh_state a.word.now a.options) (starting a.number a.word.now a.options) (sym c.in-Refused.is ∙ begins (c.before))
 
-pub start-in-spec : {M : Type 1} → statement M
-start-in-spec = tie.close (tie.spec begin-requires enum-known-state enum-known-n returns returns-2)
+pub start_in_spec : {M : Type 1} → statement M
+start_in_spec =
+    tie.close
+    (tie.spec
+    begin-requires
+    enum-known-state
+    enum-known-n
+    returns
+    returns-2)

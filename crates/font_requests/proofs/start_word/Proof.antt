@@ -22,41 +22,43 @@ start_in word options number font = requested_by (start_refusal font word option
 abbrev start_by : LentFont → LentFont → List ℕ → RunOptions → FontRun → Asked → Requested
 start_by font other word options run x = start_in word options (by_asked x run.font (λ n. n)) (start_font font other x)
 
-enum_told : tie.Need-enum-told
+enum_told : tie.Need-enum_told-1
 enum_told c = search rules
 
-start-in-requires : tie.Need-start-in-requires
+start-in-requires : tie.Need-start_in-requires
 start-in-requires c κs = search rules
 
-enum-known-asked : tie.Need-enum-known-asked
+enum-known-asked : tie.Need-enum_known-asked
 enum-known-asked c = search rules
 
-start-in-requires-2 : tie.Need-start-in-requires-2
+start-in-requires-2 : tie.Need-start_in-requires-in-Font
 start-in-requires-2 c κs = search rules
 
-returns : tie.Need-returns
+returns : tie.Need-returns-in-Nothing
 returns c =
-    let t = c.before in
-    let s = t.before.before.before in
-    let a = s.args in
-    c.start-in.ensures
+    let a = c.args in
+    c.start_in.ensures
     ∙ ap (λ (z : ℤ). start_in a.word.now a.options a.run.font (lending a.pairs.now a.ops.now z))
-    (number_word a.boundary s.ranges.boundary)
-    ∙ ap (start_by (lending a.pairs.now a.ops.now a.boundary) (lending a.«asked-pairs».now a.«asked-ops».now a.«asked-boundary»)
-    a.word.now a.options a.run) (sym t.enum_told.given.1)
+    (number_word a.boundary c.ranges.boundary)
+    ∙ ap (start_by (lending a.pairs.now a.ops.now a.boundary) (lending a.asked_pairs.now a.asked_ops.now a.asked_boundary)
+    a.word.now a.options a.run) (sym c.in-Nothing.is)
 
-returns-2 : tie.Need-returns-2
+returns-2 : tie.Need-returns-in-Font
 returns-2 c =
-    let t = c.before.before in
-    let s = t.before.before.before in
-    let a = s.args in
-    c.start-in2.ensures
-    ∙ ap (λ (z : ℤ). start_in a.word.now a.options t.asked.given.0.0 (lending a.«asked-pairs».now a.«asked-ops».now z))
-    (number_word a.«asked-boundary» s.ranges.«asked-boundary»)
-    ∙ ap (start_by (lending a.pairs.now a.ops.now a.boundary) (lending a.«asked-pairs».now a.«asked-ops».now a.«asked-boundary»)
-    a.word.now a.options a.run) (sym t.asked.given.1)
+    let a = c.args in
+    c.start_in-in-Font.ensures
+    ∙ ap (λ (z : ℤ). start_in a.word.now a.options c.in-Font.n (lending a.asked_pairs.now a.asked_ops.now z))
+    (number_word a.asked_boundary c.ranges.asked_boundary)
+    ∙ ap (start_by (lending a.pairs.now a.ops.now a.boundary) (lending a.asked_pairs.now a.asked_ops.now a.asked_boundary)
+    a.word.now a.options a.run) (sym c.in-Font.is)
 
-pub start-word-spec : {M : Type 1} → statement M
-start-word-spec =
+pub start_word_spec : {M : Type 1} → statement M
+start_word_spec =
     tie.close
-    (tie.spec enum_told start-in-requires enum-known-asked start-in-requires-2 returns returns-2)
+    (tie.spec
+    enum_told
+    start-in-requires
+    enum-known-asked
+    start-in-requires-2
+    returns
+    returns-2)

@@ -8,5 +8,8 @@ use Rattle.font_room.proofs.byte_room.Tie as tie
 returns : tie.Need-returns
 returns c = zeroed {A = ℕ} 131068 0
 
-pub byte-room-spec : {M : Type 1} → statement M
-byte-room-spec = tie.close (tie.spec returns)
+pub byte_room_spec : {M : Type 1} → statement M
+byte_room_spec =
+    tie.close
+    (tie.spec
+    returns)

@@ -8,5 +8,8 @@ use Rattle.font_room.proofs.entry_room.Tie as tie
 returns : tie.Need-returns
 returns c = zeroed {A = ℤ} 512 (pos 0)
 
-pub entry-room-spec : {M : Type 1} → statement M
-entry-room-spec = tie.close (tie.spec returns)
+pub entry_room_spec : {M : Type 1} → statement M
+entry_room_spec =
+    tie.close
+    (tie.spec
+    returns)

@@ -8,5 +8,8 @@ use Rattle.font_room.proofs.instruction_room.Tie as tie
 returns : tie.Need-returns
 returns c = zeroed {A = ℤ} 131068 (pos 0)
 
-pub instruction-room-spec : {M : Type 1} → statement M
-instruction-room-spec = tie.close (tie.spec returns)
+pub instruction_room_spec : {M : Type 1} → statement M
+instruction_room_spec =
+    tie.close
+    (tie.spec
+    returns)

@@ -8,5 +8,8 @@ use Rattle.font_room.proofs.kern_room.Tie as tie
 returns : tie.Need-returns
 returns c = zeroed {A = ℤ} 32767 (pos 0)
 
-pub kern-room-spec : {M : Type 1} → statement M
-kern-room-spec = tie.close (tie.spec returns)
+pub kern_room_spec : {M : Type 1} → statement M
+kern_room_spec =
+    tie.close
+    (tie.spec
+    returns)

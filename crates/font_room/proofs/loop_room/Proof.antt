@@ -8,5 +8,8 @@ use Rattle.font_room.proofs.loop_room.Tie as tie
 returns : tie.Need-returns
 returns c = zeroed {A = ℤ} 98304 (pos 0)
 
-pub loop-room-spec : {M : Type 1} → statement M
-loop-room-spec = tie.close (tie.spec returns)
+pub loop_room_spec : {M : Type 1} → statement M
+loop_room_spec =
+    tie.close
+    (tie.spec
+    returns)

@@ -8,5 +8,8 @@ use Rattle.font_room.proofs.lost_room.Tie as tie
 returns : tie.Need-returns
 returns c = zeroed {A = ℤ} 256 (pos 0)
 
-pub lost-room-spec : {M : Type 1} → statement M
-lost-room-spec = tie.close (tie.spec returns)
+pub lost_room_spec : {M : Type 1} → statement M
+lost_room_spec =
+    tie.close
+    (tie.spec
+    returns)

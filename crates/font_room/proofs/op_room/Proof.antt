@@ -8,5 +8,8 @@ use Rattle.font_room.proofs.op_room.Tie as tie
 returns : tie.Need-returns
 returns c = zeroed {A = ℤ} 196608 (pos 0)
 
-pub op-room-spec : {M : Type 1} → statement M
-op-room-spec = tie.close (tie.spec returns)
+pub op_room_spec : {M : Type 1} → statement M
+op_room_spec =
+    tie.close
+    (tie.spec
+    returns)

@@ -8,5 +8,8 @@ use Rattle.font_room.proofs.pair_room.Tie as tie
 returns : tie.Need-returns
 returns c = zeroed {A = ℤ} 294912 (pos 0)
 
-pub pair-room-spec : {M : Type 1} → statement M
-pair-room-spec = tie.close (tie.spec returns)
+pub pair_room_spec : {M : Type 1} → statement M
+pair_room_spec =
+    tie.close
+    (tie.spec
+    returns)

@@ -8,5 +8,8 @@ use Rattle.font_room.proofs.work_room.Tie as tie
 returns : tie.Need-returns
 returns c = zeroed {A = ℕ} 786432 0
 
-pub work-room-spec : {M : Type 1} → statement M
-work-room-spec = tie.close (tie.spec returns)
+pub work_room_spec : {M : Type 1} → statement M
+work_room_spec =
+    tie.close
+    (tie.spec
+    returns)

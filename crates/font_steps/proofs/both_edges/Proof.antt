@@ -8,24 +8,26 @@ use borrow.Author.Rules.{rules}
 use Rattle.font_steps.proofs.both_edges.Statement.{statement}
 use Rattle.font_steps.proofs.both_edges.Tie as tie
 
-absent-refusal-requires : tie.Need-absent-refusal-requires
+absent-refusal-requires : tie.Need-absent_refusal-edge-requires
 absent-refusal-requires c κs = search rules
 
-returns : tie.Need-returns
+returns : tie.Need-returns-then-edge-ne0
 returns c =
-    let s = c.before.before in
-    first_refusal _ (c.before.absent-refusal.ensures ∙ ap (absent_refusal 255) (number_word s.args.boundary s.ranges.boundary)) c.if1.true
+    first_refusal _ (c.absent_refusal-edge.ensures ∙ ap (absent_refusal 255) (number_word c.args.boundary c.ranges.boundary)) c.if-edge-ne0.true
 
-absent-refusal-requires-2 : tie.Need-absent-refusal-requires-2
+absent-refusal-requires-2 : tie.Need-absent_refusal-requires
 absent-refusal-requires-2 c κs = search rules
 
-returns-2 : tie.Need-returns-2
+returns-2 : tie.Need-returns
 returns-2 c =
-    let i = c.before in
-    let s = i.before.before in
-    later_refusal_lem (i.before.absent-refusal.ensures ∙ ap (absent_refusal 255) (number_word s.args.boundary s.ranges.boundary)) i.if1.false
-    (c.absent-refusal2.ensures ∙ ap (absent_refusal 255) (number_word s.args.«asked-boundary» s.ranges.«asked-boundary»))
+    later_refusal_lem (c.absent_refusal-edge.ensures ∙ ap (absent_refusal 255) (number_word c.args.boundary c.ranges.boundary)) c.if-edge-ne0.false
+    (c.absent_refusal.ensures ∙ ap (absent_refusal 255) (number_word c.args.asked_boundary c.ranges.asked_boundary))
 
-pub both-edges-spec : {M : Type 1} → statement M
-both-edges-spec =
-    tie.close (tie.spec absent-refusal-requires returns absent-refusal-requires-2 returns-2)
+pub both_edges_spec : {M : Type 1} → statement M
+both_edges_spec =
+    tie.close
+    (tie.spec
+    absent-refusal-requires
+    returns
+    absent-refusal-requires-2
+    returns-2)

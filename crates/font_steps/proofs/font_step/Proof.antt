@@ -17,49 +17,44 @@ abbrev font : tie.Start → LentFont
 font s = lending s.args.pairs.now s.args.ops.now s.args.boundary
 
 abbrev other : tie.Start → LentFont
-other s = lending s.args.«asked-pairs».now s.args.«asked-ops».now s.args.«asked-boundary»
+other s = lending s.args.asked_pairs.now s.args.asked_ops.now s.args.asked_boundary
 
-enum_told : tie.Need-enum-told
+enum_told : tie.Need-enum_told-1
 enum_told c = search rules
 
-step-requires : tie.Need-step-requires
+step-requires : tie.Need-step-kept-requires
 step-requires c κs = search rules
 
-in-force-requires : tie.Need-in-force-requires
+in-force-requires : tie.Need-in_force-requires
 in-force-requires c κs = search rules
 
-enum-known-asked : tie.Need-enum-known-asked
+enum-known-asked : tie.Need-enum_known-asked
 enum-known-asked c = search rules
 
-waiting-step-requires : tie.Need-waiting-step-requires
+waiting-step-requires : tie.Need-waiting_step-requires
 waiting-step-requires c κs = search rules
 
-returns : tie.Need-returns
+returns : tie.Need-returns-in-Nothing
 returns c =
-    let t = c.before in
-    let e = t.before.before in
-    let s = e.before.before.before in
-    let a = s.args in
-    c.in-force.ensures
+    let a = c.args in
+    c.in_force.ensures
     ∙ ap (in_force a.run)
-    (stepped_is a.pairs.now a.ops.now (number_of (word_of a.boundary)) a.word.now a.options a.run.state t.step.ensures
-    ∙ ap (λ (z : ℤ). step_of a.pairs.now a.ops.now z a.word.now a.options a.run.state) (number_word a.boundary s.ranges.boundary))
-    ∙ ap (font_step_by (font s) (other s) a.word.now a.options a.run) (sym e.enum_told.given.1)
+    (stepped_is a.pairs.now a.ops.now (number_of (word_of a.boundary)) a.word.now a.options a.run.state c.step-kept.ensures
+    ∙ ap (λ (z : ℤ). step_of a.pairs.now a.ops.now z a.word.now a.options a.run.state) (number_word a.boundary c.ranges.boundary))
+    ∙ ap (font_step_by (font (c.before.before.before.before.before)) (other (c.before.before.before.before.before)) a.word.now a.options a.run) (sym c.in-Nothing.is)
 
-returns-2 : tie.Need-returns-2
+returns-2 : tie.Need-returns-in-Font
 returns-2 c =
-    let e = c.before.before in
-    let s = e.before.before.before in
-    let a = s.args in
-    c.waiting-step.ensures
-    ∙ (λ j. font_step_by (lending a.pairs.now a.ops.now (number_word a.boundary s.ranges.boundary j))
-    (lending a.«asked-pairs».now a.«asked-ops».now (number_word a.«asked-boundary» s.ranges.«asked-boundary» j))
+    let a = c.args in
+    c.waiting_step.ensures
+    ∙ (λ j. font_step_by (lending a.pairs.now a.ops.now (number_word a.boundary c.ranges.boundary j))
+    (lending a.asked_pairs.now a.asked_ops.now (number_word a.asked_boundary c.ranges.asked_boundary j))
     a.word.now a.options a.run
-    (asked.Font e.asked.given.0.0))
-    ∙ ap (font_step_by (font s) (other s) a.word.now a.options a.run) (sym e.asked.given.1)
+    (asked.Font c.in-Font.n))
+    ∙ ap (font_step_by (font (c.before.before.before)) (other (c.before.before.before)) a.word.now a.options a.run) (sym c.in-Font.is)
 
-pub font-step-spec : {M : Type 1} → statement M
-font-step-spec =
+pub font_step_spec : {M : Type 1} → statement M
+font_step_spec =
     tie.close
     (tie.spec
     enum_told

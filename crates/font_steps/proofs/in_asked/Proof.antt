@@ -9,38 +9,38 @@ use borrow.Author.Rules.{rules}
 use Rattle.font_steps.proofs.in_asked.Statement.{statement}
 use Rattle.font_steps.proofs.in_asked.Tie as tie
 
-enum_told : tie.Need-enum-told
+enum_told : tie.Need-enum_told-1
 enum_told c = search rules
 
-enum-told-2 : tie.Need-enum-told-2
+enum-told-2 : tie.Need-enum_told-in-Ligature
 enum-told-2 c = search rules
 
-enum-told-3 : tie.Need-enum-told-3
+enum-told-3 : tie.Need-enum_told-in-Kern
 enum-told-3 c = search rules
 
-enum-told-4 : tie.Need-enum-told-4
+enum-told-4 : tie.Need-enum_told-in-End
 enum-told-4 c = search rules
 
-enum-told-5 : tie.Need-enum-told-5
+enum-told-5 : tie.Need-enum_told-in-Refused
 enum-told-5 c = search rules
 
-returns : tie.Need-returns
-returns c = rw c.enum_told.given.1
+returns : tie.Need-returns-in-Char
+returns c = rw c.in-Char.is
 
-returns-2 : tie.Need-returns-2
-returns-2 c = rw c.enum-told2.given.1
+returns-2 : tie.Need-returns-in-Ligature
+returns-2 c = rw c.in-Ligature.is
 
-returns-3 : tie.Need-returns-3
-returns-3 c = rw c.enum-told3.given.1
+returns-3 : tie.Need-returns-in-Kern
+returns-3 c = rw c.in-Kern.is
 
-returns-4 : tie.Need-returns-4
-returns-4 c = rw c.enum-told4.given.1
+returns-4 : tie.Need-returns-in-End
+returns-4 c = rw c.in-End.is
 
-returns-5 : tie.Need-returns-5
-returns-5 c = rw c.enum-told5.given.1
+returns-5 : tie.Need-returns-in-Refused
+returns-5 c = rw c.in-Refused.is
 
-pub in-asked-spec : {M : Type 1} → statement M
-in-asked-spec =
+pub in_asked_spec : {M : Type 1} → statement M
+in_asked_spec =
     tie.close
     (tie.spec
     enum_told

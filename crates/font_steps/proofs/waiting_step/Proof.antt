@@ -24,97 +24,84 @@ abbrev font : tie.Start → LentFont
 font s = lending s.args.pairs.now s.args.ops.now s.args.boundary
 
 abbrev other : tie.Start → LentFont
-other s = lending s.args.«asked-pairs».now s.args.«asked-ops».now s.args.«asked-boundary»
+other s = lending s.args.asked_pairs.now s.args.asked_ops.now s.args.asked_boundary
 
 -- the number, of the boundary characters as they were lent
-edges : (c : tie.After-both-edges) → let a = c.before.before.args in
-    c.both-edges.result ≡ or_else (absent_refusal 255 a.boundary) (absent_refusal 255 a.«asked-boundary»)
+edges : (c : tie.After-both_edges-edges) → let a = c.args in
+    c.both_edges-edges.result ≡ or_else (absent_refusal 255 a.boundary) (absent_refusal 255 a.asked_boundary)
 edges c =
-    let s = c.before.before in
-    c.both-edges.ensures
-    ∙ (λ j. or_else (absent_refusal 255 (number_word s.args.boundary s.ranges.boundary j))
-    (absent_refusal 255 (number_word s.args.«asked-boundary» s.ranges.«asked-boundary» j)))
+    c.both_edges-edges.ensures
+    ∙ (λ j. or_else (absent_refusal 255 (number_word c.args.boundary c.ranges.boundary j))
+    (absent_refusal 255 (number_word c.args.asked_boundary c.ranges.asked_boundary j)))
 
 -- the state that is tested, and whether it is free
-at : (c : tie.After-passed) → let s = c.before.before.before.before.before in
-    c.passed.result ≡ passed (font s) s.args.word.now s.args.run.state
-at c = c.passed.ensures
+at : (c : tie.After-passed-at) → c.passed-at.result ≡ passed (font (c.before.before.before.before.before)) c.args.word.now c.args.run.state
+at c = c.passed-at.ensures
 
-free : (c : tie.After-is-free) → let s = c.before.before.before.before.before.before in let a = s.args in
+free : (c : tie.After-is_free) → let s = c.before.before.before.before.before.before in let a = c.args in
     c.is_free.result
     ≡ free_state a.pairs.now (right_item a.boundary a.options.right_boundary_override) a.word.now
-    (passed (font s) a.word.now a.run.state)
+    (passed (font (c.before.before.before.before.before.before)) a.word.now a.run.state)
 free c =
     let s = c.before.before.before.before.before.before in
-    let a = s.args in
+    let a = c.args in
     c.is_free.ensures
-    ∙ (λ j. free_state a.pairs.now (right_item (number_word a.boundary s.ranges.boundary j) a.options.right_boundary_override) a.word.now
+    ∙ (λ j. free_state a.pairs.now (right_item (number_word a.boundary c.ranges.boundary j) a.options.right_boundary_override) a.word.now
     (at c.before j))
 
-both-edges-requires : tie.Need-both-edges-requires
+both-edges-requires : tie.Need-both_edges-edges-requires
 both-edges-requires c κs = search rules
 
-returns : tie.Need-returns
+returns : tie.Need-returns-then-edges-ne0
 returns c =
-    let b = c.before in
-    let a = b.before.before.args in
-    edges_refused (font b.before.before) (other b.before.before) a.word.now a.options a.run a.number _ (edges b) c.if1.true
+    let a = c.args in
+    edges_refused (font c.before.before.before) (other c.before.before.before) a.word.now a.options a.run a.number _ (edges (c.before)) c.if-edges-ne0.true
 
-passed-requires : tie.Need-passed-requires
+passed-requires : tie.Need-passed-at-requires
 passed-requires c κs = search rules
 
-is-free-requires : tie.Need-is-free-requires
+is-free-requires : tie.Need-is_free-requires
 is-free-requires c κs = search rules
 
-restarted-requires : tie.Need-restarted-requires
+restarted-requires : tie.Need-restarted-from-requires
 restarted-requires c κs = search rules
 
-step-requires : tie.Need-step-requires
+step-requires : tie.Need-step-changed-requires
 step-requires c κs = search rules
 
-in-asked-requires : tie.Need-in-asked-requires
+in-asked-requires : tie.Need-in_asked-requires
 in-asked-requires c κs = search rules
 
-returns-2 : tie.Need-returns-2
+returns-2 : tie.Need-returns-then-is_free
 returns-2 c =
-    let t = c.before in
-    let r = t.before in
-    let f = r.before.before in
-    let b = f.before.before.before.before in
-    let s = b.before.before in
-    let a = s.args in
-    c.in-asked.ensures
+    let a = c.args in
+    c.in_asked.ensures
     ∙ ap (in_asked a.run a.number)
-    (stepped_is a.«asked-pairs».now a.«asked-ops».now (number_of (word_of a.«asked-boundary»)) a.word.now a.options r.restarted.result
-    t.step.ensures
-    ∙ (λ j. step_of a.«asked-pairs».now a.«asked-ops».now (number_word a.«asked-boundary» s.ranges.«asked-boundary» j) a.word.now a.options
-    ((r.restarted.ensures ∙ ap restarted (at f.before)) j)))
-    ∙ changes (font s) (other s) a.word.now a.options a.run a.number (sym (edges b) ∙ f.before.before.before.if1.false)
-    (sym (free f) ∙ r.before.if2.true)
+    (stepped_is a.asked_pairs.now a.asked_ops.now (number_of (word_of a.asked_boundary)) a.word.now a.options c.restarted-from.result
+    c.step-changed.ensures
+    ∙ (λ j. step_of a.asked_pairs.now a.asked_ops.now (number_word a.asked_boundary c.ranges.asked_boundary j) a.word.now a.options
+    ((c.restarted-from.ensures ∙ ap restarted (at c.before.before.before.before.before)) j)))
+    ∙ changes (font (c.before.before.before.before.before.before.before.before.before.before)) (other (c.before.before.before.before.before.before.before.before.before.before)) a.word.now a.options a.run a.number (sym (edges (c.before.before.before.before.before.before.before.before)) ∙ c.if-edges-ne0.false)
+    (sym (free (c.before.before.before.before)) ∙ c.if-is_free.true)
 
-step-requires-2 : tie.Need-step-requires-2
+step-requires-2 : tie.Need-step-kept-requires
 step-requires-2 c κs = search rules
 
-in-force-requires : tie.Need-in-force-requires
+in-force-requires : tie.Need-in_force-requires
 in-force-requires c κs = search rules
 
-returns-3 : tie.Need-returns-3
+returns-3 : tie.Need-returns
 returns-3 c =
-    let t = c.before in
-    let i = t.before in
-    let f = i.before in
-    let b = f.before.before.before.before in
-    let s = b.before.before in
-    let a = s.args in
-    c.in-force.ensures
+    let a = c.args in
+    c.in_force.ensures
     ∙ ap (in_force a.run)
-    (stepped_is a.pairs.now a.ops.now (number_of (word_of a.boundary)) a.word.now a.options a.run.state t.step2.ensures
-    ∙ ap (λ (z : ℤ). step_of a.pairs.now a.ops.now z a.word.now a.options a.run.state) (number_word a.boundary s.ranges.boundary))
-    ∙ stays (font s) (other s) a.word.now a.options a.run a.number (sym (edges b) ∙ f.before.before.before.if1.false)
-    (sym (free f) ∙ i.if2.false)
+    (stepped_is a.pairs.now a.ops.now (number_of (word_of a.boundary)) a.word.now a.options a.run.state c.step-kept.ensures
+    ∙ ap (λ (z : ℤ). step_of a.pairs.now a.ops.now z a.word.now a.options a.run.state) (number_word a.boundary c.ranges.boundary))
+    ∙ stays (font (c.before.before.before.before.before.before.before.before.before)) (other (c.before.before.before.before.before.before.before.before.before)) a.word.now a.options a.run a.number (sym (edges (c.before.before.before.before.before.before.before)) ∙ c.if-edges-ne0.false)
+    (sym (free (c.before.before.before)) ∙ c.if-is_free.false)
 
-pub waiting-step-spec : {M : Type 1} → statement M
-waiting-step-spec =
+pub waiting_step_spec : {M : Type 1} → statement M
+waiting_step_spec =
     tie.close
     (tie.spec
     both-edges-requires

@@ -5,28 +5,35 @@ use borrow.Author.Rules.{rules}
 use Rattle.index.proofs.has_bit.Statement.{statement}
 use Rattle.index.proofs.has_bit.Tie as tie
 
-returns : tie.Need-returns
-returns c = let a = c.before.before.args in bit_past a.index.now a.left a.right c.if1.true
+returns : tie.Need-returns-then-right-gt255
+returns c = let a = c.args in bit_past a.index.now a.left a.right c.if-right-gt255.true
 
-mul-index-at : tie.Need-overflow-mul-index-at
+mul-index-at : tie.Need-overflow_mul-left
 mul-index-at c = search rules
 
-add-index-at : tie.Need-overflow-add-index-at
+add-index-at : tie.Need-overflow_add-left
 add-index-at c = search rules
 
-index-at-requires : tie.Need-index-at-requires
+index-at-requires : tie.Need-index_at-word-requires
 index-at-requires c κs = search rules
 
-cast-result : tie.Need-overflow-cast-result
+cast-result : tie.Need-overflow_cast-result
 cast-result c = search rules
 
-shr-result : tie.Need-overflow-shr-result
+shr-result : tie.Need-overflow_shr-result
 shr-result c = search rules
 
-returns-2 : tie.Need-returns-2
-returns-2 c = let d = c.before in let a = d.before.before.args in bit_is a.index.now a.left a.right d.if1.false c.index_at.ensures
+returns-2 : tie.Need-returns
+returns-2 c = let a = c.args in bit_is a.index.now a.left a.right c.if-right-gt255.false c.index_at-word.ensures
 
-pub has-bit-spec : {M : Type 1} → statement M
-has-bit-spec =
+pub has_bit_spec : {M : Type 1} → statement M
+has_bit_spec =
     tie.close
-    (tie.spec returns mul-index-at add-index-at index-at-requires cast-result shr-result returns-2)
+    (tie.spec
+    returns
+    mul-index-at
+    add-index-at
+    index-at-requires
+    cast-result
+    shr-result
+    returns-2)

@@ -5,38 +5,36 @@ use borrow.Author.Rules.{rules}
 use Rattle.index.proofs.is_pair.Statement.{statement}
 use Rattle.index.proofs.is_pair.Tie as tie
 
-mul-word-at : tie.Need-overflow-mul-word-at
+mul-word-at : tie.Need-overflow_mul-k
 mul-word-at c = search rules
 
-add-word-at : tie.Need-overflow-add-word-at
+add-word-at : tie.Need-overflow_add-k
 add-word-at c = search rules
 
-word-at-requires : tie.Need-word-at-requires
+word-at-requires : tie.Need-word_at-requires
 word-at-requires c κs = search rules
 
-returns : tie.Need-returns
+returns : tie.Need-returns-then-word_at-right
 returns c =
-    let a = c.before.before in
-    other_right a.args.pairs.now a.args.k a.args.left a.args.right c.before.word_at.ensures a.ranges.right.fits c.if1.true
+    other_right c.args.pairs.now c.args.k c.args.left c.args.right c.word_at.ensures c.ranges.right.fits c.if-word_at-right.true
 
-mul-word-at-2 : tie.Need-overflow-mul-word-at-2
+mul-word-at-2 : tie.Need-overflow_mul-k-2
 mul-word-at-2 c = search rules
 
-word-at-requires-2 : tie.Need-word-at-requires-2
+word-at-requires-2 : tie.Need-word_at-requires-2
 word-at-requires-2 c κs = search rules
 
-left-place-requires : tie.Need-left-place-requires
+left-place-requires : tie.Need-left_place-requires
 left-place-requires c κs = search rules
 
-returns-2 : tie.Need-returns-2
+returns-2 : tie.Need-returns
 returns-2 c =
-    let d = c.before.before in
-    let a = d.before.before.args in
-    rw c.left_place_lem.ensures
-    (left_decides a.pairs.now a.k a.left a.right d.before.word_at.ensures d.if1.false c.before.word-at2.ensures)
+    let a = c.args in
+    rw c.left_place.ensures
+    (left_decides a.pairs.now a.k a.left a.right c.word_at.ensures c.if-word_at-right.false c.word_at-2.ensures)
 
-pub is-pair-spec : {M : Type 1} → statement M
-is-pair-spec =
+pub is_pair_spec : {M : Type 1} → statement M
+is_pair_spec =
     tie.close
     (tie.spec
     mul-word-at

@@ -11,52 +11,47 @@ use borrow.Author.Rules.{rules}
 use Rattle.index_fill.proofs.count_on.Statement.{statement}
 use Rattle.index_fill.proofs.count_on.Tie as tie
 
-abbrev invariant-loop : tie.invariant-loop
+abbrev invariant-loop : tie.invariant-loop-k
 invariant-loop pairs from left n k₀ k = k ≤ pairs_before pairs left
 
-abbrev decreases-loop : tie.decreases-loop
+abbrev decreases-loop : tie.decreases-loop-k
 decreases-loop pairs from left n k₀ k = pair_count pairs - k
 
-loop-holds : tie.Need-loop-init invariant-loop decreases-loop
+loop-holds : tie.Need-loop-k-init invariant-loop decreases-loop
 loop-holds c = c.requires.1
 
-number-at-requires : tie.Need-number-at-requires invariant-loop decreases-loop
+number-at-requires : tie.Need-number_at-requires invariant-loop decreases-loop
 number-at-requires c κs = search rules
 
-left-place-requires : tie.Need-left-place-requires invariant-loop decreases-loop
+left-place-requires : tie.Need-left_place-requires invariant-loop decreases-loop
 left-place-requires c κs = search rules
 
-returns : tie.Need-returns invariant-loop decreases-loop
+returns : tie.Need-returns-then-left-left_place invariant-loop decreases-loop
 returns c =
-    let l = c.before.before.before.before in
-    let a = l.before in
-    let p = place_read c.before.before.number_at.ensures c.before.left_place_lem.ensures in
+    let p = place_read c.number_at.ensures c.left_place.ensures in
     omega (
       arith,
-      begins_by a.args.pairs.now a.requires.0 a.args.left l.loop.k c.before.before.before.loop-test.true
-          (omega (arith, p, c.if1.true)),
+      begins_by c.args.pairs.now c.requires.0 c.args.left c.loop-k.k c.loop-k-test.true
+          (omega (arith, p, c.if-left-left_place.true)),
     )
 
-add-k : tie.Need-overflow-add-k invariant-loop decreases-loop
+add-k : tie.Need-overflow_add-k invariant-loop decreases-loop
 add-k c = omega arith
 
-loop-less : tie.Need-loop-smaller invariant-loop decreases-loop
+loop-less : tie.Need-loop-k-smaller invariant-loop decreases-loop
 loop-less c = omega arith
 
-loop-again : tie.Need-loop-preserved invariant-loop decreases-loop
+loop-again : tie.Need-loop-k-preserved invariant-loop decreases-loop
 loop-again c =
-    let l = c.before.before.before.before in
-    let a = l.before in
-    let p = place_read c.before.before.number_at.ensures c.before.left_place_lem.ensures in
-    goes_on a.args.pairs.now a.requires.0 a.args.left l.loop.k c.before.before.before.loop-test.true (omega (arith, p, c.if1.false))
+    let p = place_read c.number_at.ensures c.left_place.ensures in
+    goes_on c.args.pairs.now c.requires.0 c.args.left c.loop-k.k c.loop-k-test.true (omega (arith, p, c.if-left-left_place.false))
 
-returns-2 : tie.Need-returns-2 invariant-loop decreases-loop
+returns-2 : tie.Need-returns invariant-loop decreases-loop
 returns-2 c =
-    let a = c.before.before in
-    omega (arith, before_all a.args.pairs.now a.requires.0 a.args.left)
+    omega (arith, before_all c.args.pairs.now c.requires.0 c.args.left)
 
-pub count-on-spec : {M : Type 1} → statement M
-count-on-spec =
+pub count_on_spec : {M : Type 1} → statement M
+count_on_spec =
     tie.close
     (tie.spec
     invariant-loop

@@ -62,44 +62,39 @@ module _ {pairs : List ℤ} {index z : List ℕ} {r : ℕ} (b : Begun pairs inde
               ∙ ap (λ (m : ℕ). list_of m 0 (length index) (index_of_table pairs)) (sym (sym number_is ∙ e));
         }
 
-begun : (c : tie.After-index-refusal) → let c6 = c.before.before.before.before.before.before in
-    Begun c6.args.pairs.now c6.args.index.now c.before.before.before.zero-u64.new.0 c.index-refusal.result
-begun c = let z = c.before.before.before.zero-u64 in record { zeros = z.ensures; same = z.auto.0; refusal = c.index-refusal.ensures }
+begun : (c : tie.After-index_refusal-refusal) → Begun c.args.pairs.now c.args.index.now c.zero_u64.new.s c.index_refusal-refusal.result
+begun c = record { zeros = c.zero_u64.ensures; same = c.zero_u64.auto.s; refusal = c.index_refusal-refusal.ensures }
 
-zero-u64-requires : tie.Need-zero-u64-requires
+zero-u64-requires : tie.Need-zero_u64-requires
 zero-u64-requires c κs = search rules
 
-index-refusal-requires : tie.Need-index-refusal-requires
+index-refusal-requires : tie.Need-index_refusal-refusal-requires
 index-refusal-requires c κs = search rules
 
-set-bits-requires : tie.Need-set-bits-requires
-set-bits-requires c κs = let b = begun c.before.before in let e = c.before.if1.true in (own-zeros b, enough b e, formed b e)
+set-bits-requires : tie.Need-set_bits-requires
+set-bits-requires c κs = let b = begun c.before.before in let e = c.if-refusal-eq0.true in (own-zeros b, enough b e, formed b e)
 
-count-pairs-requires : tie.Need-count-pairs-requires
+count-pairs-requires : tie.Need-count_pairs-requires
 count-pairs-requires c κs =
     let b = begun c.before.before.before.before.before.before in
-    let e = c.before.before.before.before.before.if1.true in
-    let f = c.before.before.before.set-bits.ensures in
-    ((omega (arith, enough b e, f.same), formed b e), record { same = refl; numbers = f.numbers })
+    let e = c.if-refusal-eq0.true in
+    ((omega (arith, enough b e, c.set_bits.ensures.same), formed b e), record { same = refl; numbers = c.set_bits.ensures.numbers })
 
-same_length : tie.Need-same-length
+same_length : tie.Need-shape_of-index-then-refusal-eq0
 same_length c = search rules
 
-returns : tie.Need-returns
+returns : tie.Need-returns-then-refusal-eq0
 returns c =
-    let c9 = c.before.before.before.before.before.before.before.before.before in
-    let c8 = c.before.before.before.before.before.before.before.before in
-    let c6 = c.before.before.before.before.before.before in
-    done (begun c9) c8.if1.true c6.set-bits.ensures c.before.before.count-pairs.ensures
+    done (begun (c.before.before.before.before.before.before.before.before.before)) c.if-refusal-eq0.true c.set_bits.ensures c.count_pairs.ensures
 
-same-length-2 : tie.Need-same-length-2
+same-length-2 : tie.Need-shape_of-index-else-refusal-eq0
 same-length-2 c = search rules
 
-returns-2 : tie.Need-returns-2
-returns-2 c = refused (begun c.before) c.if1.false
+returns-2 : tie.Need-returns-else-refusal-eq0
+returns-2 c = refused (begun c.before) c.if-refusal-eq0.false
 
-pub fill-index-spec : {M : Type 1} → statement M
-fill-index-spec =
+pub fill_index_spec : {M : Type 1} → statement M
+fill_index_spec =
     tie.close
     (tie.spec
     zero-u64-requires

@@ -14,34 +14,40 @@ use Rattle.index_fill.proofs.index_refusal.Statement.{statement}
 use Rattle.index_fill.proofs.index_refusal.Tie as tie
 
 -- the numbers are in sixes, and every pair's left and right are of the form
-passed : (c : tie.Else2) →
-    both (eqb (length c.before.before.before.args.pairs.now % 6) 0)
-    (every (pair_count c.before.before.before.args.pairs.now) (key_form c.before.before.before.args.pairs.now)) ≡ true
+passed : (c : tie.Else-not-keys_form) →
+    both (eqb (length c.args.pairs.now % 6) 0)
+    (every (pair_count c.args.pairs.now) (key_form c.args.pairs.now)) ≡ true
 passed c =
-    let s = c.before.before.before.args.pairs.now in
-    rw (eq-eqb (length s % 6) 0 c.before.before.if1.false, sym c.before.keys_form.ensures ∙ not-false _ c.if2.false)
+    let s = c.args.pairs.now in
+    rw (eq-eqb (length s % 6) 0 c.if-pairs-ne0.false, sym c.keys_form.ensures ∙ c.if-not-keys_form.false)
 
-returns : tie.Need-returns
-returns c = rw (ne_eqb (length c.before.args.pairs.now % 6) 0 c.if1.true)
+returns : tie.Need-returns-then-pairs-ne0
+returns c = rw (ne_eqb (length c.args.pairs.now % 6) 0 c.if-pairs-ne0.true)
 
-keys-form-requires : tie.Need-keys-form-requires
+keys-form-requires : tie.Need-keys_form-requires
 keys-form-requires c κs = search rules
 
-returns-2 : tie.Need-returns-2
+returns-2 : tie.Need-returns-then-not-keys_form
 returns-2 c =
-    let s = c.before.before.before.args.pairs.now in
-    rw (eq-eqb (length s % 6) 0 c.before.before.if1.false, sym c.before.keys_form.ensures ∙ not-true _ c.if2.true)
+    let s = c.args.pairs.now in
+    rw (eq-eqb (length s % 6) 0 c.if-pairs-ne0.false, sym c.keys_form.ensures ∙ c.if-not-keys_form.true)
 
-returns-3 : tie.Need-returns-3
+returns-3 : tie.Need-returns-then-room-ge1285
 returns-3 c =
-    let a = c.before.before.before.before.args in
-    rw (passed c.before, le-leb 1285 a.room c.if3.true)
+    let a = c.args in
+    rw (passed c.before, le-leb 1285 a.room c.if-room-ge1285.true)
 
-returns-4 : tie.Need-returns-4
+returns-4 : tie.Need-returns-else-room-ge1285
 returns-4 c =
-    let a = c.before.before.before.before.args in
-    rw (passed c.before, lt-leb 1285 a.room c.if3.false)
+    let a = c.args in
+    rw (passed c.before, lt-leb 1285 a.room c.if-room-ge1285.false)
 
-pub index-refusal-spec : {M : Type 1} → statement M
-index-refusal-spec =
-    tie.close (tie.spec returns keys-form-requires returns-2 returns-3 returns-4)
+pub index_refusal_spec : {M : Type 1} → statement M
+index_refusal_spec =
+    tie.close
+    (tie.spec
+    returns
+    keys-form-requires
+    returns-2
+    returns-3
+    returns-4)

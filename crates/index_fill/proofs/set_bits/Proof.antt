@@ -15,22 +15,22 @@ use borrow.Author.Rules.{rules}
 use Rattle.index_fill.proofs.set_bits.Statement.{statement}
 use Rattle.index_fill.proofs.set_bits.Tie as tie
 
-abbrev invariant-loop : tie.invariant-loop
+abbrev invariant-loop : tie.invariant-loop-k
 invariant-loop pairs index₀ k₀ index k = (k ≤ pair_count pairs) × Filled pairs k 0 index₀ index
 
-abbrev decreases-loop : tie.decreases-loop
+abbrev decreases-loop : tie.decreases-loop-k
 decreases-loop pairs index₀ k₀ index k = pair_count pairs - k
 
-loop-holds : tie.Need-loop-init invariant-loop decreases-loop
-loop-holds c = let a = c.before in (omega arith, filled_none a.args.pairs.now (length a.args.index.now) a.requires.0)
+loop-holds : tie.Need-loop-k-init invariant-loop decreases-loop
+loop-holds c = (omega arith, filled_none c.args.pairs.now (length c.args.index.now) c.requires.0)
 
-number-at-requires : tie.Need-number-at-requires invariant-loop decreases-loop
+number-at-requires : tie.Need-number_at-requires invariant-loop decreases-loop
 number-at-requires c κs = search rules
 
-left-place-requires : tie.Need-left-place-requires invariant-loop decreases-loop
+left-place-requires : tie.Need-left_place-requires invariant-loop decreases-loop
 left-place-requires c κs = search rules
 
-number-at-requires-2 : tie.Need-number-at-requires-2 invariant-loop decreases-loop
+number-at-requires-2 : tie.Need-number_at-requires-in-loop-k invariant-loop decreases-loop
 number-at-requires-2 c κs = search rules
 
 -- pair k's left and right are read, and are in range; the index has room for them
@@ -41,55 +41,49 @@ record Read (pairs : List ℤ) (index : List ℕ) (k l r : ℕ) : Type 0 where
   right-in : r ≤ 255
   room : 1285 ≤ length index
 
-read : (c : tie.After-number-at2 invariant-loop decreases-loop) → let c7 = c.before.before.before.before.before.before.before in
-    Read c7.args.pairs.now c.before.before.before.before.before.loop.index c.before.before.before.before.before.loop.k
-    c.before.left_place_lem.result c.number-at2.result
+read : (c : tie.After-number_at-in-loop-k invariant-loop decreases-loop) → Read c.args.pairs.now c.loop-k.index c.loop-k.k
+    c.left_place.result c.number_at-in-loop-k.result
 read c =
-    let l = c.before.before.before.before.before in
-    let a = l.before.before in
-    let h = c.before.before.before.before.loop-test.true in
-    let ls = place_read c.before.before.number_at.ensures c.before.left_place_lem.ensures in
-    let rs = sym c.number-at2.ensures.is in
+    let h = c.loop-k-test.true in
+    let ls = place_read c.number_at.ensures c.left_place.ensures in
+    let rs = sym c.number_at-in-loop-k.ensures.is in
     record {
       left_is = ls;
       right_is = rs;
-      left_in = omega (arith, ls, left_small a.args.pairs.now a.requires.2 l.loop.k h);
-      right-in = omega (arith, rs, right_small a.args.pairs.now a.requires.2 l.loop.k h);
-      room = omega (arith, a.requires.1, l.loop.invariant.1.same);
+      left_in = omega (arith, ls, left_small c.args.pairs.now c.requires.2 c.loop-k.k h);
+      right-in = omega (arith, rs, right_small c.args.pairs.now c.requires.2 c.loop-k.k h);
+      room = omega (arith, c.requires.1, c.loop-k.invariant.1.same);
     }
 
-set-bit-requires : tie.Need-set-bit-requires invariant-loop decreases-loop
+set-bit-requires : tie.Need-set_bit-requires invariant-loop decreases-loop
 set-bit-requires c κs = let r = read c in (omega (arith, r.left_in, r.right-in, r.room), omega (arith, r.right-in))
 
-add-k : tie.Need-overflow-add-k invariant-loop decreases-loop
-add-k c = omega (arith, c.before.before.before.before.before.before.before.loop-test.true)
+add-k : tie.Need-overflow_add-k invariant-loop decreases-loop
+add-k c = omega (arith, c.loop-k-test.true)
 
-loop-less : tie.Need-loop-smaller invariant-loop decreases-loop
-loop-less c = omega (arith, c.before.before.before.before.before.before.before.loop-test.true)
+loop-less : tie.Need-loop-k-smaller invariant-loop decreases-loop
+loop-less c = omega (arith, c.loop-k-test.true)
 
-loop-again : tie.Need-loop-preserved invariant-loop decreases-loop
+loop-again : tie.Need-loop-k-preserved invariant-loop decreases-loop
 loop-again c =
-    let n = c.before.before.before in
-    let r = read n in
-    let l = n.before.before.before.before.before in (
-      omega (arith, n.before.before.before.before.loop-test.true),
-      filled_pair l.before.before.args.pairs.now l.loop.k n.before.left_place_lem.result n.number-at2.result r.left_is r.right_is
+    let r = read (c.before.before.before) in (
+      omega (arith, c.loop-k-test.true),
+      filled_pair c.args.pairs.now c.loop-k.k c.left_place.result c.number_at-in-loop-k.result r.left_is r.right_is
           r.left_in r.right-in
-          l.loop.invariant.1 (omega (arith, r.left_in, r.right-in, r.room)) c.before.before.set-bit.ensures,
+          c.loop-k.invariant.1 (omega (arith, r.left_in, r.right-in, r.room)) c.set_bit.ensures,
     )
 
-same_length : tie.Need-same-length invariant-loop decreases-loop
-same_length c = c.before.loop.invariant.1.same
+same_length : tie.Need-shape_of-index invariant-loop decreases-loop
+same_length c = c.loop-k.invariant.1.same
 
 returns : tie.Need-returns invariant-loop decreases-loop
 returns c =
-    let l = c.before in
-    let a = l.before.before.args in
-    let e : l.loop.k ≡ pair_count a.pairs.now = omega (arith, c.loop-test.false, l.loop.invariant.0) in
-    rw e at l.loop.invariant.1
+    let a = c.args in
+    let e : c.loop-k.k ≡ pair_count a.pairs.now = omega (arith, c.loop-k-test.false, c.loop-k.invariant.0) in
+    rw e at c.loop-k.invariant.1
 
-pub set-bits-spec : {M : Type 1} → statement M
-set-bits-spec =
+pub set_bits_spec : {M : Type 1} → statement M
+set_bits_spec =
     tie.close
     (tie.spec
     invariant-loop

@@ -25,103 +25,81 @@ finish c e =
     ∙ ap (λ (z : ℤ). indexed_step_of a.index.now a.pairs.now a.ops.now z a.word.now a.options a.state)
     (number_word a.boundary c.ranges.boundary))
 
-quick-left-requires : tie.Need-quick-left-requires
+quick-left-requires : tie.Need-quick_left-left-requires
 quick-left-requires c κs = search rules
 
-kern-step-requires : tie.Need-kern-step-requires
+kern-step-requires : tie.Need-kern_step-requires
 kern-step-requires c κs = search rules
 
-returns : tie.Need-returns
+returns : tie.Need-returns-then-left-eq0
 returns c =
-    let q = c.before.before in
-    let st = q.before.before.before in
-    let a = st.args in
-    finish st
+    let a = c.args in
+    finish (c.before.before.before.before.before)
     (other_is a.index.now a.pairs.now a.ops.now (number_of (word_of a.boundary)) a.word.now a.options a.state
-    q.quick-left.ensures c.before.if1.true c.kern_step.ensures)
+    c.quick_left-left.ensures c.if-left-eq0.true c.kern_step.ensures)
 
-u32-at-requires : tie.Need-u32-at-requires
+u32-at-requires : tie.Need-u32_at-requires
 u32-at-requires c κs = search rules
 
-look-up-requires : tie.Need-look-up-requires
+look-up-requires : tie.Need-look_up-requires
 look-up-requires c κs = search rules
 
-enum_told : tie.Need-enum-told
+enum_told : tie.Need-enum_told-1
 enum_told c = search rules
 
-quick-step-requires : tie.Need-quick-step-requires
+quick-step-requires : tie.Need-quick_step-requires
 quick-step-requires c κs = search rules
 
-enum-known-k : tie.Need-enum-known-k
+enum-known-k : tie.Need-enum_known-k
 enum-known-k c = search rules
 
-is-ready-requires : tie.Need-is-ready-requires
+is-ready-requires : tie.Need-is_ready-requires
 is-ready-requires c κs = search rules
 
-quick-step-requires-2 : tie.Need-quick-step-requires-2
+quick-step-requires-2 : tie.Need-quick_step-requires-then-is_ready
 quick-step-requires-2 c κs = search rules
 
-returns-2 : tie.Need-returns-2
+returns-2 : tie.Need-returns-then-is_ready
 returns-2 c =
-    let b = c.before.before in
-    let k = b.before.before in
-    let l = k.before.before in
-    let e = l.before.before in
-    let q = e.before in
-    let st = q.before.before.before in
-    let a = st.args in
-    finish st
+    let a = c.args in
+    finish (c.before.before.before.before.before.before.before.before.before.before)
     (first_is a.index.now a.pairs.now a.ops.now (number_of (word_of a.boundary)) a.word.now a.options a.state
-    q.quick-left.ensures e.if1.false l.before.u32-at.ensures l.look_up.ensures
-    k.k.given.0.0 k.k.given.1 b.is-ready.ensures c.before.if2.true c.quick-step2.ensures)
+    c.quick_left-left.ensures c.if-left-eq0.false c.u32_at.ensures c.look_up.ensures
+    c.in-At.k c.in-At.is c.is_ready.ensures c.if-is_ready.true c.quick_step-then-is_ready.ensures)
 
 step-requires : tie.Need-step-requires
 step-requires c κs = search rules
 
-enum-told-2 : tie.Need-enum-told-2
+enum-told-2 : tie.Need-enum_told-in-Wrong
 enum-told-2 c = search rules
 
-returns-3 : tie.Need-returns-3
+returns-3 : tie.Need-returns-in-Missing
 returns-3 c =
-    let l = c.before.before.before in
-    let e = l.before.before in
-    let q = e.before in
-    let st = q.before.before.before in
-    let a = st.args in
-    finish st
+    let a = c.args in
+    finish (c.before.before.before.before.before.before.before.before)
     (missing_is a.index.now a.pairs.now a.ops.now (number_of (word_of a.boundary)) a.word.now a.options a.state
-    q.quick-left.ensures e.if1.false l.before.u32-at.ensures l.look_up.ensures
-    c.before.enum_told.given.1 c.quick-step.ensures)
+    c.quick_left-left.ensures c.if-left-eq0.false c.u32_at.ensures c.look_up.ensures
+    c.in-Missing.is c.quick_step.ensures)
 
-returns-4 : tie.Need-returns-4
+returns-4 : tie.Need-returns-else-is_ready
 returns-4 c =
-    let b = c.before.before in
-    let k = b.before.before in
-    let l = k.before.before in
-    let e = l.before.before in
-    let q = e.before in
-    let st = q.before.before.before in
-    let a = st.args in
-    finish st
+    let a = c.args in
+    finish (c.before.before.before.before.before.before.before.before.before.before)
     (later_is a.index.now a.pairs.now a.ops.now (number_of (word_of a.boundary)) a.word.now a.options a.state
-    q.quick-left.ensures e.if1.false l.before.u32-at.ensures l.look_up.ensures
-    k.k.given.0.0 k.k.given.1 b.is-ready.ensures c.before.if2.false
+    c.quick_left-left.ensures c.if-left-eq0.false c.u32_at.ensures c.look_up.ensures
+    c.in-At.k c.in-At.is c.is_ready.ensures c.if-is_ready.false
     (stepped_is a.pairs.now a.ops.now (number_of (word_of a.boundary)) a.word.now a.options a.state c.step.ensures))
 
-returns-5 : tie.Need-returns-5
+returns-5 : tie.Need-returns-in-Wrong
 returns-5 c =
-    let l = c.before.before in
-    let e = l.before.before in
-    let q = e.before in
-    let st = q.before.before.before in
-    let a = st.args in
-    finish st
+    let a = c.args in
+    finish (c.before.before.before.before.before.before.before)
     (wrong_is a.index.now a.pairs.now a.ops.now (number_of (word_of a.boundary)) a.word.now a.options a.state
-    q.quick-left.ensures e.if1.false l.before.u32-at.ensures l.look_up.ensures
-    c.enum-told2.given.1)
+    c.quick_left-left.ensures c.if-left-eq0.false c.u32_at.ensures c.look_up.ensures
+    c.in-Wrong.is)
 
-pub step-indexed-spec : {M : Type 1} → statement M
-step-indexed-spec =
+pub step_indexed_spec : {M : Type 1} → statement M
+step_indexed_spec =
     tie.close
     (tie.spec
     quick-left-requires

@@ -13,57 +13,50 @@ use Rattle.kern_share.proofs.share_kerns.Statement.{statement}
 use Rattle.kern_share.proofs.share_kerns.Tie as tie
 
 -- there is room
-room : (c : tie.Else1) → has_kern_room c.before.before.args.instructions.now c.before.before.args.kerns.now c.before.before.args.k ≡ true
-room c = sym c.before.has_room.ensures ∙ not-false _ c.if1.false
+room : (c : tie.Else-not-has_room) → has_kern_room c.args.instructions.now c.args.kerns.now c.args.k ≡ true
+room c = sym c.has_room.ensures ∙ c.if-not-has_room.false
 
-has-room-requires : tie.Need-has-room-requires
+has-room-requires : tie.Need-has_room-requires
 has-room-requires c κs = search rules
 
-returns : tie.Need-returns
+returns : tie.Need-returns-then-not-has_room
 returns c =
-    let a = c.before.before.args in
-    shares_nothing a.instructions.now a.kerns.now a.k (sym c.before.has_room.ensures ∙ not-true _ c.if1.true)
+    let a = c.args in
+    shares_nothing a.instructions.now a.kerns.now a.k (sym c.has_room.ensures ∙ c.if-not-has_room.true)
 
-gather-requires : tie.Need-gather-requires
+gather-requires : tie.Need-gather-m-requires
 gather-requires c κs =
-    let t = c.before.before in
-    let a = t.before.before.args in
-    room_here a.instructions.now a.kerns.now a.k (room t)
+    let a = c.args in
+    room_here a.instructions.now a.kerns.now a.k (room (c.before))
 
-slice-reshare-prefix-share-all : tie.Need-slice-reshare-prefix-share-all
+slice-reshare-prefix-share-all : tie.Need-slice_bounds-share_all-end
 slice-reshare-prefix-share-all c = search rules
 
-slice-aggregate-share-all : tie.Need-slice-aggregate-share-all
+slice-aggregate-share-all : tie.Need-slice_bounds-share_all-end-2
 slice-aggregate-share-all c =
-    let g = c.before.before.before in
-    let t = g.before.before.before in
-    let a = t.before.before.args in
-    g.gather.ensures.0
-    ∙ sym (ap (λ (l : List ℤ). length l) (front_is a.instructions.now a.kerns.now a.k (room t) g.gather.ensures.0 g.gather.ensures.1))
+    let a = c.args in
+    c.gather-m.ensures.0
+    ∙ sym (ap (λ (l : List ℤ). length l) (front_is a.instructions.now a.kerns.now a.k (room (c.before.before.before.before)) c.gather-m.ensures.0 c.gather-m.ensures.1))
 
-share-all-requires : tie.Need-share-all-requires
+share-all-requires : tie.Need-share_all-requires
 share-all-requires c κs =
-    let g = c.before.before.before in
-    let t = g.before.before.before in
-    let a = t.before.before.args in
-    let f = front_is a.instructions.now a.kerns.now a.k (room t) g.gather.ensures.0 g.gather.ensures.1 in
-    rw f (omega (arith, all_few a.instructions.now a.kerns.now a.k (room t), room_few a.instructions.now a.kerns.now a.k (room t)))
+    let a = c.args in
+    let f = front_is a.instructions.now a.kerns.now a.k (room (c.before.before.before.before)) c.gather-m.ensures.0 c.gather-m.ensures.1 in
+    rw f (omega (arith, all_few a.instructions.now a.kerns.now a.k (room (c.before.before.before.before)), room_few a.instructions.now a.kerns.now a.k (room (c.before.before.before.before))))
 
-same_length : tie.Need-same-length
+same_length : tie.Need-shape_of-instructions
 same_length c = search rules
 
-same-length-2 : tie.Need-same-length-2
+same-length-2 : tie.Need-shape_of-kerns
 same-length-2 c = search rules
 
-returns-2 : tie.Need-returns-2
+returns-2 : tie.Need-returns
 returns-2 c =
-    let g = c.before.before.before.before.before in
-    let t = g.before.before.before in
-    let a = t.before.before.args in
-    shares_all a.instructions.now a.kerns.now a.k (room t) g.gather.ensures.0 g.gather.ensures.1 c.before.share-all.ensures
+    let a = c.args in
+    shares_all a.instructions.now a.kerns.now a.k (room (c.before.before.before.before.before.before)) c.gather-m.ensures.0 c.gather-m.ensures.1 c.share_all.ensures
 
-pub share-kerns-spec : {M : Type 1} → statement M
-share-kerns-spec =
+pub share_kerns_spec : {M : Type 1} → statement M
+share_kerns_spec =
     tie.close
     (tie.spec
     has-room-requires

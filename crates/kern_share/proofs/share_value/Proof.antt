@@ -9,50 +9,44 @@ use Rattle.kern_share.proofs.Laws.{place_held, is_old, is_new_lem}
 use Rattle.kern_share.proofs.share_value.Statement.{statement}
 use Rattle.kern_share.proofs.share_value.Tie as tie
 
-holds-value-requires : tie.Need-holds-value-requires
+holds-value-requires : tie.Need-holds_value-requires
 holds-value-requires c κs = search rules
 
-returns : tie.Need-returns
-returns c = rw (sym c.before.holds-value.ensures ∙ not-true _ c.if1.true) (refl, refl)
+returns : tie.Need-returns-then-not-holds_value
+returns c = rw (sym c.holds_value.ensures ∙ c.if-not-holds_value.true) (refl, refl)
 
-held-word-requires : tie.Need-held-word-requires
+held-word-requires : tie.Need-held_word-word-requires
 held-word-requires c κs = search rules
 
-place-of-requires : tie.Need-place-of-requires
+place-of-requires : tie.Need-place_of-requires
 place-of-requires c κs = search rules
 
-same_length : tie.Need-same-length
+same_length : tie.Need-shape_of-kerns-then-place_of-m
 same_length c = search rules
 
-returns-2 : tie.Need-returns-2
+returns-2 : tie.Need-returns-then-place_of-m
 returns-2 c =
-    let p = c.before in
-    let w = p.before.before in
-    let a = w.before.before.before.args in
-    rw (is_old a.instructions.now a.k a.i a.kerns.now a.m (place_held (take a.m a.kerns.now) w.held_word.ensures p.place_of.ensures) c.if2.true)
+    let a = c.args in
+    rw (is_old a.instructions.now a.k a.i a.kerns.now a.m (place_held (take a.m a.kerns.now) c.held_word-word.ensures c.place_of.ensures) c.if-place_of-m.true)
     (refl, refl)
 
-put-word-requires : tie.Need-put-word-requires
+put-word-requires : tie.Need-put_word-requires
 put-word-requires c κs = search rules
 
-add-result : tie.Need-overflow-add-result
+add-result : tie.Need-overflow_add-result
 add-result c = search rules
 
-same-length-2 : tie.Need-same-length-2
+same-length-2 : tie.Need-shape_of-kerns
 same-length-2 c = search rules
 
-returns-3 : tie.Need-returns-3
+returns-3 : tie.Need-returns
 returns-3 c =
-    let t = c.before.before.before in
-    let p = t.before in
-    let w = p.before.before in
-    let h = w.before in
-    let a = h.before.before.args in
-    rw (is_new_lem a.instructions.now a.k a.i a.kerns.now a.m (place_held (take a.m a.kerns.now) w.held_word.ensures p.place_of.ensures)
-    (sym h.before.holds-value.ensures ∙ not-false _ h.if1.false) t.if2.false) (refl, c.before.put_word.ensures ∙ ap (λ (z : ℤ). set a.kerns.now a.m z) (number_is w.held_word.ensures))
+    let a = c.args in
+    rw (is_new_lem a.instructions.now a.k a.i a.kerns.now a.m (place_held (take a.m a.kerns.now) c.held_word-word.ensures c.place_of.ensures)
+    (sym c.holds_value.ensures ∙ c.if-not-holds_value.false) c.if-place_of-m.false) (refl, c.put_word.ensures ∙ ap (λ (z : ℤ). set a.kerns.now a.m z) (number_is c.held_word-word.ensures))
 
-pub share-value-spec : {M : Type 1} → statement M
-share-value-spec =
+pub share_value_spec : {M : Type 1} → statement M
+share_value_spec =
     tie.close
     (tie.spec
     holds-value-requires

@@ -5,24 +5,31 @@ use Rattle.letter_set.proofs.Numbers.{no_letter, letter_is}
 use Rattle.letter_set.proofs.is_member.Statement.{statement}
 use Rattle.letter_set.proofs.is_member.Tie as tie
 
-returns : tie.Need-returns
-returns c = let a = c.before.args in no_letter a.letters.now a.c (search rules)
+returns : tie.Need-returns-then-c-gt255
+returns c = let a = c.args in no_letter a.letters.now a.c (search rules)
 
-cast-u64-at : tie.Need-overflow-cast-u64-at
+cast-u64-at : tie.Need-overflow_cast-c
 cast-u64-at c = search rules
 
-u64-at-requires : tie.Need-u64-at-requires
+u64-at-requires : tie.Need-u64_at-number-requires
 u64-at-requires c κs = search rules
 
-cast-result : tie.Need-overflow-cast-result
+cast-result : tie.Need-overflow_cast-result
 cast-result c = search rules
 
-shr-result : tie.Need-overflow-shr-result
+shr-result : tie.Need-overflow_shr-result
 shr-result c = search rules
 
-returns-2 : tie.Need-returns-2
-returns-2 c = let a = c.before.before.before.args in letter_is a.letters.now a.c c.u64-at.result (search rules) c.u64-at.ensures
+returns-2 : tie.Need-returns
+returns-2 c = let a = c.args in letter_is a.letters.now a.c c.u64_at-number.result (search rules) c.u64_at-number.ensures
 
-pub is-member-spec : {M : Type 1} → statement M
-is-member-spec =
-    tie.close (tie.spec returns cast-u64-at u64-at-requires cast-result shr-result returns-2)
+pub is_member_spec : {M : Type 1} → statement M
+is_member_spec =
+    tie.close
+    (tie.spec
+    returns
+    cast-u64-at
+    u64-at-requires
+    cast-result
+    shr-result
+    returns-2)

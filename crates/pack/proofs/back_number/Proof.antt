@@ -8,33 +8,33 @@ use borrow.Author.Rules.{rules}
 use Rattle.pack.proofs.back_number.Statement.{statement}
 use Rattle.pack.proofs.back_number.Tie as tie
 
-is-present-requires : tie.Need-is-present-requires
+is-present-requires : tie.Need-is_present-requires
 is-present-requires c κs = search rules
 
-cast-redirect-number : tie.Need-overflow-cast-redirect-number
+cast-redirect-number : tie.Need-overflow_cast-offset
 cast-redirect-number c = search rules
 
-add-redirect-number : tie.Need-overflow-add-redirect-number
+add-redirect-number : tie.Need-overflow_add-left
 add-redirect-number c =
-    let a = c.before.before.args in
-    omega (arith, present_left a.left (sym c.before.is-present.ensures ∙ c.if1.true))
+    let a = c.args in
+    omega (arith, present_left a.left (sym c.is_present.ensures ∙ c.if-is_present.true))
 
-redirect-number-requires : tie.Need-redirect-number-requires
+redirect-number-requires : tie.Need-redirect_number-requires
 redirect-number-requires c κs = search rules
 
-returns : tie.Need-returns
+returns : tie.Need-returns-then-is_present
 returns c =
-    let a = c.before.before.before.args in
-    c.redirect-number.ensures
-    ∙ back_words a.left a.offset a.m (sym c.before.before.is-present.ensures ∙ c.before.if1.true) c.before.before.before.requires
+    let a = c.args in
+    c.redirect_number.ensures
+    ∙ back_words a.left a.offset a.m (sym c.is_present.ensures ∙ c.if-is_present.true) c.requires
 
-returns-2 : tie.Need-returns-2
+returns-2 : tie.Need-returns-else-is_present
 returns-2 c =
-    let a = c.before.before.args in
-    rw (back_none (number_of a.left) a.offset (sym c.before.is-present.ensures ∙ c.if1.false))
+    let a = c.args in
+    rw (back_none (number_of a.left) a.offset (sym c.is_present.ensures ∙ c.if-is_present.false))
 
-pub back-number-spec : {M : Type 1} → statement M
-back-number-spec =
+pub back_number_spec : {M : Type 1} → statement M
+back_number_spec =
     tie.close
     (tie.spec
     is-present-requires

@@ -12,52 +12,48 @@ use Rattle.pack.proofs.entry_number.Statement.{statement}
 use Rattle.pack.proofs.entry_number.Tie as tie
 
 -- the word that is read is an entry
-entered : (e : tie.Else1) → let a = e.before.before.before.args in
-    pos (packed_entry a.redirects a.offset a.labels.now e.before.word_at.result)
+entered : (e : tie.Else-j-eq0) → let a = e.args in
+    pos (packed_entry a.redirects a.offset a.labels.now e.word_at-word.result)
     ≡ entry_number a.entries.now a.redirects a.offset a.labels.now a.j
 entered e =
-    let a = e.before.before.before.args in
-    ap (λ (w : ℕ). pos (packed_entry a.redirects a.offset a.labels.now w)) e.before.word_at.ensures.is
-    ∙ entry_entry a.entries.now a.redirects a.offset a.labels.now a.j e.if1.false
+    let a = e.args in
+    ap (λ (w : ℕ). pos (packed_entry a.redirects a.offset a.labels.now w)) e.word_at-word.ensures.is
+    ∙ entry_entry a.entries.now a.redirects a.offset a.labels.now a.j e.if-j-eq0.false
 
-word-at-requires : tie.Need-word-at-requires
+word-at-requires : tie.Need-word_at-word-requires
 word-at-requires c κs = search rules
 
-returns : tie.Need-returns
+returns : tie.Need-returns-then-j-eq0
 returns c =
-    let a = c.before.before.before.args in
-    number_is c.before.word_at.ensures ∙ entry_char a.entries.now a.redirects a.offset a.labels.now a.j c.if1.true
+    let a = c.args in
+    number_is c.word_at-word.ensures ∙ entry_char a.entries.now a.redirects a.offset a.labels.now a.j c.if-j-eq0.true
 
-place-among-requires : tie.Need-place-among-requires
+place-among-requires : tie.Need-place_among-place-requires
 place-among-requires c κs = search rules
 
-cast-result : tie.Need-overflow-cast-result
+cast-result : tie.Need-overflow_cast-result
 cast-result c = search rules
 
-cast-result-2 : tie.Need-overflow-cast-result-2
+cast-result-2 : tie.Need-overflow_cast-result-else-place-redirects
 cast-result-2 c = search rules
 
-add-result : tie.Need-overflow-add-result
+add-result : tie.Need-overflow_add-result
 add-result c = search rules
 
-returns-2 : tie.Need-returns-2
+returns-2 : tie.Need-returns-then-place-redirects
 returns-2 c =
-    let e = c.before.before in
-    let a = e.before.before.before.args in
-    let p = c.before.place-among in
-    entry_redirected a.redirects a.offset a.labels.now e.before.word_at.result p.result p.ensures c.if2.true (omega arith)
-    ∙ entered e
+    let a = c.args in
+    entry_redirected a.redirects a.offset a.labels.now c.word_at-word.result c.place_among-place.result c.place_among-place.ensures c.if-place-redirects.true (omega arith)
+    ∙ entered (c.before.before)
 
-returns-3 : tie.Need-returns-3
+returns-3 : tie.Need-returns-else-place-redirects
 returns-3 c =
-    let e = c.before.before in
-    let a = e.before.before.before.args in
-    let p = c.before.place-among in
-    entry_shifted a.redirects a.offset a.labels.now e.before.word_at.result p.result p.ensures c.if2.false (omega arith)
-    ∙ entered e
+    let a = c.args in
+    entry_shifted a.redirects a.offset a.labels.now c.word_at-word.result c.place_among-place.result c.place_among-place.ensures c.if-place-redirects.false (omega arith)
+    ∙ entered (c.before.before)
 
-pub entry-number-spec : {M : Type 1} → statement M
-entry-number-spec =
+pub entry_number_spec : {M : Type 1} → statement M
+entry_number_spec =
     tie.close
     (tie.spec
     word-at-requires

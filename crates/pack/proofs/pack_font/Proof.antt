@@ -21,112 +21,101 @@ abbrev font : tie.Start → Packable
 font s = packable s.args.instructions.now s.args.entries.now (number_of s.args.boundary) (number_of s.args.left)
 
 -- where the labels are known
-abbrev start : tie.After-label → tie.Start
+abbrev start : tie.After-label-found → tie.Start
 start l = l.before.before.before
 
-abbrev labels : tie.After-label → List ℕ
-labels l = take l.label.result.count l.label.new.1.1.0
+abbrev labels : tie.After-label-found → List ℕ
+labels l = take l.label-found.result.count l.label-found.new.labels
 
 few : (s : tie.Start) → length s.args.entries.now / 2 ≤ 256
 few s = entries_few 65535 s.args.entries.now (font_entered (font s) s.requires.0)
 
-labels_length : (l : tie.After-label) → length (labels l) ≡ l.label.result.count
-labels_length l = length-take-le l.label.result.count l.label.new.1.1.0 (label_le l.label.ensures)
+labels_length : (l : tie.After-label-found) → length (labels l) ≡ l.label-found.result.count
+labels_length l = length-take-le l.label-found.result.count l.label-found.new.labels (label_le l.label-found.ensures)
 
-plan : (l : tie.After-label) → Plan (font (start l)) (labels l) l.before.before.is-present.result l.label.result.redirects l.label.result.offset
+plan : (l : tie.After-label-found) → Plan (font (start l)) (labels l) l.is_present.result l.label-found.result.redirects l.label-found.result.offset
 plan l =
     record {
-      same = label_front l.label.ensures (few (start l));
-      bounded = l.before.before.is-present.ensures;
-      redirects = label_redirects l.label.ensures (few (start l));
-      offset = l.label.ensures.offset;
+      same = label_front l.label-found.ensures (few (start l));
+      bounded = l.is_present.ensures;
+      redirects = label_redirects l.label-found.ensures (few (start l));
+      offset = l.label-found.ensures.offset;
     }
 
-offset-lt : (l : tie.After-label) → l.label.result.offset < 65536
-offset-lt l = plan_offset_lt (plan l) (omega (arith, labels_length l, label_le l.label.ensures, l.label.auto))
+offset-lt : (l : tie.After-label-found) → l.label-found.result.offset < 65536
+offset-lt l = plan_offset_lt (plan l) (omega (arith, labels_length l, label_le l.label-found.ensures, l.label-found.auto))
 
 -- what is refused
-asked : (r : tie.After-labels-refusal) → let l = r.before.before.before.before in
-    r.labels-refusal.result ≡ packing_refusal (font (start l)) (length (start l).args.out.now) (length (start l).args.entries-out.now)
+asked : (r : tie.After-labels_refusal-refusal) → let l = r.before.before.before.before in
+    r.labels_refusal-refusal.result ≡ packing_refusal (font (start (r.before.before.before.before))) (length (start (r.before.before.before.before)).args.out.now) (length (start (r.before.before.before.before)).args.entries_out.now)
 asked r =
-    let p = r.before in
-    let l = p.before.before.before in
-    let s = start l in
-    r.labels-refusal.ensures
-    ∙ plan_refusal (plan l) (length s.args.out.now) (length s.args.entries-out.now) p.packed-size.result s.pre.0 p.packed-size.ensures
+    let l = r.before.before.before.before in
+    let s = start (r.before.before.before.before) in
+    r.labels_refusal-refusal.ensures
+    ∙ plan_refusal (plan (r.before.before.before.before)) (length s.args.out.now) (length s.args.entries_out.now) r.packed_size-size.result s.requires.0 r.packed_size-size.ensures
 
 -- nothing is
-accepted : (e : tie.Else1) → let l = e.before.before.before.before.before in
-    packing_refusal (font (start l)) (length (start l).args.out.now) (length (start l).args.entries-out.now) ≡ 0
-accepted e = sym (asked e.before) ∙ e.if1.false
+accepted : (e : tie.Else-refusal-ne0) → packing_refusal (font (start (e.before.before.before.before.before))) (length (start (e.before.before.before.before.before)).args.out.now) (length (start (e.before.before.before.before.before)).args.entries_out.now) ≡ 0
+accepted e = sym (asked e.before) ∙ e.if-refusal-ne0.false
 
-packs : (e : tie.Else1) → let l = e.before.before.before.before.before in
-    Taken (font (start l)) (length (start l).args.out.now) (length (start l).args.entries-out.now)
+packs : (e : tie.Else-refusal-ne0) → Taken (font (start (e.before.before.before.before.before))) (length (start (e.before.before.before.before.before)).args.out.now) (length (start (e.before.before.before.before.before)).args.entries_out.now)
 packs e =
     let s = start e.before.before.before.before.before in
-    taken (font s) (length s.args.out.now) (length s.args.entries-out.now) (accepted e)
+    taken (font s) (length s.args.out.now) (length s.args.entries_out.now) (accepted e)
 
-is-present-requires : tie.Need-is-present-requires
+is-present-requires : tie.Need-is_present-requires
 is-present-requires c κs = search rules
 
-slice-aggregate-label : tie.Need-slice-aggregate-label
+slice-aggregate-label : tie.Need-slice_bounds-label-end
 slice-aggregate-label c = search rules
 
-label-requires : tie.Need-label-requires
+label-requires : tie.Need-label-found-requires
 label-requires c κs = search rules
 
-array-share-prefix-table : tie.Need-array-share-prefix-table
-array-share-prefix-table c = label_le c.before.label.ensures
+array-share-prefix-table : tie.Need-slice_bounds-table-end
+array-share-prefix-table c = label_le c.label-found.ensures
 
-slice-aggregate-labels : tie.Need-slice-aggregate-labels
+slice-aggregate-labels : tie.Need-slice_bounds-labels-end
 slice-aggregate-labels c = sym (labels_length c.before.before)
 
-packed-size-requires : tie.Need-packed-size-requires
+packed-size-requires : tie.Need-packed_size-size-requires
 packed-size-requires c κs = offset-lt c.before.before
 
-labels-refusal-requires : tie.Need-labels-refusal-requires
+labels-refusal-requires : tie.Need-labels_refusal-refusal-requires
 labels-refusal-requires c κs = offset-lt c.before.before.before
 
-returns : tie.Need-returns
+returns : tie.Need-returns-then-refusal-ne0
 returns c =
-    let r = c.before in
-    let s = start r.before.before.before.before in
-    packs_refused (font s) s.args.out.now s.args.entries-out.now s.pre.1.0 s.pre.1.1 r.labels-refusal.result (asked r) c.if1.true
+    let s = start c.before.before.before.before.before in
+    packs_refused (font s) s.args.out.now s.args.entries_out.now s.requires.1.0 s.requires.1.1 c.labels_refusal-refusal.result (asked (c.before)) c.if-refusal-ne0.true
 
-put-instructions-requires : tie.Need-put-instructions-requires
+put-instructions-requires : tie.Need-put_instructions-requires
 put-instructions-requires c κs =
-    let e = c.before in
-    let p = plan e.before.before.before.before.before in
-    let q = packs e in
+    let p = plan c.before.before.before.before.before.before in
+    let q = packs (c.before) in
     ((plan_front p, (plan_few p, (plan_shifts p q, rw (plan_offset p) q.shifts_left))), rw (plan_packed p) q.size)
 
-put-entries-requires : tie.Need-put-entries-requires
+put-entries-requires : tie.Need-put_entries-requires
 put-entries-requires c κs =
-    let e = c.before.before.before.before in
-    let p = plan e.before.before.before.before.before in
-    let q = packs e in
+    let p = plan c.before.before.before.before.before.before.before.before.before in
+    let q = packs (c.before.before.before.before) in
     (rw (plan_redirects p) q.few, (plan_offset_le p q.few, (q.entered, q.entry_size)))
 
-same_length : tie.Need-same-length
+same_length : tie.Need-shape_of-out
 same_length c = search rules
 
-same-length-2 : tie.Need-same-length-2
+same-length-2 : tie.Need-shape_of-entries_out
 same-length-2 c = search rules
 
-returns-2 : tie.Need-returns-2
+returns-2 : tie.Need-returns
 returns-2 c =
-    let e = c.before.before.before.before.before.before in
-    let z = e.before.before in
-    let l = z.before.before.before in
-    let s = start l in
-    let p = plan l in
-    let i = c.before.before.before.before.put-instructions in
-    let j = c.before.put_entries in
-    packs_taken (font s) s.args.out.now s.args.entries-out.now s.pre.1.0 s.pre.1.1 _ i.new.1.1.1.1.1.1.0 j.new.1.1.1.1.0
-    (accepted e) (plan_answer p z.packed-size.result z.packed-size.ensures) (rw (plan_packed p) at i.ensures) (rw (plan_entries p) at j.ensures)
+    let s = start (c.before.before.before.before.before.before.before.before.before.before.before) in
+    let p = plan (c.before.before.before.before.before.before.before.before.before.before.before) in
+    packs_taken (font s) s.args.out.now s.args.entries_out.now s.requires.1.0 s.requires.1.1 _ c.put_instructions.new.out c.put_entries.new.out
+    (accepted (c.before.before.before.before.before.before)) (plan_answer p c.packed_size-size.result c.packed_size-size.ensures) (rw (plan_packed p) at c.put_instructions.ensures) (rw (plan_entries p) at c.put_entries.ensures)
 
-pub pack-font-spec : {M : Type 1} → statement M
-pack-font-spec =
+pub pack_font_spec : {M : Type 1} → statement M
+pack_font_spec =
     tie.close
     (tie.spec
     is-present-requires

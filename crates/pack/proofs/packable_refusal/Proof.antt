@@ -8,47 +8,45 @@ use borrow.Author.Rules.{rules}
 use Rattle.pack.proofs.packable_refusal.Statement.{statement}
 use Rattle.pack.proofs.packable_refusal.Tie as tie
 
-edge : (c : tie.After-absent-refusal) → c.absent-refusal.result ≡ absent_refusal 255 c.before.before.before.before.before.args.boundary
+edge : (c : tie.After-absent_refusal-bounded) → c.absent_refusal-bounded.result ≡ absent_refusal 255 c.args.boundary
 edge c =
-    let s = c.before.before.before.before.before in
-    c.absent-refusal.ensures ∙ ap (absent_refusal 255) (number_word s.args.boundary s.ranges.boundary)
+    c.absent_refusal-bounded.ensures ∙ ap (absent_refusal 255) (number_word c.args.boundary c.ranges.boundary)
 
-program-refusal-requires : tie.Need-program-refusal-requires
+program-refusal-requires : tie.Need-program_refusal-program-requires
 program-refusal-requires c κs = search rules
 
-returns : tie.Need-returns
-returns c = first_refusal _ c.before.program-refusal.ensures c.if1.true
+returns : tie.Need-returns-then-program-ne0
+returns c = first_refusal _ c.program_refusal-program.ensures c.if-program-ne0.true
 
-entries-refusal-requires : tie.Need-entries-refusal-requires
+entries-refusal-requires : tie.Need-entries_refusal-entered-requires
 entries-refusal-requires c κs = search rules
 
-returns-2 : tie.Need-returns-2
+returns-2 : tie.Need-returns-then-entered-ne0
 returns-2 c =
-    later_refusal_lem c.before.before.before.program-refusal.ensures c.before.before.if1.false
-    (first_refusal _ c.before.entries-refusal.ensures c.if2.true)
+    later_refusal_lem c.program_refusal-program.ensures c.if-program-ne0.false
+    (first_refusal _ c.entries_refusal-entered.ensures c.if-entered-ne0.true)
 
-absent-refusal-requires : tie.Need-absent-refusal-requires
+absent-refusal-requires : tie.Need-absent_refusal-bounded-requires
 absent-refusal-requires c κs = search rules
 
-returns-3 : tie.Need-returns-3
+returns-3 : tie.Need-returns-then-bounded-ne0
 returns-3 c =
-    later_refusal_lem c.before.before.before.before.before.program-refusal.ensures c.before.before.before.before.if1.false
-    (later_refusal_lem c.before.before.before.entries-refusal.ensures c.before.before.if2.false
-    (first_refusal _ (edge c.before) c.if3.true))
+    later_refusal_lem c.program_refusal-program.ensures c.if-program-ne0.false
+    (later_refusal_lem c.entries_refusal-entered.ensures c.if-entered-ne0.false
+    (first_refusal _ (edge c.before) c.if-bounded-ne0.true))
 
-absent-refusal-requires-2 : tie.Need-absent-refusal-requires-2
+absent-refusal-requires-2 : tie.Need-absent_refusal-requires
 absent-refusal-requires-2 c κs = search rules
 
-returns-4 : tie.Need-returns-4
+returns-4 : tie.Need-returns
 returns-4 c =
-    let s = c.before.before.before.before.before.before.before in
-    later_refusal_lem c.before.before.before.before.before.before.program-refusal.ensures c.before.before.before.before.before.if1.false
-    (later_refusal_lem c.before.before.before.before.entries-refusal.ensures c.before.before.before.if2.false
-    (later_refusal_lem (edge c.before.before) c.before.if3.false
-    (c.absent-refusal2.ensures ∙ ap (absent_refusal 65535) (number_word s.args.left_entry_lem s.ranges.left_entry_lem))))
+    later_refusal_lem c.program_refusal-program.ensures c.if-program-ne0.false
+    (later_refusal_lem c.entries_refusal-entered.ensures c.if-entered-ne0.false
+    (later_refusal_lem (edge c.before.before) c.if-bounded-ne0.false
+    (c.absent_refusal.ensures ∙ ap (absent_refusal 65535) (number_word c.args.left_entry c.ranges.left_entry))))
 
-pub packable-refusal-spec : {M : Type 1} → statement M
-packable-refusal-spec =
+pub packable_refusal_spec : {M : Type 1} → statement M
+packable_refusal_spec =
     tie.close
     (tie.spec
     program-refusal-requires

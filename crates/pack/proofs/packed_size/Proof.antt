@@ -9,36 +9,36 @@ use borrow.Author.Rules.{rules}
 use Rattle.pack.proofs.packed_size.Statement.{statement}
 use Rattle.pack.proofs.packed_size.Tie as tie
 
-is-present-requires : tie.Need-is-present-requires
+is-present-requires : tie.Need-is_present-requires
 is-present-requires c κs = search rules
 
-mul-result : tie.Need-overflow-mul-result
+mul-result : tie.Need-overflow_mul-result
 mul-result c = search rules
 
-add-result : tie.Need-overflow-add-result
+add-result : tie.Need-overflow_add-result
 add-result c = search rules
 
-add-result-2 : tie.Need-overflow-add-result-2
+add-result-2 : tie.Need-overflow_add-result-then-is_present
 add-result-2 c = search rules
 
-mul-result-2 : tie.Need-overflow-mul-result-2
+mul-result-2 : tie.Need-overflow_mul-result-else-is_present
 mul-result-2 c = search rules
 
-add-result-3 : tie.Need-overflow-add-result-3
+add-result-3 : tie.Need-overflow_add-result-else-is_present
 add-result-3 c = search rules
 
-returns : tie.Need-returns
+returns : tie.Need-returns-then-is_present
 returns c =
-    let a = c.before.before.args in
-    omega (arith, ap length (back_some (number_of a.left) a.offset (sym c.before.is-present.ensures ∙ c.if1.true)))
+    let a = c.args in
+    omega (arith, ap length (back_some (number_of a.left) a.offset (sym c.is_present.ensures ∙ c.if-is_present.true)))
 
-returns-2 : tie.Need-returns-2
+returns-2 : tie.Need-returns-else-is_present
 returns-2 c =
-    let a = c.before.before.args in
-    omega (arith, ap length (back_none (number_of a.left) a.offset (sym c.before.is-present.ensures ∙ c.if1.false)))
+    let a = c.args in
+    omega (arith, ap length (back_none (number_of a.left) a.offset (sym c.is_present.ensures ∙ c.if-is_present.false)))
 
-pub packed-size-spec : {M : Type 1} → statement M
-packed-size-spec =
+pub packed_size_spec : {M : Type 1} → statement M
+packed_size_spec =
     tie.close
     (tie.spec
     is-present-requires

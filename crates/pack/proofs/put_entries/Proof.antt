@@ -14,52 +14,47 @@ use borrow.Author.Rules.{rules}
 use Rattle.pack.proofs.put_entries.Statement.{statement}
 use Rattle.pack.proofs.put_entries.Tie as tie
 
-abbrev invariant-loop : tie.invariant-loop
+abbrev invariant-loop : tie.invariant-loop-j
 invariant-loop entries labels redirects offset out₀ j₀ out j = Filling (entry_number entries redirects offset labels) out₀ out j × (j ≤ length entries)
 
-abbrev decreases-loop : tie.decreases-loop
+abbrev decreases-loop : tie.decreases-loop-j
 decreases-loop entries labels redirects offset out₀ j₀ out j = length entries - j
 
-loop-holds : tie.Need-loop-init invariant-loop decreases-loop
+loop-holds : tie.Need-loop-j-init invariant-loop decreases-loop
 loop-holds c =
-    let a = c.before.args in
+    let a = c.args in
     (filling_none (entry_number a.entries.now a.redirects a.offset a.labels.now) a.out.now, omega arith)
 
-entry-number-requires : tie.Need-entry-number-requires invariant-loop decreases-loop
+entry-number-requires : tie.Need-entry_number-number-requires invariant-loop decreases-loop
 entry-number-requires c κs =
-    let s = c.before in
-    let t = s.before.before in
-    omega (arith, t.requires, number_le 65535 t.args.entries.now t.requires.1.1.0 s.loop.j c.loop-test.true)
+    omega (arith, c.requires, number_le 65535 c.args.entries.now c.requires.1.1.0 c.loop-j.j c.loop-j-test.true)
 
-put-word-requires : tie.Need-put-word-requires invariant-loop decreases-loop
+put-word-requires : tie.Need-put_word-requires invariant-loop decreases-loop
 put-word-requires c κs = search rules
 
-add-j : tie.Need-overflow-add-j invariant-loop decreases-loop
+add-j : tie.Need-overflow_add-j invariant-loop decreases-loop
 add-j c = omega arith
 
-loop-less : tie.Need-loop-smaller invariant-loop decreases-loop
+loop-less : tie.Need-loop-j-smaller invariant-loop decreases-loop
 loop-less c = omega arith
 
-loop-again : tie.Need-loop-preserved invariant-loop decreases-loop
+loop-again : tie.Need-loop-j-preserved invariant-loop decreases-loop
 loop-again c =
-    let n = c.before.before.before in
-    (filling_put n.before.before.loop.invariant.0 (omega arith) c.before.put_word.ensures n.entry-number.ensures, omega arith)
+    (filling_put c.loop-j.invariant.0 (omega arith) c.put_word.ensures c.entry_number-number.ensures, omega arith)
 
-same_length : tie.Need-same-length invariant-loop decreases-loop
+same_length : tie.Need-shape_of-out invariant-loop decreases-loop
 same_length c =
-    let s = c.before in
-    let a = s.before.before.args in
-    filling_length (entry_number a.entries.now a.redirects a.offset a.labels.now) a.out.now s.loop.invariant.0
+    let a = c.args in
+    filling_length (entry_number a.entries.now a.redirects a.offset a.labels.now) a.out.now c.loop-j.invariant.0
 
 returns : tie.Need-returns invariant-loop decreases-loop
 returns c =
-    let s = c.before in
-    let a = s.before.before.args in
-    let e : s.loop.j ≡ length a.entries.now = omega arith in
-    filling_appends (entry_number a.entries.now a.redirects a.offset a.labels.now) (length a.entries.now) (rw e at s.loop.invariant.0)
+    let a = c.args in
+    let e : c.loop-j.j ≡ length a.entries.now = omega arith in
+    filling_appends (entry_number a.entries.now a.redirects a.offset a.labels.now) (length a.entries.now) (rw e at c.loop-j.invariant.0)
 
-pub put-entries-spec : {M : Type 1} → statement M
-put-entries-spec =
+pub put_entries_spec : {M : Type 1} → statement M
+put_entries_spec =
     tie.close
     (tie.spec
     invariant-loop

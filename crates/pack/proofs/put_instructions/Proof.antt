@@ -16,80 +16,77 @@ use borrow.Author.Rules.{rules}
 use Rattle.pack.proofs.put_instructions.Statement.{statement}
 use Rattle.pack.proofs.put_instructions.Tie as tie
 
-abbrev invariant-loop : tie.invariant-loop
+abbrev invariant-loop : tie.invariant-loop-j
 invariant-loop instructions boundary left labels redirects offset out₀ size j₀ out j =
     Filling (packed_at (number_of boundary) redirects offset labels instructions (number_of left)) out₀ out j × (j ≤ size)
 
-abbrev decreases-loop : tie.decreases-loop
+abbrev decreases-loop : tie.decreases-loop-j
 decreases-loop instructions boundary left labels redirects offset out₀ size j₀ out j = size - j
 
 -- the size that is counted is that of the packed instructions
-size : (s : tie.At-loop invariant-loop decreases-loop) → let a = s.before.before.before.args in
-    s.before.packed-size.result ≡ length
+size : (s : tie.At-loop-j invariant-loop decreases-loop) → let a = s.args in
+    s.packed_size-size.result ≡ length
     (front (number_of a.boundary) a.redirects a.offset a.labels.now ++ a.instructions.now ++ back (number_of a.left) a.offset)
 size s =
-    let t = s.before.before.before in
-    let a = t.args in
-    s.before.packed-size.ensures
-    ∙ sym (number_count (number_of a.boundary) a.redirects a.offset a.labels.now a.instructions.now (number_of a.left) t.requires.0.0
-    t.requires.0.1.0)
+    let a = s.args in
+    s.packed_size-size.ensures
+    ∙ sym (number_count (number_of a.boundary) a.redirects a.offset a.labels.now a.instructions.now (number_of a.left) s.requires.0.0
+    s.requires.0.1.0)
 
-kept : (s : tie.At-loop invariant-loop decreases-loop) → length s.loop.out ≡ length s.before.before.before.args.out.now
+kept : (s : tie.At-loop-j invariant-loop decreases-loop) → length s.loop-j.out ≡ length s.args.out.now
 kept s =
-    let a = s.before.before.before.args in
+    let a = s.args in
     filling_length (packed_at (number_of a.boundary) a.redirects a.offset a.labels.now a.instructions.now (number_of a.left)) a.out.now
-    s.loop.invariant.0
+    s.loop-j.invariant.0
 
-room : (c : tie.In-loop invariant-loop decreases-loop) → c.before.loop.j < length c.before.before.before.before.args.out.now
-room c = omega (arith, size c.before, c.before.before.before.before.requires.1, c.loop-test.true)
+room : (c : tie.In-loop-j invariant-loop decreases-loop) → c.loop-j.j < length c.args.out.now
+room c = omega (arith, size c.before, c.requires.1, c.loop-j-test.true)
 
-packed-size-requires : tie.Need-packed-size-requires invariant-loop decreases-loop
-packed-size-requires c κs = omega (arith, c.before.requires.0.1.1.0 0)
+packed-size-requires : tie.Need-packed_size-size-requires invariant-loop decreases-loop
+packed-size-requires c κs = omega (arith, c.requires.0.1.1.0 0)
 
-loop-holds : tie.Need-loop-init invariant-loop decreases-loop
+loop-holds : tie.Need-loop-j-init invariant-loop decreases-loop
 loop-holds c =
-    let a = c.before.before.args in (
+    let a = c.args in (
       filling_none (packed_at (number_of a.boundary) a.redirects a.offset a.labels.now a.instructions.now (number_of a.left))
           a.out.now,
       omega arith,
     )
 
-packed-number-requires : tie.Need-packed-number-requires invariant-loop decreases-loop
-packed-number-requires c κs = c.before.before.before.before.requires.0
+packed-number-requires : tie.Need-packed_number-number-requires invariant-loop decreases-loop
+packed-number-requires c κs = c.requires.0
 
-put-word-requires : tie.Need-put-word-requires invariant-loop decreases-loop
+put-word-requires : tie.Need-put_word-requires invariant-loop decreases-loop
 put-word-requires c κs = search rules
 
-add-j : tie.Need-overflow-add-j invariant-loop decreases-loop
+add-j : tie.Need-overflow_add-j invariant-loop decreases-loop
 add-j c = omega arith
 
-loop-less : tie.Need-loop-smaller invariant-loop decreases-loop
+loop-less : tie.Need-loop-j-smaller invariant-loop decreases-loop
 loop-less c = omega arith
 
-loop-again : tie.Need-loop-preserved invariant-loop decreases-loop
-loop-again c =
-    let s = c.before.before.before.before.before in (
-      filling_put s.loop.invariant.0 (room c.before.before.before.before) c.before.put_word.ensures
-          c.before.before.before.packed-number.ensures,
-      omega arith,
-    )
+loop-again : tie.Need-loop-j-preserved invariant-loop decreases-loop
+loop-again c = (
+  filling_put c.loop-j.invariant.0 (room c.before.before.before.before) c.put_word.ensures
+      c.packed_number-number.ensures,
+  omega arith,
+)
 
-same_length : tie.Need-same-length invariant-loop decreases-loop
+same_length : tie.Need-shape_of-out invariant-loop decreases-loop
 same_length c = kept c.before
 
 returns : tie.Need-returns invariant-loop decreases-loop
 returns c =
-    let s = c.before in
-    let a = s.before.before.before.args in
-    let e : s.loop.j ≡ length
+    let a = c.args in
+    let e : c.loop-j.j ≡ length
     (front (number_of a.boundary) a.redirects a.offset a.labels.now ++ a.instructions.now ++ back (number_of a.left) a.offset) =
-    omega (arith, size s, c.loop-test.false) in
+    omega (arith, size (c.before), c.loop-j-test.false) in
     filling_is
     (front (number_of a.boundary) a.redirects a.offset a.labels.now ++ a.instructions.now ++ back (number_of a.left) a.offset) (pos 0)
-    (rw e at s.loop.invariant.0)
+    (rw e at c.loop-j.invariant.0)
 
-pub put-instructions-spec : {M : Type 1} → statement M
-put-instructions-spec =
+pub put_instructions_spec : {M : Type 1} → statement M
+put_instructions_spec =
     tie.close
     (tie.spec
     invariant-loop

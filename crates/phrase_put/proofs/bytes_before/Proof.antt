@@ -7,14 +7,19 @@ use borrow.Author.Rules.{rules}
 use Rattle.phrase_put.proofs.bytes_before.Statement.{statement}
 use Rattle.phrase_put.proofs.bytes_before.Tie as tie
 
-returns : tie.Need-returns
-returns c = let a = c.before.args in sym (take_all a.at a.bytes.now (omega arith))
+returns : tie.Need-returns-then-bytes-at
+returns c = let a = c.args in sym (take_all a.at a.bytes.now (omega arith))
 
-slice-aggregate-result : tie.Need-slice-aggregate-result
+slice-aggregate-result : tie.Need-slice_bounds-result-end
 slice-aggregate-result c = sym (length-take-le _ _ (search rules))
 
-returns-2 : tie.Need-returns-2
+returns-2 : tie.Need-returns
 returns-2 c = search rules
 
-pub bytes-before-spec : {M : Type 1} → statement M
-bytes-before-spec = tie.close (tie.spec returns slice-aggregate-result returns-2)
+pub bytes_before_spec : {M : Type 1} → statement M
+bytes_before_spec =
+    tie.close
+    (tie.spec
+    returns
+    slice-aggregate-result
+    returns-2)

@@ -6,47 +6,41 @@ use borrow.Author.Rules.{rules}
 use Rattle.phrase_put.proofs.put_char.Statement.{statement}
 use Rattle.phrase_put.proofs.put_char.Tie as tie
 
-is-printed-requires : tie.Need-is-printed-requires
+is-printed-requires : tie.Need-is_printed-requires
 is-printed-requires c κs = search rules
 
-cast-put-byte : tie.Need-overflow-cast-put-byte
+cast-put-byte : tie.Need-overflow_cast-c
 cast-put-byte c = search rules
 
-put-byte-requires : tie.Need-put-byte-requires
+put-byte-requires : tie.Need-put_byte-blank-requires
 put-byte-requires c κs = search rules
 
-put-byte-requires-2 : tie.Need-put-byte-requires-2
+put-byte-requires-2 : tie.Need-put_byte-code-requires
 put-byte-requires-2 c κs = search rules
 
-put-paren-requires : tie.Need-put-paren-requires
+put-paren-requires : tie.Need-put_paren-requires
 put-paren-requires c κs = search rules
 
-same_length : tie.Need-same-length
+same_length : tie.Need-shape_of-out-then-is_printed
 same_length c = search rules
 
-returns : tie.Need-returns
+returns : tie.Need-returns-then-is_printed
 returns c =
-    let x₃ = c.before.before in
-    let x₂ = x₃.before.before.before.before in
-    let x₁ = x₂.before.before.before.before in
-    let i = x₁.before.before in
-    puts_char i.before.before.before.args.c (sym i.before.is-printed.ensures ∙ i.if1.true) x₁.put_byte.ensures x₂.put-byte2.ensures
-    x₃.put-paren.ensures
+    puts_char c.args.c (sym c.is_printed.ensures ∙ c.if-is_printed.true) c.put_byte-blank.ensures c.put_byte-code.ensures
+    c.put_paren.ensures
 
-put-paren-requires-2 : tie.Need-put-paren-requires-2
+put-paren-requires-2 : tie.Need-put_paren-requires-2
 put-paren-requires-2 c κs = search rules
 
-same-length-2 : tie.Need-same-length-2
+same-length-2 : tie.Need-shape_of-out
 same-length-2 c = search rules
 
-returns-2 : tie.Need-returns-2
+returns-2 : tie.Need-returns
 returns-2 c =
-    let x = c.before.before in
-    let i = x.before.before in
-    (puts_hidden i.before.before.before.args.c (sym i.before.is-printed.ensures ∙ i.if1.false) x.put-paren2.ensures).1
+    (puts_hidden c.args.c (sym c.is_printed.ensures ∙ c.if-is_printed.false) c.put_paren-2.ensures).1
 
-pub put-char-spec : {M : Type 1} → statement M
-put-char-spec =
+pub put_char_spec : {M : Type 1} → statement M
+put_char_spec =
     tie.close
     (tie.spec
     is-printed-requires

@@ -5,17 +5,23 @@ use borrow.Author.Rules.{rules}
 use Rattle.phrase_put.proofs.put_coded.Statement.{statement}
 use Rattle.phrase_put.proofs.put_coded.Tie as tie
 
-put-text-requires : tie.Need-put-text-requires
+put-text-requires : tie.Need-put_text-next-requires
 put-text-requires c κs = search rules
 
-put-code-requires : tie.Need-put-code-requires
+put-code-requires : tie.Need-put_code-requires
 put-code-requires c κs = search rules
 
-same_length : tie.Need-same-length
+same_length : tie.Need-shape_of-out
 same_length c = search rules
 
 returns : tie.Need-returns
-returns c = let x = c.before.before in puts_more x.before.before.before.before.put-text.ensures x.put-code.ensures
+returns c = puts_more c.put_text-next.ensures c.put_code.ensures
 
-pub put-coded-spec : {M : Type 1} → statement M
-put-coded-spec = tie.close (tie.spec put-text-requires put-code-requires same_length returns)
+pub put_coded_spec : {M : Type 1} → statement M
+put_coded_spec =
+    tie.close
+    (tie.spec
+    put-text-requires
+    put-code-requires
+    same_length
+    returns)

@@ -5,17 +5,23 @@ use borrow.Author.Rules.{rules}
 use Rattle.phrase_put.proofs.put_counted.Statement.{statement}
 use Rattle.phrase_put.proofs.put_counted.Tie as tie
 
-put-text-requires : tie.Need-put-text-requires
+put-text-requires : tie.Need-put_text-next-requires
 put-text-requires c κs = search rules
 
-put-decimal-requires : tie.Need-put-decimal-requires
+put-decimal-requires : tie.Need-put_decimal-requires
 put-decimal-requires c κs = search rules
 
-same_length : tie.Need-same-length
+same_length : tie.Need-shape_of-out
 same_length c = search rules
 
 returns : tie.Need-returns
-returns c = let x = c.before.before in puts_more x.before.before.before.before.put-text.ensures x.put-decimal.ensures
+returns c = puts_more c.put_text-next.ensures c.put_decimal.ensures
 
-pub put-counted-spec : {M : Type 1} → statement M
-put-counted-spec = tie.close (tie.spec put-text-requires put-decimal-requires same_length returns)
+pub put_counted_spec : {M : Type 1} → statement M
+put_counted_spec =
+    tie.close
+    (tie.spec
+    put-text-requires
+    put-decimal-requires
+    same_length
+    returns)

@@ -8,48 +8,46 @@ use Rattle.phrases.proofs.Putting.{same_long, puts_start, puts_next, puts_all}
 use Rattle.phrase_put.proofs.put_text.Statement.{statement}
 use Rattle.phrase_put.proofs.put_text.Tie as tie
 
-abbrev invariant-loop : tie.invariant-loop
+abbrev invariant-loop : tie.invariant-loop-i
 invariant-loop out₀ at text next₀ i₀ out next i = (i ≤ length text) × PutsText out₀ at (take i text) next out
 
-abbrev decreases-loop : tie.decreases-loop
+abbrev decreases-loop : tie.decreases-loop-i
 decreases-loop out₀ at text next₀ i₀ out next i = length text - i
 
-smaller-requires : tie.Need-smaller-requires invariant-loop decreases-loop
+smaller-requires : tie.Need-smaller-next-requires invariant-loop decreases-loop
 smaller-requires c κs = tt
 
-loop-holds : tie.Need-loop-init invariant-loop decreases-loop
+loop-holds : tie.Need-loop-i-init invariant-loop decreases-loop
 loop-holds c =
-    let a = c.before.before.before.args in (omega arith, puts_start a.out.now a.at c.smaller.ensures)
+    let a = c.args in (omega arith, puts_start a.out.now a.at c.smaller-next.ensures)
 
-shared-slice-read-put-byte : tie.Need-shared-slice-read-put-byte invariant-loop decreases-loop
+shared-slice-read-put-byte : tie.Need-bounds-text-i invariant-loop decreases-loop
 shared-slice-read-put-byte c = omega arith
 
-put-byte-requires : tie.Need-put-byte-requires invariant-loop decreases-loop
+put-byte-requires : tie.Need-put_byte-next-requires invariant-loop decreases-loop
 put-byte-requires c κs = tt
 
-add-i : tie.Need-overflow-add-i invariant-loop decreases-loop
+add-i : tie.Need-overflow_add-i invariant-loop decreases-loop
 add-i c = omega arith
 
-loop-less : tie.Need-loop-smaller invariant-loop decreases-loop
+loop-less : tie.Need-loop-i-smaller invariant-loop decreases-loop
 loop-less c = omega arith
 
-loop-again : tie.Need-loop-preserved invariant-loop decreases-loop
+loop-again : tie.Need-loop-i-preserved invariant-loop decreases-loop
 loop-again c =
-    let l = c.before.before.before.before.before.before in
-    let a = l.before.before.before.before.args in
-    (omega arith, puts_next a.text.now l.loop.i (omega arith) l.loop.invariant.1 c.before.before.put_byte.ensures)
+    let a = c.args in
+    (omega arith, puts_next a.text.now c.loop-i.i (omega arith) c.loop-i.invariant.1 c.put_byte-next.ensures)
 
-same_length : tie.Need-same-length invariant-loop decreases-loop
-same_length c = same_long c.before.loop.invariant.1
+same_length : tie.Need-shape_of-out invariant-loop decreases-loop
+same_length c = same_long c.loop-i.invariant.1
 
 returns : tie.Need-returns invariant-loop decreases-loop
 returns c =
-    let l = c.before in
-    let a = l.before.before.before.before.args in
-    puts_all a.text.now l.loop.i (omega arith) l.loop.invariant.1
+    let a = c.args in
+    puts_all a.text.now c.loop-i.i (omega arith) c.loop-i.invariant.1
 
-pub put-text-spec : {M : Type 1} → statement M
-put-text-spec =
+pub put_text_spec : {M : Type 1} → statement M
+put_text_spec =
     tie.close
     (tie.spec
     invariant-loop

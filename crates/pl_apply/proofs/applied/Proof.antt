@@ -38,162 +38,139 @@ sized steps p e = omega (arith, leb-true steps ((18446744073709551615 - least_by
 over : (steps : ℕ) (p : Property) → leb steps ((18446744073709551615 - least_bytes p) / 4) ≡ false → 4 * steps + least_bytes p ≤ 18446744073709551615 → ⊥
 over steps p e h = omega (arith, leb-false steps ((18446744073709551615 - least_bytes p) / 4) e, least_few p)
 
-is-size-requires : tie.Need-is-size-requires
+is-size-requires : tie.Need-is_size-requires
 is-size-requires c κs = search rules
 
-returns : tie.Need-returns
+returns : tie.Need-returns-then-not-is_size
 returns c =
-    let if1 = c.if1 in
-    let is-size = c.before.is-size in
-    let args = c.before.before.args in
-    λ h z l st. absurd (over args.s.steps args.p (sym is-size.ensures ∙ not-true _ if1.true) h)
+    let args = c.args in
+    λ h z l st. absurd (over args.s.steps args.p (sym c.is_size.ensures ∙ c.if-not-is_size.true) h)
 
 -- the bytes are a size where the test passes
-enough : (c : tie.Else1) → 4 * c.before.before.args.s.steps + least_bytes c.before.before.args.p ≤ 18446744073709551615
+enough : (c : tie.Else-not-is_size) → 4 * c.args.s.steps + least_bytes c.args.p ≤ 18446744073709551615
 enough c =
-    sized c.before.before.args.s.steps c.before.before.args.p (sym c.before.is-size.ensures ∙ not-false _ c.if1.false)
+    sized c.args.s.steps c.args.p (sym c.is_size.ensures ∙ c.if-not-is_size.false)
 
-enum_told : tie.Need-enum-told
+enum_told : tie.Need-enum_told-1
 enum_told c = search rules
 
-enum-known-p : tie.Need-enum-known-p
+enum-known-p : tie.Need-enum_known-p
 enum-known-p c = search rules
 
 bounded-requires : tie.Need-bounded-requires
 bounded-requires c κs = search rules
 
-enum-told-2 : tie.Need-enum-told-2
+enum-told-2 : tie.Need-enum_told-in-Table
 enum-told-2 c = search rules
 
-table-opened-requires : tie.Need-table-opened-requires
+table-opened-requires : tie.Need-table_opened-requires
 table-opened-requires c κs = search rules
 
-enum-known-p-2 : tie.Need-enum-known-p-2
+enum-known-p-2 : tie.Need-enum_known-p-in-Label-1
 enum-known-p-2 c = search rules
 
 label-requires : tie.Need-label-requires
-label-requires c κs = omega (arith, enough c.before.before.before.before)
+label-requires c κs = omega (arith, enough c.before.before)
 
-enum-told-3 : tie.Need-enum-told-3
+enum-told-3 : tie.Need-enum_told-in-Stop
 enum-told-3 c = search rules
 
 stop-requires : tie.Need-stop-requires
-stop-requires c κs = omega (arith, enough c.before.before.before)
+stop-requires c κs = omega (arith, enough c.before.before)
 
-enum-known-p-3 : tie.Need-enum-known-p-3
+enum-known-p-3 : tie.Need-enum_known-p-in-Skip-1
 enum-known-p-3 c = search rules
 
 skip-requires : tie.Need-skip-requires
-skip-requires c κs = omega (arith, enough c.before.before.before.before)
+skip-requires c κs = omega (arith, enough c.before.before)
 
-enum-known-p-4 : tie.Need-enum-known-p-4
+enum-known-p-4 : tie.Need-enum_known-p-in-Ligature-1
 enum-known-p-4 c = search rules
 
-operand-of-requires : tie.Need-operand-of-requires
+operand-of-requires : tie.Need-operand_of-requires
 operand-of-requires c κs = search rules
 
-put-step-requires : tie.Need-put-step-requires
+put-step-requires : tie.Need-put_step-requires
 put-step-requires c κs =
-    let p4 = c.before.before.before.p4 in
-    let h = rw p4.given.1 at (enough c.before.before.before.before.before) in omega (arith, h)
+    let h = rw c.in-Ligature.is at (enough c.before.before.before) in omega (arith, h)
 
-enum-known-p-5 : tie.Need-enum-known-p-5
+enum-known-p-5 : tie.Need-enum_known-p-in-Kern-1
 enum-known-p-5 c = search rules
 
-put-step-requires-2 : tie.Need-put-step-requires-2
+put-step-requires-2 : tie.Need-put_step-requires-in-Kern
 put-step-requires-2 c κs =
-    let p5 = c.before.before.p5 in
-    let h = rw p5.given.1 at (enough c.before.before.before.before) in omega (arith, h)
+    let h = rw c.in-Kern.is at (enough c.before.before) in omega (arith, h)
 
-enum-told-4 : tie.Need-enum-told-4
+enum-told-4 : tie.Need-enum_told-in-Closed
 enum-told-4 c = search rules
 
-table-closed-requires : tie.Need-table-closed-requires
+table-closed-requires : tie.Need-table_closed-requires
 table-closed-requires c κs = search rules
 
-enum-told-5 : tie.Need-enum-told-5
+enum-told-5 : tie.Need-enum_told-in-Ended
 enum-told-5 c = search rules
 
-returns-2 : tie.Need-returns-2
+returns-2 : tie.Need-returns-in-Comment
 returns-2 c =
-    let enum_told = c.enum_told in
-    λ _ z l st. rw enum_told.given.1 (arm_comment st)
+    λ _ z l st. rw c.in-Comment.is (arm_comment st)
 
-returns-3 : tie.Need-returns-3
+returns-3 : tie.Need-returns-in-Boundary
 returns-3 c =
-    let bounded = c.bounded in
-    let p = c.before.before.p in
-    λ _ z l st. rw p.given.1 (arm_boundary st _ bounded.result bounded.ensures)
+    λ _ z l st. rw c.in-Boundary.is (arm_boundary st _ c.bounded.result c.bounded.ensures)
 
-returns-4 : tie.Need-returns-4
+returns-4 : tie.Need-returns-in-Table
 returns-4 c =
-    let table-opened = c.table-opened in
-    let enum-told2 = c.before.enum-told2 in
-    λ _ z l st. rw enum-told2.given.1 (arm_table st table-opened.result table-opened.ensures)
+    λ _ z l st. rw c.in-Table.is (arm_table st c.table_opened.result c.table_opened.ensures)
 
-same_length : tie.Need-same-length
+same_length : tie.Need-shape_of-labels
 same_length c = search rules
 
-returns-5 : tie.Need-returns-5
+returns-5 : tie.Need-returns-in-Label
 returns-5 c =
-    let label = c.before.label in
-    let p2 = c.before.before.before.before.p2 in
-    λ _ z l st. rw p2.given.1 (arm_label st _ label.result label.ensures)
+    λ _ z l st. rw c.in-Label.is (arm_label st _ c.label.result c.label.ensures)
 
-same-length-2 : tie.Need-same-length-2
+same-length-2 : tie.Need-shape_of-instructions-in-Stop
 same-length-2 c = search rules
 
-returns-6 : tie.Need-returns-6
+returns-6 : tie.Need-returns-in-Stop
 returns-6 c =
-    let stop = c.before.stop in
-    let enum-told3 = c.before.before.before.enum-told3 in
-    λ _ z l st. rw enum-told3.given.1 (arm_stop st stop.result stop.ensures)
+    λ _ z l st. rw c.in-Stop.is (arm_stop st c.stop.result c.stop.ensures)
 
-same-length-3 : tie.Need-same-length-3
+same-length-3 : tie.Need-shape_of-instructions-in-Skip
 same-length-3 c = search rules
 
-returns-7 : tie.Need-returns-7
+returns-7 : tie.Need-returns-in-Skip
 returns-7 c =
-    let skip = c.before.skip in
-    let p3 = c.before.before.before.before.p3 in
-    λ _ z l st. rw p3.given.1 (arm_skip st _ skip.result skip.ensures)
+    λ _ z l st. rw c.in-Skip.is (arm_skip st _ c.skip.result c.skip.ensures)
 
-same-length-4 : tie.Need-same-length-4
+same-length-4 : tie.Need-shape_of-instructions-in-Ligature
 same-length-4 c = search rules
 
-returns-8 : tie.Need-returns-8
+returns-8 : tie.Need-returns-in-Ligature
 unfolding applied
 returns-8 c =
-    let put_step = c.before.put_step in
-    let operand-of = c.before.before.before.operand-of in
-    let p4 = c.before.before.before.before.before.p4 in
-    let o = operand-of.ensures in
-    let e = small_number operand-of.result (omega (arith, o.1)) ∙ ap pos o.0 in
-    λ _ z l st. rw (p4.given.1, ← e) (arm_step st _ 2 (number_of operand-of.result) put_step.result put_step.ensures)
+    let o = c.operand_of.ensures in
+    let e = small_number c.operand_of.result (omega (arith, o.1)) ∙ ap pos o.0 in
+    λ _ z l st. rw (c.in-Ligature.is, ← e) (arm_step st _ 2 (number_of c.operand_of.result) c.put_step.result c.put_step.ensures)
 
-same-length-5 : tie.Need-same-length-5
+same-length-5 : tie.Need-shape_of-instructions-in-Kern
 same-length-5 c = search rules
 
-returns-9 : tie.Need-returns-9
+returns-9 : tie.Need-returns-in-Kern
 unfolding applied
 returns-9 c =
-    let put-step2 = c.before.put-step2 in
-    let p5 = c.before.before.before.before.p5 in
-    λ _ z l st. rw p5.given.1 (arm_step st _ 0 _ put-step2.result put-step2.ensures)
+    λ _ z l st. rw c.in-Kern.is (arm_step st _ 0 _ c.put_step-in-Kern.result c.put_step-in-Kern.ensures)
 
-returns-10 : tie.Need-returns-10
+returns-10 : tie.Need-returns-in-Closed
 returns-10 c =
-    let table-closed = c.table-closed in
-    let enum-told4 = c.before.enum-told4 in
-    λ _ z l st. rw enum-told4.given.1 (arm_closed st table-closed.result table-closed.ensures)
+    λ _ z l st. rw c.in-Closed.is (arm_closed st c.table_closed.result c.table_closed.ensures)
 
-returns-11 : tie.Need-returns-11
+returns-11 : tie.Need-returns-in-Ended
 returns-11 c =
-    let enum-told5 = c.enum-told5 in
-    λ _ z l st. rw enum-told5.given.1 (arm_ended st)
+    λ _ z l st. rw c.in-Ended.is (arm_ended st)
 
-pub applied-spec : {M : Type 1} → statement M
-applied-spec =
+pub applied_spec : {M : Type 1} → statement M
+applied_spec =
     tie.close
     (tie.spec
     is-size-requires

@@ -6,50 +6,37 @@ use borrow.Author.Rules.{rules}
 use Rattle.pl_blanks.proofs.is_passed.Statement.{statement}
 use Rattle.pl_blanks.proofs.is_passed.Tie as tie
 
-returns : tie.Need-returns
-returns c = rw (eq-eqb c.before.args.b 10 c.if1.true)
+returns : tie.Need-returns-then-b-eq10
+returns c = rw (eq-eqb c.args.b 10 c.if-b-eq10.true)
 
-returns-2 : tie.Need-returns-2
-returns-2 c = let b = c.before.before.args.b in rw (ne_eqb b 10 c.before.if1.false, eq-eqb b 13 c.if2.true)
+returns-2 : tie.Need-returns-then-b-eq13
+returns-2 c = let b = c.args.b in rw (ne_eqb b 10 c.if-b-eq10.false, eq-eqb b 13 c.if-b-eq13.true)
 
-returns-3 : tie.Need-returns-3
+returns-3 : tie.Need-returns-then-held
 returns-3 c =
-    let d = c.before.before in
-    let b = d.before.args.b in
-    rw (ne_eqb b 10 d.if1.false, ne_eqb b 13 c.before.if2.false, c.if3.true)
+    let b = c.args.b in
+    rw (ne_eqb b 10 c.if-b-eq10.false, ne_eqb b 13 c.if-b-eq13.false, c.if-held.true)
 
-returns-4 : tie.Need-returns-4
+returns-4 : tie.Need-returns-then-b-eq32
 returns-4 c =
-    let d = c.before in
-    let e = d.before in
-    let f = e.before in
-    let b = f.before.args.b in
-    rw (ne_eqb b 10 f.if1.false, ne_eqb b 13 e.if2.false, d.if3.false, eq-eqb b 32 c.if4.true)
+    let b = c.args.b in
+    rw (ne_eqb b 10 c.if-b-eq10.false, ne_eqb b 13 c.if-b-eq13.false, c.if-held.false, eq-eqb b 32 c.if-b-eq32.true)
 
-is-visible-requires : tie.Need-is-visible-requires
+is-visible-requires : tie.Need-is_visible-requires
 is-visible-requires c κs = search rules
 
-returns-5 : tie.Need-returns-5
+returns-5 : tie.Need-returns-then-all
 returns-5 c =
-    let g = c.before in
-    let d = g.before in
-    let e = d.before in
-    let f = e.before in
-    let a = f.before in
-    let b = a.before.args.b in
-    c.is-visible.ensures ∙ rw (ne_eqb b 10 a.if1.false, ne_eqb b 13 f.if2.false, e.if3.false, ne_eqb b 32 d.if4.false, g.if5.true)
+    let b = c.args.b in
+    c.is_visible.ensures ∙ rw (ne_eqb b 10 c.if-b-eq10.false, ne_eqb b 13 c.if-b-eq13.false, c.if-held.false, ne_eqb b 32 c.if-b-eq32.false, c.if-all.true)
 
-returns-6 : tie.Need-returns-6
+returns-6 : tie.Need-returns
 returns-6 c =
-    let d = c.before in
-    let e = d.before in
-    let f = e.before in
-    let a = f.before in
-    let b = a.before.args.b in
-    rw (ne_eqb b 10 a.if1.false, ne_eqb b 13 f.if2.false, e.if3.false, ne_eqb b 32 d.if4.false, c.if5.false)
+    let b = c.args.b in
+    rw (ne_eqb b 10 c.if-b-eq10.false, ne_eqb b 13 c.if-b-eq13.false, c.if-held.false, ne_eqb b 32 c.if-b-eq32.false, c.if-all.false)
 
-pub is-passed-spec : {M : Type 1} → statement M
-is-passed-spec =
+pub is_passed_spec : {M : Type 1} → statement M
+is_passed_spec =
     tie.close
     (tie.spec
     returns

@@ -5,14 +5,14 @@ use native.Mathlib.Omega.{arith}
 use Rattle.pl_blanks.proofs.unless_held.Statement.{statement}
 use Rattle.pl_blanks.proofs.unless_held.Tie as tie
 
-returns : tie.Need-returns
-returns c = passed_none _ (rw c.if1.true)
+returns : tie.Need-returns-then-held
+returns c = passed_none _ (rw c.if-held.true)
 
-returns-2 : tie.Need-returns-2
-returns-2 c = passed_at _ (rw c.if1.false) (λ _. omega arith) c.before.requires
+returns-2 : tie.Need-returns-else-held
+returns-2 c = passed_at _ (rw c.if-held.false) (λ _. omega arith) c.requires
 
-pub unless-held-spec : {M : Type 1} → statement M
-unless-held-spec =
+pub unless_held_spec : {M : Type 1} → statement M
+unless_held_spec =
     tie.close
     (tie.spec
     returns

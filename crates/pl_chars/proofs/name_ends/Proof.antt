@@ -8,31 +8,27 @@ use native.Mathlib.Omega.{arith}
 use Rattle.pl_chars.proofs.name_ends.Statement.{statement}
 use Rattle.pl_chars.proofs.name_ends.Tie as tie
 
-shared-slice-read-in-name : tie.Need-shared-slice-read-in-name
+shared-slice-read-in-name : tie.Need-bounds-text-at
 shared-slice-read-in-name c = search rules
 
-in-name-requires : tie.Need-in-name-requires
+in-name-requires : tie.Need-in_name-requires
 in-name-requires c κs = search rules
 
-returns : tie.Need-returns
+returns : tie.Need-returns-then-in_name
 returns c =
-    let n = c.before in
-    let t = n.before.before in
-    let a = t.before.before.args in
-    passed_none _ (ends_no a.text.now a.at t.if1.true (sym n.in-name.ensures ∙ c.if2.true))
+    let a = c.args in
+    passed_none _ (ends_no a.text.now a.at c.if-at-text.true (sym c.in_name.ensures ∙ c.if-in_name.true))
 
-returns-2 : tie.Need-returns-2
+returns-2 : tie.Need-returns-else-in_name
 returns-2 c =
-    let n = c.before in
-    let t = n.before.before in
-    let a = t.before.before.args in
-    passed_at _ (ends_here a.text.now a.at t.if1.true (sym n.in-name.ensures ∙ c.if2.false)) (λ _. omega arith) t.before.before.requires
+    let a = c.args in
+    passed_at _ (ends_here a.text.now a.at c.if-at-text.true (sym c.in_name.ensures ∙ c.if-in_name.false)) (λ _. omega arith) c.requires
 
-returns-3 : tie.Need-returns-3
-returns-3 c = let a = c.before.before.args in passed_at _ (ends_end a.text.now a.at c.if1.false) (λ _. omega arith) c.before.before.requires
+returns-3 : tie.Need-returns-else-at-text
+returns-3 c = let a = c.args in passed_at _ (ends_end a.text.now a.at c.if-at-text.false) (λ _. omega arith) c.requires
 
-pub name-ends-spec : {M : Type 1} → statement M
-name-ends-spec =
+pub name_ends_spec : {M : Type 1} → statement M
+name_ends_spec =
     tie.close
     (tie.spec
     shared-slice-read-in-name

@@ -8,31 +8,29 @@ use native.Mathlib.Omega.{arith}
 use Rattle.pl_chars.proofs.past_end.Statement.{statement}
 use Rattle.pl_chars.proofs.past_end.Tie as tie
 
-past-blanks-requires : tie.Need-past-blanks-requires
+past-blanks-requires : tie.Need-past_blanks-requires
 past-blanks-requires c κs = search rules
 
-enum-known-i : tie.Need-enum-known-i
+enum-known-i : tie.Need-enum_known-i
 enum-known-i c = search rules
 
-enum_told : tie.Need-enum-told
+enum_told : tie.Need-enum_told-1
 enum_told c = search rules
 
-returns : tie.Need-returns
+returns : tie.Need-returns-in_default
 returns c =
-    passed_none _ (ap (λ o. then_by o (past_byte 41)) (known_none c.before.before.past-blanks.ensures c.enum_told.given.1))
+    passed_none _ (ap (λ o. then_by o (past_byte 41)) (known_none c.past_blanks.ensures c.in_default.is))
 
-past-byte-requires : tie.Need-past-byte-requires
+past-byte-requires : tie.Need-past_byte-requires
 past-byte-requires c κs = search rules
 
-returns-2 : tie.Need-returns-2
+returns-2 : tie.Need-returns
 returns-2 c =
-    let i = c.before.before.i in
-    let past-blanks = c.before.before.before.before.past-blanks in
-    let k = known_at past-blanks.ensures i.given.1 in
-    passed_from c.past-byte.result c.past-byte.ensures (sym (ap (λ o. then_by o (past_byte 41)) k.0)) (λ h. (omega (arith, k.1 h), k.2))
+    let k = known_at c.past_blanks.ensures c.in-At.is in
+    passed_from c.past_byte.result c.past_byte.ensures (sym (ap (λ o. then_by o (past_byte 41)) k.0)) (λ h. (omega (arith, k.1 h), k.2))
 
-pub past-end-spec : {M : Type 1} → statement M
-past-end-spec =
+pub past_end_spec : {M : Type 1} → statement M
+past_end_spec =
     tie.close
     (tie.spec
     past-blanks-requires

@@ -11,84 +11,72 @@ use native.Mathlib.Omega.{arith}
 use Rattle.pl_chars.proofs.past_name.Statement.{statement}
 use Rattle.pl_chars.proofs.past_name.Tie as tie
 
-abbrev invariant-loop : tie.invariant-loop
+abbrev invariant-loop : tie.invariant-loop-k
 invariant-loop text at name i₀ k₀ i k =
     (i ≤ length text) × (k ≤ length name) × (at ≤ length text → i ≡ at + k) × (past_name (drop k name) (drop i text) ≡ past_name name (drop at text))
 
-abbrev decreases-loop : tie.decreases-loop
+abbrev decreases-loop : tie.decreases-loop-k
 decreases-loop text at name i₀ k₀ i k = length name - k
 
-smaller-requires : tie.Need-smaller-requires invariant-loop decreases-loop
+smaller-requires : tie.Need-smaller-i-requires invariant-loop decreases-loop
 smaller-requires c κs = search rules
 
-loop-holds : tie.Need-loop-init invariant-loop decreases-loop
+loop-holds : tie.Need-loop-k-init invariant-loop decreases-loop
 loop-holds c =
-    let a = c.before.before.before.args in
-    let l = at_least a.text.now a.at c.smaller.ensures in
+    let a = c.args in
+    let l = at_least a.text.now a.at c.smaller-i.ensures in
     (l.1, omega arith, λ h. omega (arith, l.2 h), ap (past_name a.name.now) l.0)
 
-returns : tie.Need-returns invariant-loop decreases-loop
+returns : tie.Need-returns-then-text-i invariant-loop decreases-loop
 returns c =
-    let l = c.before in
-    let n = l.before in
-    let a = n.before.before.before.before.args in
-    passed_none _ (sym n.loop.invariant.3 ∙ name_short a.text.now a.name.now n.loop.i n.loop.k l.loop-test.true c.if1.true)
+    let a = c.args in
+    passed_none _ (sym c.loop-k.invariant.3 ∙ name_short a.text.now a.name.now c.loop-k.i c.loop-k.k c.loop-k-test.true c.if-text-i.true)
 
-shared-slice-read-upper-case : tie.Need-shared-slice-read-upper-case invariant-loop decreases-loop
+shared-slice-read-upper-case : tie.Need-bounds-text-i invariant-loop decreases-loop
 shared-slice-read-upper-case c = omega arith
 
-upper-case-requires : tie.Need-upper-case-requires invariant-loop decreases-loop
+upper-case-requires : tie.Need-upper_case-requires invariant-loop decreases-loop
 upper-case-requires c κs = search rules
 
-shared-slice-read-if2 : tie.Need-shared-slice-read-if2 invariant-loop decreases-loop
+shared-slice-read-if2 : tie.Need-bounds-name-k invariant-loop decreases-loop
 shared-slice-read-if2 c = omega arith
 
-returns-2 : tie.Need-returns-2 invariant-loop decreases-loop
+returns-2 : tie.Need-returns-then-upper_case-name invariant-loop decreases-loop
 returns-2 c =
-    let u = c.before.before in
-    let e = u.before.before in
-    let l = e.before in
-    let n = l.before in
-    let a = n.before.before.before.before.args in
-    passed_none _ (sym n.loop.invariant.3 ∙ name_other a.text.now a.name.now n.loop.i n.loop.k l.loop-test.true e.if1.false (λ s. c.if2.true (u.upper-case.ensures ∙ s)))
+    let a = c.args in
+    passed_none _ (sym c.loop-k.invariant.3 ∙ name_other a.text.now a.name.now c.loop-k.i c.loop-k.k c.loop-k-test.true c.if-text-i.false (λ s. c.if-upper_case-name.true (c.upper_case.ensures ∙ s)))
 
-add-i : tie.Need-overflow-add-i invariant-loop decreases-loop
+add-i : tie.Need-overflow_add-i invariant-loop decreases-loop
 add-i c = omega arith
 
-add-k : tie.Need-overflow-add-k invariant-loop decreases-loop
+add-k : tie.Need-overflow_add-k invariant-loop decreases-loop
 add-k c = omega arith
 
-loop-less : tie.Need-loop-smaller invariant-loop decreases-loop
+loop-less : tie.Need-loop-k-smaller invariant-loop decreases-loop
 loop-less c = omega arith
 
-loop-again : tie.Need-loop-preserved invariant-loop decreases-loop
+loop-again : tie.Need-loop-k-preserved invariant-loop decreases-loop
 loop-again c =
-    let u = c.before.before in
-    let e = u.before.before in
-    let l = e.before in
-    let n = l.before in
-    let a = n.before.before.before.before.args in (
+    let a = c.args in (
       omega arith,
       omega arith,
-      λ h. omega (arith, n.loop.invariant.2 h),
-      sym (name_more a.text.now a.name.now n.loop.i n.loop.k l.loop-test.true e.if1.false (sym u.upper-case.ensures ∙ c.if2.false))
-          ∙ n.loop.invariant.3,
+      λ h. omega (arith, c.loop-k.invariant.2 h),
+      sym (name_more a.text.now a.name.now c.loop-k.i c.loop-k.k c.loop-k-test.true c.if-text-i.false (sym c.upper_case.ensures ∙ c.if-upper_case-name.false))
+          ∙ c.loop-k.invariant.3,
     )
 
-name-ends-requires : tie.Need-name-ends-requires invariant-loop decreases-loop
+name-ends-requires : tie.Need-name_ends-requires invariant-loop decreases-loop
 name-ends-requires c κs = omega arith
 
-returns-3 : tie.Need-returns-3 invariant-loop decreases-loop
+returns-3 : tie.Need-returns invariant-loop decreases-loop
 returns-3 c =
-    let l = c.before in
-    let n = l.before in
-    let a = n.before.before.before.before.args in
-    passed_from c.name-ends.result c.name-ends.ensures
-    (sym (name_all a.text.now a.name.now n.loop.i n.loop.k l.loop-test.false) ∙ n.loop.invariant.3)
-    (λ h. (omega (arith, n.loop.invariant.2 h), n.loop.invariant.0))
+    let a = c.args in
+    passed_from c.name_ends.result c.name_ends.ensures
+    (sym (name_all a.text.now a.name.now c.loop-k.i c.loop-k.k c.loop-k-test.false) ∙ c.loop-k.invariant.3)
+    (λ h. (omega (arith, c.loop-k.invariant.2 h), c.loop-k.invariant.0))
 
-pub past-name-spec : {M : Type 1} → statement M
-past-name-spec =
+pub past_name_spec : {M : Type 1} → statement M
+past_name_spec =
     tie.close
     (tie.spec
     invariant-loop

@@ -7,20 +7,18 @@ use native.Mathlib.Omega.{arith}
 use Rattle.pl_indents.proofs.bad_indent.Statement.{statement}
 use Rattle.pl_indents.proofs.bad_indent.Tie as tie
 
-returns : tie.Need-returns
+returns : tie.Need-returns-then-s-ge10
 returns c =
-    let if1 = c.if1 in
-    let args = c.before.before.args in
-    refused_to (rw (le-leb 10 args.s.good if1.true))
+    let args = c.args in
+    refused_to (rw (le-leb 10 args.s.good c.if-s-ge10.true))
 
-returns-2 : tie.Need-returns-2
+returns-2 : tie.Need-returns
 returns-2 c =
-    let if1 = c.if1 in
-    let args = c.before.before.args in
-    record { is = sym (rw (lt-leb 10 args.s.good if1.false)); few_blanks = omega arith; few_open = omega arith; few_good = omega arith }
+    let args = c.args in
+    record { is = sym (rw (lt-leb 10 args.s.good c.if-s-ge10.false)); few_blanks = omega arith; few_open = omega arith; few_good = omega arith }
 
-pub bad-indent-spec : {M : Type 1} → statement M
-bad-indent-spec =
+pub bad_indent_spec : {M : Type 1} → statement M
+bad_indent_spec =
     tie.close
     (tie.spec
     returns

@@ -6,56 +6,41 @@ use borrow.Author.Rules.{rules}
 use Rattle.pl_labels.proofs.put_boundary.Statement.{statement}
 use Rattle.pl_labels.proofs.put_boundary.Tie as tie
 
-add-smaller : tie.Need-add-smaller
+add-smaller : tie.Need-overflow_add-out
 add-smaller c = search rules
 
 smaller-requires : tie.Need-smaller-requires
 smaller-requires c κs = search rules
 
-returns : tie.Need-returns
+returns : tie.Need-returns-then-boundary-ge2147483648
 returns c =
-    let x₁ = c.before in
-    let x₂ = x₁.before.before in
-    absent_put x₂.args.out.now x₂.args.at x₂.args.boundary x₁.if1.taken c.smaller.ensures
+    absent_put c.args.out.now c.args.at c.args.boundary c.if-boundary-ge2147483648.true c.smaller.ensures
 
-slice-aggregate-put-bytes : tie.Need-slice-aggregate-put-bytes
-slice-aggregate-put-bytes c = search rules
-
-put-bytes-requires : tie.Need-put-bytes-requires
+put-bytes-requires : tie.Need-put_bytes-first-requires
 put-bytes-requires c κs = search rules
 
-put-char-requires : tie.Need-put-char-requires
+put-char-requires : tie.Need-put_char-end-requires
 put-char-requires c κs = search rules
 
-slice-aggregate-put-bytes-2 : tie.Need-slice-aggregate-put-bytes-2
-slice-aggregate-put-bytes-2 c = search rules
-
-put-bytes-requires-2 : tie.Need-put-bytes-requires-2
+put-bytes-requires-2 : tie.Need-put_bytes-requires
 put-bytes-requires-2 c κs = search rules
 
-same_length : tie.Need-same-length
+same_length : tie.Need-shape_of-out
 same_length c = search rules
 
-returns-2 : tie.Need-returns-2
+returns-2 : tie.Need-returns
 returns-2 c =
-    let x₁ = c.before.before in
-    let x₂ = x₁.before.before.before.before.before in
-    let x₃ = x₂.before.before.before.before in
-    let x₄ = x₃.before.before.before in
-    let x₅ = x₄.before.before in
-    boundary_put x₅.args.boundary (omega (arith, x₄.if1.left)) x₃.put-bytes.ensures x₂.put-char.ensures x₁.put-bytes2.ensures
+    boundary_put c.args.boundary (omega (arith, c.if-boundary-ge2147483648.false)) c.put_bytes-first.ensures c.put_char-end.ensures c.put_bytes.ensures
 
-pub put-boundary-spec : {M : Type 1} → statement M
-put-boundary-spec =
+pub put_boundary_spec : {M : Type 1} → statement M
+put_boundary_spec =
     tie.close
     (tie.spec
     add-smaller
     smaller-requires
     returns
-    slice-aggregate-put-bytes
     put-bytes-requires
     put-char-requires
-    slice-aggregate-put-bytes-2
     put-bytes-requires-2
     same_length
     returns-2)

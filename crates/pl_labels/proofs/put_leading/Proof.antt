@@ -5,39 +5,34 @@ use borrow.Author.Rules.{rules}
 use Rattle.pl_labels.proofs.put_leading.Statement.{statement}
 use Rattle.pl_labels.proofs.put_leading.Tie as tie
 
-add-smaller : tie.Need-add-smaller
+add-smaller : tie.Need-overflow_add-out
 add-smaller c = search rules
 
 smaller-requires : tie.Need-smaller-requires
 smaller-requires c κs = search rules
 
-returns : tie.Need-returns
+returns : tie.Need-returns-then-n-eq0
 returns c =
-    let x₁ = c.before in
-    let x₂ = x₁.before.before in
-    octal_none x₂.args.out.now x₂.args.at x₂.args.n x₁.if1.taken c.smaller.ensures
+    octal_none c.args.out.now c.args.at c.args.n c.if-n-eq0.true c.smaller.ensures
 
-cast-put-byte : tie.Need-cast-put-byte
+cast-put-byte : tie.Need-overflow_cast-n
 cast-put-byte c = search rules
 
-add-put-byte : tie.Need-add-put-byte
+add-put-byte : tie.Need-overflow_add-n
 add-put-byte c = search rules
 
-put-byte-requires : tie.Need-put-byte-requires
+put-byte-requires : tie.Need-put_byte-requires
 put-byte-requires c κs = search rules
 
-same_length : tie.Need-same-length
+same_length : tie.Need-shape_of-out
 same_length c = search rules
 
-returns-2 : tie.Need-returns-2
+returns-2 : tie.Need-returns
 returns-2 c =
-    let x₁ = c.before.before in
-    let x₂ = x₁.before.before in
-    let x₃ = x₂.before.before in
-    octal_one x₃.args.n x₂.if1.left x₁.put_byte.ensures
+    octal_one c.args.n c.if-n-eq0.false c.put_byte.ensures
 
-pub put-leading-spec : {M : Type 1} → statement M
-put-leading-spec =
+pub put_leading_spec : {M : Type 1} → statement M
+put_leading_spec =
     tie.close
     (tie.spec
     add-smaller

@@ -9,93 +9,53 @@ use native.Mathlib.Omega.{arith}
 use Rattle.pl_names.proofs.common_name.Statement.{statement}
 use Rattle.pl_names.proofs.common_name.Tie as tie
 
-slice-aggregate-or-named : tie.Need-slice-aggregate-or-named
-slice-aggregate-or-named c = search rules
-
-or-named-requires : tie.Need-or-named-requires
+or-named-requires : tie.Need-or_named-a-requires
 or-named-requires c κs = search rules
 
-slice-aggregate-or-named-2 : tie.Need-slice-aggregate-or-named-2
-slice-aggregate-or-named-2 c = search rules
-
-or-named-requires-2 : tie.Need-or-named-requires-2
+or-named-requires-2 : tie.Need-or_named-b-requires
 or-named-requires-2 c κs = search rules
 
-slice-aggregate-or-named-3 : tie.Need-slice-aggregate-or-named-3
-slice-aggregate-or-named-3 c = search rules
-
-or-named-requires-3 : tie.Need-or-named-requires-3
+or-named-requires-3 : tie.Need-or_named-c-requires
 or-named-requires-3 c κs = search rules
 
-slice-aggregate-or-named-4 : tie.Need-slice-aggregate-or-named-4
-slice-aggregate-or-named-4 c = search rules
-
-or-named-requires-4 : tie.Need-or-named-requires-4
+or-named-requires-4 : tie.Need-or_named-d-requires
 or-named-requires-4 c κs = search rules
 
-slice-aggregate-or-named-5 : tie.Need-slice-aggregate-or-named-5
-slice-aggregate-or-named-5 c = search rules
-
-or-named-requires-5 : tie.Need-or-named-requires-5
+or-named-requires-5 : tie.Need-or_named-e-requires
 or-named-requires-5 c κs = search rules
 
-slice-aggregate-or-named-6 : tie.Need-slice-aggregate-or-named-6
-slice-aggregate-or-named-6 c = search rules
-
-or-named-requires-6 : tie.Need-or-named-requires-6
+or-named-requires-6 : tie.Need-or_named-f-requires
 or-named-requires-6 c κs = search rules
 
-slice-aggregate-or-named-7 : tie.Need-slice-aggregate-or-named-7
-slice-aggregate-or-named-7 c = search rules
-
-or-named-requires-7 : tie.Need-or-named-requires-7
+or-named-requires-7 : tie.Need-or_named-g-requires
 or-named-requires-7 c κs = search rules
 
-slice-aggregate-or-named-8 : tie.Need-slice-aggregate-or-named-8
-slice-aggregate-or-named-8 c = search rules
-
-or-named-requires-8 : tie.Need-or-named-requires-8
+or-named-requires-8 : tie.Need-or_named-requires
 or-named-requires-8 c κs = search rules
 
 returns : tie.Need-returns
 unfolding first_named
 returns c =
-    let or-named8 = c.or-named8 in
-    let or-named7 = c.before.before.or-named7 in
-    let or-named6 = c.before.before.before.before.or-named6 in
-    let or-named5 = c.before.before.before.before.before.before.or-named5 in
-    let or-named4 = c.before.before.before.before.before.before.before.before.or-named4 in
-    let or-named3 = c.before.before.before.before.before.before.before.before.before.before.or-named3 in
-    let or-named2 = c.before.before.before.before.before.before.before.before.before.before.before.before.or-named2 in
-    let or-named = c.before.before.before.before.before.before.before.before.before.before.before.before.before.before.or-named in
-    scanned_from or-named8.result or-named8.ensures (rw (
-      or-named7.ensures.is,
-      or-named6.ensures.is,
-      or-named5.ensures.is,
-      or-named4.ensures.is,
-      or-named3.ensures.is,
-      or-named2.ensures.is,
-      or-named.ensures.is,
+    scanned_from c.or_named.result c.or_named.ensures (rw (
+      c.or_named-g.ensures.is,
+      c.or_named-f.ensures.is,
+      c.or_named-e.ensures.is,
+      c.or_named-d.ensures.is,
+      c.or_named-c.ensures.is,
+      c.or_named-b.ensures.is,
+      c.or_named-a.ensures.is,
     )) (λ h. (omega arith, h))
 
-pub common-name-spec : {M : Type 1} → statement M
-common-name-spec =
+pub common_name_spec : {M : Type 1} → statement M
+common_name_spec =
     tie.close
     (tie.spec
-    slice-aggregate-or-named
     or-named-requires
-    slice-aggregate-or-named-2
     or-named-requires-2
-    slice-aggregate-or-named-3
     or-named-requires-3
-    slice-aggregate-or-named-4
     or-named-requires-4
-    slice-aggregate-or-named-5
     or-named-requires-5
-    slice-aggregate-or-named-6
     or-named-requires-6
-    slice-aggregate-or-named-7
     or-named-requires-7
-    slice-aggregate-or-named-8
     or-named-requires-8
     returns)

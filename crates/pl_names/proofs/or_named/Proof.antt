@@ -9,42 +9,36 @@ use native.Mathlib.Omega.{arith}
 use Rattle.pl_names.proofs.or_named.Statement.{statement}
 use Rattle.pl_names.proofs.or_named.Tie as tie
 
-enum_told : tie.Need-enum-told
+enum_told : tie.Need-enum_told-1
 enum_told c = search rules
 
-enum-told-2 : tie.Need-enum-told-2
+enum-told-2 : tie.Need-enum_told-in-Refused
 enum-told-2 c = search rules
 
-past-name-requires : tie.Need-past-name-requires
+past-name-requires : tie.Need-past_name-requires
 past-name-requires c κs = search rules
 
-enum-known-n : tie.Need-enum-known-n
+enum-known-n : tie.Need-enum_known-n
 enum-known-n c = search rules
 
-enum-told-3 : tie.Need-enum-told-3
+enum-told-3 : tie.Need-enum_told-in-Refused-past_name
 enum-told-3 c = search rules
 
-returns : tie.Need-returns
+returns : tie.Need-returns-in-Value
 returns c = search rules
 
-returns-2 : tie.Need-returns-2
+returns-2 : tie.Need-returns-in-At
 returns-2 c =
-    let n = c.before.n in
-    let past-name = c.before.before.before.past-name in
-    let enum-told2 = c.before.before.before.before.enum-told2 in
-    let pre = c.before.before.before.before.before.before.before.before.requires in
-    let k = known_at past-name.ensures n.given.1 in
-    scanned_at _ (rw (enum-told2.given.1, k.0)) (λ h. omega (arith, k.1 h, pre.0)) k.2
+    let pre = c.requires in
+    let k = known_at c.past_name.ensures c.in-At.is in
+    scanned_at _ (rw (c.in-Refused.is, k.0)) (λ h. omega (arith, k.1 h, pre.0)) k.2
 
-returns-3 : tie.Need-returns-3
+returns-3 : tie.Need-returns-in-Refused-past_name
 returns-3 c =
-    let enum-told3 = c.enum-told3 in
-    let past-name = c.before.before.past-name in
-    let enum-told2 = c.before.before.before.enum-told2 in
-    scanned_none _ (rw (enum-told2.given.1, known_none past-name.ensures enum-told3.given.1))
+    scanned_none _ (rw (c.in-Refused.is, known_none c.past_name.ensures c.in-Refused-past_name.is))
 
-pub or-named-spec : {M : Type 1} → statement M
-or-named-spec =
+pub or_named_spec : {M : Type 1} → statement M
+or_named_spec =
     tie.close
     (tie.spec
     enum_told

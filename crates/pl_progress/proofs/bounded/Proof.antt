@@ -4,17 +4,15 @@ use borrow.Author.Tests.{eq-eqb, ne_eqb}
 use Rattle.pl_progress.proofs.bounded.Statement.{statement}
 use Rattle.pl_progress.proofs.bounded.Tie as tie
 
-returns : tie.Need-returns
+returns : tie.Need-returns-then-s-ne0
 returns c =
-    let if1 = c.if1 in
-    let args = c.before.before.args in
-    rw (ne_eqb args.s.stage 0 if1.true)
+    let args = c.args in
+    rw (ne_eqb args.s.stage 0 c.if-s-ne0.true)
 
-returns-2 : tie.Need-returns-2
+returns-2 : tie.Need-returns
 returns-2 c =
-    let if1 = c.if1 in
-    let args = c.before.before.args in
-    rw (eq-eqb args.s.stage 0 if1.false)
+    let args = c.args in
+    rw (eq-eqb args.s.stage 0 c.if-s-ne0.false)
 
 pub bounded_spec : {M : Type 1} → statement M
 bounded_spec =

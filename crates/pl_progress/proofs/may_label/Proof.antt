@@ -5,32 +5,26 @@ use borrow.Author.Rules.{rules}
 use Rattle.pl_progress.proofs.may_label.Statement.{statement}
 use Rattle.pl_progress.proofs.may_label.Tie as tie
 
-returns : tie.Need-returns
+returns : tie.Need-returns-then-s-ne2
 returns c =
-    let if1 = c.if1 in
-    let args = c.before.before.args in
-    rw (ne_eqb args.s.stage 2 if1.true)
+    let args = c.args in
+    rw (ne_eqb args.s.stage 2 c.if-s-ne2.true)
 
-returns-2 : tie.Need-returns-2
+returns-2 : tie.Need-returns-then-c-ge256
 returns-2 c =
-    let if2 = c.if2 in
-    let if1 = c.before.if1 in
-    let args = c.before.before.before.args in
-    rw (eq-eqb args.s.stage 2 if1.false, le-ltb args.c 256 if2.true)
+    let args = c.args in
+    rw (eq-eqb args.s.stage 2 c.if-s-ne2.false, le-ltb args.c 256 c.if-c-ge256.true)
 
-has-label-requires : tie.Need-has-label-requires
+has-label-requires : tie.Need-has_label-requires
 has-label-requires c κs = search rules
 
-returns-3 : tie.Need-returns-3
+returns-3 : tie.Need-returns
 returns-3 c =
-    let has-label = c.has-label in
-    let if2 = c.before.if2 in
-    let if1 = c.before.before.if1 in
-    let args = c.before.before.before.before.args in
-    rw (eq-eqb args.s.stage 2 if1.false, lt-ltb args.c 256 if2.false, has-label.ensures)
+    let args = c.args in
+    rw (eq-eqb args.s.stage 2 c.if-s-ne2.false, lt-ltb args.c 256 c.if-c-ge256.false, c.has_label.ensures)
 
-pub may-label-spec : {M : Type 1} → statement M
-may-label-spec =
+pub may_label_spec : {M : Type 1} → statement M
+may_label_spec =
     tie.close
     (tie.spec
     returns

@@ -8,40 +8,31 @@ use borrow.Author.Rules.{rules}
 use Rattle.pl_read.proofs.list_refusal.Statement.{statement}
 use Rattle.pl_read.proofs.list_refusal.Tie as tie
 
-returns : tie.Need-returns
+returns : tie.Need-returns-then-steps-gt32767
 returns c =
-    let if1 = c.if1 in
-    let args = c.before.args in
-    rw (lt-leb args.steps 32767 if1.true)
+    let args = c.args in
+    rw (lt-leb args.steps 32767 c.if-steps-gt32767.true)
 
-mul-if2 : tie.Need-overflow-mul-if2
+mul-if2 : tie.Need-overflow_mul-steps
 mul-if2 c = search rules
 
-returns-2 : tie.Need-returns-2
+returns-2 : tie.Need-returns-then-room-steps
 returns-2 c =
-    let if2 = c.if2 in
-    let if1 = c.before.if1 in
-    let args = c.before.before.args in
-    rw (le-leb args.steps 32767 if1.false, lt-leb (4 * args.steps) args.room if2.true)
+    let args = c.args in
+    rw (le-leb args.steps 32767 c.if-steps-gt32767.false, lt-leb (4 * args.steps) args.room c.if-room-steps.true)
 
-returns-3 : tie.Need-returns-3
+returns-3 : tie.Need-returns-then-space-entries
 returns-3 c =
-    let if3 = c.if3 in
-    let if2 = c.before.if2 in
-    let if1 = c.before.before.if1 in
-    let args = c.before.before.before.args in
-    rw (le-leb args.steps 32767 if1.false, le-leb (4 * args.steps) args.room if2.false, lt-leb args.entries args.space if3.true)
+    let args = c.args in
+    rw (le-leb args.steps 32767 c.if-steps-gt32767.false, le-leb (4 * args.steps) args.room c.if-room-steps.false, lt-leb args.entries args.space c.if-space-entries.true)
 
-returns-4 : tie.Need-returns-4
+returns-4 : tie.Need-returns
 returns-4 c =
-    let if3 = c.if3 in
-    let if2 = c.before.if2 in
-    let if1 = c.before.before.if1 in
-    let args = c.before.before.before.args in
-    rw (le-leb args.steps 32767 if1.false, le-leb (4 * args.steps) args.room if2.false, le-leb args.entries args.space if3.false)
+    let args = c.args in
+    rw (le-leb args.steps 32767 c.if-steps-gt32767.false, le-leb (4 * args.steps) args.room c.if-room-steps.false, le-leb args.entries args.space c.if-space-entries.false)
 
-pub list-refusal-spec : {M : Type 1} → statement M
-list-refusal-spec =
+pub list_refusal_spec : {M : Type 1} → statement M
+list_refusal_spec =
     tie.close
     (tie.spec
     returns

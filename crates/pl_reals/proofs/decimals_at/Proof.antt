@@ -20,84 +20,76 @@ none-sum : 0 ≡ real_decimals []
 unfolding decimal_sum
 none-sum = refl
 
-shared-slice-read-if2 : tie.Need-shared-slice-read-if2
+shared-slice-read-if2 : tie.Need-bounds-text-at
 shared-slice-read-if2 c = search rules
 
-add-figures-end : tie.Need-add-figures-end
+add-figures-end : tie.Need-overflow_add-at
 add-figures-end c = search rules
 
-figures-end-requires : tie.Need-figures-end-requires
+figures-end-requires : tie.Need-figures_end-end-requires
 figures-end-requires c κs = search rules
 
-add-smaller : tie.Need-add-smaller
+add-smaller : tie.Need-overflow_add-at-then-text-at-eq46
 add-smaller c = search rules
 
-sub-smaller : tie.Need-sub-smaller
+sub-smaller : tie.Need-overflow_sub-end
 sub-smaller c = search rules
 
-smaller-requires : tie.Need-smaller-requires
+smaller-requires : tie.Need-smaller-seven-requires
 smaller-requires c κs = search rules
 
-add-decimal-sum : tie.Need-add-decimal-sum
+add-decimal-sum : tie.Need-overflow_add-at-then-text-at-eq46-2
 add-decimal-sum c = search rules
 
-add-decimal-sum-2 : tie.Need-add-decimal-sum-2
+add-decimal-sum-2 : tie.Need-overflow_add-at-then-text-at-eq46-3
 add-decimal-sum-2 c = search rules
 
-add-decimal-sum-3 : tie.Need-add-decimal-sum-3
+add-decimal-sum-3 : tie.Need-overflow_add-at-then-text-at-eq46-4
 add-decimal-sum-3 c = search rules
 
-decimal-sum-requires : tie.Need-decimal-sum-requires
+decimal-sum-requires : tie.Need-decimal_sum-requires
 decimal-sum-requires c κs = search rules
 
-add-value : tie.Need-add-value
+add-value : tie.Need-overflow_add-value
 add-value c = search rules
 
-returns : tie.Need-returns
+returns : tie.Need-returns-then-text-at-eq46
 returns c =
-    let decimal-sum = c.decimal-sum in
-    let smaller = c.before.smaller in
-    let figures-end = c.before.before.figures-end in
-    let if2 = c.before.before.before.if2 in
-    let if1 = c.before.before.before.before.before.if1 in
-    let args = c.before.before.before.before.before.before.before.args in
+    let args = c.args in
     let t = args.text.now in
-    let f = figures-end.ensures in
-    let e : decimals_at (drop args.at t) ≡ slice (args.at + 1) figures-end.result t =
-    rw (at_byte t args.at if1.taken, eq-eqb (get_or t args.at 0) 46 if2.taken) f.digits in
-    let s = first_seven t (args.at + 1) figures-end.result smaller.result f.low f.high smaller.ensures in
+    let f = c.figures_end-end.ensures in
+    let e : decimals_at (drop args.at t) ≡ slice (args.at + 1) c.figures_end-end.result t =
+    rw (at_byte t args.at c.if-at-text.true, eq-eqb (get_or t args.at 0) 46 c.if-text-at-eq46.true) f.digits in
+    let s = first_seven t (args.at + 1) c.figures_end-end.result c.smaller-seven.result f.low f.high c.smaller-seven.ensures in
     record {
-      value_is = rw (decimal-sum.ensures.0, e, s);
-      rest = rw (at_byte t args.at if1.taken, eq-eqb (get_or t args.at 0) 46 if2.taken) (sym f.rest);
+      value_is = rw (c.decimal_sum.ensures.0, e, s);
+      rest = rw (at_byte t args.at c.if-at-text.true, eq-eqb (get_or t args.at 0) 46 c.if-text-at-eq46.true) (sym f.rest);
       low = omega (arith, f.low);
       high = f.high;
     }
 
-returns-2 : tie.Need-returns-2
+returns-2 : tie.Need-returns-else-text-at-eq46
 returns-2 c =
-    let if2 = c.if2 in
-    let if1 = c.before.before.if1 in
-    let args = c.before.before.before.before.args in
-    let pre = c.before.before.before.before.pre in
+    let args = c.args in
+    let pre = c.requires in
     let t = args.text.now in
-    let e = ne_eqb (get_or t args.at 0) 46 if2.left in
+    let e = ne_eqb (get_or t args.at 0) 46 c.if-text-at-eq46.false in
     record {
-      value_is = rw (at_byte t args.at if1.taken, e) none-sum;
-      rest = rw (at_byte t args.at if1.taken, e);
+      value_is = rw (at_byte t args.at c.if-at-text.true, e) none-sum;
+      rest = rw (at_byte t args.at c.if-at-text.true, e);
       low = omega arith;
       high = pre;
     }
 
-returns-3 : tie.Need-returns-3
+returns-3 : tie.Need-returns-else-at-text
 returns-3 c =
-    let if1 = c.if1 in
-    let args = c.before.before.args in
-    let pre = c.before.before.pre in
+    let args = c.args in
+    let pre = c.requires in
     let t = args.text.now in
-    record { value_is = rw (at_end_lem t args.at if1.left) none-sum; rest = rw (at_end_lem t args.at if1.left); low = omega arith; high = pre }
+    record { value_is = rw (at_end_lem t args.at c.if-at-text.false) none-sum; rest = rw (at_end_lem t args.at c.if-at-text.false); low = omega arith; high = pre }
 
-pub decimals-at-spec : {M : Type 1} → statement M
-decimals-at-spec =
+pub decimals_at_spec : {M : Type 1} → statement M
+decimals_at_spec =
     tie.close
     (tie.spec
     shared-slice-read-if2

@@ -5,19 +5,17 @@ use native.Mathlib.Omega.{arith}
 use Rattle.pl_reals.proofs.signs_end.Statement.{statement}
 use Rattle.pl_reals.proofs.signs_end.Tie as tie
 
-returns : tie.Need-returns
+returns : tie.Need-returns-then-held
 returns c =
-    let if1 = c.if1 in
-    scanned_none _ (rw if1.true)
+    scanned_none _ (rw c.if-held.true)
 
-returns-2 : tie.Need-returns-2
+returns-2 : tie.Need-returns
 returns-2 c =
-    let if1 = c.if1 in
-    let pre = c.before.requires in
-    scanned_at _ (rw if1.false) (λ _. omega arith) (pre)
+    let pre = c.requires in
+    scanned_at _ (rw c.if-held.false) (λ _. omega arith) (pre)
 
-pub signs-end-spec : {M : Type 1} → statement M
-signs-end-spec =
+pub signs_end_spec : {M : Type 1} → statement M
+signs_end_spec =
     tie.close
     (tie.spec
     returns

@@ -6,24 +6,22 @@ use native.Mathlib.Omega.{arith}
 use Rattle.pl_reals.proofs.turned.Statement.{statement}
 use Rattle.pl_reals.proofs.turned.Tie as tie
 
-sub-result : tie.Need-overflow-sub-result
+sub-result : tie.Need-overflow_sub-result
 sub-result c = search rules
 
-returns : tie.Need-returns
+returns : tie.Need-returns-then-b-eq45
 returns c =
-    let if1 = c.if1 in
-    let args = c.before.args in
-    (rw (eq-eqb args.b 45 if1.true), omega arith)
+    let args = c.args in
+    (rw (eq-eqb args.b 45 c.if-b-eq45.true), omega arith)
 
-returns-2 : tie.Need-returns-2
+returns-2 : tie.Need-returns
 returns-2 c =
-    let if1 = c.if1 in
-    let args = c.before.args in
-    let pre = c.before.requires in
-    (rw (ne_eqb args.b 45 if1.false), pre)
+    let args = c.args in
+    let pre = c.requires in
+    (rw (ne_eqb args.b 45 c.if-b-eq45.false), pre)
 
-pub turned-spec : {M : Type 1} → statement M
-turned-spec =
+pub turned_spec : {M : Type 1} → statement M
+turned_spec =
     tie.close
     (tie.spec
     sub-result

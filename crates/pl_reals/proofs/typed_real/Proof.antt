@@ -13,119 +13,87 @@ use native.Mathlib.Omega.{arith}
 use Rattle.pl_reals.proofs.typed_real.Statement.{statement}
 use Rattle.pl_reals.proofs.typed_real.Tie as tie
 
-returns : tie.Need-returns
+returns : tie.Need-returns-then-text-at
 returns c =
-    let if1 = c.if1 in
-    let args = c.before.before.args in
-    scanned_none _ (rw (at_end_lem args.text.now args.at if1.true))
+    let args = c.args in
+    scanned_none _ (rw (at_end_lem args.text.now args.at c.if-text-at.true))
 
-shared-slice-read-upper-case : tie.Need-shared-slice-read-upper-case
+shared-slice-read-upper-case : tie.Need-bounds-text-at
 shared-slice-read-upper-case c = search rules
 
-upper-case-requires : tie.Need-upper-case-requires
+upper-case-requires : tie.Need-upper_case-requires
 upper-case-requires c κs = search rules
 
-is-real-requires : tie.Need-is-real-requires
+is-real-requires : tie.Need-is_real-requires
 is-real-requires c κs = search rules
 
-returns-2 : tie.Need-returns-2
+returns-2 : tie.Need-returns-then-not-is_real
 returns-2 c =
-    let if2 = c.if2 in
-    let is_real = c.before.is_real in
-    let upper-case = c.before.before.upper-case in
-    let if1 = c.before.before.before.before.if1 in
-    let args = c.before.before.before.before.before.before.args in
+    let args = c.args in
     let t = args.text.now in
-    let f : one_of (eqb upper-case.result 82) (eqb upper-case.result 68) ≡ false = sym is_real.ensures ∙ not-true _ if2.true in
-    let u : upper_case (get_or t args.at 0) ≡ upper-case.result = sym upper-case.ensures in
-    scanned_none _ (rw (at_byte t args.at if1.false, u, f))
+    let f : one_of (eqb c.upper_case.result 82) (eqb c.upper_case.result 68) ≡ false = sym c.is_real.ensures ∙ c.if-not-is_real.true in
+    let u : upper_case (get_or t args.at 0) ≡ c.upper_case.result = sym c.upper_case.ensures in
+    scanned_none _ (rw (at_byte t args.at c.if-text-at.false, u, f))
 
-add-past-signs : tie.Need-overflow-add-past-signs
+add-past-signs : tie.Need-overflow_add-at
 add-past-signs c = search rules
 
-past-signs-requires : tie.Need-past-signs-requires
+past-signs-requires : tie.Need-past_signs-requires
 past-signs-requires c κs = omega arith
 
-enum-known-minus : tie.Need-enum-known-minus
+enum-known-minus : tie.Need-enum_known-minus
 enum-known-minus c = search rules
 
-enum_told : tie.Need-enum-told
+enum_told : tie.Need-enum_told-1
 enum_told c = search rules
 
-returns-3 : tie.Need-returns-3
+returns-3 : tie.Need-returns-in_default
 returns-3 c =
-    let enum_told = c.enum_told in
-    let past-signs = c.before.before.past-signs in
-    let if2 = c.before.before.before.if2 in
-    let is_real = c.before.before.before.before.is_real in
-    let upper-case = c.before.before.before.before.before.upper-case in
-    let if1 = c.before.before.before.before.before.before.before.if1 in
-    let args = c.before.before.before.before.before.before.before.before.before.args in
+    let args = c.args in
     let t = args.text.now in
-    let u : upper_case (get_or t args.at 0) ≡ upper-case.result = sym upper-case.ensures in
-    let f : one_of (eqb upper-case.result 82) (eqb upper-case.result 68) ≡ true = sym is_real.ensures ∙ not-false _ if2.false in
-    let b = at_byte t args.at if1.false in
-    scanned_none _ (rw (b, u, f, value_none past-signs.ensures enum_told.given.1))
+    let u : upper_case (get_or t args.at 0) ≡ c.upper_case.result = sym c.upper_case.ensures in
+    let f : one_of (eqb c.upper_case.result 82) (eqb c.upper_case.result 68) ≡ true = sym c.is_real.ensures ∙ c.if-not-is_real.false in
+    let b = at_byte t args.at c.if-text-at.false in
+    scanned_none _ (rw (b, u, f, value_none c.past_signs.ensures c.in_default.is))
 
-whole-digits-requires : tie.Need-whole-digits-requires
+whole-digits-requires : tie.Need-whole_digits-requires
 whole-digits-requires c κs =
-    let minus = c.before.minus in
-    let past-signs = c.before.before.before.past-signs in
-    (value_at past-signs.ensures minus.given.1).2
+    (value_at c.past_signs.ensures c.in-Value.is).2
 
-enum-known-whole : tie.Need-enum-known-whole
+enum-known-whole : tie.Need-enum_known-whole
 enum-known-whole c = search rules
 
-enum-told-2 : tie.Need-enum-told-2
+enum-told-2 : tie.Need-enum_told-in_default-whole_digits
 enum-told-2 c = search rules
 
-returns-4 : tie.Need-returns-4
+returns-4 : tie.Need-returns-in_default-whole_digits
 returns-4 c =
-    let enum-told2 = c.enum-told2 in
-    let whole_digits_lem = c.before.before.whole_digits_lem in
-    let minus = c.before.before.before.before.minus in
-    let past-signs = c.before.before.before.before.before.before.past-signs in
-    let if2 = c.before.before.before.before.before.before.before.if2 in
-    let is_real = c.before.before.before.before.before.before.before.before.is_real in
-    let upper-case = c.before.before.before.before.before.before.before.before.before.upper-case in
-    let if1 = c.before.before.before.before.before.before.before.before.before.before.before.if1 in
-    let args = c.before.before.before.before.before.before.before.before.before.before.before.before.before.args in
+    let args = c.args in
     let t = args.text.now in
-    let u : upper_case (get_or t args.at 0) ≡ upper-case.result = sym upper-case.ensures in
-    let f : one_of (eqb upper-case.result 82) (eqb upper-case.result 68) ≡ true = sym is_real.ensures ∙ not-false _ if2.false in
-    let b = at_byte t args.at if1.false in
-    let s = value_at past-signs.ensures minus.given.1 in
-    scanned_none _ (rw (b, u, f, s.0, value_none whole_digits_lem.ensures enum-told2.given.1))
+    let u : upper_case (get_or t args.at 0) ≡ c.upper_case.result = sym c.upper_case.ensures in
+    let f : one_of (eqb c.upper_case.result 82) (eqb c.upper_case.result 68) ≡ true = sym c.is_real.ensures ∙ c.if-not-is_real.false in
+    let b = at_byte t args.at c.if-text-at.false in
+    let s = value_at c.past_signs.ensures c.in-Value.is in
+    scanned_none _ (rw (b, u, f, s.0, value_none c.whole_digits.ensures c.in_default-whole_digits.is))
 
-real-from-requires : tie.Need-real-from-requires
+real-from-requires : tie.Need-real_from-requires
 real-from-requires c κs =
-    let whole = c.before.whole in
-    let whole_digits_lem = c.before.before.before.whole_digits_lem in
-    (value_at whole_digits_lem.ensures whole.given.1).2
+    (value_at c.whole_digits.ensures c.in-Value-whole_digits.is).2
 
-returns-5 : tie.Need-returns-5
+returns-5 : tie.Need-returns
 returns-5 c =
-    let real-from = c.real-from in
-    let whole = c.before.before.whole in
-    let whole_digits_lem = c.before.before.before.before.whole_digits_lem in
-    let minus = c.before.before.before.before.before.before.minus in
-    let past-signs = c.before.before.before.before.before.before.before.before.past-signs in
-    let if2 = c.before.before.before.before.before.before.before.before.before.if2 in
-    let is_real = c.before.before.before.before.before.before.before.before.before.before.is_real in
-    let upper-case = c.before.before.before.before.before.before.before.before.before.before.before.upper-case in
-    let if1 = c.before.before.before.before.before.before.before.before.before.before.before.before.before.if1 in
-    let args = c.before.before.before.before.before.before.before.before.before.before.before.before.before.before.before.args in
+    let args = c.args in
     let t = args.text.now in
-    let u : upper_case (get_or t args.at 0) ≡ upper-case.result = sym upper-case.ensures in
-    let f : one_of (eqb upper-case.result 82) (eqb upper-case.result 68) ≡ true = sym is_real.ensures ∙ not-false _ if2.false in
-    let b = at_byte t args.at if1.false in
-    let s = value_at past-signs.ensures minus.given.1 in
-    let w = value_at whole_digits_lem.ensures whole.given.1 in
-    scanned_from real-from.result real-from.ensures (sym (rw (b, u, f, s.0, w.0))) (λ h.
-    (omega (arith, s.1 (omega (arith, if1.false)), w.1 s.2), w.2))
+    let u : upper_case (get_or t args.at 0) ≡ c.upper_case.result = sym c.upper_case.ensures in
+    let f : one_of (eqb c.upper_case.result 82) (eqb c.upper_case.result 68) ≡ true = sym c.is_real.ensures ∙ c.if-not-is_real.false in
+    let b = at_byte t args.at c.if-text-at.false in
+    let s = value_at c.past_signs.ensures c.in-Value.is in
+    let w = value_at c.whole_digits.ensures c.in-Value-whole_digits.is in
+    scanned_from c.real_from.result c.real_from.ensures (sym (rw (b, u, f, s.0, w.0))) (λ h.
+    (omega (arith, s.1 (omega (arith, c.if-text-at.false)), w.1 s.2), w.2))
 
-pub typed-real-spec : {M : Type 1} → statement M
-typed-real-spec =
+pub typed_real_spec : {M : Type 1} → statement M
+typed_real_spec =
     tie.close
     (tie.spec
     returns

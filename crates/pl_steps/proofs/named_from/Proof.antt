@@ -10,37 +10,30 @@ use native.Mathlib.Omega.{arith}
 use Rattle.pl_steps.proofs.named_from.Statement.{statement}
 use Rattle.pl_steps.proofs.named_from.Tie as tie
 
-name-at-requires : tie.Need-name-at-requires
+name-at-requires : tie.Need-name_at-requires
 name-at-requires c κs = search rules
 
-enum-known-code : tie.Need-enum-known-code
+enum-known-code : tie.Need-enum_known-code
 enum-known-code c = search rules
 
-enum_told : tie.Need-enum-told
+enum_told : tie.Need-enum_told-1
 enum_told c = search rules
 
-returns : tie.Need-returns
+returns : tie.Need-returns-in_default
 returns c =
-    let enum_told = c.enum_told in
-    let name-at = c.before.before.name-at in
-    property_none _ (rw (value_none name-at.ensures enum_told.given.1))
+    property_none _ (rw (value_none c.name_at.ensures c.in_default.is))
 
-by-code-requires : tie.Need-by-code-requires
+by-code-requires : tie.Need-by_code-requires
 by-code-requires c κs =
-    let code = c.before.code in
-    let name-at = c.before.before.before.name-at in
-    (value_at name-at.ensures code.given.1).2
+    (value_at c.name_at.ensures c.in-Value.is).2
 
-returns-2 : tie.Need-returns-2
+returns-2 : tie.Need-returns
 returns-2 c =
-    let by_code = c.by_code in
-    let code = c.before.before.code in
-    let name-at = c.before.before.before.before.name-at in
-    let k = value_at name-at.ensures code.given.1 in
-    property_from_lem by_code.result by_code.ensures (sym (rw k.0)) (λ h. (λ p. omega (arith, k.1 h), k.2))
+    let k = value_at c.name_at.ensures c.in-Value.is in
+    property_from_lem c.by_code.result c.by_code.ensures (sym (rw k.0)) (λ h. (λ p. omega (arith, k.1 h), k.2))
 
-pub named-from-spec : {M : Type 1} → statement M
-named-from-spec =
+pub named_from_spec : {M : Type 1} → statement M
+named_from_spec =
     tie.close
     (tie.spec
     name-at-requires

@@ -5,33 +5,28 @@ use borrow.Author.Rules.{rules}
 use Rattle.pl_write.proofs.put_display.Statement.{statement}
 use Rattle.pl_write.proofs.put_display.Tie as tie
 
-entries-table-requires : tie.Need-entries-table-requires
+entries-table-requires : tie.Need-entries_table-table-requires
 entries-table-requires c κs = search rules
 
-word-of-requires : tie.Need-word-of-requires
+word-of-requires : tie.Need-word_of-requires
 word-of-requires c κs = search rules
 
-put-boundary-requires : tie.Need-put-boundary-requires
+put-boundary-requires : tie.Need-put_boundary-next-requires
 put-boundary-requires c κs = search rules
 
-put-table-requires : tie.Need-put-table-requires
+put-table-requires : tie.Need-put_table-requires
 put-table-requires c κs = search rules
 
-same_length : tie.Need-same-length
+same_length : tie.Need-shape_of-out
 same_length c = search rules
 
 returns : tie.Need-returns
 returns c =
-    let x₁ = c.before.before in
-    let x₂ = x₁.before.before.before.before.before in
-    let x₃ = x₂.before in
-    let x₄ = x₃.before.before in
-    let x₅ = x₄.before.before in
-    display_put x₅.args.instructions.now x₅.args.kerns.now x₅.args.entries.now x₄.entries-table.result x₅.ranges.boundary
-    x₅.ranges.left_entry_lem x₄.entries-table.ensures x₃.word_of.ensures x₂.put-boundary.ensures x₁.put-table.ensures
+    display_put c.args.instructions.now c.args.kerns.now c.args.entries.now c.entries_table-table.result c.ranges.boundary
+    c.ranges.left_entry c.entries_table-table.ensures c.word_of.ensures c.put_boundary-next.ensures c.put_table.ensures
 
-pub put-display-spec : {M : Type 1} → statement M
-put-display-spec =
+pub put_display_spec : {M : Type 1} → statement M
+put_display_spec =
     tie.close
     (tie.spec
     entries-table-requires

@@ -12,55 +12,45 @@ use Rattle.property_lists.specs.Displays.{instruction_shown}
 use Rattle.pl_write_refusals.proofs.instructions_shown.Statement.{statement}
 use Rattle.pl_write_refusals.proofs.instructions_shown.Tie as tie
 
-abbrev invariant-loop : tie.invariant-loop
+abbrev invariant-loop : tie.invariant-loop-i
 invariant-loop instructions kerns i₀ i = (i ≤ count instructions) × (every i (instruction_shown instructions kerns) ≡ true)
 
-abbrev decreases-loop : tie.decreases-loop
+abbrev decreases-loop : tie.decreases-loop-i
 decreases-loop instructions kerns i₀ i = count instructions - i
 
-loop-holds : tie.Need-loop-init invariant-loop decreases-loop
+loop-holds : tie.Need-loop-i-init invariant-loop decreases-loop
 loop-holds c = (omega arith, every_none (instruction_shown c.args.instructions.now c.args.kerns))
 
-is-instruction-shown-requires : tie.Need-is-instruction-shown-requires invariant-loop decreases-loop
-is-instruction-shown-requires c κs = c.loop-test.true
+is-instruction-shown-requires : tie.Need-is_instruction_shown-requires invariant-loop decreases-loop
+is-instruction-shown-requires c κs = c.loop-i-test.true
 
-returns : tie.Need-returns invariant-loop decreases-loop
+returns : tie.Need-returns-then-not-is_instruction_shown invariant-loop decreases-loop
 returns c =
-    let x₁ = c.before in
-    let x₂ = x₁.before in
-    let x₃ = x₂.before in
-    let x₄ = x₃.before in
-    let s = x₄.args.instructions.now in
-    sym (every_fails (count s) x₃.loop.i (instruction_shown s x₄.args.kerns) x₂.loop-test.true (sym
-    x₁.is-instruction-shown.ensures ∙ not-true _ c.if1.true))
+    let s = c.args.instructions.now in
+    sym (every_fails (count s) c.loop-i.i (instruction_shown s c.args.kerns) c.loop-i-test.true (sym
+    c.is_instruction_shown.ensures ∙ c.if-not-is_instruction_shown.true))
 
-add-i : tie.Need-overflow-add-i invariant-loop decreases-loop
+add-i : tie.Need-overflow_add-i invariant-loop decreases-loop
 add-i c = omega arith
 
-loop-less : tie.Need-loop-smaller invariant-loop decreases-loop
+loop-less : tie.Need-loop-i-smaller invariant-loop decreases-loop
 loop-less c = omega arith
 
-loop-again : tie.Need-loop-preserved invariant-loop decreases-loop
-loop-again c =
-    let x₁ = c.before in
-    let x₂ = x₁.before in
-    let x₃ = x₂.before in
-    let x₄ = x₃.before in (
-      omega (arith, x₂.loop-test.true),
-      every_more x₃.loop.i (instruction_shown x₄.args.instructions.now x₄.args.kerns)
-          x₃.loop.invariant.1
-          (sym x₁.is-instruction-shown.ensures ∙ not-false _ c.if1.false),
-    )
+loop-again : tie.Need-loop-i-preserved invariant-loop decreases-loop
+loop-again c = (
+  omega (arith, c.loop-i-test.true),
+  every_more c.loop-i.i (instruction_shown c.args.instructions.now c.args.kerns)
+      c.loop-i.invariant.1
+      (sym c.is_instruction_shown.ensures ∙ c.if-not-is_instruction_shown.false),
+)
 
-returns-2 : tie.Need-returns-2 invariant-loop decreases-loop
+returns-2 : tie.Need-returns invariant-loop decreases-loop
 returns-2 c =
-    let x₁ = c.before in
-    let x₂ = x₁.before in
-    let s = x₂.args.instructions.now in
-    sym (every_to (count s) x₁.loop.i (instruction_shown s x₂.args.kerns) x₁.loop.invariant.1 x₁.loop.invariant.0 c.loop-test.false)
+    let s = c.args.instructions.now in
+    sym (every_to (count s) c.loop-i.i (instruction_shown s c.args.kerns) c.loop-i.invariant.1 c.loop-i.invariant.0 c.loop-i-test.false)
 
-pub instructions-shown-spec : {M : Type 1} → statement M
-instructions-shown-spec =
+pub instructions_shown_spec : {M : Type 1} → statement M
+instructions_shown_spec =
     tie.close
     (tie.spec
     invariant-loop

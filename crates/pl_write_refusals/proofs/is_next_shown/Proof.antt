@@ -6,27 +6,30 @@ use borrow.Author.Rules.{rules}
 use Rattle.pl_write_refusals.proofs.is_next_shown.Statement.{statement}
 use Rattle.pl_write_refusals.proofs.is_next_shown.Tie as tie
 
-returns : tie.Need-returns
+returns : tie.Need-returns-then-next-ge2147483648
 returns c =
-    let x₁ = c.before in
-    next_absent x₁.args.n x₁.args.i x₁.args.next c.if1.true
+    next_absent c.args.n c.args.i c.args.next c.if-next-ge2147483648.true
 
-returns-2 : tie.Need-returns-2
+returns-2 : tie.Need-returns-then-next-gt127
 returns-2 c =
-    let x₁ = c.before in
-    let x₂ = x₁.before in
-    next_far x₂.args.n x₂.args.i x₂.args.next (omega (arith, x₁.if1.false)) c.if2.true
+    next_far c.args.n c.args.i c.args.next (omega (arith, c.if-next-ge2147483648.false)) c.if-next-gt127.true
 
-sub-result : tie.Need-overflow-sub-result
+sub-result : tie.Need-overflow_sub-result
 sub-result c = search rules
 
-sub-result-2 : tie.Need-overflow-sub-result-2
+sub-result-2 : tie.Need-overflow_sub-result-2
 sub-result-2 c = search rules
 
-returns-3 : tie.Need-returns-3
+returns-3 : tie.Need-returns
 returns-3 c =
-    let x₁ = c.before.before in
-    next_there x₁.args.n x₁.args.i x₁.args.next x₁.requires (omega (arith, c.if2.false))
+    next_there c.args.n c.args.i c.args.next c.requires (omega (arith, c.if-next-gt127.false))
 
-pub is-next-shown-spec : {M : Type 1} → statement M
-is-next-shown-spec = tie.close (tie.spec returns returns-2 sub-result sub-result-2 returns-3)
+pub is_next_shown_spec : {M : Type 1} → statement M
+is_next_shown_spec =
+    tie.close
+    (tie.spec
+    returns
+    returns-2
+    sub-result
+    sub-result-2
+    returns-3)

@@ -14,57 +14,47 @@ use borrow.Author.Rules.{rules}
 use Rattle.pl_write_refusals.proofs.kerns_shown.Statement.{statement}
 use Rattle.pl_write_refusals.proofs.kerns_shown.Tie as tie
 
-abbrev invariant-loop : tie.invariant-loop
+abbrev invariant-loop : tie.invariant-loop-i
 invariant-loop kerns i₀ i = (i ≤ length kerns) × (every i (λ k. has_text (get_or kerns k (pos 0))) ≡ true)
 
-abbrev decreases-loop : tie.decreases-loop
+abbrev decreases-loop : tie.decreases-loop-i
 decreases-loop kerns i₀ i = length kerns - i
 
-loop-holds : tie.Need-loop-init invariant-loop decreases-loop
+loop-holds : tie.Need-loop-i-init invariant-loop decreases-loop
 loop-holds c = (omega arith, every_none (λ k. has_text (get_or c.args.kerns.now k (pos 0))))
 
-word-at-requires : tie.Need-word-at-requires invariant-loop decreases-loop
+word-at-requires : tie.Need-word_at-requires invariant-loop decreases-loop
 word-at-requires c κs = search rules
 
-returns : tie.Need-returns invariant-loop decreases-loop
+returns : tie.Need-returns-then-word_at invariant-loop decreases-loop
 returns c =
-    let x₁ = c.before in
-    let x₂ = x₁.before in
-    let x₃ = x₂.before in
-    let x₄ = x₃.before in
-    let s = x₄.args.kerns.now in
+    let s = c.args.kerns.now in
     sym
-    (every_fails (length s) x₃.loop.i (λ k. has_text (get_or s k (pos 0))) (omega (arith, x₂.loop-test.true))
-    (no_text x₁.word_at.ensures c.if1.true))
+    (every_fails (length s) c.loop-i.i (λ k. has_text (get_or s k (pos 0))) (omega (arith, c.loop-i-test.true))
+    (no_text c.word_at.ensures c.if-word_at.true))
 
-add-i : tie.Need-overflow-add-i invariant-loop decreases-loop
+add-i : tie.Need-overflow_add-i invariant-loop decreases-loop
 add-i c = omega arith
 
-loop-less : tie.Need-loop-smaller invariant-loop decreases-loop
+loop-less : tie.Need-loop-i-smaller invariant-loop decreases-loop
 loop-less c = omega arith
 
-loop-again : tie.Need-loop-preserved invariant-loop decreases-loop
+loop-again : tie.Need-loop-i-preserved invariant-loop decreases-loop
 loop-again c =
-    let x₁ = c.before in
-    let x₂ = x₁.before in
-    let x₃ = x₂.before in
-    let x₄ = x₃.before in
-    let s = x₄.args.kerns.now in (
-      omega (arith, x₂.loop-test.true),
-      every_more x₃.loop.i (λ k. has_text (get_or s k (pos 0))) x₃.loop.invariant.1 (some_text
-          x₁.word_at.ensures c.if1.false),
+    let s = c.args.kerns.now in (
+      omega (arith, c.loop-i-test.true),
+      every_more c.loop-i.i (λ k. has_text (get_or s k (pos 0))) c.loop-i.invariant.1 (some_text
+          c.word_at.ensures c.if-word_at.false),
     )
 
-returns-2 : tie.Need-returns-2 invariant-loop decreases-loop
+returns-2 : tie.Need-returns invariant-loop decreases-loop
 returns-2 c =
-    let x₁ = c.before in
-    let x₂ = x₁.before in
-    let s = x₂.args.kerns.now in
-    let end : length s ≤ x₁.loop.i = omega (arith, c.loop-test.false) in
-    sym (every_to (length s) x₁.loop.i (λ k. has_text (get_or s k (pos 0))) x₁.loop.invariant.1 x₁.loop.invariant.0 end)
+    let s = c.args.kerns.now in
+    let end : length s ≤ c.loop-i.i = omega (arith, c.loop-i-test.false) in
+    sym (every_to (length s) c.loop-i.i (λ k. has_text (get_or s k (pos 0))) c.loop-i.invariant.1 c.loop-i.invariant.0 end)
 
-pub kerns-shown-spec : {M : Type 1} → statement M
-kerns-shown-spec =
+pub kerns_shown_spec : {M : Type 1} → statement M
+kerns_shown_spec =
     tie.close
     (tie.spec
     invariant-loop

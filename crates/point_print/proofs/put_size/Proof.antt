@@ -5,30 +5,27 @@ use borrow.Author.Rules.{rules}
 use Rattle.point_print.proofs.put_size.Statement.{statement}
 use Rattle.point_print.proofs.put_size.Tie as tie
 
-put-whole-requires : tie.Need-put-whole-requires
+put-whole-requires : tie.Need-put_whole-point-requires
 put-whole-requires c κs = search rules
 
-put-u8-requires : tie.Need-put-u8-requires
+put-u8-requires : tie.Need-put_u8-requires
 put-u8-requires c κs = search rules
 
-add-put-decimals : tie.Need-overflow-add-put-decimals
+add-put-decimals : tie.Need-overflow_add-point
 add-put-decimals c = search rules
 
-put-decimals-requires : tie.Need-put-decimals-requires
+put-decimals-requires : tie.Need-put_decimals-requires
 put-decimals-requires c κs = search rules
 
-same_length : tie.Need-same-length
+same_length : tie.Need-shape_of-out
 same_length c = search rules
 
 returns : tie.Need-returns
 returns c =
-    let x₃ = c.before.before in
-    let x₂ = x₃.before.before.before.before in
-    let x₁ = x₂.before.before.before.before in
-    puts_size x₁.before.before.before.args.n x₁.put_whole.ensures.0 x₂.put-u8.ensures x₃.put-decimals.ensures
+    puts_size c.args.n c.put_whole-point.ensures.0 c.put_u8.ensures c.put_decimals.ensures
 
-pub put-size-spec : {M : Type 1} → statement M
-put-size-spec =
+pub put_size_spec : {M : Type 1} → statement M
+put_size_spec =
     tie.close
     (tie.spec
     put-whole-requires

@@ -9,54 +9,45 @@ use Rattle.point_scan.proofs.Passing.{digits_below, digits_above, digits_more, d
 use Rattle.point_scan.proofs.only_digits.Statement.{statement}
 use Rattle.point_scan.proofs.only_digits.Tie as tie
 
-abbrev invariant-loop : tie.invariant-loop
+abbrev invariant-loop : tie.invariant-loop-i
 invariant-loop text i₀ i = (i ≤ length text) × (only_digits text ≡ only_digits (drop i text))
 
-abbrev decreases-loop : tie.decreases-loop
+abbrev decreases-loop : tie.decreases-loop-i
 decreases-loop text i₀ i = length text - i
 
-loop-holds : tie.Need-loop-init invariant-loop decreases-loop
+loop-holds : tie.Need-loop-i-init invariant-loop decreases-loop
 loop-holds c = (omega arith, refl)
 
-shared-slice-read-if1 : tie.Need-shared-slice-read-if1 invariant-loop decreases-loop
+shared-slice-read-if1 : tie.Need-bounds-text-i invariant-loop decreases-loop
 shared-slice-read-if1 c = omega arith
 
-returns : tie.Need-returns invariant-loop decreases-loop
+returns : tie.Need-returns-then-text-i-lt48 invariant-loop decreases-loop
 returns c =
-    let l = c.before.before in
-    let a = l.before in
-    digits_below a.before.args.text.now a.loop.i a.loop.invariant.1 l.loop-test.true c.if1.true
+    digits_below c.args.text.now c.loop-i.i c.loop-i.invariant.1 c.loop-i-test.true c.if-text-i-lt48.true
 
-shared-slice-read-if2 : tie.Need-shared-slice-read-if2 invariant-loop decreases-loop
+shared-slice-read-if2 : tie.Need-bounds-text-i-in-loop-i invariant-loop decreases-loop
 shared-slice-read-if2 c = omega arith
 
-returns-2 : tie.Need-returns-2 invariant-loop decreases-loop
+returns-2 : tie.Need-returns-then-text-i-gt57 invariant-loop decreases-loop
 returns-2 c =
-    let i = c.before.before in
-    let l = i.before.before in
-    let a = l.before in
-    digits_above a.before.args.text.now a.loop.i a.loop.invariant.1 l.loop-test.true i.if1.false c.if2.true
+    digits_above c.args.text.now c.loop-i.i c.loop-i.invariant.1 c.loop-i-test.true c.if-text-i-lt48.false c.if-text-i-gt57.true
 
-add-i : tie.Need-overflow-add-i invariant-loop decreases-loop
+add-i : tie.Need-overflow_add-i invariant-loop decreases-loop
 add-i c = omega arith
 
-loop-less : tie.Need-loop-smaller invariant-loop decreases-loop
+loop-less : tie.Need-loop-i-smaller invariant-loop decreases-loop
 loop-less c = omega arith
 
-loop-again : tie.Need-loop-preserved invariant-loop decreases-loop
+loop-again : tie.Need-loop-i-preserved invariant-loop decreases-loop
 loop-again c =
-    let i = c.before.before in
-    let l = i.before.before in
-    let a = l.before in
-    (omega arith, digits_more a.before.args.text.now a.loop.i a.loop.invariant.1 l.loop-test.true i.if1.false c.if2.false)
+    (omega arith, digits_more c.args.text.now c.loop-i.i c.loop-i.invariant.1 c.loop-i-test.true c.if-text-i-lt48.false c.if-text-i-gt57.false)
 
-returns-3 : tie.Need-returns-3 invariant-loop decreases-loop
+returns-3 : tie.Need-returns invariant-loop decreases-loop
 returns-3 c =
-    let a = c.before in
-    digits_end a.before.args.text.now a.loop.i a.loop.invariant.1 c.loop-test.false
+    digits_end c.args.text.now c.loop-i.i c.loop-i.invariant.1 c.loop-i-test.false
 
-pub only-digits-spec : {M : Type 1} → statement M
-only-digits-spec =
+pub only_digits_spec : {M : Type 1} → statement M
+only_digits_spec =
     tie.close
     (tie.spec
     invariant-loop

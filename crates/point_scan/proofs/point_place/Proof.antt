@@ -9,43 +9,38 @@ use Rattle.point_scan.proofs.Passing.{place_found, place_more, place_end}
 use Rattle.point_scan.proofs.point_place.Statement.{statement}
 use Rattle.point_scan.proofs.point_place.Tie as tie
 
-abbrev invariant-loop : tie.invariant-loop
+abbrev invariant-loop : tie.invariant-loop-i
 invariant-loop text i₀ i = (i ≤ length text) × (point_place text ≡ i + point_place (drop i text))
 
-abbrev decreases-loop : tie.decreases-loop
+abbrev decreases-loop : tie.decreases-loop-i
 decreases-loop text i₀ i = length text - i
 
-loop-holds : tie.Need-loop-init invariant-loop decreases-loop
+loop-holds : tie.Need-loop-i-init invariant-loop decreases-loop
 loop-holds c = (omega arith, omega arith)
 
-shared-slice-read-if1 : tie.Need-shared-slice-read-if1 invariant-loop decreases-loop
+shared-slice-read-if1 : tie.Need-bounds-text-i invariant-loop decreases-loop
 shared-slice-read-if1 c = omega arith
 
-returns : tie.Need-returns invariant-loop decreases-loop
+returns : tie.Need-returns-then-text-i-eq46 invariant-loop decreases-loop
 returns c =
-    let l = c.before.before in
-    let a = l.before in
-    place_found a.before.args.text.now a.loop.i a.loop.invariant.1 l.loop-test.true c.if1.true
+    place_found c.args.text.now c.loop-i.i c.loop-i.invariant.1 c.loop-i-test.true c.if-text-i-eq46.true
 
-add-i : tie.Need-overflow-add-i invariant-loop decreases-loop
+add-i : tie.Need-overflow_add-i invariant-loop decreases-loop
 add-i c = omega arith
 
-loop-less : tie.Need-loop-smaller invariant-loop decreases-loop
+loop-less : tie.Need-loop-i-smaller invariant-loop decreases-loop
 loop-less c = omega arith
 
-loop-again : tie.Need-loop-preserved invariant-loop decreases-loop
+loop-again : tie.Need-loop-i-preserved invariant-loop decreases-loop
 loop-again c =
-    let l = c.before.before in
-    let a = l.before in
-    (omega arith, place_more a.before.args.text.now a.loop.i a.loop.invariant.1 l.loop-test.true c.if1.false)
+    (omega arith, place_more c.args.text.now c.loop-i.i c.loop-i.invariant.1 c.loop-i-test.true c.if-text-i-eq46.false)
 
-returns-2 : tie.Need-returns-2 invariant-loop decreases-loop
+returns-2 : tie.Need-returns invariant-loop decreases-loop
 returns-2 c =
-    let a = c.before in
-    place_end a.before.args.text.now a.loop.i a.loop.invariant.1 c.loop-test.false
+    place_end c.args.text.now c.loop-i.i c.loop-i.invariant.1 c.loop-i-test.false
 
-pub point-place-spec : {M : Type 1} → statement M
-point-place-spec =
+pub point_place_spec : {M : Type 1} → statement M
+point_place_spec =
     tie.close
     (tie.spec
     invariant-loop

@@ -8,47 +8,46 @@ use Rattle.point_scan.proofs.Passing.{HalfRead, halved_none, halved_more, halved
 use Rattle.point_scan.proofs.round_decimals.Statement.{statement}
 use Rattle.point_scan.proofs.round_decimals.Tie as tie
 
-abbrev invariant-loop : tie.invariant-loop
+abbrev invariant-loop : tie.invariant-loop-k
 invariant-loop text a₀ k₀ a k = HalfRead text a k
 
-abbrev decreases-loop : tie.decreases-loop
+abbrev decreases-loop : tie.decreases-loop-k
 decreases-loop text a₀ k₀ a k = k
 
-smaller-requires : tie.Need-smaller-requires invariant-loop decreases-loop
+smaller-requires : tie.Need-smaller-k-requires invariant-loop decreases-loop
 smaller-requires c κs = search rules
 
-loop-holds : tie.Need-loop-init invariant-loop decreases-loop
-loop-holds c = halved_none c.before.before.args.text.now c.smaller.ensures
+loop-holds : tie.Need-loop-k-init invariant-loop decreases-loop
+loop-holds c = halved_none c.args.text.now c.smaller-k.ensures
 
-sub-k : tie.Need-overflow-sub-k invariant-loop decreases-loop
+sub-k : tie.Need-overflow_sub-k invariant-loop decreases-loop
 sub-k c = omega arith
 
-digit-at-requires : tie.Need-digit-at-requires invariant-loop decreases-loop
+digit-at-requires : tie.Need-digit_at-requires invariant-loop decreases-loop
 digit-at-requires c κs = search rules
 
-mul-a : tie.Need-overflow-mul-a invariant-loop decreases-loop
+mul-a : tie.Need-overflow_mul-a invariant-loop decreases-loop
 mul-a c = omega arith
 
-add_a : tie.Need-overflow-add-a invariant-loop decreases-loop
+add_a : tie.Need-overflow_add-a invariant-loop decreases-loop
 add_a c = omega arith
 
-loop-less : tie.Need-loop-smaller invariant-loop decreases-loop
+loop-less : tie.Need-loop-k-smaller invariant-loop decreases-loop
 loop-less c = omega arith
 
-loop-again : tie.Need-loop-preserved invariant-loop decreases-loop
-loop-again c = let l = c.before in halved_more l.before.loop.invariant l.loop-test.true c.digit_at.ensures
+loop-again : tie.Need-loop-k-preserved invariant-loop decreases-loop
+loop-again c = halved_more c.loop-k.invariant c.loop-k-test.true c.digit_at.ensures
 
-add-result : tie.Need-overflow-add-result invariant-loop decreases-loop
+add-result : tie.Need-overflow_add-result invariant-loop decreases-loop
 add-result c = omega arith
 
 returns : tie.Need-returns invariant-loop decreases-loop
 returns c =
-    let a = c.before.loop in
-    let k : a.k ≡ 0 = omega (arith, c.loop-test.false) in
-    (ap (λ (x : ℕ). (x + 1) / 2) (halved_all a.invariant k), omega (arith, a.invariant.small))
+    let k : c.loop-k.k ≡ 0 = omega (arith, c.loop-k-test.false) in
+    (ap (λ (x : ℕ). (x + 1) / 2) (halved_all c.loop-k.invariant k), omega (arith, c.loop-k.invariant.small))
 
-pub round-decimals-spec : {M : Type 1} → statement M
-round-decimals-spec =
+pub round_decimals_spec : {M : Type 1} → statement M
+round_decimals_spec =
     tie.close
     (tie.spec
     invariant-loop

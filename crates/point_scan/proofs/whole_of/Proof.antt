@@ -8,44 +8,42 @@ use Rattle.point_scan.proofs.Passing.{Valued, valued_none, valued_more, valued_a
 use Rattle.point_scan.proofs.whole_of.Statement.{statement}
 use Rattle.point_scan.proofs.whole_of.Tie as tie
 
-abbrev invariant-loop : tie.invariant-loop
+abbrev invariant-loop : tie.invariant-loop-i
 invariant-loop text n₀ i₀ n i = (i ≤ length text) × Valued text n i
 
-abbrev decreases-loop : tie.decreases-loop
+abbrev decreases-loop : tie.decreases-loop-i
 decreases-loop text n₀ i₀ n i = length text - i
 
-loop-holds : tie.Need-loop-init invariant-loop decreases-loop
+loop-holds : tie.Need-loop-i-init invariant-loop decreases-loop
 loop-holds c = (omega arith, valued_none _)
 
-mul-capped-whole : tie.Need-overflow-mul-capped-whole invariant-loop decreases-loop
+mul-capped-whole : tie.Need-overflow_mul-n invariant-loop decreases-loop
 mul-capped-whole c = omega arith
 
-digit-at-requires : tie.Need-digit-at-requires invariant-loop decreases-loop
+digit-at-requires : tie.Need-digit_at-requires invariant-loop decreases-loop
 digit-at-requires c κs = search rules
 
-add-capped-whole : tie.Need-overflow-add-capped-whole invariant-loop decreases-loop
+add-capped-whole : tie.Need-overflow_add-n invariant-loop decreases-loop
 add-capped-whole c = omega arith
 
-capped-whole-requires : tie.Need-capped-whole-requires invariant-loop decreases-loop
+capped-whole-requires : tie.Need-capped_whole-n-requires invariant-loop decreases-loop
 capped-whole-requires c κs = search rules
 
-add-i : tie.Need-overflow-add-i invariant-loop decreases-loop
+add-i : tie.Need-overflow_add-i invariant-loop decreases-loop
 add-i c = omega arith
 
-loop-less : tie.Need-loop-smaller invariant-loop decreases-loop
+loop-less : tie.Need-loop-i-smaller invariant-loop decreases-loop
 loop-less c = omega arith
 
-loop-again : tie.Need-loop-preserved invariant-loop decreases-loop
+loop-again : tie.Need-loop-i-preserved invariant-loop decreases-loop
 loop-again c =
-    let d = c.before in
-    let l = d.before in
-    (omega arith, valued_more l.before.loop.invariant.1 l.loop-test.true d.digit_at.ensures.0 c.capped-whole.ensures)
+    (omega arith, valued_more c.loop-i.invariant.1 c.loop-i-test.true c.digit_at.ensures.0 c.capped_whole-n.ensures)
 
 returns : tie.Need-returns invariant-loop decreases-loop
-returns c = valued_all c.before.loop.invariant.1 c.loop-test.false
+returns c = valued_all c.loop-i.invariant.1 c.loop-i-test.false
 
-pub whole-of-spec : {M : Type 1} → statement M
-whole-of-spec =
+pub whole_of_spec : {M : Type 1} → statement M
+whole_of_spec =
     tie.close
     (tie.spec
     invariant-loop

@@ -12,56 +12,55 @@ use Rattle.program_chain.proofs.Walks.{Stepped, step_on, step_end, length_chain}
 use Rattle.program_chain.proofs.chain_length.Statement.{statement}
 use Rattle.program_chain.proofs.chain_length.Tie as tie
 
-abbrev invariant-loop : tie.invariant-loop
+abbrev invariant-loop : tie.invariant-loop-on
 invariant-loop instructions entry n₀ at₀ n at = n + length (chain_of instructions at) ≡ length (chain_of instructions entry)
 
-abbrev decreases-loop : tie.decreases-loop
+abbrev decreases-loop : tie.decreases-loop-on
 decreases-loop instructions entry n₀ at₀ n at = count instructions - at
 
-step : (c : tie.After-known-told invariant-loop decreases-loop) → let e = c.before.before.before.before in let s = e.before.args.instructions.now in
-    Stepped (count s) (instruction_at s) e.loop.at c.before.on.given.0.0 c.before.on.given.0.1.0
-step c = step_on _ _ _ _ _ (sym c.before.before.before.next-instruction.ensures ∙ c.before.on.given.1)
+step : (c : tie.In-At invariant-loop decreases-loop) → let s = c.args.instructions.now in
+    Stepped (count s) (instruction_at s) c.loop-on.at c.in-At.field-0 c.in-At.on
+step c = step_on _ _ _ _ _ (sym c.next_instruction.ensures ∙ c.in-At.is)
 
-loop-holds : tie.Need-loop-init invariant-loop decreases-loop
+loop-holds : tie.Need-loop-on-init invariant-loop decreases-loop
 loop-holds c = omega arith
 
-next-instruction-requires : tie.Need-next-instruction-requires invariant-loop decreases-loop
+next-instruction-requires : tie.Need-next_instruction-requires invariant-loop decreases-loop
 next-instruction-requires c κs = search rules
 
-enum-known-on : tie.Need-enum-known-on invariant-loop decreases-loop
+enum-known-on : tie.Need-enum_known-on invariant-loop decreases-loop
 enum-known-on c = search rules
 
-enum_told : tie.Need-enum-told invariant-loop decreases-loop
+enum_told : tie.Need-enum_told-1 invariant-loop decreases-loop
 enum_told c = search rules
 
-returns : tie.Need-returns invariant-loop decreases-loop
+returns : tie.Need-returns-in_default invariant-loop decreases-loop
 returns c =
-    let e = c.before.before.before in
-    let s = e.before.args.instructions.now in
+    let s = c.args.instructions.now in
     omega (
       arith,
-      e.loop.invariant,
-      ap length (step_end (count s) (instruction_at s) e.loop.at (sym c.before.before.next-instruction.ensures ∙ c.enum_told.given.1)),
+      c.loop-on.invariant,
+      ap length (step_end (count s) (instruction_at s) c.loop-on.at (sym c.next_instruction.ensures ∙ c.in_default.is)),
     )
 
-add-n : tie.Need-overflow-add-n invariant-loop decreases-loop
+add-n : tie.Need-overflow_add-n invariant-loop decreases-loop
 add-n c =
-    let a = c.before.before.before.before.before.args in
+    let a = c.args in
     omega (
       arith,
-      c.before.before.before.before.loop.invariant,
+      c.loop-on.invariant,
       ap length (step c).rest,
       length_chain (count a.instructions.now) (count a.instructions.now) (instruction_at a.instructions.now) a.entry,
     )
 
-loop-less : tie.Need-loop-smaller invariant-loop decreases-loop
+loop-less : tie.Need-loop-on-smaller invariant-loop decreases-loop
 loop-less c = omega (arith, (step c).inside, (step c).ahead)
 
-loop-again : tie.Need-loop-preserved invariant-loop decreases-loop
-loop-again c = omega (arith, c.before.before.before.before.loop.invariant, ap length (step c).rest)
+loop-again : tie.Need-loop-on-preserved invariant-loop decreases-loop
+loop-again c = omega (arith, c.loop-on.invariant, ap length (step c).rest)
 
-pub chain-length-spec : {M : Type 1} → statement M
-chain-length-spec =
+pub chain_length_spec : {M : Type 1} → statement M
+chain_length_spec =
     tie.close
     (tie.spec
     invariant-loop

@@ -65,54 +65,42 @@ module _ (s : List ℤ) (entry : ℤ) (out zeroed : List ℕ) (f : SFits w32 ent
           list = rw nothing-refused (appending_rest zeroed 0 (length out) z (rw word_is at h));
         }
 
-zero-u32-requires : tie.Need-zero-u32-requires
+zero-u32-requires : tie.Need-zero_u32-requires
 zero-u32-requires c κs = search rules
 
-walk-refusal-requires : tie.Need-walk-refusal-requires
+walk-refusal-requires : tie.Need-walk_refusal-refused-requires
 walk-refusal-requires c κs = search rules
 
-same_length : tie.Need-same-length
+same_length : tie.Need-shape_of-out-then-refused-ne0
 same_length c = search rules
 
-returns : tie.Need-returns
+returns : tie.Need-returns-then-refused-ne0
 returns c =
-    let e = c.before in
-    let z = e.before.before.before in
-    let a = z.before.before.before in
-    refused a.args.instructions.now a.args.entry a.args.out.now z.zero-u32.new.0 a.ranges.entry z.zero-u32.ensures
-    e.walk-refusal.result e.walk-refusal.ensures c.if1.true
+    refused c.args.instructions.now c.args.entry c.args.out.now c.zero_u32.new.s c.ranges.entry c.zero_u32.ensures
+    c.walk_refusal-refused.result c.walk_refusal-refused.ensures c.if-refused-ne0.true
 
-word-of-requires : tie.Need-word-of-requires
+word-of-requires : tie.Need-word_of-start-requires
 word-of-requires c κs = search rules
 
-cast-start : tie.Need-overflow-cast-start
+cast-start : tie.Need-overflow_cast-start
 cast-start c = search rules
 
-write-chain-requires : tie.Need-write-chain-requires
+write-chain-requires : tie.Need-write_chain-requires
 write-chain-requires c κs =
-    let w = c.before in
-    let e = w.before.before in
-    let z = e.before.before.before in
-    let a = z.before.before.before in
-    ready a.args.instructions.now a.args.entry a.args.out.now z.zero-u32.new.0 a.ranges.entry z.zero-u32.ensures
-    e.walk-refusal.result e.walk-refusal.ensures w.before.if1.false w.word_of.result w.word_of.ensures
+    ready c.args.instructions.now c.args.entry c.args.out.now c.zero_u32.new.s c.ranges.entry c.zero_u32.ensures
+    c.walk_refusal-refused.result c.walk_refusal-refused.ensures c.if-refused-ne0.false c.word_of-start.result c.word_of-start.ensures
 
-same-length-2 : tie.Need-same-length-2
+same-length-2 : tie.Need-shape_of-out
 same-length-2 c = search rules
 
-returns-2 : tie.Need-returns-2
+returns-2 : tie.Need-returns
 returns-2 c =
-    let x = c.before.before in
-    let w = x.before.before in
-    let e = w.before.before in
-    let z = e.before.before.before in
-    let a = z.before.before.before in
-    written a.args.instructions.now a.args.entry a.args.out.now z.zero-u32.new.0 a.ranges.entry z.zero-u32.ensures
-    e.walk-refusal.result e.walk-refusal.ensures w.before.if1.false w.word_of.result w.word_of.ensures x.write-chain.result
-    x.write-chain.new.1.1.0 x.write-chain.ensures.0 x.write-chain.ensures.1
+    written c.args.instructions.now c.args.entry c.args.out.now c.zero_u32.new.s c.ranges.entry c.zero_u32.ensures
+    c.walk_refusal-refused.result c.walk_refusal-refused.ensures c.if-refused-ne0.false c.word_of-start.result c.word_of-start.ensures c.write_chain.result
+    c.write_chain.new.out c.write_chain.ensures.0 c.write_chain.ensures.1
 
-pub instructions-for-entrypoint-spec : {M : Type 1} → statement M
-instructions-for-entrypoint-spec =
+pub instructions_for_entrypoint_spec : {M : Type 1} → statement M
+instructions_for_entrypoint_spec =
     tie.close
     (tie.spec
     zero-u32-requires

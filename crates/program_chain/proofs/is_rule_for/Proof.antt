@@ -8,24 +8,29 @@ use Rattle.program_chain.proofs.Rules.{redirect_passed_lem, redirect_kind}
 use Rattle.program_chain.proofs.is_rule_for.Statement.{statement}
 use Rattle.program_chain.proofs.is_rule_for.Tie as tie
 
-is-redirect-requires : tie.Need-is-redirect-requires
+is-redirect-requires : tie.Need-is_redirect-requires
 is-redirect-requires c κs = search rules
 
-returns : tie.Need-returns
+returns : tie.Need-returns-then-is_redirect
 returns c =
-    let a = c.before.before.args in
+    let a = c.args in
     sym (redirect_passed_lem a.right (instruction_at a.instructions.now a.i)
-    (redirect_kind a.instructions.now a.i ∙ sym c.before.is-redirect.ensures ∙ c.if1.true))
+    (redirect_kind a.instructions.now a.i ∙ sym c.is_redirect.ensures ∙ c.if-is_redirect.true))
 
-field-at-requires : tie.Need-field-at-requires
+field-at-requires : tie.Need-field_at-requires
 field-at-requires c κs = search rules
 
-returns-2 : tie.Need-returns-2
+returns-2 : tie.Need-returns
 returns-2 c =
-    let e = c.before.before in
-    let a = e.before.args in
-    rw (redirect_kind a.instructions.now a.i ∙ sym e.is-redirect.ensures ∙ c.before.if1.false)
+    let a = c.args in
+    rw (redirect_kind a.instructions.now a.i ∙ sym c.is_redirect.ensures ∙ c.if-is_redirect.false)
     (ap (λ (w : ℕ). eqb (w % 256) a.right) c.field_at.ensures.is)
 
-pub is-rule-for-spec : {M : Type 1} → statement M
-is-rule-for-spec = tie.close (tie.spec is-redirect-requires returns field-at-requires returns-2)
+pub is_rule_for_spec : {M : Type 1} → statement M
+is_rule_for_spec =
+    tie.close
+    (tie.spec
+    is-redirect-requires
+    returns
+    field-at-requires
+    returns-2)

@@ -32,31 +32,31 @@ kept kerns (KernAtIndex i) h = absurd (miss (0 ∷ 2 ∷ 3 ∷ []) 1 tt h)
 kept kerns (Ligature c p t) h = refl
 kept kerns (EntrypointRedirect t f) h = refl
 
-enum-known-operation : tie.Need-enum-known-operation
+enum-known-operation : tie.Need-enum_known-operation
 enum-known-operation c = search rules
 
-cast-i : tie.Need-overflow-cast-i
+cast-i : tie.Need-overflow_cast-i
 cast-i c = search rules
 
-mul-k : tie.Need-overflow-mul-k
+mul-k : tie.Need-offset_bounds-kerns-i
 mul-k c = search rules
 
-shared-slice-copy-out-k : tie.Need-shared-slice-copy-out-k
+shared-slice-copy-out-k : tie.Need-bounds-kerns-i
 shared-slice-copy-out-k c = search rules
 
-returns : tie.Need-returns
+returns : tie.Need-returns-then-i-kerns
 returns c =
-    let a = c.before.before.before.before.before.args in
-    there a.kerns.now _ a.operation c.before.before.before.operation.given.1 c.k.given
+    let a = c.args in
+    there a.kerns.now _ a.operation c.in-KernAtIndex.is c.k-1.given
 
-returns-2 : tie.Need-returns-2
-returns-2 c = let a = c.before.before.before.before.args in past a.kerns.now _ a.operation c.before.before.operation.given.1 c.if1.false
+returns-2 : tie.Need-returns-else-i-kerns
+returns-2 c = let a = c.args in past a.kerns.now _ a.operation c.in-KernAtIndex.is c.if-i-kerns.false
 
-returns-3 : tie.Need-returns-3
-returns-3 c = kept c.before.args.kerns.now c.before.args.operation c.match.keys2
+returns-3 : tie.Need-returns-in_default
+returns-3 c = kept c.args.kerns.now c.args.operation c.in_default.in_default-own.keys2
 
-pub kern-of-spec : {M : Type 1} → statement M
-kern-of-spec =
+pub kern_of_spec : {M : Type 1} → statement M
+kern_of_spec =
     tie.close
     (tie.spec
     enum-known-operation

@@ -13,33 +13,41 @@ use borrow.Author.Rules.{rules}
 use Rattle.program_chain.proofs.next_instruction.Statement.{statement}
 use Rattle.program_chain.proofs.next_instruction.Tie as tie
 
-returns : tie.Need-returns
-returns c = rw (le-ltb c.before.args.at (count c.before.args.instructions.now) (omega arith))
+returns : tie.Need-returns-then-n-at
+returns c = rw (le-ltb c.args.at (count c.args.instructions.now) (omega arith))
 
-field-at-requires : tie.Need-field-at-requires
+field-at-requires : tie.Need-field_at-word-requires
 field-at-requires c κs = search rules
 
-add-t8 : tie.Need-overflow-add-t8
+add-t8 : tie.Need-overflow_add-result
 add-t8 c = search rules
 
-cast-t10 : tie.Need-overflow-cast-t10
+cast-t10 : tie.Need-overflow_cast-result
 cast-t10 c = search rules
 
-add-t11 : tie.Need-overflow-add-t11
+add-t11 : tie.Need-overflow_add-result-then-word-lt2147483648
 add-t11 c = search rules
 
-returns-2 : tie.Need-returns-2
+returns-2 : tie.Need-returns-then-word-lt2147483648
 returns-2 c =
-    let a = c.before.before.before.args in
-    step_to (count a.instructions.now) (instruction_at a.instructions.now) a.at (Skip (c.before.field_at.result % 256))
-    c.before.before.if1.false (ap next_of (read_pos c.before.field_at.ensures c.if2.true))
+    let a = c.args in
+    step_to (count a.instructions.now) (instruction_at a.instructions.now) a.at (Skip (c.field_at-word.result % 256))
+    c.if-n-at.false (ap next_of (read_pos c.field_at-word.ensures c.if-word-lt2147483648.true))
 
-returns-3 : tie.Need-returns-3
+returns-3 : tie.Need-returns-else-word-lt2147483648
 returns-3 c =
-    let a = c.before.before.before.args in
-    step_to (count a.instructions.now) (instruction_at a.instructions.now) a.at Stop c.before.before.if1.false
-    (ap next_of (read_neg c.before.field_at.ensures c.if2.false))
+    let a = c.args in
+    step_to (count a.instructions.now) (instruction_at a.instructions.now) a.at Stop c.if-n-at.false
+    (ap next_of (read_neg c.field_at-word.ensures c.if-word-lt2147483648.false))
 
-pub next-instruction-spec : {M : Type 1} → statement M
-next-instruction-spec =
-    tie.close (tie.spec returns field-at-requires add-t8 cast-t10 add-t11 returns-2 returns-3)
+pub next_instruction_spec : {M : Type 1} → statement M
+next_instruction_spec =
+    tie.close
+    (tie.spec
+    returns
+    field-at-requires
+    add-t8
+    cast-t10
+    add-t11
+    returns-2
+    returns-3)

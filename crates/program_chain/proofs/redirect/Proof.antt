@@ -25,28 +25,28 @@ kept (KernAtIndex i) h = refl
 kept (Ligature c p t) h = refl
 kept (EntrypointRedirect t f) h = absurd (miss (0 ∷ 1 ∷ 2 ∷ []) 3 tt h)
 
-enum-known-operation : tie.Need-enum-known-operation
+enum-known-operation : tie.Need-enum_known-operation
 enum-known-operation c = search rules
 
-cast-lig-kern-operation-from-bytes : tie.Need-overflow-cast-lig-kern-operation-from-bytes
+cast-lig-kern-operation-from-bytes : tie.Need-overflow_cast-target
 cast-lig-kern-operation-from-bytes c = search rules
 
-cast-lig-kern-operation-from-bytes-2 : tie.Need-overflow-cast-lig-kern-operation-from-bytes-2
+cast-lig-kern-operation-from-bytes-2 : tie.Need-overflow_cast-target-in-EntrypointRedirect
 cast-lig-kern-operation-from-bytes-2 c = search rules
 
-lig-kern-operation-from-bytes-requires : tie.Need-lig-kern-operation-from-bytes-requires
+lig-kern-operation-from-bytes-requires : tie.Need-lig_kern_operation_from_bytes-requires
 lig-kern-operation-from-bytes-requires c κs = search rules
 
-returns : tie.Need-returns
+returns : tie.Need-returns-in-EntrypointRedirect
 returns c =
-    turned c.before.before.before.before.args.operation _ _ c.lig-kern-operation-from-bytes.result c.before.before.operation.given.1
-    c.lig-kern-operation-from-bytes.ensures
+    turned c.args.operation _ _ c.lig_kern_operation_from_bytes.result c.in-EntrypointRedirect.is
+    c.lig_kern_operation_from_bytes.ensures
 
-returns-2 : tie.Need-returns-2
-returns-2 c = kept c.before.args.operation c.match.keys2
+returns-2 : tie.Need-returns-in_default
+returns-2 c = kept c.args.operation c.in_default.in_default-own.keys2
 
-pub redirect-spec : {M : Type 1} → statement M
-redirect-spec =
+pub redirect_spec : {M : Type 1} → statement M
+redirect_spec =
     tie.close
     (tie.spec
     enum-known-operation

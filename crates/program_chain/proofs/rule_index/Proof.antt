@@ -11,54 +11,51 @@ use Rattle.program_chain.proofs.Walks.{Stepped, step_on, step_end, rule_here, ru
 use Rattle.program_chain.proofs.rule_index.Statement.{statement}
 use Rattle.program_chain.proofs.rule_index.Tie as tie
 
-abbrev invariant-loop : tie.invariant-loop
+abbrev invariant-loop : tie.invariant-loop-i
 invariant-loop instructions entry right at₀ at = first_for (instruction_at instructions) right (chain_of instructions at) ≡ rule_index_of instructions entry right
 
-abbrev decreases-loop : tie.decreases-loop
+abbrev decreases-loop : tie.decreases-loop-i
 decreases-loop instructions entry right at₀ at = count instructions - at
 
-step : (c : tie.After-known-told invariant-loop decreases-loop) → let e = c.before.before.before.before in let s = e.before.args.instructions.now in
-    Stepped (count s) (instruction_at s) e.loop.at c.before.i.given.0.0 c.before.i.given.0.1.0
-step c = step_on _ _ _ _ _ (sym c.before.before.before.next-instruction.ensures ∙ c.before.i.given.1)
+step : (c : tie.In-At invariant-loop decreases-loop) → let s = c.args.instructions.now in
+    Stepped (count s) (instruction_at s) c.loop-i.at c.in-At.i c.in-At.on
+step c = step_on _ _ _ _ _ (sym c.next_instruction.ensures ∙ c.in-At.is)
 
-loop-holds : tie.Need-loop-init invariant-loop decreases-loop
+loop-holds : tie.Need-loop-i-init invariant-loop decreases-loop
 loop-holds c = refl
 
-next-instruction-requires : tie.Need-next-instruction-requires invariant-loop decreases-loop
+next-instruction-requires : tie.Need-next_instruction-requires invariant-loop decreases-loop
 next-instruction-requires c κs = search rules
 
-enum-known-i : tie.Need-enum-known-i invariant-loop decreases-loop
+enum-known-i : tie.Need-enum_known-i invariant-loop decreases-loop
 enum-known-i c = search rules
 
-enum_told : tie.Need-enum-told invariant-loop decreases-loop
+enum_told : tie.Need-enum_told-1 invariant-loop decreases-loop
 enum_told c = search rules
 
-returns : tie.Need-returns invariant-loop decreases-loop
+returns : tie.Need-returns-in_default invariant-loop decreases-loop
 returns c =
-    let e = c.before.before.before in
-    rule_nowhere _ _ e.before.args.right _ e.loop.at (step_end _ _ _ (sym c.before.before.next-instruction.ensures ∙ c.enum_told.given.1))
-    e.loop.invariant
+    rule_nowhere _ _ c.args.right _ c.loop-i.at (step_end _ _ _ (sym c.next_instruction.ensures ∙ c.in_default.is))
+    c.loop-i.invariant
 
-is-rule-for-requires : tie.Need-is-rule-for-requires invariant-loop decreases-loop
+is-rule-for-requires : tie.Need-is_rule_for-requires invariant-loop decreases-loop
 is-rule-for-requires c κs = search rules
 
-returns-2 : tie.Need-returns-2 invariant-loop decreases-loop
+returns-2 : tie.Need-returns-then-is_rule_for invariant-loop decreases-loop
 returns-2 c =
-    let e = c.before.before.before.before.before.before in
-    rule_here _ _ e.before.args.right _ _ _ _ (step c.before.before) e.loop.invariant
-    (sym c.before.is-rule-for.ensures ∙ c.if1.true)
+    rule_here _ _ c.args.right _ _ _ _ (step c.before.before) c.loop-i.invariant
+    (sym c.is_rule_for.ensures ∙ c.if-is_rule_for.true)
 
-loop-less : tie.Need-loop-smaller invariant-loop decreases-loop
+loop-less : tie.Need-loop-i-smaller invariant-loop decreases-loop
 loop-less c = omega (arith, (step c.before.before).inside, (step c.before.before).ahead)
 
-loop-again : tie.Need-loop-preserved invariant-loop decreases-loop
+loop-again : tie.Need-loop-i-preserved invariant-loop decreases-loop
 loop-again c =
-    let e = c.before.before.before.before.before.before in
-    rule_later _ _ e.before.args.right _ _ _ _ (step c.before.before) e.loop.invariant
-    (sym c.before.is-rule-for.ensures ∙ c.if1.false)
+    rule_later _ _ c.args.right _ _ _ _ (step c.before.before) c.loop-i.invariant
+    (sym c.is_rule_for.ensures ∙ c.if-is_rule_for.false)
 
-pub rule-index-spec : {M : Type 1} → statement M
-rule-index-spec =
+pub rule_index_spec : {M : Type 1} → statement M
+rule_index_spec =
     tie.close
     (tie.spec
     invariant-loop

@@ -53,60 +53,45 @@ module _ (s : List ℤ) (entry : ℤ) (room : ℕ) (f : SFits w32 entry) (p : �
       too_long : room < m → 15 ≡ walk_refusal s entry room
       too_long h = by-room 15 (rw (← chain-is, lt-leb m room h))
 
-program-refusal-requires : tie.Need-program-refusal-requires
+program-refusal-requires : tie.Need-program_refusal-program-requires
 program-refusal-requires c κs = search rules
 
-returns : tie.Need-returns
+returns : tie.Need-returns-then-program-ne0
 returns c =
-    let p = c.before in
-    let a = p.before in
-    by-program a.args.instructions.now a.args.entry a.args.room a.ranges.entry p.program-refusal.result p.program-refusal.ensures
-    c.if1.true
+    by-program c.args.instructions.now c.args.entry c.args.room c.ranges.entry c.program_refusal-program.result c.program_refusal-program.ensures
+    c.if-program-ne0.true
 
-range-refusal-requires : tie.Need-range-refusal-requires
+range-refusal-requires : tie.Need-range_refusal-range-requires
 range-refusal-requires c κs = search rules
 
-returns-2 : tie.Need-returns-2
+returns-2 : tie.Need-returns-then-range-ne0
 returns-2 c =
-    let q = c.before in
-    let p = q.before.before in
-    let a = p.before in
-    by-range a.args.instructions.now a.args.entry a.args.room a.ranges.entry p.program-refusal.result p.program-refusal.ensures
-    q.before.if1.false q.range-refusal.result q.range-refusal.ensures c.if2.true
+    by-range c.args.instructions.now c.args.entry c.args.room c.ranges.entry c.program_refusal-program.result c.program_refusal-program.ensures
+    c.if-program-ne0.false c.range_refusal-range.result c.range_refusal-range.ensures c.if-range-ne0.true
 
-word-of-requires : tie.Need-word-of-requires
+word-of-requires : tie.Need-word_of-start-requires
 word-of-requires c κs = search rules
 
-cast-start : tie.Need-overflow-cast-start
+cast-start : tie.Need-overflow_cast-start
 cast-start c = search rules
 
-chain-length-requires : tie.Need-chain-length-requires
+chain-length-requires : tie.Need-chain_length-requires
 chain-length-requires c κs = search rules
 
-returns-3 : tie.Need-returns-3
+returns-3 : tie.Need-returns-then-chain_length-room
 returns-3 c =
-    let m = c.before in
-    let w = m.before in
-    let q = w.before.before in
-    let p = q.before.before in
-    let a = p.before in
-    taken a.args.instructions.now a.args.entry a.args.room a.ranges.entry p.program-refusal.result p.program-refusal.ensures
-    q.before.if1.false q.range-refusal.result q.range-refusal.ensures w.before.if2.false w.word_of.result m.Chain-length.result
-    w.word_of.ensures m.Chain-length.ensures (omega arith)
+    taken c.args.instructions.now c.args.entry c.args.room c.ranges.entry c.program_refusal-program.result c.program_refusal-program.ensures
+    c.if-program-ne0.false c.range_refusal-range.result c.range_refusal-range.ensures c.if-range-ne0.false c.word_of-start.result c.chain_length.result
+    c.word_of-start.ensures c.chain_length.ensures (omega arith)
 
-returns-4 : tie.Need-returns-4
+returns-4 : tie.Need-returns-else-chain_length-room
 returns-4 c =
-    let m = c.before in
-    let w = m.before in
-    let q = w.before.before in
-    let p = q.before.before in
-    let a = p.before in
-    too_long a.args.instructions.now a.args.entry a.args.room a.ranges.entry p.program-refusal.result p.program-refusal.ensures
-    q.before.if1.false q.range-refusal.result q.range-refusal.ensures w.before.if2.false w.word_of.result m.Chain-length.result
-    w.word_of.ensures m.Chain-length.ensures (omega arith)
+    too_long c.args.instructions.now c.args.entry c.args.room c.ranges.entry c.program_refusal-program.result c.program_refusal-program.ensures
+    c.if-program-ne0.false c.range_refusal-range.result c.range_refusal-range.ensures c.if-range-ne0.false c.word_of-start.result c.chain_length.result
+    c.word_of-start.ensures c.chain_length.ensures (omega arith)
 
-pub walk-refusal-spec : {M : Type 1} → statement M
-walk-refusal-spec =
+pub walk_refusal_spec : {M : Type 1} → statement M
+walk_refusal_spec =
     tie.close
     (tie.spec
     program-refusal-requires

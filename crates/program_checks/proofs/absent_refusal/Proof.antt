@@ -8,25 +8,31 @@ use Rattle.lang.proofs.Records.{tested, word_passed}
 use Rattle.program_checks.proofs.absent_refusal.Statement.{statement}
 use Rattle.program_checks.proofs.absent_refusal.Tie as tie
 
-word-of-requires : tie.Need-word-of-requires
+word-of-requires : tie.Need-word_of-requires
 word-of-requires c κs = search rules
 
-is-absent-or-requires : tie.Need-is-absent-or-requires
+is-absent-or-requires : tie.Need-is_absent_or-requires
 is-absent-or-requires c κs = search rules
 
-returns : tie.Need-returns
+returns : tie.Need-returns-then-is_absent_or
 returns c =
     let b = c.before.before in
     ap (unless 4)
-    (sym (tested (absent_or b.before.args.n) (word_passed b.before.ranges.x b.word_of.ensures) c.before.is-absent-or.ensures
-    c.if1.true))
+    (sym (tested (absent_or b.args.n) (word_passed b.ranges.x b.word_of.ensures) c.is_absent_or.ensures
+    c.if-is_absent_or.true))
 
-returns-2 : tie.Need-returns-2
+returns-2 : tie.Need-returns-else-is_absent_or
 returns-2 c =
     let b = c.before.before in
     ap (unless 4)
-    (sym (tested (absent_or b.before.args.n) (word_passed b.before.ranges.x b.word_of.ensures) c.before.is-absent-or.ensures
-    c.if1.false))
+    (sym (tested (absent_or b.args.n) (word_passed b.ranges.x b.word_of.ensures) c.is_absent_or.ensures
+    c.if-is_absent_or.false))
 
-pub absent-refusal-spec : {M : Type 1} → statement M
-absent-refusal-spec = tie.close (tie.spec word-of-requires is-absent-or-requires returns returns-2)
+pub absent_refusal_spec : {M : Type 1} → statement M
+absent_refusal_spec =
+    tie.close
+    (tie.spec
+    word-of-requires
+    is-absent-or-requires
+    returns
+    returns-2)

@@ -8,5 +8,8 @@ use Rattle.program_checks.proofs.is_within.Tie as tie
 returns : tie.Need-returns
 returns c = sym (within_word c.args.n c.args.word c.requires)
 
-pub is-within-spec : {M : Type 1} → statement M
-is-within-spec = tie.close (tie.spec returns)
+pub is_within_spec : {M : Type 1} → statement M
+is_within_spec =
+    tie.close
+    (tie.spec
+    returns)

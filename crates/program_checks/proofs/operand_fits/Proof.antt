@@ -7,35 +7,35 @@ use Rattle.lang.proofs.Records.{operand_none}
 use Rattle.program_checks.proofs.operand_fits.Statement.{statement}
 use Rattle.program_checks.proofs.operand_fits.Tie as tie
 
-returns : tie.Need-returns
-returns c = rw c.if1.true
+returns : tie.Need-returns-then-kind-eq0
+returns c = rw c.if-kind-eq0.true
 
-is-within-requires : tie.Need-is-within-requires
+is-within-requires : tie.Need-is_within-requires
 is-within-requires c κs = search rules
 
-returns-2 : tie.Need-returns-2
-returns-2 c = rw c.before.if2.true c.is_Within.ensures
+returns-2 : tie.Need-returns-then-kind-eq1
+returns-2 c = rw c.if-kind-eq1.true c.is_within.ensures
 
-is-within-requires-2 : tie.Need-is-within-requires-2
+is-within-requires-2 : tie.Need-is_within-requires-then-kind-eq2
 is-within-requires-2 c κs = search rules
 
-returns-3 : tie.Need-returns-3
-returns-3 c = rw c.before.if3.true c.is-within2.ensures
+returns-3 : tie.Need-returns-then-kind-eq2
+returns-3 c = rw c.if-kind-eq2.true c.is_within-then-kind-eq2.ensures
 
-is-within-requires-3 : tie.Need-is-within-requires-3
+is-within-requires-3 : tie.Need-is_within-requires-then-kind-eq3
 is-within-requires-3 c κs = search rules
 
-returns-4 : tie.Need-returns-4
-returns-4 c = rw c.before.if4.true c.is-within3.ensures
+returns-4 : tie.Need-returns-then-kind-eq3
+returns-4 c = rw c.if-kind-eq3.true c.is_within-then-kind-eq3.ensures
 
-returns-5 : tie.Need-returns-5
+returns-5 : tie.Need-returns
 returns-5 c =
-    let a = c.before.before.before.before.args in
-    sym (operand_none a.kind (number_of a.word) c.before.before.before.if1.false c.before.before.if2.false c.before.if3.false
-    c.if4.false)
+    let a = c.args in
+    sym (operand_none a.kind (number_of a.word) c.if-kind-eq0.false c.if-kind-eq1.false c.if-kind-eq2.false
+    c.if-kind-eq3.false)
 
-pub operand-fits-spec : {M : Type 1} → statement M
-operand-fits-spec =
+pub operand_fits_spec : {M : Type 1} → statement M
+operand_fits_spec =
     tie.close
     (tie.spec
     returns

@@ -5,18 +5,23 @@ use Rattle.lang.proofs.Refusals.{first_refusal, later_refusal_lem}
 use Rattle.program_checks.proofs.program_refusal.Statement.{statement}
 use Rattle.program_checks.proofs.program_refusal.Tie as tie
 
-size-refusal-requires : tie.Need-size-refusal-requires
+size-refusal-requires : tie.Need-size_refusal-size-requires
 size-refusal-requires c κs = search rules
 
-returns : tie.Need-returns
-returns c = first_refusal _ c.before.size_refusal_lem.ensures c.if1.true
+returns : tie.Need-returns-then-size-ne0
+returns c = first_refusal _ c.size_refusal-size.ensures c.if-size-ne0.true
 
-record-refusal-requires : tie.Need-record-refusal-requires
+record-refusal-requires : tie.Need-record_refusal-requires
 record-refusal-requires c κs = search rules
 
-returns-2 : tie.Need-returns-2
-returns-2 c = later_refusal_lem c.before.before.size_refusal_lem.ensures c.before.if1.false c.record_refusal_lem.ensures
+returns-2 : tie.Need-returns
+returns-2 c = later_refusal_lem c.size_refusal-size.ensures c.if-size-ne0.false c.record_refusal.ensures
 
-pub program-refusal-spec : {M : Type 1} → statement M
-program-refusal-spec =
-    tie.close (tie.spec size-refusal-requires returns record-refusal-requires returns-2)
+pub program_refusal_spec : {M : Type 1} → statement M
+program_refusal_spec =
+    tie.close
+    (tie.spec
+    size-refusal-requires
+    returns
+    record-refusal-requires
+    returns-2)

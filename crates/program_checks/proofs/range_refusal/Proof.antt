@@ -8,23 +8,29 @@ use Rattle.lang.proofs.Records.{tested, word_passed}
 use Rattle.program_checks.proofs.range_refusal.Statement.{statement}
 use Rattle.program_checks.proofs.range_refusal.Tie as tie
 
-word-of-requires : tie.Need-word-of-requires
+word-of-requires : tie.Need-word_of-requires
 word-of-requires c κs = search rules
 
-is-within-requires : tie.Need-is-within-requires
+is-within-requires : tie.Need-is_within-requires
 is-within-requires c κs = search rules
 
-returns : tie.Need-returns
+returns : tie.Need-returns-then-is_within
 returns c =
     let b = c.before.before in
     ap (unless 4)
-    (sym (tested (within b.before.args.n) (word_passed b.before.ranges.x b.word_of.ensures) c.before.is_Within.ensures c.if1.true))
+    (sym (tested (within b.args.n) (word_passed b.ranges.x b.word_of.ensures) c.is_within.ensures c.if-is_within.true))
 
-returns-2 : tie.Need-returns-2
+returns-2 : tie.Need-returns-else-is_within
 returns-2 c =
     let b = c.before.before in
     ap (unless 4)
-    (sym (tested (within b.before.args.n) (word_passed b.before.ranges.x b.word_of.ensures) c.before.is_Within.ensures c.if1.false))
+    (sym (tested (within b.args.n) (word_passed b.ranges.x b.word_of.ensures) c.is_within.ensures c.if-is_within.false))
 
-pub range-refusal-spec : {M : Type 1} → statement M
-range-refusal-spec = tie.close (tie.spec word-of-requires is-within-requires returns returns-2)
+pub range_refusal_spec : {M : Type 1} → statement M
+range_refusal_spec =
+    tie.close
+    (tie.spec
+    word-of-requires
+    is-within-requires
+    returns
+    returns-2)

@@ -13,47 +13,47 @@ use Rattle.lang.proofs.Every.{every_none, every_more, every_fails, every_to}
 use Rattle.program_checks.proofs.record_refusal.Statement.{statement}
 use Rattle.program_checks.proofs.record_refusal.Tie as tie
 
-abbrev invariant-loop : tie.invariant-loop
+abbrev invariant-loop : tie.invariant-loop-i
 invariant-loop instructions i₀ i = (i ≤ count instructions) × (every i (is_instruction instructions) ≡ true)
 
-abbrev decreases-loop : tie.decreases-loop
+abbrev decreases-loop : tie.decreases-loop-i
 decreases-loop instructions i₀ i = count instructions - i
 
-loop-holds : tie.Need-loop-init invariant-loop decreases-loop
+loop-holds : tie.Need-loop-i-init invariant-loop decreases-loop
 loop-holds c = (omega arith, every_none (is_instruction c.args.instructions.now))
 
-is-instruction-requires : tie.Need-is-instruction-requires invariant-loop decreases-loop
+is-instruction-requires : tie.Need-is_instruction-requires invariant-loop decreases-loop
 is-instruction-requires c κs = search rules
 
-returns : tie.Need-returns invariant-loop decreases-loop
+returns : tie.Need-returns-then-not-is_instruction invariant-loop decreases-loop
 returns c =
     let b = c.before.before.before in
-    let s = b.before.args.instructions.now in
+    let s = b.args.instructions.now in
     ap (unless 2)
-    (sym (every_fails (count s) b.loop.i (is_instruction s) c.before.before.loop-test.true
-    (sym c.before.is_instruction_lem.ensures ∙ not-true _ c.if1.true)))
+    (sym (every_fails (count s) b.loop-i.i (is_instruction s) c.loop-i-test.true
+    (sym c.is_instruction.ensures ∙ c.if-not-is_instruction.true)))
 
-add-i : tie.Need-overflow-add-i invariant-loop decreases-loop
+add-i : tie.Need-overflow_add-i invariant-loop decreases-loop
 add-i c = omega arith
 
-loop-less : tie.Need-loop-smaller invariant-loop decreases-loop
+loop-less : tie.Need-loop-i-smaller invariant-loop decreases-loop
 loop-less c = omega arith
 
-loop-again : tie.Need-loop-preserved invariant-loop decreases-loop
+loop-again : tie.Need-loop-i-preserved invariant-loop decreases-loop
 loop-again c =
     let b = c.before.before.before in (
       omega arith,
-      every_more b.loop.i (is_instruction b.before.args.instructions.now) b.loop.invariant.1
-          (sym c.before.is_instruction_lem.ensures ∙ not-false _ c.if1.false),
+      every_more b.loop-i.i (is_instruction b.args.instructions.now) b.loop-i.invariant.1
+          (sym c.is_instruction.ensures ∙ c.if-not-is_instruction.false),
     )
 
-returns-2 : tie.Need-returns-2 invariant-loop decreases-loop
+returns-2 : tie.Need-returns invariant-loop decreases-loop
 returns-2 c =
-    let s = c.before.before.args.instructions.now in
-    ap (unless 2) (sym (every_to (count s) c.before.loop.i (is_instruction s) c.before.loop.invariant.1 c.before.loop.invariant.0 c.loop-test.false))
+    let s = c.args.instructions.now in
+    ap (unless 2) (sym (every_to (count s) c.loop-i.i (is_instruction s) c.loop-i.invariant.1 c.loop-i.invariant.0 c.loop-i-test.false))
 
-pub record-refusal-spec : {M : Type 1} → statement M
-record-refusal-spec =
+pub record_refusal_spec : {M : Type 1} → statement M
+record_refusal_spec =
     tie.close
     (tie.spec
     invariant-loop

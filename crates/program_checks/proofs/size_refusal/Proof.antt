@@ -6,16 +6,21 @@ use borrow.Author.Tests.{eq-eqb, ne_eqb, le-leb, lt-leb}
 use Rattle.program_checks.proofs.size_refusal.Statement.{statement}
 use Rattle.program_checks.proofs.size_refusal.Tie as tie
 
-returns : tie.Need-returns
+returns : tie.Need-returns-then-instructions-le32767
 returns c =
-    let s = c.before.before.args.instructions.now in rw (eq-eqb (length s % 4) 0 c.before.if1.true, le-leb (length s / 4) 32767 c.if2.true)
+    let s = c.args.instructions.now in rw (eq-eqb (length s % 4) 0 c.if-instructions-eq0.true, le-leb (length s / 4) 32767 c.if-instructions-le32767.true)
 
-returns-2 : tie.Need-returns-2
+returns-2 : tie.Need-returns-else-instructions-le32767
 returns-2 c =
-    let s = c.before.before.args.instructions.now in rw (eq-eqb (length s % 4) 0 c.before.if1.true, lt-leb (length s / 4) 32767 c.if2.false)
+    let s = c.args.instructions.now in rw (eq-eqb (length s % 4) 0 c.if-instructions-eq0.true, lt-leb (length s / 4) 32767 c.if-instructions-le32767.false)
 
-returns-3 : tie.Need-returns-3
-returns-3 c = let s = c.before.args.instructions.now in rw (ne_eqb (length s % 4) 0 c.if1.false)
+returns-3 : tie.Need-returns-else-instructions-eq0
+returns-3 c = let s = c.args.instructions.now in rw (ne_eqb (length s % 4) 0 c.if-instructions-eq0.false)
 
-pub size-refusal-spec : {M : Type 1} → statement M
-size-refusal-spec = tie.close (tie.spec returns returns-2 returns-3)
+pub size_refusal_spec : {M : Type 1} → statement M
+size_refusal_spec =
+    tie.close
+    (tie.spec
+    returns
+    returns-2
+    returns-3)

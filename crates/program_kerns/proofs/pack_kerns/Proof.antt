@@ -46,34 +46,34 @@ module _ {s kerns out z : List ℤ} {r : ℕ} (b : Begun s kerns out z r) where
         list = written_list (pos 0) (length out) (length s) (changed s (is_kind 1 s) (pos 0) (kern_at s kerns)) (sym number ∙ e) b.zeros w;
       }
 
-begun : (c : tie.After-pack-refusal) →
-    Begun c.before.before.before.before.args.instructions.now c.before.before.before.before.args.kerns.now
-    c.before.before.before.before.args.out.now c.before.before.zero-i32.new.0 c.pack-refusal.result
-begun c = let z = c.before.before.zero-i32 in record { zeros = z.ensures; same = z.auto.0; refusal = c.pack-refusal.ensures }
+begun : (c : tie.After-pack_refusal-refusal) →
+    Begun c.args.instructions.now c.args.kerns.now
+    c.args.out.now c.zero_i32.new.s c.pack_refusal-refusal.result
+begun c = record { zeros = c.zero_i32.ensures; same = c.zero_i32.auto.s; refusal = c.pack_refusal-refusal.ensures }
 
-zero-i32-requires : tie.Need-zero-i32-requires
+zero-i32-requires : tie.Need-zero_i32-requires
 zero-i32-requires c κs = search rules
 
-pack-refusal-requires : tie.Need-pack-refusal-requires
+pack-refusal-requires : tie.Need-pack_refusal-refusal-requires
 pack-refusal-requires c κs = search rules
 
-same_length : tie.Need-same-length
+same_length : tie.Need-shape_of-out-then-refusal-ne0
 same_length c = search rules
 
-returns : tie.Need-returns
-returns c = refused (begun c.before) c.if1.true
+returns : tie.Need-returns-then-refusal-ne0
+returns c = refused (begun c.before) c.if-refusal-ne0.true
 
-write-packed-requires : tie.Need-write-packed-requires
-write-packed-requires c κs = enough (begun c.before.before) c.before.if1.false
+write-packed-requires : tie.Need-write_packed-requires
+write-packed-requires c κs = enough (begun c.before.before) c.if-refusal-ne0.false
 
-same-length-2 : tie.Need-same-length-2
+same-length-2 : tie.Need-shape_of-out
 same-length-2 c = search rules
 
-returns-2 : tie.Need-returns-2
-returns-2 c = done (begun c.before.before.before.before) c.before.before.before.if1.false c.before.write-packed.ensures
+returns-2 : tie.Need-returns
+returns-2 c = done (begun c.before.before.before.before) c.if-refusal-ne0.false c.write_packed.ensures
 
-pub pack-kerns-spec : {M : Type 1} → statement M
-pack-kerns-spec =
+pub pack_kerns_spec : {M : Type 1} → statement M
+pack_kerns_spec =
     tie.close
     (tie.spec
     zero-i32-requires

@@ -10,54 +10,54 @@ use borrow.Author.Rules.{rules}
 use Rattle.program_kerns.proofs.packed_word.Statement.{statement}
 use Rattle.program_kerns.proofs.packed_word.Tie as tie
 
-field-at-requires : tie.Need-field-at-requires
+field-at-requires : tie.Need-field_at-requires
 field-at-requires c κs = search rules
 
-word-at-requires : tie.Need-word-at-requires
+word-at-requires : tie.Need-word_at-requires
 word-at-requires c κs = search rules
 
-returns : tie.Need-returns
+returns : tie.Need-returns-then-field_at-ne1
 returns c =
-    let a = c.before.before.before.args in
+    let a = c.args in
     word_not a.instructions.now (is_kind 1 a.instructions.now) (pos 0) (kern_at a.instructions.now a.kerns.now) a.j
-    (kind_not 1 a.instructions.now (a.j / 4) c.before.before.field_at.ensures c.before.if1.true)
+    (kind_not 1 a.instructions.now (a.j / 4) c.field_at.ensures c.if-field_at-ne1.true)
     c.word_at.ensures
 
-returns-2 : tie.Need-returns-2
+returns-2 : tie.Need-returns-then-j-eq2
 returns-2 c =
-    let a = c.before.before.before.args in
+    let a = c.args in
     word_kind a.instructions.now (is_kind 1 a.instructions.now) (pos 0) (kern_at a.instructions.now a.kerns.now) a.j
-    (kind_is 1 a.instructions.now (a.j / 4) c.before.before.field_at.ensures c.before.if1.false)
-    c.if2.true (small_word 0 (lit< tt))
+    (kind_is 1 a.instructions.now (a.j / 4) c.field_at.ensures c.if-field_at-ne1.false)
+    c.if-j-eq2.true (small_word 0 (lit< tt))
 
-field-at-requires-2 : tie.Need-field-at-requires-2
+field-at-requires-2 : tie.Need-field_at-requires-then-j-eq3
 field-at-requires-2 c κs = search rules
 
-cast-word-at : tie.Need-overflow-cast-word-at
+cast-word-at : tie.Need-overflow_cast-field_at
 cast-word-at c = search rules
 
-word-at-requires-2 : tie.Need-word-at-requires-2
+word-at-requires-2 : tie.Need-word_at-requires-then-j-eq3
 word-at-requires-2 c κs = search rules
 
-returns-3 : tie.Need-returns-3
+returns-3 : tie.Need-returns-then-j-eq3
 returns-3 c =
-    let a = c.before.before.before.before.before.before.args in
+    let a = c.args in
     word_operand a.instructions.now (is_kind 1 a.instructions.now) (pos 0) (kern_at a.instructions.now a.kerns.now) a.j
-    (kind_is 1 a.instructions.now (a.j / 4) c.before.before.before.before.before.field_at.ensures c.before.before.before.before.if1.false)
-    c.before.before.if3.true (rw c.before.field-at2.ensures.is at c.word-at2.ensures)
+    (kind_is 1 a.instructions.now (a.j / 4) c.field_at.ensures c.if-field_at-ne1.false)
+    c.if-j-eq3.true (rw c.field_at-then-j-eq3.ensures.is at c.word_at-then-j-eq3.ensures)
 
-word-at-requires-3 : tie.Need-word-at-requires-3
+word-at-requires-3 : tie.Need-word_at-requires-2
 word-at-requires-3 c κs = search rules
 
-returns-4 : tie.Need-returns-4
+returns-4 : tie.Need-returns
 returns-4 c =
-    let a = c.before.before.before.before.before.args in
+    let a = c.args in
     word_other a.instructions.now (is_kind 1 a.instructions.now) (pos 0) (kern_at a.instructions.now a.kerns.now) a.j
-    (kind_is 1 a.instructions.now (a.j / 4) c.before.before.before.before.field_at.ensures c.before.before.before.if1.false)
-    c.before.before.if2.false c.before.if3.false c.word-at3.ensures
+    (kind_is 1 a.instructions.now (a.j / 4) c.field_at.ensures c.if-field_at-ne1.false)
+    c.if-j-eq2.false c.if-j-eq3.false c.word_at-2.ensures
 
-pub packed-word-spec : {M : Type 1} → statement M
-packed-word-spec =
+pub packed_word_spec : {M : Type 1} → statement M
+packed_word_spec =
     tie.close
     (tie.spec
     field-at-requires

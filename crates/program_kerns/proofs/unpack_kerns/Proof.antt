@@ -96,81 +96,73 @@ module _ {s out kerns z y : List ℤ} {r : ℕ} (b : Begun s out kerns z y r) wh
               shares = rw (none, ← b.kerns-same) (appending_rest (replicate (length y) (pos 0)) (pos 0) (length y) refl all.stands);
             }
 
-begun : (c : tie.After-unpack-refusal) → let c7 = c.before.before.before.before.before.before.before in
-    Begun c7.args.instructions.now c7.args.out.now c7.args.kerns.now c.before.before.before.before.before.zero-i32.new.0
-    c.before.before.zero-i322.new.0 c.unpack-refusal.result
+begun : (c : tie.After-unpack_refusal-refusal) → Begun c.args.instructions.now c.args.out.now c.args.kerns.now c.zero_i32.new.s
+    c.zero_i32-2.new.s c.unpack_refusal-refusal.result
 begun c =
-    let z = c.before.before.before.before.before.zero-i32 in
-    let y = c.before.before.zero-i322 in
-    record { out-zeros = z.ensures; out-same = z.auto.0; kerns-zeros = y.ensures; kerns-same = y.auto.0; early = c.unpack-refusal.ensures }
+    record { out-zeros = c.zero_i32.ensures; out-same = c.zero_i32.auto.s; kerns-zeros = c.zero_i32-2.ensures; kerns-same = c.zero_i32-2.auto.s; early = c.unpack_refusal-refusal.ensures }
 
-ended : (c : tie.After-gather) → let c11 = c.before.before.before.before.before.before.before.before.before.before.before in
-    let c6 = c.before.before.before.before.before.before in
-    Ended c11.args.instructions.now c6.zero-i322.new.0 c.gather.new.1.0 c.gather.new.1.1.0 c.gather.result
-ended c = record { counted = c.gather.ensures; kept = c.gather.auto.1.0 }
+ended : (c : tie.After-gather-m) → Ended c.args.instructions.now c.zero_i32-2.new.s c.gather-m.new.kerns c.gather-m.new.links c.gather-m.result
+ended c = record { counted = c.gather-m.ensures; kept = c.gather-m.auto.kerns }
 
-zero-i32-requires : tie.Need-zero-i32-requires
+zero-i32-requires : tie.Need-zero_i32-requires
 zero-i32-requires c κs = search rules
 
-zero-i32-requires-2 : tie.Need-zero-i32-requires-2
+zero-i32-requires-2 : tie.Need-zero_i32-requires-2
 zero-i32-requires-2 c κs = search rules
 
-unpack-refusal-requires : tie.Need-unpack-refusal-requires
+unpack-refusal-requires : tie.Need-unpack_refusal-refusal-requires
 unpack-refusal-requires c κs = search rules
 
-same_length : tie.Need-same-length
+same_length : tie.Need-shape_of-out-then-refusal-ne0
 same_length c = search rules
 
-same-length-2 : tie.Need-same-length-2
+same-length-2 : tie.Need-shape_of-kerns-then-refusal-ne0
 same-length-2 c = search rules
 
-returns : tie.Need-returns
-returns c = refused-early (begun c.before) c.if1.true
+returns : tie.Need-returns-then-refusal-ne0
+returns c = refused-early (begun c.before) c.if-refusal-ne0.true
 
-gather-requires : tie.Need-gather-requires
-gather-requires c κs = let b = begun c.before.before.before in (size b c.before.before.if1.false, starts b c.before.before.if1.false)
+gather-requires : tie.Need-gather-m-requires
+gather-requires c κs = let b = begun c.before.before.before in (size b c.if-refusal-ne0.false, starts b c.if-refusal-ne0.false)
 
-zero-i32-requires-3 : tie.Need-zero-i32-requires-3
+zero-i32-requires-3 : tie.Need-zero_i32-requires-then-kerns-m
 zero-i32-requires-3 c κs = search rules
 
-same-length-3 : tie.Need-same-length-3
+same-length-3 : tie.Need-shape_of-out-then-kerns-m
 same-length-3 c = search rules
 
-same-length-4 : tie.Need-same-length-4
+same-length-4 : tie.Need-shape_of-kerns-then-kerns-m
 same-length-4 c = search rules
 
-returns-2 : tie.Need-returns-2
+returns-2 : tie.Need-returns-then-kerns-m
 returns-2 c =
-    let g = c.before.before.before.before.before in
-    refused-late (begun g.before.before.before.before) g.before.before.before.if1.false (ended g) c.before.before.before.if2.true
-    c.before.zero-i323.ensures
+    refused-late (begun c.before.before.before.before.before.before.before.before.before) c.if-refusal-ne0.false (ended (c.before.before.before.before.before)) c.if-kerns-m.true
+    c.zero_i32-then-kerns-m.ensures
 
-slice-reshare-prefix-write-unpacked : tie.Need-slice-reshare-prefix-write-unpacked
+slice-reshare-prefix-write-unpacked : tie.Need-slice_bounds-write_unpacked-end
 slice-reshare-prefix-write-unpacked c = search rules
 
-slice-aggregate-write-unpacked : tie.Need-slice-aggregate-write-unpacked
-slice-aggregate-write-unpacked c = let g = c.before.before.before.gather in sym (length-take-le g.result g.new.1.0 c.before.if2.false)
+slice-aggregate-write-unpacked : tie.Need-slice_bounds-write_unpacked-end-2
+slice-aggregate-write-unpacked c = sym (length-take-le c.gather-m.result c.gather-m.new.kerns c.if-kerns-m.false)
 
-write-unpacked-requires : tie.Need-write-unpacked-requires
+write-unpacked-requires : tie.Need-write_unpacked-requires
 write-unpacked-requires c κs =
-    let g = c.before.before.before.before.before in
-    let b = begun g.before.before.before.before in
-    (linked b g.before.before.before.if1.false (ended g) c.before.before.before.if2.false, enough b g.before.before.before.if1.false)
+    let b = begun c.before.before.before.before.before.before.before.before in
+    (linked b c.if-refusal-ne0.false (ended (c.before.before.before.before)) c.if-kerns-m.false, enough b c.if-refusal-ne0.false)
 
-same-length-5 : tie.Need-same-length-5
+same-length-5 : tie.Need-shape_of-out
 same-length-5 c = search rules
 
-same-length-6 : tie.Need-same-length-6
+same-length-6 : tie.Need-shape_of-kerns
 same-length-6 c = search rules
 
-returns-3 : tie.Need-returns-3
+returns-3 : tie.Need-returns
 returns-3 c =
-    let g = c.before.before.before.before.before.before.before in
-    done (begun g.before.before.before.before) g.before.before.before.if1.false (ended g) c.before.before.before.before.before.if2.false
-    c.before.write-unpacked.ensures
+    done (begun c.before.before.before.before.before.before.before.before.before.before) c.if-refusal-ne0.false (ended (c.before.before.before.before.before.before)) c.if-kerns-m.false
+    c.write_unpacked.ensures
 
-pub unpack-kerns-spec : {M : Type 1} → statement M
-unpack-kerns-spec =
+pub unpack_kerns_spec : {M : Type 1} → statement M
+unpack_kerns_spec =
     tie.close
     (tie.spec
     zero-i32-requires

@@ -5,17 +5,23 @@ use borrow.Author.Rules.{rules}
 use Rattle.program_kerns.proofs.unpack_refusal.Statement.{statement}
 use Rattle.program_kerns.proofs.unpack_refusal.Tie as tie
 
-program-refusal-requires : tie.Need-program-refusal-requires
+program-refusal-requires : tie.Need-program_refusal-program-requires
 program-refusal-requires c κs = search rules
 
-returns : tie.Need-returns
-returns c = first_refusal _ c.before.program-refusal.ensures c.if1.true
+returns : tie.Need-returns-then-program-ne0
+returns c = first_refusal _ c.program_refusal-program.ensures c.if-program-ne0.true
 
-room-refusal-requires : tie.Need-room-refusal-requires
+room-refusal-requires : tie.Need-room_refusal-requires
 room-refusal-requires c κs = search rules
 
-returns-2 : tie.Need-returns-2
-returns-2 c = later_refusal_lem c.before.before.program-refusal.ensures c.before.if1.false c.room-refusal.ensures
+returns-2 : tie.Need-returns
+returns-2 c = later_refusal_lem c.program_refusal-program.ensures c.if-program-ne0.false c.room_refusal.ensures
 
-pub unpack-refusal-spec : {M : Type 1} → statement M
-unpack-refusal-spec = tie.close (tie.spec program-refusal-requires returns room-refusal-requires returns-2)
+pub unpack_refusal_spec : {M : Type 1} → statement M
+unpack_refusal_spec =
+    tie.close
+    (tie.spec
+    program-refusal-requires
+    returns
+    room-refusal-requires
+    returns-2)

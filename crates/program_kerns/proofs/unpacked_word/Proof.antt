@@ -21,63 +21,58 @@ use Rattle.program_kerns.proofs.unpacked_word.Tie as tie
 place_is : (v : ℤ) (ks : List ℤ) (w r : ℕ) → length ks ≤ 32767 → Word v w → r ≡ kern_place (number_of w) ks → Word (pos (kern_place v ks)) r
 place_is v ks w r l h e = rw (e, number_is h) (small_word (kern_place v ks) (omega (arith, place_le v ks)))
 
-field-at-requires : tie.Need-field-at-requires
+field-at-requires : tie.Need-field_at-requires
 field-at-requires c κs = search rules
 
-word-at-requires : tie.Need-word-at-requires
+word-at-requires : tie.Need-word_at-requires
 word-at-requires c κs = search rules
 
-returns : tie.Need-returns
+returns : tie.Need-returns-then-field_at-ne0
 returns c =
-    let a = c.before.before.before in
-    word_not a.args.instructions.now (is_kind 0 a.args.instructions.now) (pos 1)
-    (λ i. pos (kern_place (field a.args.instructions.now i 3) a.args.kerns.now)) a.args.j
-    (kind_not 0 a.args.instructions.now (a.args.j / 4) c.before.before.field_at.ensures c.before.if1.true)
+    word_not c.args.instructions.now (is_kind 0 c.args.instructions.now) (pos 1)
+    (λ i. pos (kern_place (field c.args.instructions.now i 3) c.args.kerns.now)) c.args.j
+    (kind_not 0 c.args.instructions.now (c.args.j / 4) c.field_at.ensures c.if-field_at-ne0.true)
     c.word_at.ensures
 
-returns-2 : tie.Need-returns-2
+returns-2 : tie.Need-returns-then-j-eq2
 returns-2 c =
-    let a = c.before.before.before in
-    word_kind a.args.instructions.now (is_kind 0 a.args.instructions.now) (pos 1)
-    (λ i. pos (kern_place (field a.args.instructions.now i 3) a.args.kerns.now)) a.args.j
-    (kind_is 0 a.args.instructions.now (a.args.j / 4) c.before.before.field_at.ensures c.before.if1.false)
-    c.if2.true (small_word 1 (lit< tt))
+    word_kind c.args.instructions.now (is_kind 0 c.args.instructions.now) (pos 1)
+    (λ i. pos (kern_place (field c.args.instructions.now i 3) c.args.kerns.now)) c.args.j
+    (kind_is 0 c.args.instructions.now (c.args.j / 4) c.field_at.ensures c.if-field_at-ne0.false)
+    c.if-j-eq2.true (small_word 1 (lit< tt))
 
-field-at-requires-2 : tie.Need-field-at-requires-2
+field-at-requires-2 : tie.Need-field_at-requires-then-j-eq3
 field-at-requires-2 c κs = search rules
 
-place-of-requires : tie.Need-place-of-requires
+place-of-requires : tie.Need-place_of-requires
 place-of-requires c κs = search rules
 
-cast-result : tie.Need-overflow-cast-result
+cast-result : tie.Need-overflow_cast-result
 cast-result c =
-    let a = c.before.before.before.before.before.before in
-    omega (arith, c.place_of.ensures, place_le (number_of c.before.field-at2.result) a.args.kerns.now, a.requires.few)
+    omega (arith, c.place_of.ensures, place_le (number_of c.field_at-then-j-eq3.result) c.args.kerns.now, c.requires.few)
 
-returns-3 : tie.Need-returns-3
+returns-3 : tie.Need-returns-then-j-eq3
 returns-3 c =
-    let a = c.before.before.before.before.before.before in
-    word_operand a.args.instructions.now (is_kind 0 a.args.instructions.now) (pos 1)
-    (λ i. pos (kern_place (field a.args.instructions.now i 3) a.args.kerns.now)) a.args.j
-    (kind_is 0 a.args.instructions.now (a.args.j / 4) c.before.before.before.before.before.field_at.ensures
-    c.before.before.before.before.if1.false)
-    c.before.before.if3.true
-    (place_is (field a.args.instructions.now (a.args.j / 4) 3) a.args.kerns.now c.before.field-at2.result c.place_of.result
-    a.requires.few c.before.field-at2.ensures c.place_of.ensures)
+    word_operand c.args.instructions.now (is_kind 0 c.args.instructions.now) (pos 1)
+    (λ i. pos (kern_place (field c.args.instructions.now i 3) c.args.kerns.now)) c.args.j
+    (kind_is 0 c.args.instructions.now (c.args.j / 4) c.field_at.ensures
+    c.if-field_at-ne0.false)
+    c.if-j-eq3.true
+    (place_is (field c.args.instructions.now (c.args.j / 4) 3) c.args.kerns.now c.field_at-then-j-eq3.result c.place_of.result
+    c.requires.few c.field_at-then-j-eq3.ensures c.place_of.ensures)
 
-word-at-requires-2 : tie.Need-word-at-requires-2
+word-at-requires-2 : tie.Need-word_at-requires-2
 word-at-requires-2 c κs = search rules
 
-returns-4 : tie.Need-returns-4
+returns-4 : tie.Need-returns
 returns-4 c =
-    let a = c.before.before.before.before.before in
-    word_other a.args.instructions.now (is_kind 0 a.args.instructions.now) (pos 1)
-    (λ i. pos (kern_place (field a.args.instructions.now i 3) a.args.kerns.now)) a.args.j
-    (kind_is 0 a.args.instructions.now (a.args.j / 4) c.before.before.before.before.field_at.ensures c.before.before.before.if1.false)
-    c.before.before.if2.false c.before.if3.false c.word-at2.ensures
+    word_other c.args.instructions.now (is_kind 0 c.args.instructions.now) (pos 1)
+    (λ i. pos (kern_place (field c.args.instructions.now i 3) c.args.kerns.now)) c.args.j
+    (kind_is 0 c.args.instructions.now (c.args.j / 4) c.field_at.ensures c.if-field_at-ne0.false)
+    c.if-j-eq2.false c.if-j-eq3.false c.word_at-2.ensures
 
-pub unpacked-word-spec : {M : Type 1} → statement M
-unpacked-word-spec =
+pub unpacked_word_spec : {M : Type 1} → statement M
+unpacked_word_spec =
     tie.close
     (tie.spec
     field-at-requires

@@ -18,51 +18,46 @@ use Rattle.program_kerns.proofs.write_unpacked.Tie as tie
 abbrev unpackedAt : List ℤ → List ℤ → ℕ → ℤ
 unpackedAt s kerns = changed s (is_kind 0 s) (pos 1) (λ i. pos (kern_place (field s i 3) kerns))
 
-abbrev invariant-loop : tie.invariant-loop
+abbrev invariant-loop : tie.invariant-loop-j
 invariant-loop instructions kerns links out₀ j₀ out j = (j ≤ length instructions) × Filling (unpackedAt instructions kerns) out₀ out j
 
-abbrev decreases-loop : tie.decreases-loop
+abbrev decreases-loop : tie.decreases-loop-j
 decreases-loop instructions kerns links out₀ j₀ out j = length instructions - j
 
-loop-holds : tie.Need-loop-init invariant-loop decreases-loop
+loop-holds : tie.Need-loop-j-init invariant-loop decreases-loop
 loop-holds c = let a = c.args in (omega arith, filling_none (unpackedAt a.instructions.now a.kerns.now) a.out.now)
 
-unpacked-word-requires : tie.Need-unpacked-word-requires invariant-loop decreases-loop
+unpacked-word-requires : tie.Need-unpacked_word-requires invariant-loop decreases-loop
 unpacked-word-requires c κs = search rules
 
-put-word-requires : tie.Need-put-word-requires invariant-loop decreases-loop
+put-word-requires : tie.Need-put_word-requires invariant-loop decreases-loop
 put-word-requires c κs = search rules
 
-add-j : tie.Need-overflow-add-j invariant-loop decreases-loop
-add-j c = omega (arith, c.before.before.before.before.loop-test.true, c.before.before.before.before.before.before.well-formed.0.0)
+add-j : tie.Need-overflow_add-j invariant-loop decreases-loop
+add-j c = omega (arith, c.loop-j-test.true, c.well_formed.0.0)
 
-loop-less : tie.Need-loop-smaller invariant-loop decreases-loop
-loop-less c = omega (arith, c.before.before.before.before.loop-test.true)
+loop-less : tie.Need-loop-j-smaller invariant-loop decreases-loop
+loop-less c = omega (arith, c.loop-j-test.true)
 
-loop-again : tie.Need-loop-preserved invariant-loop decreases-loop
-loop-again c =
-    let a = c.before.before.before.before.before.before in
-    let l = c.before.before.before.before.before.loop in
-    let w = c.before.before.unpacked-word in
-    let p = c.before.put_word in (
-      omega (arith, c.before.before.before.before.loop-test.true),
-      filling_put l.invariant.1 (omega (arith, c.before.before.before.before.loop-test.true, a.requires.1)) p.ensures
-          (number_is {z = unpackedAt a.args.instructions.now a.args.kerns.now l.j} w.ensures),
-    )
+loop-again : tie.Need-loop-j-preserved invariant-loop decreases-loop
+loop-again c = (
+  omega (arith, c.loop-j-test.true),
+  filling_put c.loop-j.invariant.1 (omega (arith, c.loop-j-test.true, c.requires.1)) c.put_word.ensures
+      (number_is {z = unpackedAt c.args.instructions.now c.args.kerns.now c.loop-j.j} c.unpacked_word.ensures),
+)
 
-same_length : tie.Need-same-length invariant-loop decreases-loop
+same_length : tie.Need-shape_of-out invariant-loop decreases-loop
 same_length c =
-    let a = c.before.before.args in
-    filling_length (unpackedAt a.instructions.now a.kerns.now) a.out.now c.before.loop.invariant.1
+    let a = c.args in
+    filling_length (unpackedAt a.instructions.now a.kerns.now) a.out.now c.loop-j.invariant.1
 
 returns : tie.Need-returns invariant-loop decreases-loop
 returns c =
-    let a = c.before.before.args in
-    let l = c.before.loop in
-    filling_to (length a.instructions.now) l.invariant.1 (omega (arith, l.invariant.0, c.loop-test.false))
+    let a = c.args in
+    filling_to (length a.instructions.now) c.loop-j.invariant.1 (omega (arith, c.loop-j.invariant.0, c.loop-j-test.false))
 
-pub write-unpacked-spec : {M : Type 1} → statement M
-write-unpacked-spec =
+pub write_unpacked_spec : {M : Type 1} → statement M
+write_unpacked_spec =
     tie.close
     (tie.spec
     invariant-loop

@@ -31,52 +31,52 @@ module _ (limit : ℕ) (seen : List ℕ) (y z : ℤ) (v w : ℕ) (p : Word y v) 
   by-mark : v ≤ 255 → limit < 2 ^ 16 → Word z w → w ≤ limit → eqb (get_or seen v 0) 0 ≡ test limit y z seen
   by-mark h l q k = rw (within_read 255 p (omega arith) ∙ le-leb v 255 h, within_read limit q (omega arith) ∙ le-leb w limit k, p.is)
 
-mul-word-at : tie.Need-overflow-mul-word-at
+mul-word-at : tie.Need-overflow_mul-i
 mul-word-at c = search rules
 
-word-at-requires : tie.Need-word-at-requires
+word-at-requires : tie.Need-word_at-c-requires
 word-at-requires c κs = search rules
 
-returns : tie.Need-returns
+returns : tie.Need-returns-then-c-gt255
 returns c =
-    let a = c.before.before.args in
-    no_character a.limit a.seen.now (char_at a.entries.now a.i) (entry_at a.entries.now a.i) c.before.word_at.result 0
-    c.before.word_at.ensures c.if1.true
+    let a = c.args in
+    no_character a.limit a.seen.now (char_at a.entries.now a.i) (entry_at a.entries.now a.i) c.word_at-c.result 0
+    c.word_at-c.ensures c.if-c-gt255.true
 
-mul-word-at-2 : tie.Need-overflow-mul-word-at-2
+mul-word-at-2 : tie.Need-overflow_mul-i-2
 mul-word-at-2 c = search rules
 
-add-word-at : tie.Need-overflow-add-word-at
+add-word-at : tie.Need-overflow_add-i
 add-word-at c = search rules
 
-word-at-requires-2 : tie.Need-word-at-requires-2
+word-at-requires-2 : tie.Need-word_at-entry-requires
 word-at-requires-2 c κs = search rules
 
-returns-2 : tie.Need-returns-2
+returns-2 : tie.Need-returns-then-limit-entry
 returns-2 c =
     let d = c.before.before.before in
-    let a = d.before.args in
-    no_entry a.limit a.seen.now (char_at a.entries.now a.i) (entry_at a.entries.now a.i) d.word_at.result
-    c.before.word-at2.result d.word_at.ensures
-    c.before.before.if1.false d.before.ranges.limit.fits c.before.word-at2.ensures c.if2.true
+    let a = d.args in
+    no_entry a.limit a.seen.now (char_at a.entries.now a.i) (entry_at a.entries.now a.i) d.word_at-c.result
+    c.word_at-entry.result d.word_at-c.ensures
+    c.if-c-gt255.false d.ranges.limit.fits c.word_at-entry.ensures c.if-limit-entry.true
 
-cast-place : tie.Need-overflow-cast-place
+cast-place : tie.Need-overflow_cast-place
 cast-place c = search rules
 
-element-copy-out-result : tie.Need-element-copy-out-result
+element-copy-out-result : tie.Need-bounds-seen-place
 element-copy-out-result c = search rules
 
-returns-3 : tie.Need-returns-3
+returns-3 : tie.Need-returns
 returns-3 c =
     let b = c.before.before in
     let d = b.before.before in
-    let a = d.before.args in
-    by-mark a.limit a.seen.now (char_at a.entries.now a.i) (entry_at a.entries.now a.i) d.word_at.result b.word-at2.result
-    d.word_at.ensures
-    b.before.if1.false d.before.ranges.limit.fits b.word-at2.ensures c.before.if2.false
+    let a = d.args in
+    by-mark a.limit a.seen.now (char_at a.entries.now a.i) (entry_at a.entries.now a.i) d.word_at-c.result b.word_at-entry.result
+    d.word_at-c.ensures
+    b.if-c-gt255.false d.ranges.limit.fits b.word_at-entry.ensures c.if-limit-entry.false
 
-pub entry-fits-spec : {M : Type 1} → statement M
-entry-fits-spec =
+pub entry_fits_spec : {M : Type 1} → statement M
+entry_fits_spec =
     tie.close
     (tie.spec
     mul-word-at

@@ -6,11 +6,15 @@ use borrow.Author.Tests.{eq-eqb, ne_eqb}
 use Rattle.program_limits.proofs.passthrough_refusal.Statement.{statement}
 use Rattle.program_limits.proofs.passthrough_refusal.Tie as tie
 
-returns : tie.Need-returns
-returns c = let a = c.before.args in rw (eq-eqb (length a.passthrough.now) (length a.instructions.now / 4) c.if1.true)
+returns : tie.Need-returns-then-passthrough-instructions
+returns c = let a = c.args in rw (eq-eqb (length a.passthrough.now) (length a.instructions.now / 4) c.if-passthrough-instructions.true)
 
-returns-2 : tie.Need-returns-2
-returns-2 c = let a = c.before.args in rw (ne_eqb (length a.passthrough.now) (length a.instructions.now / 4) c.if1.false)
+returns-2 : tie.Need-returns-else-passthrough-instructions
+returns-2 c = let a = c.args in rw (ne_eqb (length a.passthrough.now) (length a.instructions.now / 4) c.if-passthrough-instructions.false)
 
-pub passthrough-refusal-spec : {M : Type 1} → statement M
-passthrough-refusal-spec = tie.close (tie.spec returns returns-2)
+pub passthrough_refusal_spec : {M : Type 1} → statement M
+passthrough_refusal_spec =
+    tie.close
+    (tie.spec
+    returns
+    returns-2)

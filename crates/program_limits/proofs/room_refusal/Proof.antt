@@ -5,11 +5,15 @@ use Rattle.lang.proofs.Refusals.{room_is, room_short}
 use Rattle.program_limits.proofs.room_refusal.Statement.{statement}
 use Rattle.program_limits.proofs.room_refusal.Tie as tie
 
-returns : tie.Need-returns
-returns c = let a = c.before.args in sym (room_is a.needed a.room c.if1.true)
+returns : tie.Need-returns-then-needed-room
+returns c = let a = c.args in sym (room_is a.needed a.room c.if-needed-room.true)
 
-returns-2 : tie.Need-returns-2
-returns-2 c = let a = c.before.args in sym (room_short a.needed a.room c.if1.false)
+returns-2 : tie.Need-returns-else-needed-room
+returns-2 c = let a = c.args in sym (room_short a.needed a.room c.if-needed-room.false)
 
-pub room-refusal-spec : {M : Type 1} → statement M
-room-refusal-spec = tie.close (tie.spec returns returns-2)
+pub room_refusal_spec : {M : Type 1} → statement M
+room_refusal_spec =
+    tie.close
+    (tie.spec
+    returns
+    returns-2)

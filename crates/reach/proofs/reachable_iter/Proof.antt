@@ -49,129 +49,126 @@ written s es left p m n out₁ out₂ z e f g =
 
 -- what is known at a place
 
-refusal_is : (c : tie.After-reach-refusal) → let a = c.before.before.before.before.before.args in
-    c.reach-refusal.result ≡ reach_refusal a.instructions.now a.entries.now a.left_entry_lem a.passthrough.now (length a.out.now)
+refusal_is : (c : tie.After-reach_refusal-refusal) → let a = c.args in
+    c.reach_refusal-refusal.result ≡ reach_refusal a.instructions.now a.entries.now a.left_entry a.passthrough.now (length a.out.now)
 refusal_is c =
-    let s = c.before.before.before.before.before in
-    same_refusal s.args.instructions.now s.args.entries.now s.args.left_entry_lem (number_of (word_of s.args.left_entry_lem))
-    s.args.passthrough.now (length s.args.out.now) (length c.before.before.zero-i32.new.0) _
-    c.reach-refusal.ensures
-    (number_word s.args.left_entry_lem s.ranges.left_entry_lem)
-    c.before.before.zero-i32.auto.0
+    same_refusal c.args.instructions.now c.args.entries.now c.args.left_entry (number_of (word_of c.args.left_entry))
+    c.args.passthrough.now (length c.args.out.now) (length c.zero_i32.new.s) _
+    c.reach_refusal-refusal.ensures
+    (number_word c.args.left_entry c.ranges.left_entry)
+    c.zero_i32.auto.s
 
-none-holds : (c : tie.Else1) → let a = c.before.before.before.before.before.before.args in
-    reach_refusal a.instructions.now a.entries.now a.left_entry_lem a.passthrough.now (length a.out.now) ≡ 0
-none-holds c = sym (refusal_is c.before) ∙ c.if1.false
+none-holds : (c : tie.Else-refusal-ne0) → let a = c.args in
+    reach_refusal a.instructions.now a.entries.now a.left_entry a.passthrough.now (length a.out.now) ≡ 0
+none-holds c = sym (refusal_is c.before) ∙ c.if-refusal-ne0.false
 
-places-enough : (c : tie.After-places) → count c.before.before.before.before.before.before.before.args.instructions.now ≤ length c.places.result
+places-enough : (c : tie.After-places-marks) → count c.args.instructions.now ≤ length c.places-marks.result
 places-enough c =
-    let a = c.before.before.before.before.before.before.before.args in
+    let a = c.args in
     omega (
       arith,
-      c.places.ensures,
-      program_fits a.instructions.now a.entries.now a.left_entry_lem a.passthrough.now (length a.out.now) (none-holds c.before),
+      c.places-marks.ensures,
+      program_fits a.instructions.now a.entries.now a.left_entry a.passthrough.now (length a.out.now) (none-holds c.before),
     )
 
 -- the marks: as many as there are instructions
-marks-length : (c : tie.After-reachable-array) →
-    length c.reachable-array.new.1.1.1.0 ≡ count c.before.before.before.before.before.before.before.before.before.args.instructions.now
+marks-length : (c : tie.After-reachable_array) →
+    length c.reachable_array.new.marks ≡ count c.args.instructions.now
 marks-length c =
-    c.reachable-array.auto.1.1.1.0
-    ∙ length-take-le (count c.before.before.before.before.before.before.before.before.before.args.instructions.now)
-    c.before.before.places.result (places-enough c.before.before)
+    c.reachable_array.auto.marks
+    ∙ length-take-le (count c.args.instructions.now)
+    c.places-marks.result (places-enough c.before.before)
 
-front : (c : tie.After-reachable-array) → let n = count c.before.before.before.before.before.before.before.before.before.args.instructions.now in
-    length (take n (c.reachable-array.new.1.1.1.0 ++ drop n c.before.before.places.result)) ≡ n
+front : (c : tie.After-reachable_array) → let n = count c.args.instructions.now in
+    length (take n (c.reachable_array.new.marks ++ drop n c.places-marks.result)) ≡ n
 front c =
-    front_length (count c.before.before.before.before.before.before.before.before.before.args.instructions.now)
-    c.reachable-array.new.1.1.1.0 c.before.before.places.result (marks-length c)
+    front_length (count c.args.instructions.now)
+    c.reachable_array.new.marks c.places-marks.result (marks-length c)
 
-zero-i32-requires : tie.Need-zero-i32-requires
+zero-i32-requires : tie.Need-zero_i32-requires
 zero-i32-requires c κs = search rules
 
-reach-refusal-requires : tie.Need-reach-refusal-requires
+reach-refusal-requires : tie.Need-reach_refusal-refusal-requires
 reach-refusal-requires c κs = search rules
 
-same_length : tie.Need-same-length
+same_length : tie.Need-shape_of-out-then-refusal-ne0
 same_length c = search rules
 
-returns : tie.Need-returns
+returns : tie.Need-returns-then-refusal-ne0
 returns c =
-    let a = c.before.before.before.before.before.before.args in
+    let a = c.args in
     let e = refusal_is c.before in
     record {
-      answer = refused_answer (count a.instructions.now) e c.if1.true;
+      answer = refused_answer (count a.instructions.now) e c.if-refusal-ne0.true;
       list =
-          refused_list (pos 0) (length a.out.now) (reach_list a.instructions.now a.entries.now a.left_entry_lem a.passthrough.now) e
-          c.if1.true c.before.before.before.zero-i32.ensures;
+          refused_list (pos 0) (length a.out.now) (reach_list a.instructions.now a.entries.now a.left_entry a.passthrough.now) e
+          c.if-refusal-ne0.true c.zero_i32.ensures;
     }
 
-places-requires : tie.Need-places-requires
+places-requires : tie.Need-places-marks-requires
 places-requires c κs = search rules
 
-array-borrow-prefix-marks : tie.Need-array-borrow-prefix-marks
+array-borrow-prefix-marks : tie.Need-slice_bounds-marks-end
 array-borrow-prefix-marks c = places-enough c
 
-slice-aggregate-reachable-array : tie.Need-slice-aggregate-reachable-array
+slice-aggregate-reachable-array : tie.Need-slice_bounds-reachable_array-end
 slice-aggregate-reachable-array c =
-    sym (length-take-le (count c.before.before.before.before.before.before.before.before.args.instructions.now) c.before.places.result
+    sym (length-take-le (count c.args.instructions.now) c.places-marks.result
     (places-enough c.before))
 
-reachable-array-requires : tie.Need-reachable-array-requires
+reachable-array-requires : tie.Need-reachable_array-requires
 reachable-array-requires c κs = search rules
 
-array-share-prefix-marks : tie.Need-array-share-prefix-marks
+array-share-prefix-marks : tie.Need-slice_bounds-marks-end-2
 array-share-prefix-marks c =
-    let m = c.before.reachable-array.new.1.1.1.0 in
+    let m = c.reachable_array.new.marks in
     omega (
       arith,
       marks-length c.before,
       length-append m
-          (drop (count c.before.before.before.before.before.before.before.before.before.before.args.instructions.now)
-          c.before.before.before.places.result),
+          (drop (count c.args.instructions.now)
+          c.places-marks.result),
     )
 
-slice-aggregate-write-reach : tie.Need-slice-aggregate-write-reach
+slice-aggregate-write-reach : tie.Need-slice_bounds-write_reach-end
 slice-aggregate-write-reach c = sym (front c.before.before)
 
-write-reach-requires : tie.Need-write-reach-requires
+write-reach-requires : tie.Need-write_reach-requires
 write-reach-requires c κs =
-    let a = c.before.before.before.before.before.before.before.before.before.before.before.before.args in (
+    let a = c.args in (
       front c.before.before.before,
       omega (
         arith,
-        c.before.before.before.before.before.before.before.before.before.zero-i32.auto.0,
-        enough a.instructions.now a.entries.now a.left_entry_lem a.passthrough.now (length a.out.now)
+        c.zero_i32.auto.s,
+        enough a.instructions.now a.entries.now a.left_entry a.passthrough.now (length a.out.now)
             (none-holds c.before.before.before.before.before.before),
       ),
     )
 
-same-length-2 : tie.Need-same-length-2
+same-length-2 : tie.Need-shape_of-out
 same-length-2 c = search rules
 
-returns-2 : tie.Need-returns-2
+returns-2 : tie.Need-returns
 returns-2 c =
-    let s = c.before.before.before.before.before.before.before.before.before.before.before.before.before.before in
-    let a = s.args in
+    let a = c.args in
     let none = none-holds c.before.before.before.before.before.before.before.before in
-    let m = c.before.before.before.before.before in
     record {
       answer = taken_answer (count a.instructions.now) none;
       list =
-          written a.instructions.now a.entries.now a.left_entry_lem a.passthrough.now _ (length a.out.now) _ _ none
-          (take_at m.reachable-array.new.1.1.1.0 (drop (count a.instructions.now) m.before.before.places.result)
-          (count a.instructions.now) (marks-length m)
-          ∙ marks_whole a.instructions.now a.entries.now (number_of (word_of a.left_entry_lem))
-          (length (take (count a.instructions.now) m.before.before.places.result))
-          (length-take-le (count a.instructions.now) m.before.before.places.result (places-enough m.before.before))
-          m.reachable-array.ensures
-          ∙ ap (λ (z : ℤ). reachable a.instructions.now a.entries.now z) (number_word a.left_entry_lem s.ranges.left_entry_lem))
-          c.before.before.before.before.before.before.before.before.before.before.before.zero-i32.ensures
-          c.before.write-reach.ensures;
+          written a.instructions.now a.entries.now a.left_entry a.passthrough.now _ (length a.out.now) _ _ none
+          (take_at c.reachable_array.new.marks (drop (count a.instructions.now) c.places-marks.result)
+          (count a.instructions.now) (marks-length (c.before.before.before.before.before))
+          ∙ marks_whole a.instructions.now a.entries.now (number_of (word_of a.left_entry))
+          (length (take (count a.instructions.now) c.places-marks.result))
+          (length-take-le (count a.instructions.now) c.places-marks.result (places-enough c.before.before.before.before.before.before.before))
+          c.reachable_array.ensures
+          ∙ ap (λ (z : ℤ). reachable a.instructions.now a.entries.now z) (number_word a.left_entry c.ranges.left_entry))
+          c.zero_i32.ensures
+          c.write_reach.ensures;
     }
 
-pub reachable-iter-spec : {M : Type 1} → statement M
-reachable-iter-spec =
+pub reachable_iter_spec : {M : Type 1} → statement M
+reachable_iter_spec =
     tie.close
     (tie.spec
     zero-i32-requires

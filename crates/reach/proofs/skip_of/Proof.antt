@@ -6,30 +6,34 @@ use Rattle.reach.proofs.Numbers.{skip_bare, skip_marked}
 use Rattle.reach.proofs.skip_of.Statement.{statement}
 use Rattle.reach.proofs.skip_of.Tie as tie
 
-u8-at-requires : tie.Need-u8-at-requires
+u8-at-requires : tie.Need-u8_at-requires
 u8-at-requires c κs = search rules
 
-returns : tie.Need-returns
+returns : tie.Need-returns-then-u8_at-eq0
 returns c =
-    let a = c.before.before.before.args in
-    skip_bare a.instructions.now a.marks.now a.i (sym c.before.u8-at.ensures ∙ c.if1.true)
+    let a = c.args in
+    skip_bare a.instructions.now a.marks.now a.i (sym c.u8_at.ensures ∙ c.if-u8_at-eq0.true)
 
-instruction-at-requires : tie.Need-instruction-at-requires
+instruction-at-requires : tie.Need-instruction_at-instruction-requires
 instruction-at-requires c κs = search rules
 
-adjusted-skip-requires : tie.Need-adjusted-skip-requires
+adjusted-skip-requires : tie.Need-adjusted_skip-requires
 adjusted-skip-requires c κs = search rules
 
-returns-2 : tie.Need-returns-2
+returns-2 : tie.Need-returns
 returns-2 c =
-    let s = c.before.before.before.before.before in
-    skip_marked s.args.instructions.now s.args.marks.now s.args.i c.adjusted-skip.result c.before.instruction_at_lem.result
-    (λ e. c.before.before.if1.false (c.before.before.before.u8-at.ensures ∙ e))
-    s.requires.0
-    c.before.instruction_at_lem.ensures
-    c.adjusted-skip.ensures
+    skip_marked c.args.instructions.now c.args.marks.now c.args.i c.adjusted_skip.result c.instruction_at-instruction.result
+    (λ e. c.if-u8_at-eq0.false (c.u8_at.ensures ∙ e))
+    c.requires.0
+    c.instruction_at-instruction.ensures
+    c.adjusted_skip.ensures
 
-pub skip-of-spec : {M : Type 1} → statement M
-skip-of-spec =
+pub skip_of_spec : {M : Type 1} → statement M
+skip_of_spec =
     tie.close
-    (tie.spec u8-at-requires returns instruction-at-requires adjusted-skip-requires returns-2)
+    (tie.spec
+    u8-at-requires
+    returns
+    instruction-at-requires
+    adjusted-skip-requires
+    returns-2)

@@ -13,73 +13,68 @@ use Rattle.reach.proofs.Numbers.{written_more}
 use Rattle.reach.proofs.write_reach.Statement.{statement}
 use Rattle.reach.proofs.write_reach.Tie as tie
 
-abbrev invariant-loop : tie.invariant-loop
+abbrev invariant-loop : tie.invariant-loop-i
 invariant-loop instructions marks passthrough out₀ i₀ out i = (i ≤ length marks) × Filling (reach_number instructions marks passthrough) out₀ out (2 * i)
 
-abbrev decreases-loop : tie.decreases-loop
+abbrev decreases-loop : tie.decreases-loop-i
 decreases-loop instructions marks passthrough out₀ i₀ out i = length marks - i
 
-loop-holds : tie.Need-loop-init invariant-loop decreases-loop
+loop-holds : tie.Need-loop-i-init invariant-loop decreases-loop
 loop-holds c =
-    let a = c.before.before.args in
+    let a = c.args in
     (omega arith, filling_none (reach_number a.instructions.now a.marks.now a.passthrough.now) a.out.now)
 
-mul-put-word : tie.Need-overflow-mul-put-word invariant-loop decreases-loop
+mul-put-word : tie.Need-overflow_mul-i invariant-loop decreases-loop
 mul-put-word c = omega arith
 
-state-of-requires : tie.Need-state-of-requires invariant-loop decreases-loop
+state-of-requires : tie.Need-state_of-requires invariant-loop decreases-loop
 state-of-requires c κs = search rules
 
-put-word-requires : tie.Need-put-word-requires invariant-loop decreases-loop
+put-word-requires : tie.Need-put_word-requires invariant-loop decreases-loop
 put-word-requires c κs = search rules
 
-mul-put-word-2 : tie.Need-overflow-mul-put-word-2 invariant-loop decreases-loop
+mul-put-word-2 : tie.Need-overflow_mul-i-in-loop-i invariant-loop decreases-loop
 mul-put-word-2 c = omega arith
 
-add-put-word : tie.Need-overflow-add-put-word invariant-loop decreases-loop
+add-put-word : tie.Need-overflow_add-i invariant-loop decreases-loop
 add-put-word c = omega arith
 
-skip-of-requires : tie.Need-skip-of-requires invariant-loop decreases-loop
+skip-of-requires : tie.Need-skip_of-requires invariant-loop decreases-loop
 skip-of-requires c κs = search rules
 
-put-word-requires-2 : tie.Need-put-word-requires-2 invariant-loop decreases-loop
+put-word-requires-2 : tie.Need-put_word-requires-in-loop-i invariant-loop decreases-loop
 put-word-requires-2 c κs = search rules
 
-add-i : tie.Need-overflow-add-i invariant-loop decreases-loop
+add-i : tie.Need-overflow_add-i-in-loop-i invariant-loop decreases-loop
 add-i c = omega arith
 
-loop-less : tie.Need-loop-smaller invariant-loop decreases-loop
+loop-less : tie.Need-loop-i-smaller invariant-loop decreases-loop
 loop-less c = omega arith
 
-loop-again : tie.Need-loop-preserved invariant-loop decreases-loop
+loop-again : tie.Need-loop-i-preserved invariant-loop decreases-loop
 loop-again c =
-    let h = c.before.before.before.before.before.before.before.before.before in
-    let s = h.before.before.before in
-    let a = s.args in
-    let l : 2 * h.loop.i + 1 < length a.out.now =
-    omega (arith, s.requires.0, s.requires.1, c.before.before.before.before.before.before.before.before.loop-test.true) in (
+    let a = c.args in
+    let l : 2 * c.loop-i.i + 1 < length a.out.now =
+    omega (arith, c.requires.0, c.requires.1, c.loop-i-test.true) in (
       omega arith,
-      written_more a.instructions.now a.marks.now a.passthrough.now a.out.now h.loop.out
-          c.before.before.before.before.before.put_word.new.0 c.before.put-word2.new.0 h.loop.i
-          c.before.before.before.before.before.before.state-of.result c.before.before.skip-of.result h.loop.invariant.1 l
-          c.before.before.before.before.before.before.state-of.ensures c.before.before.skip-of.ensures
-          c.before.before.before.before.before.put_word.ensures c.before.put-word2.ensures,
+      written_more a.instructions.now a.marks.now a.passthrough.now a.out.now c.loop-i.out
+          c.put_word.new.s c.put_word-in-loop-i.new.s c.loop-i.i
+          c.state_of.result c.skip_of.result c.loop-i.invariant.1 l
+          c.state_of.ensures c.skip_of.ensures
+          c.put_word.ensures c.put_word-in-loop-i.ensures,
     )
 
-same_length : tie.Need-same-length invariant-loop decreases-loop
+same_length : tie.Need-shape_of-out invariant-loop decreases-loop
 same_length c =
-    let h = c.before in
-    let a = h.before.before.before.args in
-    filling_length (reach_number a.instructions.now a.marks.now a.passthrough.now) a.out.now h.loop.invariant.1
+    let a = c.args in
+    filling_length (reach_number a.instructions.now a.marks.now a.passthrough.now) a.out.now c.loop-i.invariant.1
 
 returns : tie.Need-returns invariant-loop decreases-loop
 returns c =
-    let h = c.before in
-    let s = h.before.before.before in
-    filling_to (2 * count s.args.instructions.now) h.loop.invariant.1 (omega (arith, s.requires.0, h.loop.invariant.0, c.loop-test.false))
+    filling_to (2 * count c.args.instructions.now) c.loop-i.invariant.1 (omega (arith, c.requires.0, c.loop-i.invariant.0, c.loop-i-test.false))
 
-pub write-reach-spec : {M : Type 1} → statement M
-write-reach-spec =
+pub write_reach_spec : {M : Type 1} → statement M
+write_reach_spec =
     tie.close
     (tie.spec
     invariant-loop

@@ -10,69 +10,64 @@ use Rattle.reach_marks.proofs.Marks.{marked_none, marked_more, marked_all, lengt
 use Rattle.reach_marks.proofs.mark_entries.Statement.{statement}
 use Rattle.reach_marks.proofs.mark_entries.Tie as tie
 
-abbrev invariant-loop : tie.invariant-loop
+abbrev invariant-loop : tie.invariant-loop-k
 invariant-loop entries marks₀ k₀ marks k = (k ≤ length entries / 2) × (marks ≡ entries_marked (length marks₀) entries k)
 
-abbrev decreases-loop : tie.decreases-loop
+abbrev decreases-loop : tie.decreases-loop-k
 decreases-loop entries marks₀ k₀ marks k = length entries / 2 - k
 
-zero-u8-requires : tie.Need-zero-u8-requires invariant-loop decreases-loop
+zero-u8-requires : tie.Need-zero_u8-requires invariant-loop decreases-loop
 zero-u8-requires c κs = search rules
 
-loop-holds : tie.Need-loop-init invariant-loop decreases-loop
+loop-holds : tie.Need-loop-k-init invariant-loop decreases-loop
 loop-holds c = (
   omega arith,
-  marked_none (length c.before.before.before.before.before.args.marks.now) c.before.before.before.before.before.args.entries.now _
-      c.before.before.zero-u8.ensures,
+  marked_none (length c.args.marks.now) c.args.entries.now _
+      c.zero_u8.ensures,
 )
 
-mul-word-at : tie.Need-overflow-mul-word-at invariant-loop decreases-loop
+mul-word-at : tie.Need-overflow_mul-k invariant-loop decreases-loop
 mul-word-at c = omega arith
 
-add-word-at : tie.Need-overflow-add-word-at invariant-loop decreases-loop
+add-word-at : tie.Need-overflow_add-k invariant-loop decreases-loop
 add-word-at c = omega arith
 
-word-at-requires : tie.Need-word-at-requires invariant-loop decreases-loop
+word-at-requires : tie.Need-word_at-entry-requires invariant-loop decreases-loop
 word-at-requires c κs = search rules
 
-cast-entry : tie.Need-overflow-cast-entry invariant-loop decreases-loop
+cast-entry : tie.Need-overflow_cast-entry invariant-loop decreases-loop
 cast-entry c = search rules
 
-put-u8-requires : tie.Need-put-u8-requires invariant-loop decreases-loop
+put-u8-requires : tie.Need-put_u8-requires invariant-loop decreases-loop
 put-u8-requires c κs = search rules
 
-add-k : tie.Need-overflow-add-k invariant-loop decreases-loop
+add-k : tie.Need-overflow_add-k-in-loop-k invariant-loop decreases-loop
 add-k c = omega arith
 
-loop-less : tie.Need-loop-smaller invariant-loop decreases-loop
+loop-less : tie.Need-loop-k-smaller invariant-loop decreases-loop
 loop-less c = omega arith
 
-loop-again : tie.Need-loop-preserved invariant-loop decreases-loop
+loop-again : tie.Need-loop-k-preserved invariant-loop decreases-loop
 loop-again c =
-    let h = c.before.before.before.before.before.before in
-    let a = c.before.before.before.before.before.before.before.before.before.before.before.before.args in (
+    let a = c.args in (
       omega arith,
-      marked_more (length c.before.before.before.before.before.before.before.before.before.zero-u8.new.0) a.entries.now h.loop.k _
-          h.loop.marks _ h.loop.invariant.1 c.before.before.before.before.word_at.ensures.is c.before.before.put-u8.ensures,
+      marked_more (length c.zero_u8.new.s) a.entries.now c.loop-k.k _
+          c.loop-k.marks _ c.loop-k.invariant.1 c.word_at-entry.ensures.is c.put_u8.ensures,
     )
 
-same_length : tie.Need-same-length invariant-loop decreases-loop
+same_length : tie.Need-shape_of-marks invariant-loop decreases-loop
 same_length c =
-    let h = c.before in
-    let z = h.before.before.before in
-    ap length h.loop.invariant.1 ∙ length_entries (length z.zero-u8.new.0) z.before.before.before.args.entries.now h.loop.k
-    ∙ z.zero-u8.auto.0
+    ap length c.loop-k.invariant.1 ∙ length_entries (length c.zero_u8.new.s) c.args.entries.now c.loop-k.k
+    ∙ c.zero_u8.auto.s
 
 returns : tie.Need-returns invariant-loop decreases-loop
 returns c =
-    let h = c.before in
-    let z = h.before.before.before in
-    let a = z.before.before.before.args in
-    marked_all (length z.zero-u8.new.0) (length a.marks.now) a.entries.now h.loop.k h.loop.marks h.loop.invariant.1 z.zero-u8.auto.0
-    h.loop.invariant.0 c.loop-test.false
+    let a = c.args in
+    marked_all (length c.zero_u8.new.s) (length a.marks.now) a.entries.now c.loop-k.k c.loop-k.marks c.loop-k.invariant.1 c.zero_u8.auto.s
+    c.loop-k.invariant.0 c.loop-k-test.false
 
-pub mark-entries-spec : {M : Type 1} → statement M
-mark-entries-spec =
+pub mark_entries_spec : {M : Type 1} → statement M
+mark_entries_spec =
     tie.close
     (tie.spec
     invariant-loop

@@ -9,37 +9,42 @@ use Rattle.words.proofs.Bits.{number_word}
 use Rattle.reach_marks.proofs.mark_left.Statement.{statement}
 use Rattle.reach_marks.proofs.mark_left.Tie as tie
 
-word-of-requires : tie.Need-word-of-requires
+word-of-requires : tie.Need-word_of-entry-requires
 word-of-requires c κs = search rules
 
-cast-entry : tie.Need-overflow-cast-entry
+cast-entry : tie.Need-overflow_cast-entry
 cast-entry c = search rules
 
-add-if1 : tie.Need-overflow-add-if1
+add-if1 : tie.Need-overflow_add-entry
 add-if1 c = search rules
 
-put-u8-requires : tie.Need-put-u8-requires
+put-u8-requires : tie.Need-put_u8-requires
 put-u8-requires c κs = search rules
 
-same_length : tie.Need-same-length
+same_length : tie.Need-shape_of-marks
 same_length c = search rules
 
-returns : tie.Need-returns
+returns : tie.Need-returns-then-entry-marks
 returns c =
-    let s = c.before.before.before.before.before.before.before in
-    left_other (length s.args.marks.now) _ s.args.left_entry_lem s.args.marks.now _
-    (c.before.before.before.before.before.word_of.ensures ∙ ap word_of (number_word s.args.left_entry_lem s.ranges.left_entry_lem))
-    c.before.before.before.before.if1.true
-    c.before.before.put-u8.ensures
+    left_other (length c.args.marks.now) _ c.args.left_entry c.args.marks.now _
+    (c.word_of-entry.ensures ∙ ap word_of (number_word c.args.left_entry c.ranges.left_entry))
+    c.if-entry-marks.true
+    c.put_u8.ensures
 
-returns-2 : tie.Need-returns-2
+returns-2 : tie.Need-returns-else-entry-marks
 returns-2 c =
-    let s = c.before.before.before in
-    left_last (length s.args.marks.now) _ s.args.left_entry_lem s.args.marks.now
-    (c.before.word_of.ensures ∙ ap word_of (number_word s.args.left_entry_lem s.ranges.left_entry_lem))
-    c.if1.false
+    left_last (length c.args.marks.now) _ c.args.left_entry c.args.marks.now
+    (c.word_of-entry.ensures ∙ ap word_of (number_word c.args.left_entry c.ranges.left_entry))
+    c.if-entry-marks.false
 
-pub mark-left-spec : {M : Type 1} → statement M
-mark-left-spec =
+pub mark_left_spec : {M : Type 1} → statement M
+mark_left_spec =
     tie.close
-    (tie.spec word-of-requires cast-entry add-if1 put-u8-requires same_length returns returns-2)
+    (tie.spec
+    word-of-requires
+    cast-entry
+    add-if1
+    put-u8-requires
+    same_length
+    returns
+    returns-2)

@@ -14,9 +14,13 @@ finished-requires c κs = search rules
 
 returns : tie.Need-returns
 returns c = λ x y.
-    let r = c.before in
-    let a = r.before.args in
-    changes_as (meant a.rule) a.boundary x y r.retained.result c.finished.result r.retained.ensures c.finished.ensures
+    let a = c.args in
+    changes_as (meant a.rule) a.boundary x y c.retained.result c.finished.result c.retained.ensures c.finished.ensures
 
-pub rule-change-spec : {M : Type 1} → statement M
-rule-change-spec = tie.close (tie.spec retained-requires finished-requires returns)
+pub rule_change_spec : {M : Type 1} → statement M
+rule_change_spec =
+    tie.close
+    (tie.spec
+    retained-requires
+    finished-requires
+    returns)

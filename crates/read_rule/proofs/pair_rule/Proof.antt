@@ -15,65 +15,57 @@ use Rattle.read_rule.proofs.pair_rule.Tie as tie
 -- the font as it is lent
 abbrev font : tie.Start → ℤ → Font
 font s b =
-    font_of s.args.instructions.now s.args.kerns.now s.args.entries.now b s.args.left_entry_lem s.args.design-size
+    font_of s.args.instructions.now s.args.kerns.now s.args.entries.now b s.args.left_entry s.args.design_size
 
 -- the entry, by the left entry as it was lent
-entry : (c : tie.After-entry-of) →
-    let a = c.before.args in
-    Word (left_entry_of (entries_table a.entries.now a.left_entry_lem) (left_as a.boundary a.left)) c.entry_of.result
+entry : (c : tie.After-entry_of-entry) →
+    let a = c.args in
+    Word (left_entry_of (entries_table a.entries.now a.left_entry) (left_as a.boundary a.left)) c.entry_of-entry.result
 entry c =
-    let s = c.before in
-    subst (λ (l : ℤ). Word (left_entry_of (entries_table s.args.entries.now l) (left_as s.args.boundary s.args.left)) c.entry_of.result)
-    (number_word s.args.left_entry_lem s.ranges.left_entry_lem) c.entry_of.ensures
+    subst (λ (l : ℤ). Word (left_entry_of (entries_table c.args.entries.now l) (left_as c.args.boundary c.args.left)) c.entry_of-entry.result)
+    (number_word c.args.left_entry c.ranges.left_entry) c.entry_of-entry.ensures
 
-entry-of-requires : tie.Need-entry-of-requires
+entry-of-requires : tie.Need-entry_of-entry-requires
 entry-of-requires c κs = search rules
 
-returns : tie.Need-returns
+returns : tie.Need-returns-then-entry-ge2147483648
 returns c = λ b.
-    let e = c.before in
-    let a = e.before.args in
-    rule_absent (font e.before b) (left_as a.boundary a.left) a.right e.entry_of.result (entry e) c.if1.true
+    let a = c.args in
+    rule_absent (font c.before.before b) (left_as a.boundary a.left) a.right c.entry_of-entry.result (entry (c.before)) c.if-entry-ge2147483648.true
 
-cast-rule-index : tie.Need-overflow-cast-rule-index
+cast-rule-index : tie.Need-overflow_cast-entry
 cast-rule-index c = search rules
 
-rule-index-requires : tie.Need-rule-index-requires
+rule-index-requires : tie.Need-rule_index-requires
 rule-index-requires c κs = search rules
 
-enum_told : tie.Need-enum-told
+enum_told : tie.Need-enum_told-1
 enum_told c = search rules
 
-enum-known-i : tie.Need-enum-known-i
+enum-known-i : tie.Need-enum_known-i
 enum-known-i c = search rules
 
-operation-at-requires : tie.Need-operation-at-requires
+operation-at-requires : tie.Need-operation_at-requires
 operation-at-requires c κs = search rules
 
-rule-of-requires : tie.Need-rule-of-requires
+rule-of-requires : tie.Need-rule_of-requires
 rule-of-requires c κs = search rules
 
-returns-2 : tie.Need-returns-2
+returns-2 : tie.Need-returns-in-Nothing
 returns-2 c = λ b.
-    let x = c.before.before in
-    let e = x.before.before in
-    let a = e.before.args in
-    rule_none (font e.before b) (left_as a.boundary a.left) a.right e.entry_of.result (entry e) x.before.if1.false x.rule-index.result
-    x.rule-index.ensures c.enum_told.given.1
+    let a = c.args in
+    rule_none (font c.before.before.before.before b) (left_as a.boundary a.left) a.right c.entry_of-entry.result (entry (c.before.before.before)) c.if-entry-ge2147483648.false c.rule_index.result
+    c.rule_index.ensures c.in-Nothing.is
 
-returns-3 : tie.Need-returns-3
+returns-3 : tie.Need-returns-in-Rule
 returns-3 c = λ b.
-    let g = c.before.before.before.i.given in
-    let x = c.before.before.before.before.before in
-    let e = x.before.before in
-    let s = e.before in
-    let a = s.args in
-    rule_found (font s b) (left_as a.boundary a.left) a.right e.entry_of.result (entry e) x.before.if1.false x.rule-index.result
-    x.rule-index.ensures g.0.0 _ c.before.operation-at.result (meant c.rule-of.result) g.1
-    (number_word a.design-size s.ranges.design-size) c.before.operation-at.ensures c.rule-of.ensures
+    let a = c.args in
+    rule_found (font (c.before.before.before.before.before.before) b) (left_as a.boundary a.left) a.right c.entry_of-entry.result (entry (c.before.before.before.before.before)) c.if-entry-ge2147483648.false c.rule_index.result
+    c.rule_index.ensures c.in-Rule.i _ c.operation_at.result (meant c.rule_of.result) c.in-Rule.is
+    (number_word a.design_size c.ranges.design_size) c.operation_at.ensures c.rule_of.ensures
 
-pub pair-rule-spec : {M : Type 1} → statement M
-pair-rule-spec =
+pub pair_rule_spec : {M : Type 1} → statement M
+pair_rule_spec =
     tie.close
     (tie.spec
     entry-of-requires

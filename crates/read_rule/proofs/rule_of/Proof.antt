@@ -7,31 +7,29 @@ use borrow.Author.Rules.{rules}
 use Rattle.read_rule.proofs.rule_of.Statement.{statement}
 use Rattle.read_rule.proofs.rule_of.Tie as tie
 
-enum-known-operation : tie.Need-enum-known-operation
+enum-known-operation : tie.Need-enum_known-operation
 enum-known-operation c = search rules
 
-kern-rule-requires : tie.Need-kern-rule-requires
+kern-rule-requires : tie.Need-kern_rule-requires
 kern-rule-requires c κs = search rules
 
-enum-known-operation-2 : tie.Need-enum-known-operation-2
+enum-known-operation-2 : tie.Need-enum_known-operation-in-Ligature-1
 enum-known-operation-2 c = search rules
 
-returns : tie.Need-returns
+returns : tie.Need-returns-in-Kern
 returns c =
-    let a = c.before.before.before.before in
-    kern_operation a.args.design-size a.args.operation _ _ (meant c.kern_rule.result) (number_word a.args.design-size a.ranges.design-size)
-    c.before.before.operation.given.1 c.kern_rule.ensures
+    kern_operation c.args.design_size c.args.operation _ _ (meant c.kern_rule.result) (number_word c.args.design_size c.ranges.design_size)
+    c.in-Kern.is c.kern_rule.ensures
 
-returns-2 : tie.Need-returns-2
+returns-2 : tie.Need-returns-in-Ligature
 returns-2 c =
-    let a = c.before.before.before in
-    ligature_operation a.args.design-size a.args.operation _ _ _ c.before.operation2.given.1
+    ligature_operation c.args.design_size c.args.operation _ _ _ c.in-Ligature.is
 
-returns-3 : tie.Need-returns-3
-returns-3 c = let a = c.before in other_operation a.args.design-size a.args.operation c.match.keys3
+returns-3 : tie.Need-returns-in_default
+returns-3 c = other_operation c.args.design_size c.args.operation c.in_default.in_default-own.keys3
 
-pub rule-of-spec : {M : Type 1} → statement M
-rule-of-spec =
+pub rule_of_spec : {M : Type 1} → statement M
+rule_of_spec =
     tie.close
     (tie.spec
     enum-known-operation

@@ -5,27 +5,28 @@ use borrow.Author.Rules.{rules}
 use Rattle.real_text.proofs.put_magnitude.Statement.{statement}
 use Rattle.real_text.proofs.put_magnitude.Tie as tie
 
-put-whole-requires : tie.Need-put-whole-requires
+put-whole-requires : tie.Need-put_whole-point-requires
 put-whole-requires c κs = search rules
 
-put-byte-requires : tie.Need-put-byte-requires
+put-byte-requires : tie.Need-put_byte-first-requires
 put-byte-requires c κs = search rules
 
-put-fraction-requires : tie.Need-put-fraction-requires
+put-fraction-requires : tie.Need-put_fraction-requires
 put-fraction-requires c κs = search rules
 
-same_length : tie.Need-same-length
+same_length : tie.Need-shape_of-out
 same_length c = search rules
 
 returns : tie.Need-returns
 returns c =
-    let x₁ = c.before.before in
-    let x₂ = x₁.before.before.before.before in
-    let x₃ = x₂.before.before.before.before in
-    let x₄ = x₃.before.before.before in
-    magnitude_put x₄.args.n x₃.put_whole.ensures x₂.put_byte.ensures x₁.put-fraction.ensures
+    magnitude_put c.args.n c.put_whole-point.ensures c.put_byte-first.ensures c.put_fraction.ensures
 
-pub put-magnitude-spec : {M : Type 1} → statement M
-put-magnitude-spec =
+pub put_magnitude_spec : {M : Type 1} → statement M
+put_magnitude_spec =
     tie.close
-    (tie.spec put-whole-requires put-byte-requires put-fraction-requires same_length returns)
+    (tie.spec
+    put-whole-requires
+    put-byte-requires
+    put-fraction-requires
+    same_length
+    returns)

@@ -5,44 +5,37 @@ use borrow.Author.Rules.{rules}
 use Rattle.real_text.proofs.put_real.Statement.{statement}
 use Rattle.real_text.proofs.put_real.Tie as tie
 
-put-magnitude-requires : tie.Need-put-magnitude-requires
+put-magnitude-requires : tie.Need-put_magnitude-requires
 put-magnitude-requires c κs = search rules
 
-same_length : tie.Need-same-length
+same_length : tie.Need-shape_of-out-then-w-lt2147483648
 same_length c = search rules
 
-returns : tie.Need-returns
+returns : tie.Need-returns-then-w-lt2147483648
 returns c =
-    let x₁ = c.before.before in
-    let x₂ = x₁.before.before in
-    let x₃ = x₂.before.before in
-    positive_put x₃.args.w x₂.if1.true x₁.put-magnitude.ensures
+    positive_put c.args.w c.if-w-lt2147483648.true c.put_magnitude.ensures
 
-put-byte-requires : tie.Need-put-byte-requires
+put-byte-requires : tie.Need-put_byte-first-requires
 put-byte-requires c κs = search rules
 
-sub-put-magnitude : tie.Need-overflow-sub-put-magnitude
+sub-put-magnitude : tie.Need-overflow_sub-w
 sub-put-magnitude c = search rules
 
-add-put-magnitude : tie.Need-overflow-add-put-magnitude
+add-put-magnitude : tie.Need-overflow_add-w
 add-put-magnitude c = search rules
 
-put-magnitude-requires-2 : tie.Need-put-magnitude-requires-2
+put-magnitude-requires-2 : tie.Need-put_magnitude-requires-2
 put-magnitude-requires-2 c κs = search rules
 
-same-length-2 : tie.Need-same-length-2
+same-length-2 : tie.Need-shape_of-out
 same-length-2 c = search rules
 
-returns-2 : tie.Need-returns-2
+returns-2 : tie.Need-returns
 returns-2 c =
-    let x₁ = c.before.before in
-    let x₂ = x₁.before.before.before.before in
-    let x₃ = x₂.before.before in
-    let x₄ = x₃.before.before in
-    negative_put x₄.args.w x₃.if1.false x₄.ranges.w.fits x₂.put_byte.ensures x₁.put-magnitude2.ensures
+    negative_put c.args.w c.if-w-lt2147483648.false c.ranges.w.fits c.put_byte-first.ensures c.put_magnitude-2.ensures
 
-pub put-real-spec : {M : Type 1} → statement M
-put-real-spec =
+pub put_real_spec : {M : Type 1} → statement M
+put_real_spec =
     tie.close
     (tie.spec
     put-magnitude-requires

@@ -23,25 +23,25 @@ use Rattle.repair_ask.proofs.ask_repair.Tie as tie
 
 -- ---- the local lists, and how much of them is lent
 
-programs-long : (c : tie.After-programs) → 4 * c.before.placed.result ≤ length c.programs.result
-programs-long c = omega (arith, c.before.placed.ensures, c.programs.ensures)
+programs-long : (c : tie.After-programs-program) → 4 * c.placed-n.result ≤ length c.programs-program.result
+programs-long c = omega (arith, c.placed-n.ensures, c.programs-program.ensures)
 
-places-long : (c : tie.After-places) → c.before.before.placed.result ≤ length c.places.result
-places-long c = omega (arith, c.before.before.placed.ensures, c.places.ensures)
+places-long : (c : tie.After-places-passed) → c.placed-n.result ≤ length c.places-passed.result
+places-long c = omega (arith, c.placed-n.ensures, c.places-passed.ensures)
 
 -- ---- what the passes left
 
-module _ (c : tie.After-mend) where
-  abbrev local : tie.After-places
+module _ (c : tie.After-mend-mended) where
+  abbrev local : tie.After-places-passed
   local = c.before.before.before.before.before
 
-  abbrev placed : tie.After-placed
+  abbrev placed : tie.After-placed-n
   placed = local.before.before
 
   abbrev places : ℕ
-  places = placed.placed.result
+  places = placed.placed-n.result
 
-  abbrev blank : tie.After-zero-i32
+  abbrev blank : tie.After-zero_i32
   blank = placed.before.before
 
   abbrev lent : tie.Start
@@ -54,116 +54,112 @@ module _ (c : tie.After-mend) where
       damaged_of a.instructions.now a.kerns.now a.entries.now x y z a.existing.now a.passthrough.now
 
   abbrev damaged : Damaged
-  damaged = let a = lent.args in font a.boundary a.«left_entry_lem» a.replacement
+  damaged = let a = lent.args in font a.boundary a.left_entry a.replacement
 
   abbrev warnings : List ℤ
-  warnings = c.mend.new.1.1.1.1.1.1.1.1.1.1.0
+  warnings = c.mend-mended.new.warnings
 
   abbrev work : List ℕ
-  work = c.mend.new.1.1.1.1.1.1.1.1.1.1.1.0
+  work = c.mend-mended.new.work
 
   -- what was lent of the local lists
   abbrev program-lent : List ℤ
-  program-lent = take (4 * places) local.before.programs.result
+  program-lent = take (4 * places) local.programs-program.result
 
   abbrev passed-lent : List ℕ
-  passed-lent = take places local.places.result
+  passed-lent = take places local.places-passed.result
 
   -- how many instructions there are
   abbrev steps : ℕ
   steps = count lent.args.instructions.now
 
   program-places : steps ≤ 32767 → length program-lent ≡ 4 * steps
-  program-places h = omega (arith, length-take-le (4 * places) local.before.programs.result (programs-long local.before), placed.placed.ensures)
+  program-places h = omega (arith, length-take-le (4 * places) local.programs-program.result (programs-long local.before), placed.placed-n.ensures)
 
   passed-places : steps ≤ 32767 → length passed-lent ≡ steps
-  passed-places h = omega (arith, length-take-le places local.places.result (places-long local), placed.placed.ensures)
+  passed-places h = omega (arith, length-take-le places local.places-passed.result (places-long local), placed.placed-n.ensures)
 
   -- of the font as it was lent
   abbrev Mended : Damaged → Type 0
   Mended d =
-      Mends d (mend_lists program-lent passed-lent blank.zero-i32.last.0 lent.args.work.now) c.mend.result
-      (mend_lists c.mend.new.1.1.1.1.1.1.1.1.0 c.mend.new.1.1.1.1.1.1.1.1.1.0 warnings work)
+      Mends d (mend_lists program-lent passed-lent blank.zero_i32.new.s lent.args.work.now) c.mend-mended.result
+      (mend_lists c.mend-mended.new.program c.mend-mended.new.through warnings work)
 
   mends : Mended damaged
   mends =
-      let x = number_word lent.args.boundary lent.fits.boundary in
-      let y = number_word lent.args.«left_entry_lem» lent.fits.«left_entry_lem» in
-      let z = number_word lent.args.replacement lent.fits.replacement in
-      let same : font (number_of (word_of lent.args.boundary)) (number_of (word_of lent.args.«left_entry_lem»)) (number_of (word_of lent.args.replacement))
+      let x = number_word lent.args.boundary lent.ranges.boundary in
+      let y = number_word lent.args.left_entry lent.ranges.left_entry in
+      let z = number_word lent.args.replacement lent.ranges.replacement in
+      let same : font (number_of (word_of lent.args.boundary)) (number_of (word_of lent.args.left_entry)) (number_of (word_of lent.args.replacement))
       ≡ damaged = (λ i. font (x i) (y i) (z i)) in
-      subst Mended same c.mend.ensures
+      subst Mended same c.mend-mended.ensures
 
-  abbrev left : Left damaged blank.zero-i32.last.0 lent.args.work.now
+  abbrev left : Left damaged blank.zero_i32.new.s lent.args.work.now
   left =
       record {
         program = program-lent;
         passed = passed-lent;
         program_long = program-places;
         passed_long = passed-places;
-        mended = c.mend.result;
-        lists = mend_lists c.mend.new.1.1.1.1.1.1.1.1.0 c.mend.new.1.1.1.1.1.1.1.1.1.0 warnings work;
+        mended = c.mend-mended.result;
+        lists = mend_lists c.mend-mended.new.program c.mend-mended.new.through warnings work;
         mends = mends;
       }
 
-zero-i32-requires : tie.Need-zero-i32-requires
+zero-i32-requires : tie.Need-zero_i32-requires
 zero-i32-requires c κs = search rules
 
-placed-requires : tie.Need-placed-requires
+placed-requires : tie.Need-placed-n-requires
 placed-requires c κs = search rules
 
-programs-requires : tie.Need-programs-requires
+programs-requires : tie.Need-programs-program-requires
 programs-requires c κs = search rules
 
-places-requires : tie.Need-places-requires
+places-requires : tie.Need-places-passed-requires
 places-requires c κs = search rules
 
-mul-program : tie.Need-overflow-mul-program
+mul-program : tie.Need-overflow_mul-program
 mul-program c = search rules
 
-array-borrow-prefix-program : tie.Need-array-borrow-prefix-program
+array-borrow-prefix-program : tie.Need-slice_bounds-program-end
 array-borrow-prefix-program c = programs-long c.before
 
-slice-aggregate-mend : tie.Need-slice-aggregate-mend
-slice-aggregate-mend c = sym (length-take-le _ c.before.before.programs.result (programs-long c.before.before))
+slice-aggregate-mend : tie.Need-slice_bounds-mend-end
+slice-aggregate-mend c = sym (length-take-le _ c.programs-program.result (programs-long c.before.before))
 
-array-borrow-prefix-passed : tie.Need-array-borrow-prefix-passed
+array-borrow-prefix-passed : tie.Need-slice_bounds-passed-end
 array-borrow-prefix-passed c = places-long c.before
 
-slice-aggregate-mend-2 : tie.Need-slice-aggregate-mend-2
-slice-aggregate-mend-2 c = sym (length-take-le _ c.before.before.places.result (places-long c.before.before))
+slice-aggregate-mend-2 : tie.Need-slice_bounds-mend-end-2
+slice-aggregate-mend-2 c = sym (length-take-le _ c.places-passed.result (places-long c.before.before))
 
-mend-requires : tie.Need-mend-requires
+mend-requires : tie.Need-mend-mended-requires
 mend-requires c κs = search rules
 
-told-requires : tie.Need-told-requires
+told-requires : tie.Need-told-written-requires
 told-requires c κs = search rules
 
-number-of-requires : tie.Need-number-of-requires
+number-of-requires : tie.Need-number_of-requires
 number-of-requires c κs = search rules
 
-keep-i32-requires : tie.Need-keep-i32-requires
+keep-i32-requires : tie.Need-keep_i32-requires
 keep-i32-requires c κs = search rules
 
-same_length : tie.Need-same-length
+same_length : tie.Need-shape_of-warnings
 same_length c = search rules
 
-same-length-2 : tie.Need-same-length-2
+same-length-2 : tie.Need-shape_of-work
 same-length-2 c = search rules
 
 returns : tie.Need-returns
 returns c =
-    let k = c.before in
-    let n = k.before.before in
-    let t = n.before in
-    let m = t.before.before.before.before.before.before in
-    let a = (lent m).args in
-    asks (damaged m) a.warnings.now a.work.now (blank m).zero-i32.new.0 (blank m).zero-i32.ensures
-    (left m) t.told.result k.keep-i32.new.1.0 t.told.ensures
-    (k.keep-i32.ensures ∙ ap (λ (j : ℕ). kept j (pos 0) (warnings m)) n.number_of_lem.ensures)
+    let a = (lent (c.before.before.before.before.before.before.before.before.before.before)).args in
+    asks (damaged (c.before.before.before.before.before.before.before.before.before.before)) a.warnings.now a.work.now (blank (c.before.before.before.before.before.before.before.before.before.before)).zero_i32.new.s (blank (c.before.before.before.before.before.before.before.before.before.before)).zero_i32.ensures
+    (left (c.before.before.before.before.before.before.before.before.before.before)) c.told-written.result c.keep_i32.new.out c.told-written.ensures
+    (c.keep_i32.ensures ∙ ap (λ (j : ℕ). kept j (pos 0) (warnings (c.before.before.before.before.before.before.before.before.before.before))) c.number_of.ensures)
 
-pub ask-repair-spec : {M : Type 1} → statement M
-ask-repair-spec =
+pub ask_repair_spec : {M : Type 1} → statement M
+ask_repair_spec =
     tie.close
     (tie.spec
     zero-i32-requires

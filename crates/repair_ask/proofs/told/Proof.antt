@@ -8,27 +8,31 @@ use borrow.Author.Rules.{rules}
 use Rattle.repair_ask.proofs.told.Statement.{statement}
 use Rattle.repair_ask.proofs.told.Tie as tie
 
-enum-known-mended : tie.Need-enum-known-mended
+enum-known-mended : tie.Need-enum_known-mended
 enum-known-mended c = search rules
 
-enum-known-mended-2 : tie.Need-enum-known-mended-2
+enum-known-mended-2 : tie.Need-enum_known-mended-in-Fixed-1
 enum-known-mended-2 c = search rules
 
-returns : tie.Need-returns
-returns c = ap (λ (v : Validated). told v c.before.before.before.args.room) (sym c.before.mended.given.1)
+returns : tie.Need-returns-in-Refused
+returns c = ap (λ (v : Validated). told v c.args.room) (sym c.in-Refused.is)
 
-returns-2 : tie.Need-returns-2
+returns-2 : tie.Need-returns-then-count-room
 returns-2 c =
-    let m = c.before.before in
-    let room = m.before.before.args.room in
-    told_count m.mended2.given.0.0 _ room c.if1.true ∙ ap (λ (v : Validated). told v room) (sym m.mended2.given.1)
+    let room = c.args.room in
+    told_count c.in-Fixed.field-0 _ room c.if-count-room.true ∙ ap (λ (v : Validated). told v room) (sym c.in-Fixed.is)
 
-returns-3 : tie.Need-returns-3
+returns-3 : tie.Need-returns-else-count-room
 returns-3 c =
-    let m = c.before.before in
-    let room = m.before.before.args.room in
-    told_short m.mended2.given.0.0 _ room c.if1.false ∙ ap (λ (v : Validated). told v room) (sym m.mended2.given.1)
+    let room = c.args.room in
+    told_short c.in-Fixed.field-0 _ room c.if-count-room.false ∙ ap (λ (v : Validated). told v room) (sym c.in-Fixed.is)
 
-pub told-spec : {M : Type 1} → statement M
-told-spec =
-    tie.close (tie.spec enum-known-mended enum-known-mended-2 returns returns-2 returns-3)
+pub told_spec : {M : Type 1} → statement M
+told_spec =
+    tie.close
+    (tie.spec
+    enum-known-mended
+    enum-known-mended-2
+    returns
+    returns-2
+    returns-3)

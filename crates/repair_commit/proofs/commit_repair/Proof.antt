@@ -30,23 +30,23 @@ front_long n m q l = omega (arith, length-append m (drop n q))
 
 -- ---- the local lists, and how much of them is lent
 
-programs-long : (c : tie.After-programs) → 4 * c.before.placed.result ≤ length c.programs.result
-programs-long c = omega (arith, c.before.placed.ensures, c.programs.ensures)
+programs-long : (c : tie.After-programs-program) → 4 * c.placed-n.result ≤ length c.programs-program.result
+programs-long c = omega (arith, c.placed-n.ensures, c.programs-program.ensures)
 
-places-long : (c : tie.After-places) → c.before.before.placed.result ≤ length c.places.result
-places-long c = omega (arith, c.before.before.placed.ensures, c.places.ensures)
+places-long : (c : tie.After-places-passed) → c.placed-n.result ≤ length c.places-passed.result
+places-long c = omega (arith, c.placed-n.ensures, c.places-passed.ensures)
 
 -- ---- what the passes left
 
-module _ (c : tie.After-mend) where
-  abbrev local : tie.After-places
+module _ (c : tie.After-mend-mended) where
+  abbrev local : tie.After-places-passed
   local = c.before.before.before.before.before
 
-  abbrev placed : tie.After-placed
+  abbrev placed : tie.After-placed-n
   placed = local.before.before
 
   abbrev places : ℕ
-  places = placed.placed.result
+  places = placed.placed-n.result
 
   abbrev lent : tie.Start
   lent = placed.before.before.before.before
@@ -58,57 +58,57 @@ module _ (c : tie.After-mend) where
       damaged_of a.instructions.now a.kerns.now a.entries.now x y z a.existing.now a.passthrough.now
 
   abbrev damaged : Damaged
-  damaged = let a = lent.args in font a.boundary a.«left_entry_lem» a.replacement
+  damaged = let a = lent.args in font a.boundary a.left_entry a.replacement
 
   abbrev program : List ℤ
-  program = c.mend.new.1.1.1.1.1.1.1.1.0
+  program = c.mend-mended.new.program
 
   abbrev passed : List ℕ
-  passed = c.mend.new.1.1.1.1.1.1.1.1.1.0
+  passed = c.mend-mended.new.through
 
   abbrev lists : MendLists
   lists =
-      mend_lists program passed c.mend.new.1.1.1.1.1.1.1.1.1.1.0 c.mend.new.1.1.1.1.1.1.1.1.1.1.1.0
+      mend_lists program passed c.mend-mended.new.warnings c.mend-mended.new.work
 
   program-length : length program ≡ 4 * places
-  program-length = c.mend.auto.1.1.1.1.1.1.1.1.0 ∙ length-take-le (4 * places) local.before.programs.result (programs-long local.before)
+  program-length = c.mend-mended.auto.program ∙ length-take-le (4 * places) local.programs-program.result (programs-long local.before)
 
   passed_length : length passed ≡ places
-  passed_length = c.mend.auto.1.1.1.1.1.1.1.1.1.0 ∙ length-take-le places local.places.result (places-long local)
+  passed_length = c.mend-mended.auto.through ∙ length-take-le places local.places-passed.result (places-long local)
 
   -- what was lent of the local lists
   abbrev program-lent : List ℤ
-  program-lent = take (4 * places) local.before.programs.result
+  program-lent = take (4 * places) local.programs-program.result
 
   abbrev passed-lent : List ℕ
-  passed-lent = take places local.places.result
+  passed-lent = take places local.places-passed.result
 
   -- how many instructions there are
   abbrev steps : ℕ
   steps = count lent.args.instructions.now
 
   all_placed : steps ≤ 32767 → places ≡ steps
-  all_placed h = omega (arith, placed.placed.ensures)
+  all_placed h = omega (arith, placed.placed-n.ensures)
 
   program-places : steps ≤ 32767 → length program-lent ≡ 4 * steps
   program-places h =
-      omega (arith, length-take-le (4 * places) local.before.programs.result (programs-long local.before), all_placed h)
+      omega (arith, length-take-le (4 * places) local.programs-program.result (programs-long local.before), all_placed h)
 
   passed-places : steps ≤ 32767 → length passed-lent ≡ steps
-  passed-places h = omega (arith, length-take-le places local.places.result (places-long local), all_placed h)
+  passed-places h = omega (arith, length-take-le places local.places-passed.result (places-long local), all_placed h)
 
   -- of the font as it was lent
   abbrev Mended : Damaged → Type 0
-  Mended d = Mends d (mend_lists program-lent passed-lent lent.args.found.now lent.args.work.now) c.mend.result lists
+  Mended d = Mends d (mend_lists program-lent passed-lent lent.args.found.now lent.args.work.now) c.mend-mended.result lists
 
   mends : Mended damaged
   mends =
-      let x = number_word lent.args.boundary lent.fits.boundary in
-      let y = number_word lent.args.«left_entry_lem» lent.fits.«left_entry_lem» in
-      let z = number_word lent.args.replacement lent.fits.replacement in
-      let same : font (number_of (word_of lent.args.boundary)) (number_of (word_of lent.args.«left_entry_lem»)) (number_of (word_of lent.args.replacement))
+      let x = number_word lent.args.boundary lent.ranges.boundary in
+      let y = number_word lent.args.left_entry lent.ranges.left_entry in
+      let z = number_word lent.args.replacement lent.ranges.replacement in
+      let same : font (number_of (word_of lent.args.boundary)) (number_of (word_of lent.args.left_entry)) (number_of (word_of lent.args.replacement))
       ≡ damaged = (λ i. font (x i) (y i) (z i)) in
-      subst Mended same c.mend.ensures
+      subst Mended same c.mend-mended.ensures
 
   abbrev left : Left damaged lent.args.found.now lent.args.work.now
   left =
@@ -117,54 +117,54 @@ module _ (c : tie.After-mend) where
         passed = passed-lent;
         program_long = program-places;
         passed_long = passed-places;
-        mended = c.mend.result;
+        mended = c.mend-mended.result;
         lists = lists;
         mends = mends;
       }
 
 -- from the number back to the passes
-abbrev mended-before : tie.After-commit-refusal → tie.After-mend
-mended-before c = c.before.before.before.before.before.before.before
+abbrev mended-before : tie.After-commit_refusal-number → tie.After-mend-mended
+mended-before c = c.before.before.before.before.before.before
 
 -- what is lent to be copied is as long as what the passes left
-program-shared : (c : tie.After-commit-refusal) → let m = mended-before c in
-    length (take (4 * places m) (program m ++ drop (4 * places m) (local m).before.programs.result)) ≡ 4 * places m
+program-shared : (c : tie.After-commit_refusal-number) → let m = mended-before c in
+    length (take (4 * places m) (program m ++ drop (4 * places m) (local m).before.programs-program.result)) ≡ 4 * places m
 program-shared c =
-    let m = mended-before c in ap length (front _ (program m) (local m).before.programs.result (program-length m)) ∙ program-length m
+    let m = mended-before c in ap length (front _ (program m) (local m).before.programs-program.result (program-length m)) ∙ program-length m
 
-passed-shared : (c : tie.After-commit-refusal) → let m = mended-before c in
-    length (take (places m) (passed m ++ drop (places m) (local m).places.result)) ≡ places m
-passed-shared c = let m = mended-before c in ap length (front _ (passed m) (local m).places.result (passed_length m)) ∙ passed_length m
+passed-shared : (c : tie.After-commit_refusal-number) → let m = mended-before c in
+    length (take (places m) (passed m ++ drop (places m) (local m).places-passed.result)) ≡ places m
+passed-shared c = let m = mended-before c in ap length (front _ (passed m) (local m).places-passed.result (passed_length m)) ∙ passed_length m
 
 -- ---- the end
 
 module _ (f : tie.After-finished) where
-  abbrev emptied : tie.After-zero-i32
+  abbrev emptied : tie.After-zero_i32
   emptied = f.before.before
 
-  abbrev wrote : tie.After-write-repaired
+  abbrev wrote : tie.After-write_repaired
   wrote = emptied.before.before.before.before.before
 
-  abbrev refusal : tie.After-commit-refusal
+  abbrev refusal : tie.After-commit_refusal-number
   refusal = wrote.before.before.before.before.before
 
-  abbrev ended : tie.After-mend
+  abbrev ended : tie.After-mend-mended
   ended = mended-before refusal
 
   abbrev fixed-last : List ℤ
-  fixed-last = wrote.write-repaired.last.1.1.1.0
+  fixed-last = wrote.write_repaired.new.fixed
 
   abbrev through-last : List ℕ
-  through-last = wrote.write-repaired.last.1.1.1.1.0
+  through-last = wrote.write_repaired.new.through
 
   abbrev Written : List ℤ → List ℕ → Type 0
   Written p q =
-      WritesRepaired refusal.commit-refusal.result p q (lent ended).args.fixed.now (lent ended).args.through.now fixed-last through-last
+      WritesRepaired refusal.commit_refusal-number.result p q (lent ended).args.fixed.now (lent ended).args.through.now fixed-last through-last
 
   writes : Written (program ended) (passed ended)
   writes =
-      subst₂ Written (front _ (program ended) (local ended).before.programs.result (program-length ended))
-      (front _ (passed ended) (local ended).places.result (passed_length ended)) wrote.write-repaired.ensures
+      subst₂ Written (front _ (program ended) (local ended).before.programs-program.result (program-length ended))
+      (front _ (passed ended) (local ended).places-passed.result (passed_length ended)) wrote.write_repaired.ensures
 
   abbrev course : let a = (lent ended).args in Course (damaged ended) a.warnings.now a.fixed.now a.through.now a.found.now a.work.now
   course =
@@ -172,86 +172,86 @@ module _ (f : tie.After-finished) where
         left = left ended;
         places = places ended;
         places_are = all_placed ended;
-        number = refusal.commit-refusal.result;
-        number_is = refusal.commit-refusal.ensures;
+        number = refusal.commit_refusal-number.result;
+        number_is = refusal.commit_refusal-number.ensures;
         fixed' = fixed-last;
         through' = through-last;
         writes = writes;
-        found' = emptied.zero-i32.last.0;
-        emptied = emptied.zero-i32.ensures;
+        found' = emptied.zero_i32.new.s;
+        emptied = emptied.zero_i32.ensures;
         answer = f.finished.result;
         answers = f.finished.ensures;
       }
 
-placed-requires : tie.Need-placed-requires
+placed-requires : tie.Need-placed-n-requires
 placed-requires c κs = search rules
 
-programs-requires : tie.Need-programs-requires
+programs-requires : tie.Need-programs-program-requires
 programs-requires c κs = search rules
 
-places-requires : tie.Need-places-requires
+places-requires : tie.Need-places-passed-requires
 places-requires c κs = search rules
 
-mul-program : tie.Need-overflow-mul-program
+mul-program : tie.Need-overflow_mul-program
 mul-program c = search rules
 
-array-borrow-prefix-program : tie.Need-array-borrow-prefix-program
+array-borrow-prefix-program : tie.Need-slice_bounds-program-end
 array-borrow-prefix-program c = programs-long c.before
 
-slice-aggregate-mend : tie.Need-slice-aggregate-mend
-slice-aggregate-mend c = sym (length-take-le _ c.before.before.programs.result (programs-long c.before.before))
+slice-aggregate-mend : tie.Need-slice_bounds-mend-end
+slice-aggregate-mend c = sym (length-take-le _ c.programs-program.result (programs-long c.before.before))
 
-array-borrow-prefix-passed : tie.Need-array-borrow-prefix-passed
+array-borrow-prefix-passed : tie.Need-slice_bounds-passed-end
 array-borrow-prefix-passed c = places-long c.before
 
-slice-aggregate-mend-2 : tie.Need-slice-aggregate-mend-2
-slice-aggregate-mend-2 c = sym (length-take-le _ c.before.before.places.result (places-long c.before.before))
+slice-aggregate-mend-2 : tie.Need-slice_bounds-mend-end-2
+slice-aggregate-mend-2 c = sym (length-take-le _ c.places-passed.result (places-long c.before.before))
 
-mend-requires : tie.Need-mend-requires
+mend-requires : tie.Need-mend-mended-requires
 mend-requires c κs = search rules
 
-mul-commit-refusal : tie.Need-overflow-mul-commit-refusal
+mul-commit-refusal : tie.Need-overflow_mul-n
 mul-commit-refusal c = search rules
 
-commit-refusal-requires : tie.Need-commit-refusal-requires
+commit-refusal-requires : tie.Need-commit_refusal-number-requires
 commit-refusal-requires c κs = search rules
 
-mul-program-2 : tie.Need-overflow-mul-program-2
+mul-program-2 : tie.Need-overflow_mul-program-2
 mul-program-2 c = search rules
 
-array-share-prefix-program : tie.Need-array-share-prefix-program
+array-share-prefix-program : tie.Need-slice_bounds-program-end-2
 array-share-prefix-program c =
-    let m = mended-before c in front_long _ (program m) (local m).before.programs.result (program-length m)
+    let m = mended-before c in front_long _ (program m) (local m).before.programs-program.result (program-length m)
 
-slice-aggregate-write-repaired : tie.Need-slice-aggregate-write-repaired
+slice-aggregate-write-repaired : tie.Need-slice_bounds-write_repaired-end
 slice-aggregate-write-repaired c = sym (program-shared c.before)
 
-array-share-prefix-passed : tie.Need-array-share-prefix-passed
+array-share-prefix-passed : tie.Need-slice_bounds-passed-end-2
 array-share-prefix-passed c =
-    let m = mended-before c.before in front_long _ (passed m) (local m).places.result (passed_length m)
+    let m = mended-before c.before in front_long _ (passed m) (local m).places-passed.result (passed_length m)
 
-slice-aggregate-write-repaired-2 : tie.Need-slice-aggregate-write-repaired-2
+slice-aggregate-write-repaired-2 : tie.Need-slice_bounds-write_repaired-end-2
 slice-aggregate-write-repaired-2 c = sym (passed-shared c.before.before)
 
-write-repaired-requires : tie.Need-write-repaired-requires
+write-repaired-requires : tie.Need-write_repaired-requires
 write-repaired-requires c κs = search rules
 
-zero-i32-requires : tie.Need-zero-i32-requires
+zero-i32-requires : tie.Need-zero_i32-requires
 zero-i32-requires c κs = search rules
 
 finished-requires : tie.Need-finished-requires
 finished-requires c κs = search rules
 
-same_length : tie.Need-same-length
-same_length c = (wrote c).write-repaired.auto.1.1.1.0
+same_length : tie.Need-shape_of-fixed
+same_length c = (wrote c).write_repaired.auto.fixed
 
-same-length-2 : tie.Need-same-length-2
-same-length-2 c = (wrote c).write-repaired.auto.1.1.1.1.0
+same-length-2 : tie.Need-shape_of-through
+same-length-2 c = (wrote c).write_repaired.auto.through
 
-same-length-3 : tie.Need-same-length-3
+same-length-3 : tie.Need-shape_of-found
 same-length-3 c = search rules
 
-same-length-4 : tie.Need-same-length-4
+same-length-4 : tie.Need-shape_of-work
 same-length-4 c = search rules
 
 returns : tie.Need-returns
@@ -259,8 +259,8 @@ returns c =
     let a = (lent (ended c)).args in
     commits (damaged (ended c)) a.warnings.now a.fixed.now a.through.now a.found.now a.work.now (course c)
 
-pub commit-repair-spec : {M : Type 1} → statement M
-commit-repair-spec =
+pub commit_repair_spec : {M : Type 1} → statement M
+commit_repair_spec =
     tie.close
     (tie.spec
     placed-requires

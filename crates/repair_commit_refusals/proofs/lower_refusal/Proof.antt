@@ -7,24 +7,30 @@ use borrow.Author.Rules.{rules}
 use Rattle.repair_commit_refusals.proofs.lower_refusal.Statement.{statement}
 use Rattle.repair_commit_refusals.proofs.lower_refusal.Tie as tie
 
-enum-known-mended : tie.Need-enum-known-mended
+enum-known-mended : tie.Need-enum_known-mended
 enum-known-mended c = search rules
 
-enum_told : tie.Need-enum-told
+enum_told : tie.Need-enum_told-1
 enum_told c = search rules
 
-fits-refusal-requires : tie.Need-fits-refusal-requires
+fits-refusal-requires : tie.Need-fits_refusal-requires
 fits-refusal-requires c κs = search rules
 
-returns : tie.Need-returns
+returns : tie.Need-returns-in-Refused
 returns c = search rules
 
-returns-2 : tie.Need-returns-2
+returns-2 : tie.Need-returns-in-Fixed
 returns-2 c =
-    let a = c.before.before.before.args in
-    c.fits-refusal.ensures
-    ∙ ap (λ (v : Validated). lower_refusal v a.numbers a.bytes a.handed a.fixed a.through a.found) (sym c.before.enum_told.given.1)
+    let a = c.args in
+    c.fits_refusal.ensures
+    ∙ ap (λ (v : Validated). lower_refusal v a.numbers a.bytes a.handed a.fixed a.through a.found) (sym c.in-Fixed.is)
 
-pub lower-refusal-spec : {M : Type 1} → statement M
-lower-refusal-spec =
-    tie.close (tie.spec enum-known-mended enum_told fits-refusal-requires returns returns-2)
+pub lower_refusal_spec : {M : Type 1} → statement M
+lower_refusal_spec =
+    tie.close
+    (tie.spec
+    enum-known-mended
+    enum_told
+    fits-refusal-requires
+    returns
+    returns-2)

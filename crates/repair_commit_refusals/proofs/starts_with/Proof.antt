@@ -19,54 +19,48 @@ use Rattle.repair_commit_refusals.proofs.starts_with.Tie as tie
 abbrev same : List ℤ → List ℤ → ℕ → Bool
 same found handed i = same_number (get_or handed i (pos 0)) (get_or found i (pos 0))
 
-abbrev invariant-loop : tie.invariant-loop
+abbrev invariant-loop : tie.invariant-loop-i
 invariant-loop found handed i₀ i = (i ≤ length handed) × (every i (same found handed) ≡ true)
 
-abbrev decreases-loop : tie.decreases-loop
+abbrev decreases-loop : tie.decreases-loop-i
 decreases-loop found handed i₀ i = length handed - i
 
-loop-holds : tie.Need-loop-init invariant-loop decreases-loop
+loop-holds : tie.Need-loop-i-init invariant-loop decreases-loop
 loop-holds c = (omega arith, every_none (same c.args.found.now c.args.handed.now))
 
-word-at-requires : tie.Need-word-at-requires invariant-loop decreases-loop
+word-at-requires : tie.Need-word_at-requires invariant-loop decreases-loop
 word-at-requires c κs = search rules
 
-word-at-requires-2 : tie.Need-word-at-requires-2 invariant-loop decreases-loop
+word-at-requires-2 : tie.Need-word_at-requires-in-loop-i invariant-loop decreases-loop
 word-at-requires-2 c κs = search rules
 
-returns : tie.Need-returns invariant-loop decreases-loop
+returns : tie.Need-returns-then-word_at invariant-loop decreases-loop
 returns c =
-    let w = c.before in
-    let l = w.before.before in
-    let b = l.before in
-    let a = b.before.args in
-    sym (every_fails (length a.handed.now) b.loop.i (same a.found.now a.handed.now) l.loop-test.true
-    (other_word w.before.word_at.ensures w.word-at2.ensures c.if1.true))
+    let a = c.args in
+    sym (every_fails (length a.handed.now) c.loop-i.i (same a.found.now a.handed.now) c.loop-i-test.true
+    (other_word c.word_at.ensures c.word_at-in-loop-i.ensures c.if-word_at.true))
 
-add-i : tie.Need-overflow-add-i invariant-loop decreases-loop
+add-i : tie.Need-overflow_add-i invariant-loop decreases-loop
 add-i c = omega arith
 
-loop-less : tie.Need-loop-smaller invariant-loop decreases-loop
+loop-less : tie.Need-loop-i-smaller invariant-loop decreases-loop
 loop-less c = omega arith
 
-loop-again : tie.Need-loop-preserved invariant-loop decreases-loop
+loop-again : tie.Need-loop-i-preserved invariant-loop decreases-loop
 loop-again c =
-    let w = c.before in
-    let b = w.before.before.before in
-    let a = b.before.args in (
+    let a = c.args in (
       omega arith,
-      every_more b.loop.i (same a.found.now a.handed.now) b.loop.invariant.1
-          (same_word w.before.word_at.ensures w.word-at2.ensures c.if1.false),
+      every_more c.loop-i.i (same a.found.now a.handed.now) c.loop-i.invariant.1
+          (same_word c.word_at.ensures c.word_at-in-loop-i.ensures c.if-word_at.false),
     )
 
-returns-2 : tie.Need-returns-2 invariant-loop decreases-loop
+returns-2 : tie.Need-returns invariant-loop decreases-loop
 returns-2 c =
-    let b = c.before in
-    let a = b.before.args in
-    sym (every_to (length a.handed.now) b.loop.i (same a.found.now a.handed.now) b.loop.invariant.1 b.loop.invariant.0 c.loop-test.false)
+    let a = c.args in
+    sym (every_to (length a.handed.now) c.loop-i.i (same a.found.now a.handed.now) c.loop-i.invariant.1 c.loop-i.invariant.0 c.loop-i-test.false)
 
-pub starts-with-spec : {M : Type 1} → statement M
-starts-with-spec =
+pub starts_with_spec : {M : Type 1} → statement M
+starts_with_spec =
     tie.close
     (tie.spec
     invariant-loop

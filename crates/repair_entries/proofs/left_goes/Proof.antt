@@ -9,26 +9,29 @@ use Rattle.repair_entries.proofs.Entering.{left_absent, left_there}
 use Rattle.repair_entries.proofs.left_goes.Statement.{statement}
 use Rattle.repair_entries.proofs.left_goes.Tie as tie
 
-word : (c : tie.After-word-of) → Word c.before.args.left_entry_lem c.word_of.result
+word : (c : tie.After-word_of-entry) → Word c.args.left_entry c.word_of-entry.result
 word c =
-    let s = c.before in
-    record { is = c.word_of.ensures ∙ ap word_of (number_word s.args.left_entry_lem s.ranges.left_entry_lem); fits = s.ranges.left_entry_lem }
+    record { is = c.word_of-entry.ensures ∙ ap word_of (number_word c.args.left_entry c.ranges.left_entry); fits = c.ranges.left_entry }
 
-word-of-requires : tie.Need-word-of-requires
+word-of-requires : tie.Need-word_of-entry-requires
 word-of-requires c κs = search rules
 
-returns : tie.Need-returns
+returns : tie.Need-returns-then-entry-ge2147483648
 returns c =
-    let s = c.before.before in
-    left_absent (count s.args.instructions.now) (word c.before) c.if1.true
+    left_absent (count c.args.instructions.now) (word c.before) c.if-entry-ge2147483648.true
 
-cast-result : tie.Need-overflow-cast-result
+cast-result : tie.Need-overflow_cast-result
 cast-result c = search rules
 
-returns-2 : tie.Need-returns-2
+returns-2 : tie.Need-returns
 returns-2 c =
-    let s = c.before.before in
-    left_there (count s.args.instructions.now) (word c.before) c.if1.false
+    left_there (count c.args.instructions.now) (word c.before) c.if-entry-ge2147483648.false
 
-pub left-goes-spec : {M : Type 1} → statement M
-left-goes-spec = tie.close (tie.spec word-of-requires returns cast-result returns-2)
+pub left_goes_spec : {M : Type 1} → statement M
+left_goes_spec =
+    tie.close
+    (tie.spec
+    word-of-requires
+    returns
+    cast-result
+    returns-2)

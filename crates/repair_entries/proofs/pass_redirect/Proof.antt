@@ -6,38 +6,36 @@ use Rattle.repair_entries.proofs.Entering.{not_followed, no_redirect, followed}
 use Rattle.repair_entries.proofs.pass_redirect.Statement.{statement}
 use Rattle.repair_entries.proofs.pass_redirect.Tie as tie
 
-entry-refusal-requires : tie.Need-entry-refusal-requires
+entry-refusal-requires : tie.Need-entry_refusal-requires
 entry-refusal-requires c κs = search rules
 
-returns : tie.Need-returns
+returns : tie.Need-returns-then-entry_refusal-ne0
 returns c =
-    let a = c.before.before.before.args in
-    not_followed a.instructions.now a.entry a.through.now c.before.entry-refusal.ensures c.if1.true
+    let a = c.args in
+    not_followed a.instructions.now a.entry a.through.now c.entry_refusal.ensures c.if-entry_refusal-ne0.true
 
-is-redirect-requires : tie.Need-is-redirect-requires
+is-redirect-requires : tie.Need-is_redirect-requires
 is-redirect-requires c κs = search rules
 
-put-u8-requires : tie.Need-put-u8-requires
+put-u8-requires : tie.Need-put_u8-requires
 put-u8-requires c κs = search rules
 
-same_length : tie.Need-same-length
+same_length : tie.Need-shape_of-through
 same_length c = search rules
 
-returns-2 : tie.Need-returns-2
+returns-2 : tie.Need-returns-then-is_redirect
 returns-2 c =
-    let r = c.before.before.before.before.before in
-    let a = r.before.before.before.before.args in
-    followed a.instructions.now a.entry a.through.now r.before.before.entry-refusal.ensures r.before.if1.false
-    (sym r.is-redirect.ensures ∙ c.before.before.before.before.if2.true) c.before.before.put-u8.ensures
+    let a = c.args in
+    followed a.instructions.now a.entry a.through.now c.entry_refusal.ensures c.if-entry_refusal-ne0.false
+    (sym c.is_redirect.ensures ∙ c.if-is_redirect.true) c.put_u8.ensures
 
-returns-3 : tie.Need-returns-3
+returns-3 : tie.Need-returns-else-is_redirect
 returns-3 c =
-    let r = c.before in
-    let a = r.before.before.before.before.args in
-    no_redirect a.instructions.now a.entry a.through.now (sym r.is-redirect.ensures ∙ c.if2.false)
+    let a = c.args in
+    no_redirect a.instructions.now a.entry a.through.now (sym c.is_redirect.ensures ∙ c.if-is_redirect.false)
 
-pub pass-redirect-spec : {M : Type 1} → statement M
-pass-redirect-spec =
+pub pass_redirect_spec : {M : Type 1} → statement M
+pass_redirect_spec =
     tie.close
     (tie.spec
     entry-refusal-requires

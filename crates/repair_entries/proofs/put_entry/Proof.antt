@@ -7,53 +7,52 @@ use Rattle.repair_entries.proofs.Entering.{not_placed, placed}
 use Rattle.repair_entries.proofs.put_entry.Statement.{statement}
 use Rattle.repair_entries.proofs.put_entry.Tie as tie
 
-entry-refusal-requires : tie.Need-entry-refusal-requires
+entry-refusal-requires : tie.Need-entry_refusal-requires
 entry-refusal-requires c κs = search rules
 
-returns : tie.Need-returns
+returns : tie.Need-returns-then-entry_refusal-ne0
 returns c =
-    let a = c.before.before.args in
-    not_placed a.instructions.now a.c a.entry a.unpacked.now a.n _ c.before.entry-refusal.ensures c.if1.true
+    let a = c.args in
+    not_placed a.instructions.now a.c a.entry a.unpacked.now a.n _ c.entry_refusal.ensures c.if-entry_refusal-ne0.true
 
-mul-put-word : tie.Need-overflow-mul-put-word
+mul-put-word : tie.Need-overflow_mul-n
 mul-put-word c = search rules
 
-put-word-requires : tie.Need-put-word-requires
+put-word-requires : tie.Need-put_word-requires
 put-word-requires c κs = search rules
 
-mul-put-word-2 : tie.Need-overflow-mul-put-word-2
+mul-put-word-2 : tie.Need-overflow_mul-n-2
 mul-put-word-2 c = search rules
 
-add-put-word : tie.Need-overflow-add-put-word
+add-put-word : tie.Need-overflow_add-n
 add-put-word c = search rules
 
-stands-for-requires : tie.Need-stands-for-requires
+stands-for-requires : tie.Need-stands_for-requires
 stands-for-requires c κs = search rules
 
-cast-put-word : tie.Need-overflow-cast-put-word
+cast-put-word : tie.Need-overflow_cast-stands_for
 cast-put-word c =
-    let s = c.before.before.before.before.before.before.before in
-    omega (arith, c.stands_for_lem.ensures, stands_word s.args.instructions.now s.args.entry (omega (arith, s.ranges.entry)))
+    omega (arith, c.stands_for.ensures, stands_word c.args.instructions.now c.args.entry (omega (arith, c.ranges.entry)))
 
-put-word-requires-2 : tie.Need-put-word-requires-2
+put-word-requires-2 : tie.Need-put_word-requires-2
 put-word-requires-2 c κs = search rules
 
-add-result : tie.Need-overflow-add-result
+add-result : tie.Need-overflow_add-result
 add-result c = search rules
 
-same_length : tie.Need-same-length
+same_length : tie.Need-shape_of-unpacked
 same_length c = search rules
 
-returns-2 : tie.Need-returns-2
+returns-2 : tie.Need-returns
 returns-2 c =
-    let a = c.before.before.before.before.before.before.before.before.before.args in
+    let a = c.args in
     placed a.instructions.now a.c a.entry a.unpacked.now _ _ a.n _ _
-    c.before.before.before.before.before.before.before.before.entry-refusal.ensures
-    c.before.before.before.before.before.before.before.if1.false c.before.before.stands_for_lem.ensures
-    c.before.before.before.before.before.put_word.ensures c.before.put-word2.ensures
+    c.entry_refusal.ensures
+    c.if-entry_refusal-ne0.false c.stands_for.ensures
+    c.put_word.ensures c.put_word-2.ensures
 
-pub put-entry-spec : {M : Type 1} → statement M
-put-entry-spec =
+pub put_entry_spec : {M : Type 1} → statement M
+put_entry_spec =
     tie.close
     (tie.spec
     entry-refusal-requires

@@ -19,100 +19,91 @@ use Rattle.repair_entries.proofs.unpack_entries.Statement.{statement}
 use Rattle.repair_entries.proofs.unpack_entries.Tie as tie
 
 -- the test is passed
-abbrev start : tie.Else1 → tie.Start
+abbrev start : tie.Else-not-is_enterable → tie.Start
 start c = c.before.before.before.before
 
-tested : (c : tie.Else1) → let a = (start c).args in both (leb (count a.instructions.now) 32767) (leb (length a.entries.now / 2) 256) ≡ true
-tested c = sym c.before.is-enterable.ensures ∙ not-false _ c.if1.false
+tested : (c : tie.Else-not-is_enterable) → let a = (start c).args in both (leb (count a.instructions.now) 32767) (leb (length a.entries.now / 2) 256) ≡ true
+tested c = sym c.is_enterable.ensures ∙ c.if-not-is_enterable.false
 
-few : (c : tie.Else1) → count (start c).args.instructions.now ≤ 32767
+few : (c : tie.Else-not-is_enterable) → count (start c).args.instructions.now ≤ 32767
 few c = leb-true _ 32767 (both_left (leb (count (start c).args.instructions.now) 32767) _ (tested c))
 
-few_entries : (c : tie.Else1) → length (start c).args.entries.now / 2 ≤ 256
+few_entries : (c : tie.Else-not-is_enterable) → length (start c).args.entries.now / 2 ≤ 256
 few_entries c = leb-true _ 256 (both_right (leb (count (start c).args.instructions.now) 32767) _ (tested c))
 
-is-enterable-requires : tie.Need-is-enterable-requires
+is-enterable-requires : tie.Need-is_enterable-requires
 is-enterable-requires c κs = search rules
 
-returns : tie.Need-returns
+returns : tie.Need-returns-then-not-is_enterable
 returns c = λ d f.
-    let a = c.before.before.before.before.args in
-    enters_none d f a.unpacked.now a.through.now a.warnings.now c.before.is-enterable.ensures (not-true _ c.if1.true)
+    let a = c.args in
+    enters_none d f a.unpacked.now a.through.now a.warnings.now c.is_enterable.ensures (c.if-not-is_enterable.true)
 
-put-entries-requires : tie.Need-put-entries-requires
+put-entries-requires : tie.Need-put_entries-n-requires
 put-entries-requires c κs = few c.before
 
-put-passthrough-requires : tie.Need-put-passthrough-requires
+put-passthrough-requires : tie.Need-put_passthrough-requires
 put-passthrough-requires c κs = search rules
 
-pass-redirects-requires : tie.Need-pass-redirects-requires
+pass-redirects-requires : tie.Need-pass_redirects-requires
 pass-redirects-requires c κs = search rules
 
-left-goes-requires : tie.Need-left-goes-requires
+left-goes-requires : tie.Need-left_goes-requires
 left-goes-requires c κs = search rules
 
-push-if-requires : tie.Need-push-if-requires
+push-if-requires : tie.Need-push_if-left-requires
 push-if-requires c κs = search rules
 
-warn-entries-requires : tie.Need-warn-entries-requires
+warn-entries-requires : tie.Need-warn_entries-count-requires
 warn-entries-requires c κs =
-    let p = c.before.before in
-    let t = p.before.before.left_goes_lem.result in
-    let e = p.before.before.before.before.before.before.before.before.before.before.before.before.before.before in (
-      one_left t _ _ _ p.push-if.ensures,
-      few_entries e,
+    let t = c.left_goes.result in (
+      one_left t _ _ _ c.push_if-left.ensures,
+      few_entries (c.before.before.before.before.before.before.before.before.before.before.before.before.before.before.before.before),
     )
 
-same_length : tie.Need-same-length
+same_length : tie.Need-shape_of-unpacked
 same_length c = search rules
 
-same-length-2 : tie.Need-same-length-2
+same-length-2 : tie.Need-shape_of-through
 same-length-2 c = search rules
 
-same-length-3 : tie.Need-same-length-3
+same-length-3 : tie.Need-shape_of-warnings
 same-length-3 c = search rules
 
-returns-2 : tie.Need-returns-2
+returns-2 : tie.Need-returns
 returns-2 c =
-    let w = c.before in
-    let p = w.before.before.before in
-    let l = p.before.before in
-    let q = l.before.before.before in
-    let t = q.before.before.before.before in
-    let e = t.before.before.before in
-    let i = e.before.before in
-    let s = start i in
+    let s = start (c.before.before.before.before.before.before.before.before.before.before.before.before.before.before.before.before.before.before) in
     let a = s.args in
     λ d f.
-    let left = ap (λ (z : ℤ). both (non_neg z) (leb (count a.instructions.now) (word_of z))) (number_word a.left_entry_lem s.fits.left_entry_lem) in
+    let left = ap (λ (z : ℤ). both (non_neg z) (leb (count a.instructions.now) (word_of z))) (number_word a.left_entry s.ranges.left_entry) in
     enters
     (record {
       lent = f;
       fits = _;
-      fits_is = i.before.is-enterable.ensures;
-      fit = not-false _ i.if1.false;
+      fits_is = c.is_enterable.ensures;
+      fit = c.if-not-is_enterable.false;
       unpacked = _;
       unpacked' = _;
       entries = _;
-      placed_are = e.put_entries.ensures d f.lists;
+      placed_are = c.put_entries-n.ensures d f.lists;
       through = _;
       through₁ = _;
       through' = _;
-      bits = t.put-passthrough.ensures;
-      passed_are = q.pass-redirects.ensures d;
+      bits = c.put_passthrough.ensures;
+      passed_are = c.pass_redirects.ensures d;
       goes = _;
-      goes_is = l.left_goes_lem.ensures ∙ left;
+      goes_is = c.left_goes.ensures ∙ left;
       warnings = _;
       warnings₁ = _;
       warnings' = _;
       one = _;
       all = _;
-      left_warned = p.push-if.ensures;
-      entries_warned = w.warn-entries.ensures d f.lists;
+      left_warned = c.push_if-left.ensures;
+      entries_warned = c.warn_entries-count.ensures d f.lists;
     })
 
-pub unpack-entries-spec : {M : Type 1} → statement M
-unpack-entries-spec =
+pub unpack_entries_spec : {M : Type 1} → statement M
+unpack_entries_spec =
     tie.close
     (tie.spec
     is-enterable-requires

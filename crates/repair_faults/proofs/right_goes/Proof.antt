@@ -6,41 +6,37 @@ use borrow.Author.Rules.{rules}
 use Rattle.repair_faults.proofs.right_goes.Statement.{statement}
 use Rattle.repair_faults.proofs.right_goes.Tie as tie
 
-field-at-requires : tie.Need-field-at-requires
+field-at-requires : tie.Need-field_at-requires
 field-at-requires c κs = search rules
 
-returns : tie.Need-returns
+returns : tie.Need-returns-then-field_at-eq3
 returns c =
-    let a = c.before.before.args in
-    right_redirect a.instructions.now (number_of a.boundary) a.existing.now a.i c.before.field_at.ensures.is c.if1.true
+    let a = c.args in
+    right_redirect a.instructions.now (number_of a.boundary) a.existing.now a.i c.field_at.ensures.is c.if-field_at-eq3.true
 
-field-at-requires-2 : tie.Need-field-at-requires-2
+field-at-requires-2 : tie.Need-field_at-right-requires
 field-at-requires-2 c κs = search rules
 
 exists-requires : tie.Need-exists-requires
 exists-requires c κs = search rules
 
-returns-2 : tie.Need-returns-2
+returns-2 : tie.Need-returns-then-exists
 returns-2 c =
-    let e = c.before.before in
-    let d = e.before in
-    let a = d.before.before.args in
-    right_exists a.instructions.now (number_of a.boundary) a.existing.now a.i d.before.field_at.ensures.is d.if1.false
-    e.field-at2.ensures c.before.exists.ensures c.if2.true
+    let a = c.args in
+    right_exists a.instructions.now (number_of a.boundary) a.existing.now a.i c.field_at.ensures.is c.if-field_at-eq3.false
+    c.field_at-right.ensures c.exists.ensures c.if-exists.true
 
-is-boundary-requires : tie.Need-is-boundary-requires
+is-boundary-requires : tie.Need-is_boundary-requires
 is-boundary-requires c κs = search rules
 
-returns-3 : tie.Need-returns-3
+returns-3 : tie.Need-returns
 returns-3 c =
-    let e = c.before.before.before in
-    let d = e.before in
-    let a = d.before.before.args in
-    right_edge a.instructions.now (number_of a.boundary) a.existing.now a.i d.before.field_at.ensures.is d.if1.false
-    e.field-at2.ensures c.before.before.exists.ensures c.before.if2.false c.is-boundary.ensures
+    let a = c.args in
+    right_edge a.instructions.now (number_of a.boundary) a.existing.now a.i c.field_at.ensures.is c.if-field_at-eq3.false
+    c.field_at-right.ensures c.exists.ensures c.if-exists.false c.is_boundary.ensures
 
-pub right-goes-spec : {M : Type 1} → statement M
-right-goes-spec =
+pub right_goes_spec : {M : Type 1} → statement M
+right_goes_spec =
     tie.close
     (tie.spec
     field-at-requires

@@ -5,50 +5,45 @@ use borrow.Author.Rules.{rules}
 use Rattle.repair_faults.proofs.skip_goes.Statement.{statement}
 use Rattle.repair_faults.proofs.skip_goes.Tie as tie
 
-u8-at-requires : tie.Need-u8-at-requires
+u8-at-requires : tie.Need-u8_at-requires
 u8-at-requires c κs = search rules
 
-returns : tie.Need-returns
+returns : tie.Need-returns-then-u8_at-eq0
 returns c =
-    let a = c.before.before.before.args in
-    skip_unreachable a.instructions.now a.marks.now a.i c.before.u8-at.ensures c.if1.true
+    let a = c.args in
+    skip_unreachable a.instructions.now a.marks.now a.i c.u8_at.ensures c.if-u8_at-eq0.true
 
-field-at-requires : tie.Need-field-at-requires
+field-at-requires : tie.Need-field_at-next-requires
 field-at-requires c κs = search rules
 
-returns-2 : tie.Need-returns-2
+returns-2 : tie.Need-returns-then-next-gt2147483647
 returns-2 c =
-    let d = c.before.before in
-    let a = d.before.before.before.args in
-    skip_none a.instructions.now a.marks.now a.i d.before.u8-at.ensures d.if1.false c.before.field_at.ensures c.if2.true
+    let a = c.args in
+    skip_none a.instructions.now a.marks.now a.i c.u8_at.ensures c.if-u8_at-eq0.false c.field_at-next.ensures c.if-next-gt2147483647.true
 
-returns-3 : tie.Need-returns-3
+returns-3 : tie.Need-returns-then-n-i
 returns-3 c =
-    let e = c.before in
-    let d = e.before.before in
-    let a = d.before.before.before.args in
-    skip_past a.instructions.now a.marks.now a.i d.before.u8-at.ensures d.if1.false e.before.field_at.ensures e.if2.false
-    c.if3.true
+    let a = c.args in
+    skip_past a.instructions.now a.marks.now a.i c.u8_at.ensures c.if-u8_at-eq0.false c.field_at-next.ensures c.if-next-gt2147483647.false
+    c.if-n-i.true
 
-sub-result : tie.Need-overflow-sub-result
+sub-result : tie.Need-overflow_sub-result
 sub-result c = search rules
 
-cast-result : tie.Need-overflow-cast-result
+cast-result : tie.Need-overflow_cast-result
 cast-result c = search rules
 
-add-result : tie.Need-overflow-add-result
+add-result : tie.Need-overflow_add-result
 add-result c = search rules
 
-returns-4 : tie.Need-returns-4
+returns-4 : tie.Need-returns
 returns-4 c =
-    let e = c.before in
-    let d = e.before.before in
-    let a = d.before.before.before.args in
-    skip_lands a.instructions.now a.marks.now a.i d.before.u8-at.ensures d.if1.false e.before.field_at.ensures e.if2.false
-    c.if3.false
+    let a = c.args in
+    skip_lands a.instructions.now a.marks.now a.i c.u8_at.ensures c.if-u8_at-eq0.false c.field_at-next.ensures c.if-next-gt2147483647.false
+    c.if-n-i.false
 
-pub skip-goes-spec : {M : Type 1} → statement M
-skip-goes-spec =
+pub skip_goes_spec : {M : Type 1} → statement M
+skip_goes_spec =
     tie.close
     (tie.spec
     u8-at-requires

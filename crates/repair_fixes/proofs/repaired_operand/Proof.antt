@@ -8,63 +8,58 @@ use borrow.Author.Rules.{rules}
 use Rattle.repair_fixes.proofs.repaired_operand.Statement.{statement}
 use Rattle.repair_fixes.proofs.repaired_operand.Tie as tie
 
-field-at-requires : tie.Need-field-at-requires
+field-at-requires : tie.Need-field_at-operand-requires
 field-at-requires c κs = search rules
 
-field-at-requires-2 : tie.Need-field-at-requires-2
+field-at-requires-2 : tie.Need-field_at-requires
 field-at-requires-2 c κs = search rules
 
 pick-requires : tie.Need-pick-requires
 pick-requires c κs = search rules
 
-returns : tie.Need-returns
+returns : tie.Need-returns-then-field_at-ne2
 returns c = λ p g.
-    let b = c.before.before in
-    operand_other g b.field-at2.ensures.is b.before.field_at.ensures c.before.if1.true c.pick.ensures
+    operand_other g c.field_at.ensures.is c.field_at-operand.ensures c.if-field_at-ne2.true c.pick.ensures
 
 pick-requires-2 : tie.Need-pick-requires-2
 pick-requires-2 c κs = search rules
 
-mul-result : tie.Need-overflow-mul-result
+mul-result : tie.Need-overflow_mul-result
 mul-result c =
-    let d = c.before.before.before in
-    let o = d.field_at.result in
-    let a = d.before.args in
+    let o = c.field_at-operand.result in
+    let a = c.args in
     record {
       fits =
           omega (
             arith,
-            read_lt d.field_at.ensures,
-            picked_most a.f.tag 0 (o / 256) 16777215 c.pick2.ensures (omega arith) (omega (arith, read_lt d.field_at.ensures)),
+            read_lt c.field_at-operand.ensures,
+            picked_most a.f.tag 0 (o / 256) 16777215 c.pick-2.ensures (omega arith) (omega (arith, read_lt c.field_at-operand.ensures)),
           );
     }
 
 pick-requires-3 : tie.Need-pick-requires-3
 pick-requires-3 c κs = search rules
 
-add-result : tie.Need-overflow-add-result
+add-result : tie.Need-overflow_add-result
 add-result c =
-    let d = c.before.before.before.before in
-    let o = d.field_at.result in
-    let a = d.before.args in
+    let o = c.field_at-operand.result in
+    let a = c.args in
     record {
       fits =
           omega (
             arith,
-            picked_most a.f.tag 0 (o / 256) 16777215 c.before.pick2.ensures (omega arith) (omega (arith, read_lt d.field_at.ensures)),
-            picked_most a.f.product a.replacement (o % 256) 255 c.pick3.ensures (omega arith) (omega arith),
+            picked_most a.f.tag 0 (o / 256) 16777215 c.pick-2.ensures (omega arith) (omega (arith, read_lt c.field_at-operand.ensures)),
+            picked_most a.f.product a.replacement (o % 256) 255 c.pick-3.ensures (omega arith) (omega arith),
           );
     }
 
-returns-2 : tie.Need-returns-2
+returns-2 : tie.Need-returns
 returns-2 c = λ p g.
-    let e = c.before.before in
-    let b = e.before in
-    operand_ligature g b.field-at2.ensures.is b.before.field_at.ensures e.if1.false b.before.before.requires c.before.pick2.ensures
-    c.pick3.ensures
+    operand_ligature g c.field_at.ensures.is c.field_at-operand.ensures c.if-field_at-ne2.false c.requires c.pick-2.ensures
+    c.pick-3.ensures
 
-pub repaired-operand-spec : {M : Type 1} → statement M
-repaired-operand-spec =
+pub repaired_operand_spec : {M : Type 1} → statement M
+repaired_operand_spec =
     tie.close
     (tie.spec
     field-at-requires

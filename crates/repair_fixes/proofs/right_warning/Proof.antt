@@ -5,14 +5,19 @@ use borrow.Author.Rules.{rules}
 use Rattle.repair_fixes.proofs.right_warning.Statement.{statement}
 use Rattle.repair_fixes.proofs.right_warning.Tie as tie
 
-field-at-requires : tie.Need-field-at-requires
+field-at-requires : tie.Need-field_at-requires
 field-at-requires c κs = search rules
 
-returns : tie.Need-returns
-returns c = let a = c.before.before.args in rw (of_kind a.instructions.now a.i 2 c.before.field_at.ensures.is c.if1.true)
+returns : tie.Need-returns-then-field_at-eq2
+returns c = let a = c.args in rw (of_kind a.instructions.now a.i 2 c.field_at.ensures.is c.if-field_at-eq2.true)
 
-returns-2 : tie.Need-returns-2
-returns-2 c = let a = c.before.before.args in rw (not_kind a.instructions.now a.i 2 c.before.field_at.ensures.is c.if1.false)
+returns-2 : tie.Need-returns-else-field_at-eq2
+returns-2 c = let a = c.args in rw (not_kind a.instructions.now a.i 2 c.field_at.ensures.is c.if-field_at-eq2.false)
 
-pub right-warning-spec : {M : Type 1} → statement M
-right-warning-spec = tie.close (tie.spec field-at-requires returns returns-2)
+pub right_warning_spec : {M : Type 1} → statement M
+right_warning_spec =
+    tie.close
+    (tie.spec
+    field-at-requires
+    returns
+    returns-2)

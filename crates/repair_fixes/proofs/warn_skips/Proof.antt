@@ -15,73 +15,66 @@ use borrow.Author.Rules.{rules}
 use Rattle.repair_fixes.proofs.warn_skips.Statement.{statement}
 use Rattle.repair_fixes.proofs.warn_skips.Tie as tie
 
-abbrev invariant-loop : tie.invariant-loop
+abbrev invariant-loop : tie.invariant-loop-i
 invariant-loop instructions kerns boundary existing marks passthrough warnings₀ n at₀ i₀ warnings at i =
     (i ≤ count instructions)
     × ((m : ℕ) → PushedUpTo i warnings₀ n (skip_warnings (program_by instructions kerns (number_of boundary) m existing marks passthrough) i) warnings at)
 
-abbrev decreases-loop : tie.decreases-loop
+abbrev decreases-loop : tie.decreases-loop-i
 decreases-loop instructions kerns boundary existing marks passthrough warnings₀ n at₀ i₀ warnings at i = count instructions - i
 
-loop-holds : tie.Need-loop-init invariant-loop decreases-loop
+loop-holds : tie.Need-loop-i-init invariant-loop decreases-loop
 loop-holds c =
-    let a = c.before.before.args in (
+    let a = c.args in (
       omega arith,
       λ m. skips_none
           (program_by a.instructions.now a.kerns.now (number_of (word_of a.boundary)) m a.existing.now a.marks.now a.passthrough.now)
           a.warnings.now a.n,
     )
 
-faults-requires : tie.Need-faults-requires invariant-loop decreases-loop
+faults-requires : tie.Need-faults-f-requires invariant-loop decreases-loop
 faults-requires c κs = search rules
 
-cast-push-if : tie.Need-overflow-cast-push-if invariant-loop decreases-loop
+cast-push-if : tie.Need-overflow_cast-i invariant-loop decreases-loop
 cast-push-if c = search rules
 
-push-if-requires : tie.Need-push-if-requires invariant-loop decreases-loop
+push-if-requires : tie.Need-push_if-at-requires invariant-loop decreases-loop
 push-if-requires c κs = search rules
 
-add-i : tie.Need-overflow-add-i invariant-loop decreases-loop
+add-i : tie.Need-overflow_add-i invariant-loop decreases-loop
 add-i c = omega arith
 
-loop-less : tie.Need-loop-smaller invariant-loop decreases-loop
+loop-less : tie.Need-loop-i-smaller invariant-loop decreases-loop
 loop-less c = omega arith
 
-loop-again : tie.Need-loop-preserved invariant-loop decreases-loop
+loop-again : tie.Need-loop-i-preserved invariant-loop decreases-loop
 loop-again c =
-    let p = c.before in
-    let f = p.before.before in
-    let l = f.before.before in
-    let s = l.before.before.before in
-    let a = s.args in (
-      omega (arith, f.before.loop-test.true),
+    let a = c.args in (
+      omega (arith, c.loop-i-test.true),
       λ m.
           let q = program_by a.instructions.now a.kerns.now (number_of (word_of a.boundary)) m a.existing.now a.marks.now
           a.passthrough.now in
-          skips_more q l.loop.i (l.loop.invariant.1 m)
-          (skip_pushed q l.loop.i (f.faults.ensures m) (omega (arith, s.requires.0, f.before.loop-test.true))
-          (omega (arith, s.requires.0, s.requires.1, f.before.loop-test.true, (l.loop.invariant.1 m).most)) p.push-if.ensures),
+          skips_more q c.loop-i.i (c.loop-i.invariant.1 m)
+          (skip_pushed q c.loop-i.i (c.faults-f.ensures m) (omega (arith, c.requires.0, c.loop-i-test.true))
+          (omega (arith, c.requires.0, c.requires.1, c.loop-i-test.true, (c.loop-i.invariant.1 m).most)) c.push_if-at.ensures),
     )
 
-same_length : tie.Need-same-length invariant-loop decreases-loop
+same_length : tie.Need-shape_of-warnings invariant-loop decreases-loop
 same_length c =
-    let l = c.before in
-    let a = l.before.before.before.args in
-    pushed_length a.warnings.now a.n _ l.loop.warnings l.loop.at (l.loop.invariant.1 0).pushed
+    let a = c.args in
+    pushed_length a.warnings.now a.n _ c.loop-i.warnings c.loop-i.at (c.loop-i.invariant.1 0).pushed
 
 returns : tie.Need-returns invariant-loop decreases-loop
 returns c = λ m.
-    let l = c.before in
-    let s = l.before.before.before in
-    let a = s.args in
+    let a = c.args in
     at_end_lem
     (λ (b : ℤ) (k : ℕ). PushedUpTo k a.warnings.now a.n
     (skip_warnings (program_by a.instructions.now a.kerns.now b m a.existing.now a.marks.now a.passthrough.now) k)
-    l.loop.warnings l.loop.at) a.boundary s.ranges.boundary
-    l.loop.invariant.0 c.loop-test.false (l.loop.invariant.1 m)
+    c.loop-i.warnings c.loop-i.at) a.boundary c.ranges.boundary
+    c.loop-i.invariant.0 c.loop-i-test.false (c.loop-i.invariant.1 m)
 
-pub warn-skips-spec : {M : Type 1} → statement M
-warn-skips-spec =
+pub warn_skips_spec : {M : Type 1} → statement M
+warn_skips_spec =
     tie.close
     (tie.spec
     invariant-loop

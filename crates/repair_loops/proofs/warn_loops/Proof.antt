@@ -18,101 +18,92 @@ use Rattle.repair_loops.proofs.warn_loops.Tie as tie
 
 -- ---- the font, and the rows that the search leaves
 
-module _ (c : tie.After-find-loops) where
+module _ (c : tie.After-find_loops) where
   abbrev start : tie.Start
   start = c.before.before.before.before.before
 
   abbrev font : ℤ → Font
   font b =
-      let a = start.args in font_of a.instructions.now a.kerns.now a.entries.now b a.«left_entry_lem» (pos 10485760)
+      let a = start.args in font_of a.instructions.now a.kerns.now a.entries.now b a.left_entry (pos 10485760)
 
   abbrev rows : List ℕ
-  rows = c.find-loops.new.1.1.1.1.1.0
+  rows = c.find_loops.new.work
 
   abbrev room : ℕ
   room = min (length start.args.work.now / 16) (length start.args.work.now / 16)
 
-  found : (b : ℤ) {r : WalkedFont} → c.find-loops.result ≡ r → FindsLoopsBy (font b) room start.args.work.now rows r
+  found : (b : ℤ) {r : WalkedFont} → c.find_loops.result ≡ r → FindsLoopsBy (font b) room start.args.work.now rows r
   found b e =
       let a = start.args in
       (lent_as (λ (f : Font) (r : WalkedFont). FindsLoops f room a.work.now rows r) a.instructions.now a.kerns.now a.entries.now b _
-      a.«left_entry_lem» _ (pos 10485760) c.find-loops.result _ (c.find-loops.ensures b) e
-      (number_word a.«left_entry_lem» start.fits.«left_entry_lem») refl).rows
+      a.left_entry _ (pos 10485760) c.find_loops.result _ (c.find_loops.ensures b) e
+      (number_word a.left_entry start.ranges.left_entry) refl).rows
 
 -- where loops are listed, the search is five places before
-abbrev searched : tie.After-known-told2 → tie.After-find-loops
-searched c = c.before.before.before.before.before
+abbrev searched : tie.In-Rows → tie.After-find_loops
+searched c = c.before.before.before
 
-mul-dummy-design-size : tie.Need-overflow-mul-dummy-design-size
+mul-dummy-design-size : tie.Need-overflow_mul-dummy_design_size
 mul-dummy-design-size c = search rules
 
-find-loops-requires : tie.Need-find-loops-requires
+find-loops-requires : tie.Need-find_loops-requires
 find-loops-requires c κs = search rules
 
-enum-known-number : tie.Need-enum-known-number
+enum-known-number : tie.Need-enum_known-number
 enum-known-number c = search rules
 
-enum-known-r : tie.Need-enum-known-r
+enum-known-r : tie.Need-enum_known-r
 enum-known-r c = search rules
 
-zero-u32-requires : tie.Need-zero-u32-requires
+zero-u32-requires : tie.Need-zero_u32-requires
 zero-u32-requires c κs = search rules
 
-same_length : tie.Need-same-length
+same_length : tie.Need-shape_of-work-then-n-gt2147483647
 same_length c = search rules
 
-returns : tie.Need-returns
+returns : tie.Need-returns-then-n-gt2147483647
 returns c = λ b.
-    let z = c.before.before.zero-u32 in
-    let i = c.before.before.before.before in
-    let k = searched i.before in
+    let k = searched c.before.before.before.before.before in
     let a = (start k).args in
-    too_many (font k b) a.n a.warnings.now a.work.now (rows k) _ _ _ _ (found k b i.before.before.r.given.1) z.new.0 i.if1.true
-    z.ensures
+    too_many (font k b) a.n a.warnings.now a.work.now (rows k) _ _ _ _ (found k b c.in-Rows.is) c.zero_u32.new.s c.if-n-gt2147483647.true
+    c.zero_u32.ensures
 
-warn-rows-requires : tie.Need-warn-rows-requires
+warn-rows-requires : tie.Need-warn_rows-count-requires
 warn-rows-requires c κs =
-    let i = c.before.before in
-    let k = searched i.before in
+    let k = searched c.before.before in
     let a = (start k).args in
-    let p = found k (pos 0) i.before.before.r.given.1 in (
+    let p = found k (pos 0) c.in-Rows.is in (
       few (font k (pos 0)) a.n a.warnings.now a.work.now (rows k) _ _ _ _ p,
-      omega (arith, i.if1.false),
+      omega (arith, c.if-n-gt2147483647.false),
       p.4.listing,
     )
 
-zero-u32-requires-2 : tie.Need-zero-u32-requires-2
+zero-u32-requires-2 : tie.Need-zero_u32-requires-in-Rows
 zero-u32-requires-2 c κs = search rules
 
-same-length-2 : tie.Need-same-length-2
+same-length-2 : tie.Need-shape_of-work-in-Refused
 same-length-2 c = search rules
 
-returns-2 : tie.Need-returns-2
+returns-2 : tie.Need-returns-in-Refused
 returns-2 c = λ b.
-    let g = c.before.number.given in
-    let k = c.before.before.before.before.before in
-    let a = (start k).args in
-    unfit (font k b) a.n a.warnings.now a.work.now (rows k) g.0.0 (found k b g.1)
+    let a = (start (c.before.before.before)).args in
+    unfit (font (c.before.before.before) b) a.n a.warnings.now a.work.now (rows (c.before.before.before)) c.in-Refused.number (found (c.before.before.before) b c.in-Refused.is)
 
-same-length-3 : tie.Need-same-length-3
+same-length-3 : tie.Need-shape_of-warnings
 same-length-3 c = search rules
 
-same-length-4 : tie.Need-same-length-4
+same-length-4 : tie.Need-shape_of-work-else-n-gt2147483647
 same-length-4 c = search rules
 
-returns-3 : tie.Need-returns-3
+returns-3 : tie.Need-returns-else-n-gt2147483647
 returns-3 c = λ b.
-    let z = c.before.before.zero-u322 in
-    let w = c.before.before.before.before.before in
-    let t = w.warn-rows in
-    let i = w.before.before.before in
-    let k = searched i.before in
+    let k = searched c.before.before.before.before.before.before.before.before in
     let a = (start k).args in
-    listed (font k b) a.n a.warnings.now a.work.now (rows k) _ _ _ _ (found k b i.before.before.r.given.1) t.new.1.1.0 z.new.0
-    t.result (omega (arith, i.if1.false)) t.ensures z.ensures
+    listed (font k b) a.n a.warnings.now a.work.now (rows k) _ _ _ _ (found k b c.in-Rows.is) c.warn_rows-count.new.warnings c.zero_u32-in-Rows.new.s
+    c.warn_rows-count.result (omega (arith, c.if-n-gt2147483647.false)) c.warn_rows-count.ensures c.zero_u32-in-Rows.ensures
 
-pub warn-loops-spec : {M : Type 1} → statement M
-warn-loops-spec =
+pub warn_loops_spec : {M : Type 1} → statement M
+warn_loops_spec =
     tie.close
     (tie.spec
     mul-dummy-design-size

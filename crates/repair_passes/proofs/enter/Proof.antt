@@ -26,16 +26,16 @@ use Rattle.repair_passes.proofs.enter.Tie as tie
 
 -- ---- what unpacking left, of any font that has what was lent
 
-module _ (c : tie.After-unpack-entries) where
+module _ (c : tie.After-unpack_entries-entered) where
   abbrev start : tie.Start
   start = c.before.before.before.before.before.before.before
 
   abbrev Lent : Damaged → Type 0
-  Lent d = let a = start.args in EntersFrom d a.instructions.now a.entries.now a.«left_entry_lem» a.passthrough.now
+  Lent d = let a = start.args in EntersFrom d a.instructions.now a.entries.now a.left_entry a.passthrough.now
 
   -- the font of what was lent, and nothing else
   abbrev bare : Damaged
-  bare = let a = start.args in damaged_of a.instructions.now [] a.entries.now (pos 0) a.«left_entry_lem» (pos 0) [] a.passthrough.now
+  bare = let a = start.args in damaged_of a.instructions.now [] a.entries.now (pos 0) a.left_entry (pos 0) [] a.passthrough.now
 
   bare-lent : Lent bare
   bare-lent = record { lists = record { instructions = refl; entries = refl }; left_entry_lem = refl; passed = refl }
@@ -43,73 +43,69 @@ module _ (c : tie.After-unpack-entries) where
   few : (d : Damaged) → Lent d → is_enterable d ≡ true
   few d f =
       (λ i. both (leb (count (f.lists.instructions i)) 32767) (leb (length (f.lists.entries i) / 2) 256))
-      ∙ (λ i. both (le-leb _ 32767 start.pre.0 i) (le-leb _ 256 start.pre.1 i))
+      ∙ (λ i. both (le-leb _ 32767 start.requires.0 i) (le-leb _ 256 start.requires.1 i))
 
   abbrev after : (d : Damaged) → Lent d → AfterEntries d start.args.through.now start.args.warnings.now
   after d f =
-      let left = sym (number_word start.args.«left_entry_lem» start.fits.«left_entry_lem») in
+      let left = sym (number_word start.args.left_entry start.ranges.left_entry) in
       record {
         places = start.args.unpacked.now;
-        long = start.pre.2;
-        entries = c.unpack-entries.new.1.1.1.1.0;
-        through' = c.unpack-entries.new.1.1.1.1.1.0;
-        warnings' = c.unpack-entries.new.1.1.1.1.1.1.0;
-        entered = c.unpack-entries.result;
-        enters = c.unpack-entries.ensures d (record { lists = f.lists; left_entry_lem = f.left_entry_lem ∙ left; passed = f.passed });
+        long = start.requires.2;
+        entries = c.unpack_entries-entered.new.unpacked;
+        through' = c.unpack_entries-entered.new.through;
+        warnings' = c.unpack_entries-entered.new.warnings;
+        entered = c.unpack_entries-entered.result;
+        enters = c.unpack_entries-entered.ensures d (record { lists = f.lists; left_entry_lem = f.left_entry_lem ∙ left; passed = f.passed });
       }
 
-  within : 2 * c.unpack-entries.result.entries ≤ length c.unpack-entries.new.1.1.1.1.0
+  within : 2 * c.unpack_entries-entered.result.entries ≤ length c.unpack_entries-entered.new.unpacked
   within = entries_within (few bare bare-lent) (after bare bare-lent)
 
 -- a test that holds
 chosen : {A : Type 0} {t : Bool} {x z : A} (y : A) → t ≡ true → z ≡ cond t x y → z ≡ x
 chosen {x = x} y e f = f ∙ ap (λ (t : Bool). cond t x y) e
 
-unpack-entries-requires : tie.Need-unpack-entries-requires
+unpack-entries-requires : tie.Need-unpack_entries-entered-requires
 unpack-entries-requires c κs = search rules
 
-repaired-left-requires : tie.Need-repaired-left-requires
+repaired-left-requires : tie.Need-repaired_left-left-requires
 repaired-left-requires c κs = search rules
 
-mul-reachable-array : tie.Need-overflow-mul-reachable-array
+mul-reachable-array : tie.Need-overflow_mul-entered
 mul-reachable-array c =
-    let k = c.before.before.before.before.before.before in omega (arith, entries_few (few k (bare k) (bare-lent k)) (after k (bare k) (bare-lent k)))
+    omega (arith, entries_few (few (c.before.before.before.before.before.before) (bare (c.before.before.before.before.before.before)) (bare-lent (c.before.before.before.before.before.before))) (after (c.before.before.before.before.before.before) (bare (c.before.before.before.before.before.before)) (bare-lent (c.before.before.before.before.before.before))))
 
-slice-reshare-prefix-reachable-array : tie.Need-slice-reshare-prefix-reachable-array
+slice-reshare-prefix-reachable-array : tie.Need-slice_bounds-reachable_array-end
 slice-reshare-prefix-reachable-array c = within c.before.before.before.before.before.before
 
-slice-aggregate-reachable-array : tie.Need-slice-aggregate-reachable-array
+slice-aggregate-reachable-array : tie.Need-slice_bounds-reachable_array-end-2
 slice-aggregate-reachable-array c =
-    let k = c.before.before.before.before.before.before.before in
-    sym (length-take-le (2 * k.unpack-entries.result.entries) k.unpack-entries.new.1.1.1.1.0 (within k))
+    sym (length-take-le (2 * c.unpack_entries-entered.result.entries) c.unpack_entries-entered.new.unpacked (within (c.before.before.before.before.before.before)))
 
-reachable-array-requires : tie.Need-reachable-array-requires
+reachable-array-requires : tie.Need-reachable_array-requires
 reachable-array-requires c κs = search rules
 
-same_length : tie.Need-same-length
+same_length : tie.Need-shape_of-unpacked
 same_length c = search rules
 
-same-length-2 : tie.Need-same-length-2
+same-length-2 : tie.Need-shape_of-marks
 same-length-2 c = search rules
 
-same-length-3 : tie.Need-same-length-3
+same-length-3 : tie.Need-shape_of-through
 same-length-3 c = search rules
 
-same-length-4 : tie.Need-same-length-4
+same-length-4 : tie.Need-shape_of-warnings
 same-length-4 c = search rules
 
 returns : tie.Need-returns
 returns c = λ d f.
-    let m = c.before.before.reachable-array in
-    let r = c.before.before.before.before.before.before in
-    let k = r.before.before.before.before.before in
-    let s = start k in
-    let es = entries_are (few k d f) (after k d f) in
-    let fits : SFits w32 d.left = subst (SFits w32) (sym f.left_entry_lem) s.fits.«left_entry_lem» in
-    let lent = number_word s.args.«left_entry_lem» s.fits.«left_entry_lem» ∙ sym f.left_entry_lem in
-    let left = left_is d fits (ap count (sym f.lists.instructions)) lent r.repaired-left.ensures in (
-      (after k d f).enters,
-      chosen _ (eq-eqb _ _ s.pre.3) m.ensures ∙ (λ i. reachable (sym f.lists.instructions i) (es i) (left i)),
+    let s = start (c.before.before.before.before.before.before.before.before.before.before) in
+    let es = entries_are (few (c.before.before.before.before.before.before.before.before.before.before) d f) (after (c.before.before.before.before.before.before.before.before.before.before) d f) in
+    let fits : SFits w32 d.left = subst (SFits w32) (sym f.left_entry_lem) s.ranges.left_entry in
+    let lent = number_word s.args.left_entry s.ranges.left_entry ∙ sym f.left_entry_lem in
+    let left = left_is d fits (ap count (sym f.lists.instructions)) lent c.repaired_left-left.ensures in (
+      (after (c.before.before.before.before.before.before.before.before.before.before) d f).enters,
+      chosen _ (eq-eqb _ _ s.requires.3) c.reachable_array.ensures ∙ (λ i. reachable (sym f.lists.instructions i) (es i) (left i)),
     )
 
 pub enter_spec : {M : Type 1} → statement M

@@ -7,19 +7,24 @@ use borrow.Author.Rules.{rules}
 use Rattle.repair_passes.proofs.handed_on.Statement.{statement}
 use Rattle.repair_passes.proofs.handed_on.Tie as tie
 
-enum-known-written : tie.Need-enum-known-written
+enum-known-written : tie.Need-enum_known-written
 enum-known-written c = search rules
 
-enum-known-written-2 : tie.Need-enum-known-written-2
+enum-known-written-2 : tie.Need-enum_known-written-in-Count-1
 enum-known-written-2 c = search rules
 
-returns : tie.Need-returns
-returns c = let a = c.before.before.before.args in ap (handed_on a.left) (sym c.before.written.given.1)
+returns : tie.Need-returns-in-Refused
+returns c = let a = c.args in ap (handed_on a.left) (sym c.in-Refused.is)
 
-returns-2 : tie.Need-returns-2
+returns-2 : tie.Need-returns-in-Count
 returns-2 c =
-    let s = c.before.before.before in
-    rw (number_word s.args.left s.ranges.left) (ap (handed_on s.args.left) (sym c.before.written2.given.1))
+    rw (number_word c.args.left c.ranges.left) (ap (handed_on c.args.left) (sym c.in-Count.is))
 
-pub handed_on-spec : {M : Type 1} → statement M
-handed_on-spec = tie.close (tie.spec enum-known-written enum-known-written-2 returns returns-2)
+pub handed_on_spec : {M : Type 1} → statement M
+handed_on_spec =
+    tie.close
+    (tie.spec
+    enum-known-written
+    enum-known-written-2
+    returns
+    returns-2)

@@ -29,7 +29,7 @@ use Rattle.repair_passes.proofs.mend.Tie as tie
 abbrev font : tie.Start → Damaged
 font s =
     let a = s.args in
-    damaged_of a.instructions.now a.kerns.now a.entries.now a.boundary a.«left_entry_lem» a.replacement a.existing.now a.passthrough.now
+    damaged_of a.instructions.now a.kerns.now a.entries.now a.boundary a.left_entry a.replacement a.existing.now a.passthrough.now
 
 abbrev lists : tie.Start → MendLists
 lists s = let a = s.args in mend_lists a.program.now a.through.now a.warnings.now a.work.now
@@ -38,50 +38,50 @@ lists s = let a = s.args in mend_lists a.program.now a.through.now a.warnings.no
 abbrev steps : tie.Start → ℕ
 steps s = count s.args.instructions.now
 
-abbrev asked : tie.After-damaged-refusal → tie.Start
+abbrev asked : tie.After-damaged_refusal-font → tie.Start
 asked c = c.before.before.before.before
 
-font-refusal : (c : tie.After-damaged-refusal) → c.damaged-refusal.result ≡ damaged_refusal (font (asked c))
+font-refusal : (c : tie.After-damaged_refusal-font) → c.damaged_refusal-font.result ≡ damaged_refusal (font (asked c))
 font-refusal c =
     let s = asked c in
     let a = s.args in
-    let x = number_word a.boundary s.fits.boundary in
-    let y = number_word a.«left_entry_lem» s.fits.«left_entry_lem» in
-    let z = number_word a.replacement s.fits.replacement in
-    c.damaged-refusal.ensures a.existing.now
+    let x = number_word a.boundary s.ranges.boundary in
+    let y = number_word a.left_entry s.ranges.left_entry in
+    let z = number_word a.replacement s.ranges.replacement in
+    c.damaged_refusal-font.ensures a.existing.now
     ∙ (λ i. damaged_refusal
     (damaged_of a.instructions.now a.kerns.now a.entries.now (x i) (y i) (z i) a.existing.now a.passthrough.now))
 
-refusal_is : (c : tie.After-lent-refusal) → c.lent-refusal.result ≡ lent_refusal (font (asked c.before)) (lists (asked c.before))
+refusal_is : (c : tie.After-lent_refusal-number) → c.lent_refusal-number.result ≡ lent_refusal (font (asked c.before)) (lists (asked c.before))
 refusal_is c =
     let s = asked c.before in
     let a = s.args in
-    c.lent-refusal.ensures
+    c.lent_refusal-number.ensures
     ∙ ap (λ (k : ℕ). or_else k (unless 15 (both (eqb (length a.program.now) (4 * steps s)) (eqb (length a.through.now) (steps s)))))
     (font-refusal c.before)
 
 -- ---- it is not
 
-abbrev start : tie.Else1 → tie.Start
+abbrev start : tie.Else-number-ne0 → tie.Start
 start c = asked c.before.before
 
-ok : (c : tie.Else1) → lent_refusal (font (start c)) (lists (start c)) ≡ 0
-ok c = sym (refusal_is c.before) ∙ c.if1.false
+ok : (c : tie.Else-number-ne0) → lent_refusal (font (start c)) (lists (start c)) ≡ 0
+ok c = sym (refusal_is c.before) ∙ c.if-number-ne0.false
 
-fine : (c : tie.Else1) → damaged_refusal (font (start c)) ≡ 0
+fine : (c : tie.Else-number-ne0) → damaged_refusal (font (start c)) ≡ 0
 fine c = taken (font (start c)) (lists (start c)) (ok c)
 
-places-long : (c : tie.After-mark-places) → steps (start c.before.before) ≤ length c.mark-places.result
-places-long c = omega (arith, c.mark-places.ensures, size (font (start c.before.before)) (fine c.before.before))
+places-long : (c : tie.After-mark_places-marks) → steps (start c.before.before) ≤ length c.mark_places-marks.result
+places-long c = omega (arith, c.mark_places-marks.ensures, size (font (start c.before.before)) (fine c.before.before))
 
 -- ---- what the first pass left
 
-module _ (c : tie.After-enter) where
+module _ (c : tie.After-enter-entered) where
   -- the local lists, made after the test
-  abbrev made : tie.After-mark-places
+  abbrev made : tie.After-mark_places-marks
   made = c.before.before.before.before.before
 
-  abbrev tested : tie.Else1
+  abbrev tested : tie.Else-number-ne0
   tested = made.before.before
 
   abbrev lent : tie.Start
@@ -89,44 +89,44 @@ module _ (c : tie.After-enter) where
 
   -- the places for marks
   abbrev places : List ℕ
-  places = made.mark-places.result
+  places = made.mark_places-marks.result
 
   -- the marks
   abbrev marked : List ℕ
-  marked = c.enter.new.1.1.1.1.1.0
+  marked = c.enter-entered.new.marks
 
   abbrev handed : ℤ
-  handed = number_of (word_of lent.args.«left_entry_lem»)
+  handed = number_of (word_of lent.args.left_entry)
 
   from-lent : EntersFrom (font lent) lent.args.instructions.now lent.args.entries.now handed lent.args.passthrough.now
   from-lent =
       record {
         lists = record { instructions = refl; entries = refl };
-        left_entry_lem = sym (number_word lent.args.«left_entry_lem» lent.fits.«left_entry_lem»);
+        left_entry_lem = sym (number_word lent.args.left_entry lent.ranges.left_entry);
         passed = refl;
       }
 
   abbrev after : AfterEntries (font lent) (lists lent).through (lists lent).warnings
   after =
       record {
-        places = made.before.entry-places.result;
-        long = made.before.entry-places.ensures;
-        entries = c.enter.new.1.1.1.1.0;
-        through' = c.enter.new.1.1.1.1.1.1.0;
-        warnings' = c.enter.new.1.1.1.1.1.1.1.0;
-        entered = c.enter.result;
-        enters = (c.enter.ensures (font lent) from-lent).0;
+        places = made.before.entry_places-unpacked.result;
+        long = made.before.entry_places-unpacked.ensures;
+        entries = c.enter-entered.new.unpacked;
+        through' = c.enter-entered.new.through;
+        warnings' = c.enter-entered.new.warnings;
+        entered = c.enter-entered.result;
+        enters = (c.enter-entered.ensures (font lent) from-lent).0;
       }
 
   few : is_enterable (font lent) ≡ true
   few = enterable (font lent) (lists lent) (ok tested)
 
-  within : 2 * c.enter.result.entries ≤ length c.enter.new.1.1.1.1.0
+  within : 2 * c.enter-entered.result.entries ≤ length c.enter-entered.new.unpacked
   within = entries_within few after
 
   -- as many marks as there are instructions
   marks-length : length marked ≡ steps lent
-  marks-length = c.enter.auto.1.1.1.1.1.0 ∙ length-take-le (steps lent) places (places-long made)
+  marks-length = c.enter-entered.auto.marks ∙ length-take-le (steps lent) places (places-long made)
 
   marks-front : take (steps lent) (marked ++ drop (steps lent) places) ≡ marked
   marks-front = take_at marked (drop (steps lent) places) (steps lent) marks-length
@@ -135,156 +135,151 @@ module _ (c : tie.After-enter) where
   front_long = omega (arith, length-append marked (drop (steps lent) places), marks-length)
 
 -- from the steps back to it
-abbrev entered_before : tie.After-word-of → tie.After-enter
+abbrev entered_before : tie.After-word_of → tie.After-enter-entered
 entered_before c = c.before.before.before.before.before.before
 
-abbrev worded : tie.After-fix-program → tie.After-word-of
-worded c = c.before.before.before.before.before
+abbrev worded : tie.After-fix_program-count → tie.After-word_of
+worded c = c.before.before.before.before
 
 -- from the loops back to the left entry and the steps
-abbrev fixed-before : tie.After-repaired-left → tie.After-fix-program
+abbrev fixed-before : tie.After-repaired_left-left → tie.After-fix_program-count
 fixed-before c = c.before.before.before
 
-abbrev left-before : tie.After-struct-known → tie.After-repaired-left
-left-before c = c.before.before
+abbrev left-before : tie.After-struct_known-1 → tie.After-repaired_left-left
+left-before c = c.before
 
 -- ---- all passes are done
 
-module _ (c : tie.After-warn-loops) where
-  abbrev left-asked : tie.After-repaired-left
+module _ (c : tie.After-warn_loops-written) where
+  abbrev left-asked : tie.After-repaired_left-left
   left-asked = left-before c.before.before.before.before
 
-  abbrev fixed : tie.After-fix-program
+  abbrev fixed : tie.After-fix_program-count
   fixed = fixed-before left-asked
 
-  abbrev entered : tie.After-enter
+  abbrev entered : tie.After-enter-entered
   entered = entered_before (worded fixed)
 
   abbrev stations : Stations (font (lent entered)) (lists (lent entered))
   stations =
       let s = lent entered in
       let o = (worded fixed).word_of in
-      let l = left-asked.repaired-left in
+      let l = left-asked.repaired_left-left in
       record {
         first = after entered;
         boundary = _;
-        boundary_is = number_word s.args.boundary s.fits.boundary;
+        boundary_is = number_word s.args.boundary s.ranges.boundary;
         replacement = o.result;
-        replacement_is = o.ensures ∙ ap word_of (number_word s.args.replacement s.fits.replacement);
+        replacement_is = o.ensures ∙ ap word_of (number_word s.args.replacement s.ranges.replacement);
         marks = _;
-        marks_are = marks-front entered ∙ (entered.enter.ensures (font s) (from-lent entered)).1;
-        program = fixed.fix-program.last.1.1.1.1.1.1.1.0;
-        warnings = fixed.fix-program.last.1.1.1.1.1.1.1.1.0;
-        warned = fixed.fix-program.result;
-        fixes = fixed.fix-program.ensures;
+        marks_are = marks-front entered ∙ (entered.enter-entered.ensures (font s) (from-lent entered)).1;
+        program = fixed.fix_program-count.new.fixed;
+        warnings = fixed.fix_program-count.new.warnings;
+        warned = fixed.fix_program-count.result;
+        fixes = fixed.fix_program-count.ensures;
         left = _;
-        left_was = left_is (font s) s.fits.«left_entry_lem» refl (number_word s.args.«left_entry_lem» s.fits.«left_entry_lem») l.ensures;
-        warnings' = c.warn-loops.new.1.1.1.1.0;
-        work = c.warn-loops.new.1.1.1.1.1.1.0;
-        answer = c.warn-loops.result;
-        loops = c.warn-loops.ensures s.args.boundary;
+        left_was = left_is (font s) s.ranges.left_entry refl (number_word s.args.left_entry s.ranges.left_entry) l.ensures;
+        warnings' = c.warn_loops-written.new.warnings;
+        work = c.warn_loops-written.new.work;
+        answer = c.warn_loops-written.result;
+        loops = c.warn_loops-written.ensures s.args.boundary;
       }
 
-damaged-refusal-requires : tie.Need-damaged-refusal-requires
+damaged-refusal-requires : tie.Need-damaged_refusal-font-requires
 damaged-refusal-requires c κs = search rules
 
-lent-refusal-requires : tie.Need-lent-refusal-requires
+lent-refusal-requires : tie.Need-lent_refusal-number-requires
 lent-refusal-requires c κs = search rules
 
-zero-u32-requires : tie.Need-zero-u32-requires
+zero-u32-requires : tie.Need-zero_u32-requires
 zero-u32-requires c κs = search rules
 
-same_length : tie.Need-same-length
+same_length : tie.Need-shape_of-work-then-number-ne0
 same_length c = search rules
 
-returns : tie.Need-returns
+returns : tie.Need-returns-then-number-ne0
 returns c =
-    let z = c.before.before.zero-u32 in
-    let i = c.before.before.before.before in
-    let s = asked i.before.before in
-    not_mended (font s) (lists s) i.before.lent-refusal.result z.new.0 (refusal_is i.before) i.if1.true z.ensures
+    let s = asked c.before.before.before.before.before.before in
+    not_mended (font s) (lists s) c.lent_refusal-number.result c.zero_u32.new.s (refusal_is c.before.before.before.before.before) c.if-number-ne0.true c.zero_u32.ensures
 
-entry-places-requires : tie.Need-entry-places-requires
+entry-places-requires : tie.Need-entry_places-unpacked-requires
 entry-places-requires c κs = search rules
 
-mark-places-requires : tie.Need-mark-places-requires
+mark-places-requires : tie.Need-mark_places-marks-requires
 mark-places-requires c κs = search rules
 
-slice-aggregate-enter : tie.Need-slice-aggregate-enter
+slice-aggregate-enter : tie.Need-slice_bounds-enter-end
 slice-aggregate-enter c = search rules
 
-array-borrow-prefix-marks : tie.Need-array-borrow-prefix-marks
+array-borrow-prefix-marks : tie.Need-slice_bounds-marks-end
 array-borrow-prefix-marks c = places-long c.before
 
-slice-aggregate-enter-2 : tie.Need-slice-aggregate-enter-2
-slice-aggregate-enter-2 c = sym (length-take-le _ c.before.before.mark-places.result (places-long c.before.before))
+slice-aggregate-enter-2 : tie.Need-slice_bounds-enter-end-2
+slice-aggregate-enter-2 c = sym (length-take-le _ c.mark_places-marks.result (places-long c.before.before))
 
-enter-requires : tie.Need-enter-requires
+enter-requires : tie.Need-enter-entered-requires
 enter-requires c κs =
-    let m = c.before.before.before.before in
-    let i = m.before.before in
-    let s = start i in (
-      size (font s) (fine i),
-      few_entries (font s) (fine i),
-      m.before.entry-places.ensures,
-      length-take-le _ m.mark-places.result (places-long m),
-      through_long (font s) (lists s) (ok i),
+    let s = start (c.before.before.before.before.before.before) in (
+      size (font s) (fine (c.before.before.before.before.before.before)),
+      few_entries (font s) (fine (c.before.before.before.before.before.before)),
+      c.entry_places-unpacked.ensures,
+      length-take-le _ c.mark_places-marks.result (places-long (c.before.before.before.before)),
+      through_long (font s) (lists s) (ok (c.before.before.before.before.before.before)),
     )
 
-word-of-requires : tie.Need-word-of-requires
+word-of-requires : tie.Need-word_of-requires
 word-of-requires c κs = search rules
 
-array-share-prefix-marks : tie.Need-array-share-prefix-marks
+array-share-prefix-marks : tie.Need-slice_bounds-marks-end-2
 array-share-prefix-marks c = front_long (entered_before c)
 
-slice-aggregate-fix-program : tie.Need-slice-aggregate-fix-program
+slice-aggregate-fix-program : tie.Need-slice_bounds-fix_program-end
 slice-aggregate-fix-program c = let k = entered_before c.before in sym (ap length (marks-front k) ∙ marks-length k)
 
-fix-program-requires : tie.Need-fix-program-requires
+fix-program-requires : tie.Need-fix_program-count-requires
 fix-program-requires c κs = search rules
 
-repaired-left-requires : tie.Need-repaired-left-requires
+repaired-left-requires : tie.Need-repaired_left-left-requires
 repaired-left-requires c κs = search rules
 
 -- the entries that are lent on, after what was repaired
-abbrev unpacked : tie.After-struct-known → tie.After-enter
+abbrev unpacked : tie.After-struct_known-1 → tie.After-enter-entered
 unpacked c = entered_before (worded (fixed-before (left-before c)))
 
-mul-unpacked : tie.Need-overflow-mul-unpacked
+mul-unpacked : tie.Need-overflow_mul-unpacked
 mul-unpacked c = omega (arith, entries_few (few (unpacked c)) (after (unpacked c)))
 
-array-share-prefix-unpacked : tie.Need-array-share-prefix-unpacked
+array-share-prefix-unpacked : tie.Need-slice_bounds-unpacked-end
 array-share-prefix-unpacked c = within (unpacked c)
 
-slice-aggregate-warn-loops : tie.Need-slice-aggregate-warn-loops
-slice-aggregate-warn-loops c = let k = unpacked c.before in sym (length-take-le _ k.enter.last.1.1.1.1.0 (within k))
+slice-aggregate-warn-loops : tie.Need-slice_bounds-warn_loops-end
+slice-aggregate-warn-loops c = let k = unpacked c.before in sym (length-take-le _ k.enter-entered.new.unpacked (within k))
 
-warn-loops-requires : tie.Need-warn-loops-requires
+warn-loops-requires : tie.Need-warn_loops-written-requires
 warn-loops-requires c κs = search rules
 
 handed_on-requires : tie.Need-handed_on-requires
 handed_on-requires c κs = search rules
 
-same-length-2 : tie.Need-same-length-2
+same-length-2 : tie.Need-shape_of-program
 same-length-2 c = search rules
 
-same-length-3 : tie.Need-same-length-3
+same-length-3 : tie.Need-shape_of-through
 same-length-3 c = search rules
 
-same-length-4 : tie.Need-same-length-4
+same-length-4 : tie.Need-shape_of-warnings
 same-length-4 c = search rules
 
-same-length-5 : tie.Need-same-length-5
+same-length-5 : tie.Need-shape_of-work
 same-length-5 c = search rules
 
-returns-2 : tie.Need-returns-2
+returns-2 : tie.Need-returns
 returns-2 c =
-    let w = c.before.before.before.before in
-    let s = lent (entered w) in
-    mended (font s) (lists s) (ok (tested (entered w))) (stations w) c.handed-on.result c.handed-on.ensures
+    let s = lent (entered (c.before.before.before.before)) in
+    mended (font s) (lists s) (ok (tested (entered (c.before.before.before.before)))) (stations (c.before.before.before.before)) c.handed_on.result c.handed_on.ensures
 
-pub mend-spec : {M : Type 1} → statement M
-mend-spec =
+pub mend_spec : {M : Type 1} → statement M
+mend_spec =
     tie.close
     (tie.spec
     damaged-refusal-requires

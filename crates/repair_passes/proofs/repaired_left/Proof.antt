@@ -28,34 +28,35 @@ kept : (n : ℕ) (z : ℤ) (w : ℕ) → Word z w → w < n → z ≡ cond (both
 kept n z w r l = rw (sym r.is, lt-leb n w l, both_false (non_neg z))
 
 -- the left entry as it was lent
-lent : (c : tie.After-word-of) → Word c.before.args.«left_entry_lem» c.word_of.result
+lent : (c : tie.After-word_of-entry) → Word c.args.left_entry c.word_of-entry.result
 lent c =
-    let s = c.before in
-    record { is = c.word_of.ensures ∙ ap word_of (number_word s.args.«left_entry_lem» s.ranges.«left_entry_lem»); fits = s.ranges.«left_entry_lem» }
+    record { is = c.word_of-entry.ensures ∙ ap word_of (number_word c.args.left_entry c.ranges.left_entry); fits = c.ranges.left_entry }
 
-word-of-requires : tie.Need-word-of-requires
+word-of-requires : tie.Need-word_of-entry-requires
 word-of-requires c κs = search rules
 
-returns : tie.Need-returns
+returns : tie.Need-returns-then-entry-ge2147483648
 returns c =
-    let s = c.before.before in
-    number_word s.args.«left_entry_lem» s.ranges.«left_entry_lem»
-    ∙ absent s.args.n s.args.«left_entry_lem» c.before.word_of.result (lent c.before) c.if1.true
+    number_word c.args.left_entry c.ranges.left_entry
+    ∙ absent c.args.n c.args.left_entry c.word_of-entry.result (lent c.before) c.if-entry-ge2147483648.true
 
-cast-if2 : tie.Need-overflow-cast-if2
+cast-if2 : tie.Need-overflow_cast-entry
 cast-if2 c = search rules
 
-returns-2 : tie.Need-returns-2
+returns-2 : tie.Need-returns-then-n-entry
 returns-2 c =
-    let p = c.before.before in
-    let s = p.before in
-    gone s.args.n s.args.«left_entry_lem» p.word_of.result (lent p) (omega (arith, c.before.if1.false)) c.if2.true
+    gone c.args.n c.args.left_entry c.word_of-entry.result (lent (c.before.before)) (omega (arith, c.if-entry-ge2147483648.false)) c.if-n-entry.true
 
-returns-3 : tie.Need-returns-3
+returns-3 : tie.Need-returns-else-n-entry
 returns-3 c =
-    let p = c.before.before in
-    let s = p.before in
-    number_word s.args.«left_entry_lem» s.ranges.«left_entry_lem» ∙ kept s.args.n s.args.«left_entry_lem» p.word_of.result (lent p) c.if2.false
+    number_word c.args.left_entry c.ranges.left_entry ∙ kept c.args.n c.args.left_entry c.word_of-entry.result (lent (c.before.before)) c.if-n-entry.false
 
-pub repaired-left-spec : {M : Type 1} → statement M
-repaired-left-spec = tie.close (tie.spec word-of-requires returns cast-if2 returns-2 returns-3)
+pub repaired_left_spec : {M : Type 1} → statement M
+repaired_left_spec =
+    tie.close
+    (tie.spec
+    word-of-requires
+    returns
+    cast-if2
+    returns-2
+    returns-3)

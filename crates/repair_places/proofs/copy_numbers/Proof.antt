@@ -11,51 +11,45 @@ use borrow.Author.Rules.{rules}
 use Rattle.repair_places.proofs.copy_numbers.Statement.{statement}
 use Rattle.repair_places.proofs.copy_numbers.Tie as tie
 
-abbrev invariant-loop : tie.invariant-loop
+abbrev invariant-loop : tie.invariant-loop-i
 invariant-loop from to₀ i₀ to i = (i ≤ length from) × (to ≡ sets to₀ 0 (take i from))
 
-abbrev decreases-loop : tie.decreases-loop
+abbrev decreases-loop : tie.decreases-loop-i
 decreases-loop from to₀ i₀ to i = length from - i
 
-loop-holds : tie.Need-loop-init invariant-loop decreases-loop
+loop-holds : tie.Need-loop-i-init invariant-loop decreases-loop
 loop-holds c = let a = c.args in (omega arith, copied_none a.from.now a.to.now)
 
-word-at-requires : tie.Need-word-at-requires invariant-loop decreases-loop
+word-at-requires : tie.Need-word_at-requires invariant-loop decreases-loop
 word-at-requires c κs = search rules
 
-put-word-requires : tie.Need-put-word-requires invariant-loop decreases-loop
+put-word-requires : tie.Need-put_word-requires invariant-loop decreases-loop
 put-word-requires c κs = search rules
 
-add-i : tie.Need-overflow-add-i invariant-loop decreases-loop
-add-i c = let l = c.before.before.before.before.before in omega (arith, l.loop.invariant.0, c.before.before.before.before.loop-test.true)
+add-i : tie.Need-overflow_add-i invariant-loop decreases-loop
+add-i c = omega (arith, c.loop-i.invariant.0, c.loop-i-test.true)
 
-loop-less : tie.Need-loop-smaller invariant-loop decreases-loop
-loop-less c = omega (arith, c.before.before.before.before.loop-test.true)
+loop-less : tie.Need-loop-i-smaller invariant-loop decreases-loop
+loop-less c = omega (arith, c.loop-i-test.true)
 
-loop-again : tie.Need-loop-preserved invariant-loop decreases-loop
-loop-again c =
-    let p = c.before in
-    let g = c.before.before in
-    let l = c.before.before.before.before.before in
-    let s = c.before.before.before.before.before.before in (
-      omega (arith, c.before.before.before.before.loop-test.true),
-      copied_more s.args.from.now s.args.to.now l.loop.to p.put_word.new.0 l.loop.i _ _
-          c.before.before.before.before.loop-test.true p.put_word.ensures (number_is g.word_at.ensures) l.loop.invariant.1,
-    )
+loop-again : tie.Need-loop-i-preserved invariant-loop decreases-loop
+loop-again c = (
+  omega (arith, c.loop-i-test.true),
+  copied_more c.args.from.now c.args.to.now c.loop-i.to c.put_word.new.s c.loop-i.i _ _
+      c.loop-i-test.true c.put_word.ensures (number_is c.word_at.ensures) c.loop-i.invariant.1,
+)
 
-same_length : tie.Need-same-length invariant-loop decreases-loop
+same_length : tie.Need-shape_of-to invariant-loop decreases-loop
 same_length c =
-    let l = c.before in
-    let a = c.before.before.args in
-    ap length l.loop.invariant.1 ∙ length-sets a.to.now 0 (take l.loop.i a.from.now)
+    let a = c.args in
+    ap length c.loop-i.invariant.1 ∙ length-sets a.to.now 0 (take c.loop-i.i a.from.now)
 
 returns : tie.Need-returns invariant-loop decreases-loop
 returns c =
-    let s = c.before.before in let l = c.before in
-    copied_all s.args.from.now s.args.to.now l.loop.to l.loop.i c.loop-test.false l.loop.invariant.1
+    copied_all c.args.from.now c.args.to.now c.loop-i.to c.loop-i.i c.loop-i-test.false c.loop-i.invariant.1
 
-pub copy-numbers-spec : {M : Type 1} → statement M
-copy-numbers-spec =
+pub copy_numbers_spec : {M : Type 1} → statement M
+copy_numbers_spec =
     tie.close
     (tie.spec
     invariant-loop

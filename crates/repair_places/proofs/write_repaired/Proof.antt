@@ -5,50 +5,43 @@ use borrow.Author.Rules.{rules}
 use Rattle.repair_places.proofs.write_repaired.Statement.{statement}
 use Rattle.repair_places.proofs.write_repaired.Tie as tie
 
-zero-i32-requires : tie.Need-zero-i32-requires
+zero-i32-requires : tie.Need-zero_i32-requires
 zero-i32-requires c κs = search rules
 
-zero-u8-requires : tie.Need-zero-u8-requires
+zero-u8-requires : tie.Need-zero_u8-requires
 zero-u8-requires c κs = search rules
 
-same_length : tie.Need-same-length
+same_length : tie.Need-shape_of-fixed-then-number-ne0
 same_length c = search rules
 
-same-length-2 : tie.Need-same-length-2
+same-length-2 : tie.Need-shape_of-through-then-number-ne0
 same-length-2 c = search rules
 
-returns : tie.Need-returns
+returns : tie.Need-returns-then-number-ne0
 returns c =
-    let y = c.before.before.before in
-    let z = y.before.before.before in
-    let a = z.before.before.before.before.args in
-    not_written a.number a.program.now a.passed.now a.fixed.now a.through.now z.zero-i32.ensures y.zero-u8.ensures c.if1.true
+    let a = c.args in
+    not_written a.number a.program.now a.passed.now a.fixed.now a.through.now c.zero_i32.ensures c.zero_u8.ensures c.if-number-ne0.true
 
-copy-numbers-requires : tie.Need-copy-numbers-requires
+copy-numbers-requires : tie.Need-copy_numbers-requires
 copy-numbers-requires c κs = search rules
 
-copy-bytes-requires : tie.Need-copy-bytes-requires
+copy-bytes-requires : tie.Need-copy_bytes-requires
 copy-bytes-requires c κs = search rules
 
-same-length-3 : tie.Need-same-length-3
+same-length-3 : tie.Need-shape_of-fixed
 same-length-3 c = search rules
 
-same-length-4 : tie.Need-same-length-4
+same-length-4 : tie.Need-shape_of-through
 same-length-4 c = search rules
 
-returns-2 : tie.Need-returns-2
+returns-2 : tie.Need-returns
 returns-2 c =
-    let q = c.before.before in
-    let p = q.before.before.before in
-    let e = p.before.before in
-    let y = e.before.before.before in
-    let z = y.before.before.before in
-    let a = z.before.before.before.before.args in
-    written a.number a.program.now a.passed.now a.fixed.now a.through.now z.zero-i32.ensures y.zero-u8.ensures e.if1.false
-    p.copy-numbers.ensures q.copy-bytes.ensures
+    let a = c.args in
+    written a.number a.program.now a.passed.now a.fixed.now a.through.now c.zero_i32.ensures c.zero_u8.ensures c.if-number-ne0.false
+    c.copy_numbers.ensures c.copy_bytes.ensures
 
-pub write-repaired-spec : {M : Type 1} → statement M
-write-repaired-spec =
+pub write_repaired_spec : {M : Type 1} → statement M
+write_repaired_spec =
     tie.close
     (tie.spec
     zero-i32-requires

@@ -35,44 +35,47 @@ asked d =
 abbrev font : tie.Start → List ℕ → Damaged
 font s existing =
     let a = s.args in
-    damaged_of a.instructions.now a.kerns.now a.entries.now a.boundary a.«left_entry_lem» a.replacement existing a.passthrough.now
+    damaged_of a.instructions.now a.kerns.now a.entries.now a.boundary a.left_entry a.replacement existing a.passthrough.now
 
-abbrev start : tie.After-edge-refusal → tie.Start
+abbrev start : tie.After-edge_refusal-edges → tie.Start
 start c = c.before.before.before.before
 
-edges : (c : tie.After-edge-refusal) → c.edge-refusal.result ≡ of-edges (font (start c) [])
+edges : (c : tie.After-edge_refusal-edges) → c.edge_refusal-edges.result ≡ of-edges (font (start c) [])
 edges c =
     let s = start c in
-    let x = number_word s.args.boundary s.fits.boundary in
-    let y = number_word s.args.«left_entry_lem» s.fits.«left_entry_lem» in
-    let z = number_word s.args.replacement s.fits.replacement in
-    c.edge-refusal.ensures ∙ (λ i. or_else (absent_refusal 255 (x i)) (or_else (absent_refusal 65535 (y i)) (unless 4 (leb (word_of (z i)) 255))))
+    let x = number_word s.args.boundary s.ranges.boundary in
+    let y = number_word s.args.left_entry s.ranges.left_entry in
+    let z = number_word s.args.replacement s.ranges.replacement in
+    c.edge_refusal-edges.ensures ∙ (λ i. or_else (absent_refusal 255 (x i)) (or_else (absent_refusal 65535 (y i)) (unless 4 (leb (word_of (z i)) 255))))
 
-lists-refusal-requires : tie.Need-lists-refusal-requires
+lists-refusal-requires : tie.Need-lists_refusal-lists-requires
 lists-refusal-requires c κs = search rules
 
-returns : tie.Need-returns
-returns c = λ x. first_refusal _ c.before.lists-refusal.ensures c.if1.true ∙ asked (font c.before.before.before x)
+returns : tie.Need-returns-then-lists-ne0
+returns c = λ x. first_refusal _ c.lists_refusal-lists.ensures c.if-lists-ne0.true ∙ asked (font c.before.before.before x)
 
-edge-refusal-requires : tie.Need-edge-refusal-requires
+edge-refusal-requires : tie.Need-edge_refusal-edges-requires
 edge-refusal-requires c κs = search rules
 
-returns-2 : tie.Need-returns-2
+returns-2 : tie.Need-returns-then-edges-ne0
 returns-2 c = λ x.
-    let p = c.before.before in
-    later_refusal_lem p.before.lists-refusal.ensures p.if1.false (first_refusal _ (edges c.before) c.if2.true) ∙ asked (font (start c.before) x)
+    later_refusal_lem c.lists_refusal-lists.ensures c.if-lists-ne0.false (first_refusal _ (edges c.before) c.if-edges-ne0.true) ∙ asked (font (start c.before) x)
 
-passthrough-refusal-requires : tie.Need-passthrough-refusal-requires
+passthrough-refusal-requires : tie.Need-passthrough_refusal-requires
 passthrough-refusal-requires c κs = search rules
 
-returns-3 : tie.Need-returns-3
+returns-3 : tie.Need-returns
 returns-3 c = λ x.
-    let k = c.before in
-    let p = k.before.before in
-    later_refusal_lem p.before.lists-refusal.ensures p.if1.false (later_refusal_lem (edges k.before) k.if2.false c.passthrough-refusal.ensures)
-    ∙ asked (font (start k.before) x)
+    later_refusal_lem c.lists_refusal-lists.ensures c.if-lists-ne0.false (later_refusal_lem (edges c.before.before) c.if-edges-ne0.false c.passthrough_refusal.ensures)
+    ∙ asked (font (start c.before.before) x)
 
-pub damaged-refusal-spec : {M : Type 1} → statement M
-damaged-refusal-spec =
+pub damaged_refusal_spec : {M : Type 1} → statement M
+damaged_refusal_spec =
     tie.close
-    (tie.spec lists-refusal-requires returns edge-refusal-requires returns-2 passthrough-refusal-requires returns-3)
+    (tie.spec
+    lists-refusal-requires
+    returns
+    edge-refusal-requires
+    returns-2
+    passthrough-refusal-requires
+    returns-3)

@@ -5,32 +5,29 @@ use borrow.Author.Rules.{rules}
 use Rattle.repair_refusals.proofs.lists_refusal.Statement.{statement}
 use Rattle.repair_refusals.proofs.lists_refusal.Tie as tie
 
-program-refusal-requires : tie.Need-program-refusal-requires
+program-refusal-requires : tie.Need-program_refusal-program-requires
 program-refusal-requires c κs = search rules
 
-returns : tie.Need-returns
-returns c = first_refusal _ c.before.program-refusal.ensures c.if1.true
+returns : tie.Need-returns-then-program-ne0
+returns c = first_refusal _ c.program_refusal-program.ensures c.if-program-ne0.true
 
-kerns-refusal-requires : tie.Need-kerns-refusal-requires
+kerns-refusal-requires : tie.Need-kerns_refusal-of_kerns-requires
 kerns-refusal-requires c κs = search rules
 
-returns-2 : tie.Need-returns-2
+returns-2 : tie.Need-returns-then-of_kerns-ne0
 returns-2 c =
-    let p = c.before.before in
-    later_refusal_lem p.before.program-refusal.ensures p.if1.false (first_refusal _ c.before.kerns-refusal.ensures c.if2.true)
+    later_refusal_lem c.program_refusal-program.ensures c.if-program-ne0.false (first_refusal _ c.kerns_refusal-of_kerns.ensures c.if-of_kerns-ne0.true)
 
-entries-refusal-requires : tie.Need-entries-refusal-requires
+entries-refusal-requires : tie.Need-entries_refusal-requires
 entries-refusal-requires c κs = search rules
 
-returns-3 : tie.Need-returns-3
+returns-3 : tie.Need-returns
 returns-3 c =
-    let k = c.before in
-    let p = k.before.before in
-    later_refusal_lem p.before.program-refusal.ensures p.if1.false
-    (later_refusal_lem k.before.kerns-refusal.ensures k.if2.false c.entries-refusal.ensures)
+    later_refusal_lem c.program_refusal-program.ensures c.if-program-ne0.false
+    (later_refusal_lem c.kerns_refusal-of_kerns.ensures c.if-of_kerns-ne0.false c.entries_refusal.ensures)
 
-pub lists-refusal-spec : {M : Type 1} → statement M
-lists-refusal-spec =
+pub lists_refusal_spec : {M : Type 1} → statement M
+lists_refusal_spec =
     tie.close
     (tie.spec
     program-refusal-requires

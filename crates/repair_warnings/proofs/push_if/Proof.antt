@@ -37,66 +37,60 @@ on w n t k a b d w₁ w₂ w₃ w₄ z e h y e₁ e₂ e₃ e₄ =
     let l : ltb n 4294967296 ≡ true = lt-ltb n 4294967296 (omega arith) in
     rw (e, l) (record { count = omega arith; list = four_written n w y refl refl refl e₁ e₂ e₃ e₄ })
 
-returns : tie.Need-returns
-returns c = let a = c.before.args in off a.warnings.now a.n a.test _ (failed a.test a.n (not-true a.test c.if1.true))
+returns : tie.Need-returns-then-not-test
+returns c = let a = c.args in off a.warnings.now a.n a.test _ (failed a.test a.n c.if-not-test.true)
 
-returns-2 : tie.Need-returns-2
-returns-2 c = let a = c.before.before.args in off a.warnings.now a.n a.test _ (full a.test a.n c.if2.true)
+returns-2 : tie.Need-returns-then-n-gt4294967295
+returns-2 c = let a = c.args in off a.warnings.now a.n a.test _ (full a.test a.n c.if-n-gt4294967295.true)
 
-mul-put-word : tie.Need-overflow-mul-put-word
+mul-put-word : tie.Need-overflow_mul-n
 mul-put-word c = search rules
 
-put-word-requires : tie.Need-put-word-requires
+put-word-requires : tie.Need-put_word-requires
 put-word-requires c κs = search rules
 
-mul-put-word-2 : tie.Need-overflow-mul-put-word-2
+mul-put-word-2 : tie.Need-overflow_mul-n-2
 mul-put-word-2 c = search rules
 
-add-put-word : tie.Need-overflow-add-put-word
+add-put-word : tie.Need-overflow_add-n
 add-put-word c = search rules
 
-put-word-requires-2 : tie.Need-put-word-requires-2
+put-word-requires-2 : tie.Need-put_word-requires-2
 put-word-requires-2 c κs = search rules
 
-mul-put-word-3 : tie.Need-overflow-mul-put-word-3
+mul-put-word-3 : tie.Need-overflow_mul-n-3
 mul-put-word-3 c = search rules
 
-add-put-word-2 : tie.Need-overflow-add-put-word-2
+add-put-word-2 : tie.Need-overflow_add-n-2
 add-put-word-2 c = search rules
 
-put-word-requires-3 : tie.Need-put-word-requires-3
+put-word-requires-3 : tie.Need-put_word-requires-3
 put-word-requires-3 c κs = search rules
 
-mul-put-word-4 : tie.Need-overflow-mul-put-word-4
+mul-put-word-4 : tie.Need-overflow_mul-n-4
 mul-put-word-4 c = search rules
 
-add-put-word-3 : tie.Need-overflow-add-put-word-3
+add-put-word-3 : tie.Need-overflow_add-n-3
 add-put-word-3 c = search rules
 
-put-word-requires-4 : tie.Need-put-word-requires-4
+put-word-requires-4 : tie.Need-put_word-requires-4
 put-word-requires-4 c κs = search rules
 
-add-result : tie.Need-overflow-add-result
+add-result : tie.Need-overflow_add-result
 add-result c = search rules
 
-same_length : tie.Need-same-length
+same_length : tie.Need-shape_of-warnings
 same_length c = search rules
 
-returns-3 : tie.Need-returns-3
+returns-3 : tie.Need-returns
 returns-3 c =
-    let p = c.before in
-    let q = p.before.before.before in
-    let r = q.before.before.before in
-    let s = r.before.before.before in
-    let t = s.before.before in
-    let o = t.before.before in
-    let a = o.args in
-    on a.warnings.now a.n a.test a.kind _ _ _ s.put_word.new.0 r.put-word2.new.0 q.put-word3.new.0 p.put-word4.new.0 _
-    (not-false a.test t.before.if1.false) t.if2.false (number_pos a.kind (omega (arith, o.ranges.kind.fits))) s.put_word.ensures
-    r.put-word2.ensures q.put-word3.ensures p.put-word4.ensures
+    let a = c.args in
+    on a.warnings.now a.n a.test a.kind _ _ _ c.put_word.new.s c.put_word-2.new.s c.put_word-3.new.s c.put_word-4.new.s _
+    c.if-not-test.false c.if-n-gt4294967295.false (number_pos a.kind (omega (arith, c.ranges.kind.fits))) c.put_word.ensures
+    c.put_word-2.ensures c.put_word-3.ensures c.put_word-4.ensures
 
-pub push-if-spec : {M : Type 1} → statement M
-push-if-spec =
+pub push_if_spec : {M : Type 1} → statement M
+push_if_spec =
     tie.close
     (tie.spec
     returns

@@ -7,49 +7,47 @@ use Rattle.same_answer.proofs.Laws.{word_same}
 use Rattle.same_answer.proofs.is_kern_item.Statement.{statement}
 use Rattle.same_answer.proofs.is_kern_item.Tie as tie
 
-enum-known-b : tie.Need-enum-known-b
+enum-known-b : tie.Need-enum_known-b
 enum-known-b c = search rules
 
-word-of-requires : tie.Need-word-of-requires
+word-of-requires : tie.Need-word_of-requires
 word-of-requires c κs = search rules
 
-word-of-requires-2 : tie.Need-word-of-requires-2
+word-of-requires-2 : tie.Need-word_of-requires-in-Kern
 word-of-requires-2 c κs = search rules
 
-enum_told : tie.Need-enum-told
+enum_told : tie.Need-enum_told-1
 enum_told c = search rules
 
-enum-told-2 : tie.Need-enum-told-2
+enum-told-2 : tie.Need-enum_told-in-Ligature
 enum-told-2 c = search rules
 
-enum-told-3 : tie.Need-enum-told-3
+enum-told-3 : tie.Need-enum_told-in-End
 enum-told-3 c = search rules
 
-enum-told-4 : tie.Need-enum-told-4
+enum-told-4 : tie.Need-enum_told-in-Refused
 enum-told-4 c = search rules
 
-returns : tie.Need-returns
+returns : tie.Need-returns-in-Kern
 returns c =
-    let v = c.before.before.before in
-    let s = v.before.before in
-    rw v.b.given.1
-    (word_same (word_passed {x = s.args.kern} s.ranges.kern c.before.word_of.ensures)
-    (word_passed {x = v.b.given.0.0} (record { sfits = search rules }) c.word-of2.ensures))
+    rw c.in-Kern.is
+    (word_same (word_passed {x = c.args.kern} c.ranges.kern c.word_of.ensures)
+    (word_passed {x = c.in-Kern.k} (record { sfits = search rules }) c.word_of-in-Kern.ensures))
 
-returns-2 : tie.Need-returns-2
+returns-2 : tie.Need-returns-in-Char
 returns-2 c = search rules
 
-returns-3 : tie.Need-returns-3
+returns-3 : tie.Need-returns-in-Ligature
 returns-3 c = search rules
 
-returns-4 : tie.Need-returns-4
+returns-4 : tie.Need-returns-in-End
 returns-4 c = search rules
 
-returns-5 : tie.Need-returns-5
+returns-5 : tie.Need-returns-in-Refused
 returns-5 c = search rules
 
-pub is-kern-item-spec : {M : Type 1} → statement M
-is-kern-item-spec =
+pub is_kern_item_spec : {M : Type 1} → statement M
+is_kern_item_spec =
     tie.close
     (tie.spec
     enum-known-b

@@ -13,40 +13,40 @@ use borrow.Author.Rules.{rules}
 use Rattle.short_word_items.proofs.set_items.Statement.{statement}
 use Rattle.short_word_items.proofs.set_items.Tie as tie
 
-set-word-requires : tie.Need-set-word-requires
+set-word-requires : tie.Need-set_word-requires
 set-word-requires c κs = search rules
 
-same_length : tie.Need-same-length
+same_length : tie.Need-shape_of-items-then-first
 same_length c = search rules
 
-returns : tie.Need-returns
+returns : tie.Need-returns-then-first
 returns c =
-    let x = c.before.set_word in
-    let i = c.before.before.before in
-    let s = i.before.before in
-    let a = s.args in
-    first_items a.pairs.now a.ops.now a.boundary a.word.now a.items.now x.result x.new.1.1.1.1.1.0 a.first i.if1.true
-    (subst (λ (y : ℤ). Sets a.pairs.now a.ops.now y a.word.now plain_options a.items.now x.result x.new.1.1.1.1.1.0)
-    (number_word a.boundary s.ranges.boundary) x.ensures)
+    let a = c.args in
+    first_items a.pairs.now a.ops.now a.boundary a.word.now a.items.now c.set_word.result c.set_word.new.items a.first c.if-first.true
+    (subst (λ (y : ℤ). Sets a.pairs.now a.ops.now y a.word.now plain_options a.items.now c.set_word.result c.set_word.new.items)
+    (number_word a.boundary c.ranges.boundary) c.set_word.ensures)
 
-set-fresh-requires : tie.Need-set-fresh-requires
+set-fresh-requires : tie.Need-set_fresh-requires
 set-fresh-requires c κs = search rules
 
-same-length-2 : tie.Need-same-length-2
+same-length-2 : tie.Need-shape_of-items
 same-length-2 c = search rules
 
-returns-2 : tie.Need-returns-2
+returns-2 : tie.Need-returns
 returns-2 c =
-    let x = c.before.set-fresh in
-    let i = c.before.before.before in
-    let s = i.before.before in
-    let a = s.args in
-    other_items a.pairs.now a.ops.now a.boundary a.word.now a.items.now x.result x.new.1.1.1.1.1.0 a.first i.if1.false
+    let a = c.args in
+    other_items a.pairs.now a.ops.now a.boundary a.word.now a.items.now c.set_fresh.result c.set_fresh.new.items a.first c.if-first.false
     (subst (λ (y : ℤ). Tells
     (items_from a.pairs.now a.ops.now y a.word.now plain_options (length a.items.now / 6) (fresh_state a.word.now plain_options))
-    a.items.now x.result x.new.1.1.1.1.1.0) (number_word a.boundary s.ranges.boundary) x.ensures)
+    a.items.now c.set_fresh.result c.set_fresh.new.items) (number_word a.boundary c.ranges.boundary) c.set_fresh.ensures)
 
-pub set-items-spec : {M : Type 1} → statement M
-set-items-spec =
+pub set_items_spec : {M : Type 1} → statement M
+set_items_spec =
     tie.close
-    (tie.spec set-word-requires same_length returns set-fresh-requires same-length-2 returns-2)
+    (tie.spec
+    set-word-requires
+    same_length
+    returns
+    set-fresh-requires
+    same-length-2
+    returns-2)

@@ -7,28 +7,35 @@ use Rattle.short_word_next.proofs.Laws.{letter_kept, letter_there, letter_least,
 use Rattle.short_word_next.proofs.letter_at.Statement.{statement}
 use Rattle.short_word_next.proofs.letter_at.Tie as tie
 
-u32-at-requires : tie.Need-u32-at-requires
+u32-at-requires : tie.Need-u32_at-requires
 u32-at-requires c κs = search rules
 
-returns : tie.Need-returns
+returns : tie.Need-returns-then-j-kept
 returns c =
-    let a = c.before.before.before.args in
-    c.u32-at.ensures ∙ letter_kept a.word.now a.kept a.c a.least a.n a.j (search rules) (search rules)
+    let a = c.args in
+    c.u32_at.ensures ∙ letter_kept a.word.now a.kept a.c a.least a.n a.j (search rules) (search rules)
 
-returns-2 : tie.Need-returns-2
+returns-2 : tie.Need-returns-then-j-kept-2
 returns-2 c =
-    let a = c.before.before.before.args in
+    let a = c.args in
     letter_there a.word.now a.kept a.c a.least a.n a.j (search rules) (search rules)
 
-returns-3 : tie.Need-returns-3
+returns-3 : tie.Need-returns-then-j-n
 returns-3 c =
-    let a = c.before.before.before.before.args in
+    let a = c.args in
     letter_least a.word.now a.kept a.c a.least a.n a.j (search rules) (search rules) (search rules)
 
-returns-4 : tie.Need-returns-4
+returns-4 : tie.Need-returns-else-j-n
 returns-4 c =
-    let a = c.before.before.before.before.args in
+    let a = c.args in
     letter_past a.word.now a.kept a.c a.least a.n a.j (search rules) (search rules) (search rules)
 
-pub letter-at-spec : {M : Type 1} → statement M
-letter-at-spec = tie.close (tie.spec u32-at-requires returns returns-2 returns-3 returns-4)
+pub letter_at_spec : {M : Type 1} → statement M
+letter_at_spec =
+    tie.close
+    (tie.spec
+    u32-at-requires
+    returns
+    returns-2
+    returns-3
+    returns-4)

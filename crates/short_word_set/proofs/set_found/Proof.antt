@@ -7,7 +7,6 @@ use lib.ListN.{length}
 use lib.Seq.{length-take-le}
 use Rattle.words.specs.Words.{word_of, number_of}
 use Rattle.words.proofs.Bits.{number_word}
-use Rattle.chip_check.proofs.Laws.{array_long}
 use Rattle.short_words.specs.declared.NextAnswer.TheVariants.{Word}
 use Rattle.short_words.specs.NextWords.{held_word}
 use Rattle.short_word_items.specs.NextItems.{next_word_items}
@@ -19,62 +18,54 @@ use Rattle.short_word_set.proofs.set_found.Tie as tie
 
 -- a short word has four places
 long : (c : tie.Start) → length c.args.word.letters ≡ 4
-long c = array_long 4 c.args.word.letters c.well-formed.1.1.1.1.0.1.1.1.0.1.0.1
+long c = c.well_formed.1.1.1.1.0.1.1.1.0.1.0.1
 
-array-share-prefix-letters : tie.Need-array-share-prefix-letters
-array-share-prefix-letters c = let s = c.before in omega (arith, long s, s.requires)
+array-share-prefix-letters : tie.Need-slice_bounds-letters-end
+array-share-prefix-letters c = omega (arith, long (c.before), c.requires)
 
-slice-aggregate-set-items : tie.Need-slice-aggregate-set-items
+slice-aggregate-set-items : tie.Need-slice_bounds-set_items-end
 slice-aggregate-set-items c =
-    let s = c.before.before in
-    sym (length-take-le s.args.word.length s.args.word.letters (omega (arith, long s, s.requires)))
+    sym (length-take-le c.args.word.length c.args.word.letters (omega (arith, long (c.before.before), c.requires)))
 
-set-items-requires : tie.Need-set-items-requires
+set-items-requires : tie.Need-set_items-requires
 set-items-requires c κs = search rules
 
-enum-known-n : tie.Need-enum-known-n
+enum-known-n : tie.Need-enum_known-n
 enum-known-n c = search rules
 
-not-set-requires : tie.Need-not-set-requires
+not-set-requires : tie.Need-not_set-requires
 not-set-requires c κs = search rules
 
-enum-known-k : tie.Need-enum-known-k
+enum-known-k : tie.Need-enum_known-k
 enum-known-k c = search rules
 
-same_length : tie.Need-same-length
+same_length : tie.Need-shape_of-items-in-Refused
 same_length c = search rules
 
-returns : tie.Need-returns
+returns : tie.Need-returns-in-Refused
 returns c =
-    let z = c.before.not_set in
-    let n = c.before.before.before.before in
-    let x = n.before.before.before.set-items in
-    let s = n.before.before.before.before.before.before.before in
-    let a = s.args in
+    let a = c.args in
     subst (λ (y : ℤ). SetsFound (next_word_items a.first a.pairs.now a.ops.now y (held_word a.word) (length a.items.now))
     (word_found a.word) a.items.now
-    z.result z.new.1.0) (number_word a.boundary s.ranges.boundary)
+    c.not_set.result c.not_set.new.items) (number_word a.boundary c.ranges.boundary)
     (found_refused (next_word_items a.first a.pairs.now a.ops.now (number_of (word_of a.boundary)) (held_word a.word) (length a.items.now))
-    (word_found a.word) a.items.now n.n.given.0.0 (tells_as n.n.given.1 x.ensures)
-    x.auto.1.1.1.1.1.0 z.ensures.0 z.ensures.1)
+    (word_found a.word) a.items.now c.in-Refused.n (tells_as c.in-Refused.is c.set_items.ensures)
+    c.set_items.auto.items c.not_set.ensures.0 c.not_set.ensures.1)
 
-same-length-2 : tie.Need-same-length-2
+same-length-2 : tie.Need-shape_of-items-in-Count
 same-length-2 c = search rules
 
-returns-2 : tie.Need-returns-2
+returns-2 : tie.Need-returns-in-Count
 returns-2 c =
-    let n = c.before in
-    let x = n.before.before.before.set-items in
-    let s = n.before.before.before.before.before.before.before in
-    let a = s.args in
+    let a = c.args in
     subst (λ (y : ℤ). SetsFound (next_word_items a.first a.pairs.now a.ops.now y (held_word a.word) (length a.items.now))
     (word_found a.word) a.items.now
-    (record { answer = Word; word = a.word; count = n.k.given.0.0 }) x.new.1.1.1.1.1.0) (number_word a.boundary s.ranges.boundary)
+    (record { answer = Word; word = a.word; count = c.k-1.given.0.0 }) c.set_items.new.items) (number_word a.boundary c.ranges.boundary)
     (found_counted (next_word_items a.first a.pairs.now a.ops.now (number_of (word_of a.boundary)) (held_word a.word) (length a.items.now))
-    (word_found a.word) a.items.now n.k.given.0.0 (tells_as n.k.given.1 x.ensures))
+    (word_found a.word) a.items.now c.k-1.given.0.0 (tells_as c.k-1.given.1 c.set_items.ensures))
 
-pub set-found-spec : {M : Type 1} → statement M
-set-found-spec =
+pub set_found_spec : {M : Type 1} → statement M
+set_found_spec =
     tie.close
     (tie.spec
     array-share-prefix-letters

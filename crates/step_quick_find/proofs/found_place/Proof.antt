@@ -9,72 +9,60 @@ use Rattle.step_quick_find.proofs.Laws.{none_past, none_other, found_there}
 use Rattle.step_quick_find.proofs.found_place.Statement.{statement}
 use Rattle.step_quick_find.proofs.found_place.Tie as tie
 
-place-for-requires : tie.Need-place-for-requires
+place-for-requires : tie.Need-place_for-k-requires
 place-for-requires c κs = search rules
 
-returns : tie.Need-returns
+returns : tie.Need-returns-then-n-k
 returns c =
-    let a = c.before.before.args in
-    let p = c.before.place-for in
-    none_past a.pairs.now a.left a.right (pair_count a.pairs.now) p.result refl p.ensures c.if1.true
+    let a = c.args in
+    none_past a.pairs.now a.left a.right (pair_count a.pairs.now) c.place_for-k.result refl c.place_for-k.ensures c.if-n-k.true
 
-mul-word-of : tie.Need-overflow-mul-word-of
+mul-word-of : tie.Need-overflow_mul-k
 mul-word-of c = omega arith
 
-add-word-of : tie.Need-overflow-add-word-of
+add-word-of : tie.Need-overflow_add-k
 add-word-of c = omega arith
 
-mul-word-of-2 : tie.Need-overflow-mul-word-of-2
+mul-word-of-2 : tie.Need-offset_bounds-pairs-k
 mul-word-of-2 c = search rules
 
-shared-slice-copy-out-word-of : tie.Need-shared-slice-copy-out-word-of
+shared-slice-copy-out-word-of : tie.Need-bounds-pairs-k
 shared-slice-copy-out-word-of c = omega arith
 
-word-of-requires : tie.Need-word-of-requires
+word-of-requires : tie.Need-word_of-requires
 word-of-requires c κs = search rules
 
 -- the right of the pair where the search ends, where it was read
-right_read : (c : tie.After-word-of) → let p = c.before.before.before in
-    Word (number p.before.args.pairs.now p.place-for.result 1) c.word_of.result
-right_read c = word_passed (record { sfits = c.before.word-of-arg.given }) c.word_of.ensures
+right_read : (c : tie.After-word_of) → Word (number c.args.pairs.now c.place_for-k.result 1) c.word_of.result
+right_read c = word_passed (record { sfits = c.word_of-arg-1.given }) c.word_of.ensures
 
-returns-2 : tie.Need-returns-2
+returns-2 : tie.Need-returns-then-word_of-right
 returns-2 c =
-    let w = c.before in
-    let p = w.before.before.before.place-for in
-    let a = w.before.before.before.before.args in
-    let q = right_read w in
-    none_other a.pairs.now a.left a.right p.result p.ensures w.before.before.if1.false (pair_count a.pairs.now) refl
-    (λ e. c.if2.true (omega (arith, e, q.is, read_lt q)))
+    let a = c.args in
+    let q = right_read (c.before) in
+    none_other a.pairs.now a.left a.right c.place_for-k.result c.place_for-k.ensures c.if-n-k.false (pair_count a.pairs.now) refl
+    (λ e. c.if-word_of-right.true (omega (arith, e, q.is, read_lt q)))
 
-left-in-requires : tie.Need-left-in-requires
+left-in-requires : tie.Need-left_in-requires
 left-in-requires c κs = omega arith
 
-returns-3 : tie.Need-returns-3
+returns-3 : tie.Need-returns-then-left_in-left
 returns-3 c =
-    let l = c.before.left_in in
-    let t = c.before.before in
-    let w = t.before in
-    let p = w.before.before.before.place-for in
-    let a = w.before.before.before.before.args in
-    let q = right_read w in
-    none_other a.pairs.now a.left a.right p.result p.ensures w.before.before.if1.false (pair_count a.pairs.now) refl
-    (λ e. c.if3.true (omega (arith, e, l.ensures, q.is, t.if2.false)))
+    let a = c.args in
+    let q = right_read (c.before.before.before) in
+    none_other a.pairs.now a.left a.right c.place_for-k.result c.place_for-k.ensures c.if-n-k.false (pair_count a.pairs.now) refl
+    (λ e. c.if-left_in-left.true (omega (arith, e, c.left_in.ensures, q.is, c.if-word_of-right.false)))
 
-returns-4 : tie.Need-returns-4
+returns-4 : tie.Need-returns
 returns-4 c =
-    let l = c.before.left_in in
-    let t = c.before.before in
-    let w = t.before in
-    let p = w.before.before.before.place-for in
-    let a = w.before.before.before.before.args in
-    let q = right_read w in
-    found_there a.pairs.now a.left a.right p.result p.ensures w.before.before.if1.false
-    (ap (λ (i : ℕ). key_by i (word_of (number a.pairs.now p.result 1))) (sym l.ensures ∙ c.if3.false)
-    ∙ ap (key_by a.left) (sym q.is ∙ t.if2.false))
+    let a = c.args in
+    let q = right_read (c.before.before.before) in
+    found_there a.pairs.now a.left a.right c.place_for-k.result c.place_for-k.ensures c.if-n-k.false
+    (ap (λ (i : ℕ). key_by i (word_of (number a.pairs.now c.place_for-k.result 1))) (sym c.left_in.ensures ∙ c.if-left_in-left.false)
+    ∙ ap (key_by a.left) (sym q.is ∙ c.if-word_of-right.false))
 
-pub found-place-spec : {M : Type 1} → statement M
-found-place-spec =
+pub found_place_spec : {M : Type 1} → statement M
+found_place_spec =
     tie.close
     (tie.spec
     place-for-requires

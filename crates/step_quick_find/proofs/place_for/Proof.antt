@@ -8,54 +8,49 @@ use Rattle.step_quick_find.proofs.Laws.{search_up, search_down, search_ends}
 use Rattle.step_quick_find.proofs.place_for.Statement.{statement}
 use Rattle.step_quick_find.proofs.place_for.Tie as tie
 
-abbrev invariant-loop : tie.invariant-loop
+abbrev invariant-loop : tie.invariant-loop-lo
 invariant-loop pairs left right lo₀ hi₀ lo hi = Bisecting (key_at pairs) (pair_count pairs) (key_by left right) lo hi
 
-abbrev decreases-loop : tie.decreases-loop
+abbrev decreases-loop : tie.decreases-loop-lo
 decreases-loop pairs left right lo₀ hi₀ lo hi = hi - lo
 
-loop-holds : tie.Need-loop-init invariant-loop decreases-loop
+loop-holds : tie.Need-loop-lo-init invariant-loop decreases-loop
 loop-holds c = let a = c.args in bisecting_all (key_at a.pairs.now) (pair_count a.pairs.now) (key_by a.left a.right)
 
-add-mid : tie.Need-overflow-add-mid invariant-loop decreases-loop
+add-mid : tie.Need-overflow_add-mid invariant-loop decreases-loop
 add-mid c = omega arith
 
-comes-before-requires : tie.Need-comes-before-requires invariant-loop decreases-loop
+comes-before-requires : tie.Need-comes_before-requires invariant-loop decreases-loop
 comes-before-requires c κs = omega arith
 
-add-lo : tie.Need-overflow-add-lo invariant-loop decreases-loop
+add-lo : tie.Need-overflow_add-lo invariant-loop decreases-loop
 add-lo c = omega arith
 
-loop-less : tie.Need-loop-smaller invariant-loop decreases-loop
+loop-less : tie.Need-loop-lo-smaller-then-comes_before invariant-loop decreases-loop
 loop-less c = omega arith
 
-loop-again : tie.Need-loop-preserved invariant-loop decreases-loop
+loop-again : tie.Need-loop-lo-preserved-then-comes_before invariant-loop decreases-loop
 loop-again c =
-    let b = c.before.comes-before in
-    let l = c.before.before.before in
-    let a = l.before.args in
-    search_up a.pairs.now (key_by a.left a.right) l.loop.lo l.loop.hi l.loop.invariant c.before.before.loop-test.true b.result
-    b.ensures c.if1.true
+    let a = c.args in
+    search_up a.pairs.now (key_by a.left a.right) c.loop-lo.lo c.loop-lo.hi c.loop-lo.invariant c.loop-lo-test.true c.comes_before.result
+    c.comes_before.ensures c.if-comes_before.true
 
-loop-less-2 : tie.Need-loop-smaller-2 invariant-loop decreases-loop
+loop-less-2 : tie.Need-loop-lo-smaller invariant-loop decreases-loop
 loop-less-2 c = omega arith
 
-loop-again-2 : tie.Need-loop-preserved-2 invariant-loop decreases-loop
+loop-again-2 : tie.Need-loop-lo-preserved invariant-loop decreases-loop
 loop-again-2 c =
-    let b = c.before.comes-before in
-    let l = c.before.before.before in
-    let a = l.before.args in
-    search_down a.pairs.now (key_by a.left a.right) l.loop.lo l.loop.hi l.loop.invariant c.before.before.loop-test.true b.result
-    b.ensures c.if1.false
+    let a = c.args in
+    search_down a.pairs.now (key_by a.left a.right) c.loop-lo.lo c.loop-lo.hi c.loop-lo.invariant c.loop-lo-test.true c.comes_before.result
+    c.comes_before.ensures c.if-comes_before.false
 
 returns : tie.Need-returns invariant-loop decreases-loop
 returns c =
-    let l = c.before in
-    let a = l.before.args in
-    search_ends a.pairs.now (key_by a.left a.right) l.loop.lo l.loop.hi l.loop.invariant c.loop-test.false
+    let a = c.args in
+    search_ends a.pairs.now (key_by a.left a.right) c.loop-lo.lo c.loop-lo.hi c.loop-lo.invariant c.loop-lo-test.false
 
-pub place-for-spec : {M : Type 1} → statement M
-place-for-spec =
+pub place_for_spec : {M : Type 1} → statement M
+place_for_spec =
     tie.close
     (tie.spec
     invariant-loop

@@ -3,11 +3,15 @@
 use Rattle.step_quick_op.proofs.after_letter.Statement.{statement}
 use Rattle.step_quick_op.proofs.after_letter.Tie as tie
 
-returns : tie.Need-returns
-returns c = rw c.if1.true
+returns : tie.Need-returns-then-flag
+returns c = rw c.if-flag.true
 
-returns-2 : tie.Need-returns-2
-returns-2 c = rw c.if1.false
+returns-2 : tie.Need-returns-else-flag
+returns-2 c = rw c.if-flag.false
 
-pub after-letter-spec : {M : Type 1} → statement M
-after-letter-spec = tie.close (tie.spec returns returns-2)
+pub after_letter_spec : {M : Type 1} → statement M
+after_letter_spec =
+    tie.close
+    (tie.spec
+    returns
+    returns-2)

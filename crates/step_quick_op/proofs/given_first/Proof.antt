@@ -5,61 +5,61 @@ use borrow.Author.Rules.{rules}
 use Rattle.step_quick_op.proofs.given_first.Statement.{statement}
 use Rattle.step_quick_op.proofs.given_first.Tie as tie
 
-number-in-requires : tie.Need-number-in-requires
+number-in-requires : tie.Need-number_in-first-requires
 number-in-requires c κs = search rules
 
-cast-first : tie.Need-overflow-cast-first
+cast-first : tie.Need-overflow_cast-first
 cast-first c = search rules
 
-number-in-requires-2 : tie.Need-number-in-requires-2
+number-in-requires-2 : tie.Need-number_in-count-requires
 number-in-requires-2 c κs = search rules
 
-cast-count : tie.Need-overflow-cast-count
+cast-count : tie.Need-overflow_cast-count
 cast-count c = search rules
 
-number-in-requires-3 : tie.Need-number-in-requires-3
+number-in-requires-3 : tie.Need-number_in-requires
 number-in-requires-3 c κs = search rules
 
-number-in-requires-4 : tie.Need-number-in-requires-4
+number-in-requires-4 : tie.Need-number_in-requires-2
 number-in-requires-4 c κs = search rules
 
-after-letter-requires : tie.Need-after-letter-requires
+after-letter-requires : tie.Need-after_letter-next-requires
 after-letter-requires c κs = search rules
 
-minus-requires : tie.Need-minus-requires
+minus-requires : tie.Need-minus-more-requires
 minus-requires c κs = search rules
 
-add-moved-on : tie.Need-overflow-add-moved-on
+add-moved-on : tie.Need-overflow_add-first
 add-moved-on c = search rules
 
-moved-on-requires : tie.Need-moved-on-requires
+moved-on-requires : tie.Need-moved_on-moved-requires
 moved-on-requires c κs = search rules
 
-mul-word-at : tie.Need-overflow-mul-word-at
+mul-word-at : tie.Need-overflow_mul-first
 mul-word-at c = search rules
 
-add-word-at : tie.Need-overflow-add-word-at
+add-word-at : tie.Need-overflow_add-first-2
 add-word-at c = search rules
 
-word-at-requires : tie.Need-word-at-requires
+word-at-requires : tie.Need-word_at-requires
 word-at-requires c κs = search rules
 
 returns : tie.Need-returns
 returns c =
     rw (
-      c.before.moved_on.ensures,
-      c.before.before.before.after-letter.ensures,
-      c.before.before.minus.ensures,
-      add-one c.before.before.before.before.before.before.before.number_in.result,
+      c.moved_on-moved.ensures,
+      c.after_letter-next.ensures,
+      c.minus-more.ensures,
+      add-one c.number_in-first.result,
       c.word_at.ensures.is,
-      c.before.before.before.before.before.before.before.number_in.ensures.is,
-      c.before.before.before.before.before.before.number-in2.ensures.is,
-      c.before.before.before.before.before.number-in3.ensures.is,
-      c.before.before.before.before.number-in4.ensures.is,
+      c.number_in-first.ensures.is,
+      c.number_in-count.ensures.is,
+      c.number_in.ensures.is,
+      c.number_in-2.ensures.is,
     )
 
-pub given-first-spec : {M : Type 1} → statement M
-given-first-spec =
+pub given_first_spec : {M : Type 1} → statement M
+given_first_spec =
     tie.close
     (tie.spec
     number-in-requires

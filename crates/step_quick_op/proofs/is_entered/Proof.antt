@@ -10,53 +10,49 @@ use borrow.Author.Rules.{rules}
 use Rattle.step_quick_op.proofs.is_entered.Statement.{statement}
 use Rattle.step_quick_op.proofs.is_entered.Tie as tie
 
-last-fits-requires : tie.Need-last-fits-requires
+last-fits-requires : tie.Need-last_fits-requires
 last-fits-requires c κs = search rules
 
-returns : tie.Need-returns
+returns : tie.Need-returns-then-not-last_fits
 returns c =
-    let a = c.before.before.args in
-    rw (sym (record_last a.pairs.now a.ops.now a.k (sym c.before.last_fits.ensures ∙ not-true _ c.if1.true)))
+    let a = c.args in
+    rw (sym (record_last a.pairs.now a.ops.now a.k (sym c.last_fits.ensures ∙ c.if-not-last_fits.true)))
 
-number-in-requires : tie.Need-number-in-requires
+number-in-requires : tie.Need-number_in-first-requires
 number-in-requires c κs = search rules
 
-cast-first : tie.Need-overflow-cast-first
+cast-first : tie.Need-overflow_cast-first
 cast-first c = search rules
 
-number-in-requires-2 : tie.Need-number-in-requires-2
+number-in-requires-2 : tie.Need-number_in-count-requires
 number-in-requires-2 c κs = search rules
 
-cast-count : tie.Need-overflow-cast-count
+cast-count : tie.Need-overflow_cast-count
 cast-count c = search rules
 
-add-if2 : tie.Need-overflow-add-if2
+add-if2 : tie.Need-overflow_add-first
 add-if2 c = search rules
 
-returns-2 : tie.Need-returns-2
+returns-2 : tie.Need-returns-then-ops-first
 returns-2 c =
-    let a = c.before.before.before.before.before.args in
-    let f = c.before.before.number_in in
-    let n = c.before.number-in2 in
+    let a = c.args in
     rw (sym (record_ops a.pairs.now a.ops.now a.k
-    (sym c.before.before.before.before.last_fits.ensures ∙ not-false _ c.before.before.before.if1.false) f.ensures n.ensures)
-    ∙ lt-leb (f.result + n.result) (op_count a.ops.now) c.if2.true)
+    (sym c.last_fits.ensures ∙ c.if-not-last_fits.false) c.number_in-first.ensures c.number_in-count.ensures)
+    ∙ lt-leb (c.number_in-first.result + c.number_in-count.result) (op_count a.ops.now) c.if-ops-first.true)
 
-first-plain-requires : tie.Need-first-plain-requires
+first-plain-requires : tie.Need-first_plain-requires
 first-plain-requires c κs = search rules
 
-returns-3 : tie.Need-returns-3
+returns-3 : tie.Need-returns
 returns-3 c =
-    let a = c.before.before.before.before.before.before.args in
-    let f = c.before.before.before.number_in in
-    let n = c.before.before.number-in2 in
+    let a = c.args in
     rw (sym (record_ops a.pairs.now a.ops.now a.k
-    (sym c.before.before.before.before.before.last_fits.ensures ∙ not-false _ c.before.before.before.before.if1.false) f.ensures
-    n.ensures) ∙ le-leb (f.result + n.result) (op_count a.ops.now) c.before.if2.false)
-    (c.first_plain.ensures ∙ (λ i. first_plain a.ops.now (f.ensures.is i) (n.ensures.is i)))
+    (sym c.last_fits.ensures ∙ c.if-not-last_fits.false) c.number_in-first.ensures
+    c.number_in-count.ensures) ∙ le-leb (c.number_in-first.result + c.number_in-count.result) (op_count a.ops.now) c.if-ops-first.false)
+    (c.first_plain.ensures ∙ (λ i. first_plain a.ops.now (c.number_in-first.ensures.is i) (c.number_in-count.ensures.is i)))
 
-pub is-entered-spec : {M : Type 1} → statement M
-is-entered-spec =
+pub is_entered_spec : {M : Type 1} → statement M
+is_entered_spec =
     tie.close
     (tie.spec
     last-fits-requires

@@ -6,14 +6,19 @@ use borrow.Author.Rules.{rules}
 use Rattle.step_quick_op.proofs.is_ready.Statement.{statement}
 use Rattle.step_quick_op.proofs.is_ready.Tie as tie
 
-returns : tie.Need-returns
-returns c = let a = c.before.args in rw (le-ltb a.k (pair_count a.pairs.now) c.if1.true)
+returns : tie.Need-returns-then-pairs-k
+returns c = let a = c.args in rw (le-ltb a.k (pair_count a.pairs.now) c.if-pairs-k.true)
 
-is-entered-requires : tie.Need-is-entered-requires
+is-entered-requires : tie.Need-is_entered-requires
 is-entered-requires c κs = search rules
 
-returns-2 : tie.Need-returns-2
-returns-2 c = let a = c.before.before.args in rw (lt-ltb a.k (pair_count a.pairs.now) c.before.if1.false) c.is-entered.ensures
+returns-2 : tie.Need-returns
+returns-2 c = let a = c.args in rw (lt-ltb a.k (pair_count a.pairs.now) c.if-pairs-k.false) c.is_entered.ensures
 
-pub is-ready-spec : {M : Type 1} → statement M
-is-ready-spec = tie.close (tie.spec returns is-entered-requires returns-2)
+pub is_ready_spec : {M : Type 1} → statement M
+is_ready_spec =
+    tie.close
+    (tie.spec
+    returns
+    is-entered-requires
+    returns-2)

@@ -11,36 +11,36 @@ use borrow.Author.Rules.{rules}
 use Rattle.step_quick_op.proofs.quick_step.Statement.{statement}
 use Rattle.step_quick_op.proofs.quick_step.Tie as tie
 
-has : (c : tie.Else1) → has_letter c.before.before.before.args.word.now c.before.before.before.args.s ≡ true
-has c = sym c.before.has_letter_lem.ensures ∙ not-false _ c.if1.false
+has : (c : tie.Else-not-has_letter) → has_letter c.args.word.now c.args.s ≡ true
+has c = sym c.has_letter.ensures ∙ c.if-not-has_letter.false
 
-has-letter-requires : tie.Need-has-letter-requires
+has-letter-requires : tie.Need-has_letter-requires
 has-letter-requires c κs = search rules
 
-returns : tie.Need-returns
-returns c = rw (sym c.before.has_letter_lem.ensures ∙ not-true _ c.if1.true)
+returns : tie.Need-returns-then-not-has_letter
+returns c = rw (sym c.has_letter.ensures ∙ c.if-not-has_letter.true)
 
-given-plain-requires : tie.Need-given-plain-requires
+given-plain-requires : tie.Need-given_plain-requires
 given-plain-requires c κs = has c.before
 
-returns-2 : tie.Need-returns-2
+returns-2 : tie.Need-returns-then-pairs-k
 returns-2 c =
-    let a = c.before.before.before.before.before.args in
-    rw (has c.before.before, le-ltb a.k (pair_count a.pairs.now) c.before.if2.true) c.given-plain.ensures
+    let a = c.args in
+    rw (has c.before.before, le-ltb a.k (pair_count a.pairs.now) c.if-pairs-k.true) c.given_plain.ensures
 
-given-first-requires : tie.Need-given-first-requires
+given-first-requires : tie.Need-given_first-requires
 given-first-requires c κs =
-    let a = c.before.before.before.before.args in
+    let a = c.args in
     let l = letter_there a.word.now a.s (has c.before) in
-    (c.if2.false, omega (arith, l.0), l.1)
+    (c.if-pairs-k.false, omega (arith, l.0), l.1)
 
-returns-3 : tie.Need-returns-3
+returns-3 : tie.Need-returns
 returns-3 c =
-    let a = c.before.before.before.before.before.args in
-    rw (has c.before.before, lt-ltb a.k (pair_count a.pairs.now) c.before.if2.false) c.given_first_lem.ensures
+    let a = c.args in
+    rw (has c.before.before, lt-ltb a.k (pair_count a.pairs.now) c.if-pairs-k.false) c.given_first.ensures
 
-pub quick-step-spec : {M : Type 1} → statement M
-quick-step-spec =
+pub quick_step_spec : {M : Type 1} → statement M
+quick_step_spec =
     tie.close
     (tie.spec
     has-letter-requires

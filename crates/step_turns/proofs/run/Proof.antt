@@ -10,8 +10,8 @@ use borrow.Author.Rules.{rules}
 use Rattle.step_turns.proofs.run.Statement.{statement}
 use Rattle.step_turns.proofs.run.Tie as tie
 
-inside : (c : tie.Else1) → let a = c.before.before.before.args in placed a.ops.now a.word.now a.s ≡ true
-inside c = sym c.before.placed.ensures ∙ not-false c.before.placed.result c.if1.false
+inside : (c : tie.Else-not-placed) → let a = c.args in placed a.ops.now a.word.now a.s ≡ true
+inside c = sym c.placed.ensures ∙ c.if-not-placed.false
 
 placed-requires : tie.Need-placed-requires
 placed-requires c κs = search rules
@@ -19,32 +19,28 @@ placed-requires c κs = search rules
 refused-requires : tie.Need-refused-requires
 refused-requires c κs = search rules
 
-returns : tie.Need-returns
+returns : tie.Need-returns-then-not-placed
 returns c =
-    let p = c.before.before.placed in
-    rw (sym p.ensures ∙ not-true p.result c.before.if1.true) c.refused.ensures
+    rw (sym c.placed.ensures ∙ c.if-not-placed.true) c.refused.ensures
 
-right-fits-requires : tie.Need-right-fits-requires
+right-fits-requires : tie.Need-right_fits-requires
 right-fits-requires c κs = search rules
 
-refused-requires-2 : tie.Need-refused-requires-2
+refused-requires-2 : tie.Need-refused-requires-then-not-right_fits
 refused-requires-2 c κs = search rules
 
-returns-2 : tie.Need-returns-2
+returns-2 : tie.Need-returns-then-not-right_fits
 returns-2 c =
-    let r = c.before.before in
-    rw (inside r.before, sym r.right_fits.ensures ∙ not-true r.right_fits.result c.before.if2.true) c.refused2.ensures
+    rw (inside c.before.before.before, sym c.right_fits.ensures ∙ c.if-not-right_fits.true) c.refused-then-not-right_fits.ensures
 
-run-on-requires : tie.Need-run-on-requires
+run-on-requires : tie.Need-run_on-requires
 run-on-requires c κs =
-    let e = c.before.before in
-    let a = e.before.before.before.args in
-    placed_within a.ops.now a.word.now a.s (omega arith) (inside e)
+    let a = c.args in
+    placed_within a.ops.now a.word.now a.s (omega arith) (inside (c.before.before))
 
-returns-3 : tie.Need-returns-3
+returns-3 : tie.Need-returns
 returns-3 c =
-    let r = c.before.before in
-    rw (inside r.before, sym r.right_fits.ensures ∙ not-false r.right_fits.result c.before.if2.false) c.run_on.ensures
+    rw (inside c.before.before.before, sym c.right_fits.ensures ∙ c.if-not-right_fits.false) c.run_on.ensures
 
 pub run_spec : {M : Type 1} → statement M
 run_spec =

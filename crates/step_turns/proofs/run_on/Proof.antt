@@ -10,54 +10,47 @@ use borrow.Author.Rules.{rules}
 use Rattle.step_turns.proofs.run_on.Statement.{statement}
 use Rattle.step_turns.proofs.run_on.Tie as tie
 
-abbrev invariant-loop : tie.invariant-loop
+abbrev invariant-loop : tie.invariant-loop-given
 invariant-loop pairs ops right word t₀ t = Running (length word) (op_count ops) (run_on ops (turn pairs ops (or_boundary (number_of right)) word)) t₀ t
 
-abbrev decreases-loop : tie.decreases-loop
+abbrev decreases-loop : tie.decreases-loop-given
 decreases-loop pairs ops right word t₀ t = turns_left (length word) t
 
-loop-holds : tie.Need-loop-init invariant-loop decreases-loop
+loop-holds : tie.Need-loop-given-init invariant-loop decreases-loop
 loop-holds c =
-    let a = c.before in
-    running_begin (length a.args.word.now) (op_count a.args.ops.now)
-    (run_on a.args.ops.now (turn a.args.pairs.now a.args.ops.now (or_boundary (number_of a.args.right)) a.args.word.now))
-    a.args.s a.requires
+    running_begin (length c.args.word.now) (op_count c.args.ops.now)
+    (run_on c.args.ops.now (turn c.args.pairs.now c.args.ops.now (or_boundary (number_of c.args.right)) c.args.word.now))
+    c.args.s c.requires
 
-turn-once-requires : tie.Need-turn-once-requires invariant-loop decreases-loop
-turn-once-requires c κs = c.loop.invariant.inside
+turn-once-requires : tie.Need-turn_once-requires invariant-loop decreases-loop
+turn-once-requires c κs = c.loop-given.invariant.inside
 
-enum-known-given : tie.Need-enum-known-given invariant-loop decreases-loop
+enum-known-given : tie.Need-enum_known-given invariant-loop decreases-loop
 enum-known-given c = search rules
 
-returns : tie.Need-returns invariant-loop decreases-loop
+returns : tie.Need-returns-in-Gives invariant-loop decreases-loop
 returns c =
-    let o = c.before.before.before in
-    let l = o.before in
-    let a = l.before.before.args in
-    running_end a.pairs.now a.ops.now (or_boundary (number_of a.right)) a.word.now a.s l.loop.t l.loop.invariant o.turn-once.result
-    o.turn-once.ensures c.before.given.given.0.0 c.before.given.given.1
+    let a = c.args in
+    running_end a.pairs.now a.ops.now (or_boundary (number_of a.right)) a.word.now a.s c.loop-given.t c.loop-given.invariant c.turn_once.result
+    c.turn_once.ensures c.in-Gives.given c.in-Gives.is
 
-enum-known-next : tie.Need-enum-known-next invariant-loop decreases-loop
+enum-known-next : tie.Need-enum_known-next invariant-loop decreases-loop
 enum-known-next c = search rules
 
-loop-less : tie.Need-loop-smaller invariant-loop decreases-loop
+loop-less : tie.Need-loop-given-smaller invariant-loop decreases-loop
 loop-less c =
-    let o = c.before.before.before in
-    let l = o.before in
-    let a = l.before.before.args in
-    running_less a.pairs.now a.ops.now (or_boundary (number_of a.right)) a.word.now a.s l.loop.t l.loop.invariant o.turn-once.result
-    o.turn-once.ensures c.before.next.given.0.0 c.before.next.given.1
+    let a = c.args in
+    running_less a.pairs.now a.ops.now (or_boundary (number_of a.right)) a.word.now a.s c.loop-given.t c.loop-given.invariant c.turn_once.result
+    c.turn_once.ensures c.in-Goes.next c.in-Goes.is
 
-loop-again : tie.Need-loop-preserved invariant-loop decreases-loop
+loop-again : tie.Need-loop-given-preserved invariant-loop decreases-loop
 loop-again c =
-    let o = c.before.before.before in
-    let l = o.before in
-    let a = l.before.before.args in
-    running_more a.pairs.now a.ops.now (or_boundary (number_of a.right)) a.word.now a.s l.loop.t l.loop.invariant o.turn-once.result
-    o.turn-once.ensures c.before.next.given.0.0 c.before.next.given.1
+    let a = c.args in
+    running_more a.pairs.now a.ops.now (or_boundary (number_of a.right)) a.word.now a.s c.loop-given.t c.loop-given.invariant c.turn_once.result
+    c.turn_once.ensures c.in-Goes.next c.in-Goes.is
 
-pub run-on-spec : {M : Type 1} → statement M
-run-on-spec =
+pub run_on_spec : {M : Type 1} → statement M
+run_on_spec =
     tie.close
     (tie.spec
     invariant-loop

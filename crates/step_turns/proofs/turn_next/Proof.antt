@@ -10,7 +10,7 @@ use Rattle.captions.specs.declared.NextLeft.TheVariants.{Boundary, Char, Lig, Fi
 use Rattle.captions.specs.Steps.{or_boundary, turn}
 use Rattle.captions.specs.contracts.NextLeft.{the_type}
 use Rattle.step_turns.specs.Turns.{lefts}
-use Rattle.step_turns.proofs.Laws.{looked}
+use Rattle.step_turns.proofs.Laws.{looked, over_lem}
 use borrow.Author.Rules.{rules}
 use Rattle.step_turns.proofs.turn_next.Statement.{statement}
 use Rattle.step_turns.proofs.turn_next.Tie as tie
@@ -23,13 +23,13 @@ is-left (Lig c) h = refl
 is-left (FinalLig c) h = absurd (miss (0 ∷ 1 ∷ 2 ∷ []) 3 tt h)
 is-left None h = absurd (miss (0 ∷ 1 ∷ 2 ∷ []) 4 tt h)
 
-enum-known-next : tie.Need-enum-known-next
+enum-known-next : tie.Need-enum_known-next
 enum-known-next c = search rules
 
-give-last-requires : tie.Need-give-last-requires
+give-last-requires : tie.Need-give_last-requires
 give-last-requires c κs = search rules
 
-enum_told : tie.Need-enum-told
+enum_told : tie.Need-enum_told-1
 enum_told c = search rules
 
 ends-requires : tie.Need-ends-requires
@@ -38,21 +38,24 @@ ends-requires c κs = search rules
 turn-requires : tie.Need-turn-requires
 turn-requires c κs = search rules
 
-returns : tie.Need-returns
-returns c = rw (c.give-last.ensures, c.before.before.next.given.1)
+returns : tie.Need-returns-in-FinalLig
+returns c = rw (c.give_last.ensures, c.in-FinalLig.is)
 
-returns-2 : tie.Need-returns-2
-returns-2 c = rw (c.ends.ensures, c.before.enum_told.given.1)
+returns-2 : tie.Need-returns-in-None
+returns-2 c =
+    let a = c.args in
+    rw c.ends.ensures
+    (sym (over_lem (turn a.pairs.now a.ops.now (or_boundary (number_of a.right)) a.word.now) a.s a.s.next_left c.in-None.is))
 
-returns-3 : tie.Need-returns-3
+returns-3 : tie.Need-returns-in_default
 returns-3 c =
-    let a = c.before.before.before.args in
+    let a = c.args in
     rw c.turn.ensures
     (sym (looked (turn a.pairs.now a.ops.now (or_boundary (number_of a.right)) a.word.now) a.s a.s.next_left
-    (is-left a.s.next_left c.before.match.keys3)))
+    (is-left a.s.next_left c.in_default.in_default-own.keys3)))
 
-pub turn-next-spec : {M : Type 1} → statement M
-turn-next-spec =
+pub turn_next_spec : {M : Type 1} → statement M
+turn_next_spec =
     tie.close
     (tie.spec
     enum-known-next

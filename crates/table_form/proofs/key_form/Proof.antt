@@ -9,40 +9,37 @@ use borrow.Author.Rules.{rules}
 use Rattle.table_form.proofs.key_form.Statement.{statement}
 use Rattle.table_form.proofs.key_form.Tie as tie
 
-number-at-requires : tie.Need-number-at-requires
+number-at-requires : tie.Need-number_at-requires
 number-at-requires c κs = search rules
 
-is-left-requires : tie.Need-is-left-requires
+is-left-requires : tie.Need-is_left-requires
 is-left-requires c κs = search rules
 
-returns : tie.Need-returns
-returns c = rw (tested (absent_or 255) c.before.before.number_at.ensures c.before.is-left.ensures (not-true _ c.if1.true))
+returns : tie.Need-returns-then-not-is_left
+returns c = rw (tested (absent_or 255) c.number_at.ensures c.is_left.ensures (c.if-not-is_left.true))
 
-number-at-requires-2 : tie.Need-number-at-requires-2
+number-at-requires-2 : tie.Need-number_at-requires-2
 number-at-requires-2 c κs = search rules
 
-returns-2 : tie.Need-returns-2
+returns-2 : tie.Need-returns-then-number_at-gt255
 returns-2 c =
-    let b = c.before.before in
     rw (
-      tested (absent_or 255) b.before.before.number_at.ensures b.before.is-left.ensures (not-false _ b.if1.false),
-      within_read 255 c.before.number-at2.ensures (omega arith) ∙ lt-leb c.before.number-at2.result 255 c.if2.true,
+      tested (absent_or 255) c.number_at.ensures c.is_left.ensures (c.if-not-is_left.false),
+      within_read 255 c.number_at-2.ensures (omega arith) ∙ lt-leb c.number_at-2.result 255 c.if-number_at-gt255.true,
     )
 
-comes-after-requires : tie.Need-comes-after-requires
+comes-after-requires : tie.Need-comes_after-requires
 comes-after-requires c κs = search rules
 
-returns-3 : tie.Need-returns-3
+returns-3 : tie.Need-returns
 returns-3 c =
-    let d = c.before in
-    let b = d.before.before in
     rw (
-      tested (absent_or 255) b.before.before.number_at.ensures b.before.is-left.ensures (not-false _ b.if1.false),
-      within_read 255 d.before.number-at2.ensures (omega arith) ∙ le-leb d.before.number-at2.result 255 d.if2.false,
-    ) c.comes-after.ensures
+      tested (absent_or 255) c.number_at.ensures c.is_left.ensures (c.if-not-is_left.false),
+      within_read 255 c.number_at-2.ensures (omega arith) ∙ le-leb c.number_at-2.result 255 c.if-number_at-gt255.false,
+    ) c.comes_after.ensures
 
-pub key-form-spec : {M : Type 1} → statement M
-key-form-spec =
+pub key_form_spec : {M : Type 1} → statement M
+key_form_spec =
     tie.close
     (tie.spec
     number-at-requires

@@ -5,14 +5,19 @@ use borrow.Author.Rules.{rules}
 use Rattle.table_form.proofs.table_refusal.Statement.{statement}
 use Rattle.table_form.proofs.table_refusal.Tie as tie
 
-table-form-requires : tie.Need-table-form-requires
+table-form-requires : tie.Need-table_form-requires
 table-form-requires c κs = search rules
 
-returns : tie.Need-returns
-returns c = rw (sym c.before.table_form_lem.ensures ∙ c.if1.true)
+returns : tie.Need-returns-then-table_form
+returns c = rw (sym c.table_form.ensures ∙ c.if-table_form.true)
 
-returns-2 : tie.Need-returns-2
-returns-2 c = rw (sym c.before.table_form_lem.ensures ∙ c.if1.false)
+returns-2 : tie.Need-returns-else-table_form
+returns-2 c = rw (sym c.table_form.ensures ∙ c.if-table_form.false)
 
-pub table-refusal-spec : {M : Type 1} → statement M
-table-refusal-spec = tie.close (tie.spec table-form-requires returns returns-2)
+pub table_refusal_spec : {M : Type 1} → statement M
+table_refusal_spec =
+    tie.close
+    (tie.spec
+    table-form-requires
+    returns
+    returns-2)

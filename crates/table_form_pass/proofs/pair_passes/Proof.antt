@@ -14,166 +14,156 @@ use Rattle.table_form_pass.proofs.pair_passes.Statement.{statement}
 use Rattle.table_form_pass.proofs.pair_passes.Tie as tie
 
 -- the words of left, right, last code and last flag, and those of first op and op count
-module _ (c : tie.After-word-of4) where
+module _ (c : tie.After-word_of-2) where
   abbrev S : List ℤ
-  S = c.before.before.before.before.before.before.before.before.args.pairs.now
+  S = c.args.pairs.now
 
   abbrev P : ℕ
-  P = c.before.before.before.before.before.before.before.before.args.p
+  P = c.args.p
 
   whole : P % 6 ≡ 0
-  whole = c.before.before.before.before.before.before.before.before.requires.0.1
+  whole = c.requires.0.1
 
-  left : Word (number S (P / 6) 0) c.before.before.before.before.before.before.word_of.result
+  left : Word (number S (P / 6) 0) c.word_of-left.result
   left =
       let w = c.before.before.before.before.before.before in
-      number_read S P P 0 whole (omega arith) (record { sfits = w.before.word-of-arg.given }) w.word_of.ensures
+      number_read S P P 0 whole (omega arith) (record { sfits = c.word_of-arg-1.given }) c.word_of-left.ensures
 
-  flag : Word (number S (P / 6) 3) c.before.before.before.before.word-of2.result
+  flag : Word (number S (P / 6) 3) c.word_of-flag.result
   flag =
       let w = c.before.before.before.before in
-      number_read S P (P + 3) 3 whole refl (record { sfits = w.before.word-of-arg2.given }) w.word-of2.ensures
+      number_read S P (P + 3) 3 whole refl (record { sfits = c.word_of-arg-2-1.given }) c.word_of-flag.ensures
 
-  right : Word (number S (P / 6) 1) c.before.before.word-of3.result
+  right : Word (number S (P / 6) 1) c.word_of.result
   right =
       let w = c.before.before in
-      number_read S P (P + 1) 1 whole refl (record { sfits = w.before.word-of-arg3.given }) w.word-of3.ensures
+      number_read S P (P + 1) 1 whole refl (record { sfits = c.word_of-arg-3-1.given }) c.word_of.ensures
 
-  code : Word (number S (P / 6) 2) c.word-of4.result
+  code : Word (number S (P / 6) 2) c.word_of-2.result
   code =
-      number_read S P (P + 2) 2 whole refl (record { sfits = c.before.word-of-arg4.given }) c.word-of4.ensures
+      number_read S P (P + 2) 2 whole refl (record { sfits = c.word_of-arg-4-1.given }) c.word_of-2.ensures
 
-first : (c : tie.After-word-of5) → let r = c.before.before.before.before in Word (number (S r) (P r / 6) 4) c.word-of5.result
+first : (c : tie.After-word_of-3) → let r = c.before.before.before.before in Word (number (S (c.before.before.before.before)) (P (c.before.before.before.before) / 6) 4) c.word_of-3.result
 first c =
     let r = c.before.before.before.before in
-    number_read (S r) (P r) (P r + 4) 4 (whole r) refl (record { sfits = c.before.word-of-arg5.given }) c.word-of5.ensures
+    number_read (S (c.before.before.before.before)) (P (c.before.before.before.before)) (P (c.before.before.before.before) + 4) 4 (whole (c.before.before.before.before)) refl (record { sfits = c.word_of-arg-5-1.given }) c.word_of-3.ensures
 
-count : (c : tie.After-word-of6) → let r = c.before.before.before.before.before.before.before in Word (number (S r) (P r / 6) 5) c.word-of6.result
+count : (c : tie.After-word_of-4) → let r = c.before.before.before.before.before.before.before in Word (number (S (c.before.before.before.before.before.before.before)) (P (c.before.before.before.before.before.before.before) / 6) 5) c.word_of-4.result
 count c =
     let r = c.before.before.before.before.before.before.before in
-    number_read (S r) (P r) (P r + 5) 5 (whole r) refl (record { sfits = c.before.word-of-arg6.given }) c.word-of6.ensures
+    number_read (S (c.before.before.before.before.before.before.before)) (P (c.before.before.before.before.before.before.before)) (P (c.before.before.before.before.before.before.before) + 5) 5 (whole (c.before.before.before.before.before.before.before)) refl (record { sfits = c.word_of-arg-6-1.given }) c.word_of-4.ensures
 
-mul-word-of : tie.Need-overflow-mul-word-of
+mul-word-of : tie.Need-offset_bounds-pairs-p
 mul-word-of c = search rules
 
-shared-slice-copy-out-word-of : tie.Need-shared-slice-copy-out-word-of
+shared-slice-copy-out-word-of : tie.Need-bounds-pairs-p
 shared-slice-copy-out-word-of c = search rules
 
-word-of-requires : tie.Need-word-of-requires
+word-of-requires : tie.Need-word_of-left-requires
 word-of-requires c κs = search rules
 
-add-word-of : tie.Need-overflow-add-word-of
+add-word-of : tie.Need-overflow_add-p
 add-word-of c = search rules
 
-mul-word-of-2 : tie.Need-overflow-mul-word-of-2
+mul-word-of-2 : tie.Need-offset_bounds-pairs-p-2
 mul-word-of-2 c = search rules
 
-shared-slice-copy-out-word-of-2 : tie.Need-shared-slice-copy-out-word-of-2
+shared-slice-copy-out-word-of-2 : tie.Need-bounds-pairs-p-2
 shared-slice-copy-out-word-of-2 c = search rules
 
-word-of-requires-2 : tie.Need-word-of-requires-2
+word-of-requires-2 : tie.Need-word_of-flag-requires
 word-of-requires-2 c κs = search rules
 
-add-word-of-2 : tie.Need-overflow-add-word-of-2
+add-word-of-2 : tie.Need-overflow_add-p-2
 add-word-of-2 c = search rules
 
-mul-word-of-3 : tie.Need-overflow-mul-word-of-3
+mul-word-of-3 : tie.Need-offset_bounds-pairs-p-3
 mul-word-of-3 c = search rules
 
-shared-slice-copy-out-word-of-3 : tie.Need-shared-slice-copy-out-word-of-3
+shared-slice-copy-out-word-of-3 : tie.Need-bounds-pairs-p-3
 shared-slice-copy-out-word-of-3 c = search rules
 
-word-of-requires-3 : tie.Need-word-of-requires-3
+word-of-requires-3 : tie.Need-word_of-requires
 word-of-requires-3 c κs = search rules
 
-add-word-of-3 : tie.Need-overflow-add-word-of-3
+add-word-of-3 : tie.Need-overflow_add-p-3
 add-word-of-3 c = search rules
 
-mul-word-of-4 : tie.Need-overflow-mul-word-of-4
+mul-word-of-4 : tie.Need-offset_bounds-pairs-p-4
 mul-word-of-4 c = search rules
 
-shared-slice-copy-out-word-of-4 : tie.Need-shared-slice-copy-out-word-of-4
+shared-slice-copy-out-word-of-4 : tie.Need-bounds-pairs-p-4
 shared-slice-copy-out-word-of-4 c = search rules
 
-word-of-requires-4 : tie.Need-word-of-requires-4
+word-of-requires-4 : tie.Need-word_of-requires-2
 word-of-requires-4 c κs = search rules
 
-codes-form-requires : tie.Need-codes-form-requires
+codes-form-requires : tie.Need-codes_form-requires
 codes-form-requires c κs = search rules
 
-returns : tie.Need-returns
+returns : tie.Need-returns-then-not-codes_form
 returns c =
-    let r = c.before.before in
-    let a = r.before.before.before.before.before.before.before.before.args in
-    pair_codes a.pairs.now a.ops.now (a.p / 6) a.at (right r) (code r) (flag r)
-    (sym c.before.codes-form.ensures ∙ not-true _ c.if1.true)
+    let a = c.args in
+    pair_codes a.pairs.now a.ops.now (a.p / 6) a.at (right (c.before.before)) (code (c.before.before)) (flag (c.before.before))
+    (sym c.codes_form.ensures ∙ c.if-not-codes_form.true)
 
-add-word-of-4 : tie.Need-overflow-add-word-of-4
+add-word-of-4 : tie.Need-overflow_add-p-4
 add-word-of-4 c = search rules
 
-mul-word-of-5 : tie.Need-overflow-mul-word-of-5
+mul-word-of-5 : tie.Need-offset_bounds-pairs-p-5
 mul-word-of-5 c = search rules
 
-shared-slice-copy-out-word-of-5 : tie.Need-shared-slice-copy-out-word-of-5
+shared-slice-copy-out-word-of-5 : tie.Need-bounds-pairs-p-5
 shared-slice-copy-out-word-of-5 c = search rules
 
-word-of-requires-5 : tie.Need-word-of-requires-5
+word-of-requires-5 : tie.Need-word_of-requires-3
 word-of-requires-5 c κs = search rules
 
-cast-if2 : tie.Need-overflow-cast-if2
+cast-if2 : tie.Need-overflow_cast-word_of
 cast-if2 c = search rules
 
-returns-2 : tie.Need-returns-2
+returns-2 : tie.Need-returns-then-word_of-at
 returns-2 c =
-    let d = c.before.before.before in
-    let r = d.before.before in
-    let a = r.before.before.before.before.before.before.before.before.args in
-    pair_gap a.pairs.now a.ops.now (a.p / 6) a.at (right r) (code r) (flag r)
-    (sym d.before.codes-form.ensures ∙ not-false _ d.if1.false) (first c.before) c.if2.true
+    let a = c.args in
+    pair_gap a.pairs.now a.ops.now (a.p / 6) a.at (right (c.before.before.before.before.before)) (code (c.before.before.before.before.before)) (flag (c.before.before.before.before.before))
+    (sym c.codes_form.ensures ∙ c.if-not-codes_form.false) (first c.before) c.if-word_of-at.true
 
-add-word-of-5 : tie.Need-overflow-add-word-of-5
+add-word-of-5 : tie.Need-overflow_add-p-5
 add-word-of-5 c = search rules
 
-mul-word-of-6 : tie.Need-overflow-mul-word-of-6
+mul-word-of-6 : tie.Need-offset_bounds-pairs-p-6
 mul-word-of-6 c = search rules
 
-shared-slice-copy-out-word-of-6 : tie.Need-shared-slice-copy-out-word-of-6
+shared-slice-copy-out-word-of-6 : tie.Need-bounds-pairs-p-6
 shared-slice-copy-out-word-of-6 c = search rules
 
-word-of-requires-6 : tie.Need-word-of-requires-6
+word-of-requires-6 : tie.Need-word_of-requires-4
 word-of-requires-6 c κs = search rules
 
-cast-end : tie.Need-overflow-cast-end
+cast-end : tie.Need-overflow_cast-end
 cast-end c = search rules
 
-add-end : tie.Need-overflow-add-end
+add-end : tie.Need-overflow_add-end
 add-end c = search rules
 
-returns-3 : tie.Need-returns-3
+returns-3 : tie.Need-returns-then-ops-end
 returns-3 c =
-    let g = c.before.before.before in
-    let d = g.before.before.before in
-    let r = d.before.before in
-    let a = r.before.before.before.before.before.before.before.before.args in
-    pair_over a.pairs.now a.ops.now (a.p / 6) a.at (right r) (code r) (flag r)
-    (sym d.before.codes-form.ensures ∙ not-false _ d.if1.false) (first g.before) g.if2.false (count c.before) c.if3.true
+    let a = c.args in
+    pair_over a.pairs.now a.ops.now (a.p / 6) a.at (right (c.before.before.before.before.before.before.before.before)) (code (c.before.before.before.before.before.before.before.before)) (flag (c.before.before.before.before.before.before.before.before))
+    (sym c.codes_form.ensures ∙ c.if-not-codes_form.false) (first c.before.before.before.before) c.if-word_of-at.false (count c.before) c.if-ops-end.true
 
-ops-pass-requires : tie.Need-ops-pass-requires
+ops-pass-requires : tie.Need-ops_pass-requires
 ops-pass-requires c κs = search rules
 
-returns-4 : tie.Need-returns-4
+returns-4 : tie.Need-returns
 returns-4 c =
-    let e = c.before in
-    let g = e.before.before.before in
-    let d = g.before.before.before in
-    let r = d.before.before in
-    let a = r.before.before.before.before.before.before.before.before.args in
-    pair_ops a.pairs.now a.ops.now (a.p / 6) a.at (right r) (code r) (flag r)
-    (sym d.before.codes-form.ensures ∙ not-false _ d.if1.false) (first g.before) g.if2.false (count e.before) (left r)
-    e.if3.false c.ops-pass.ensures
+    let a = c.args in
+    pair_ops a.pairs.now a.ops.now (a.p / 6) a.at (right (c.before.before.before.before.before.before.before.before.before)) (code (c.before.before.before.before.before.before.before.before.before)) (flag (c.before.before.before.before.before.before.before.before.before))
+    (sym c.codes_form.ensures ∙ c.if-not-codes_form.false) (first c.before.before.before.before.before) c.if-word_of-at.false (count c.before.before) (left (c.before.before.before.before.before.before.before.before.before))
+    c.if-ops-end.false c.ops_pass.ensures
 
-pub pair-passes-spec : {M : Type 1} → statement M
-pair-passes-spec =
+pub pair_passes_spec : {M : Type 1} → statement M
+pair_passes_spec =
     tie.close
     (tie.spec
     mul-word-of

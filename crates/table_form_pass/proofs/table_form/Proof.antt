@@ -14,25 +14,30 @@ use borrow.Author.Rules.{rules}
 use Rattle.table_form_pass.proofs.table_form.Statement.{statement}
 use Rattle.table_form_pass.proofs.table_form.Tie as tie
 
-sizes : (c : tie.Else1) → sizes_form c.before.before.args.pairs.now c.before.before.args.ops.now ≡ true
-sizes c = sym c.before.sizes-form.ensures ∙ not-false _ c.if1.false
+sizes : (c : tie.Else-not-sizes_form) → sizes_form c.args.pairs.now c.args.ops.now ≡ true
+sizes c = sym c.sizes_form.ensures ∙ c.if-not-sizes_form.false
 
-sizes-form-requires : tie.Need-sizes-form-requires
+sizes-form-requires : tie.Need-sizes_form-requires
 sizes-form-requires c κs = search rules
 
-returns : tie.Need-returns
-returns c = rw (sym c.before.sizes-form.ensures ∙ not-true _ c.if1.true)
+returns : tie.Need-returns-then-not-sizes_form
+returns c = rw (sym c.sizes_form.ensures ∙ c.if-not-sizes_form.true)
 
-pairs-form-requires : tie.Need-pairs-form-requires
+pairs-form-requires : tie.Need-pairs_form-requires
 pairs-form-requires c κs =
-    let a = c.before.before.args in
+    let a = c.args in
     let ops = a.ops.now in
     eqb-true (length a.pairs.now % 6) 0
     (both_left (eqb (length a.pairs.now % 6) 0) (both (eqb (length ops % 2) 0) (leb (op_count ops) 2147483647)) (sizes c))
 
-returns-2 : tie.Need-returns-2
+returns-2 : tie.Need-returns
 returns-2 c = rw (sizes c.before) c.pairs_form.ensures
 
-pub table-form-spec : {M : Type 1} → statement M
-table-form-spec =
-    tie.close (tie.spec sizes-form-requires returns pairs-form-requires returns-2)
+pub table_form_spec : {M : Type 1} → statement M
+table_form_spec =
+    tie.close
+    (tie.spec
+    sizes-form-requires
+    returns
+    pairs-form-requires
+    returns-2)

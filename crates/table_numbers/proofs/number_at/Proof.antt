@@ -7,22 +7,29 @@ use Rattle.table_numbers.proofs.Past.{past}
 use Rattle.table_numbers.proofs.number_at.Statement.{statement}
 use Rattle.table_numbers.proofs.number_at.Tie as tie
 
-returns : tie.Need-returns
+returns : tie.Need-returns-then-pairs-k
 returns c =
-    let a = c.before.args in
-    past a.pairs.now (6 * a.k + a.j) (omega (arith, c.if1.true))
+    let a = c.args in
+    past a.pairs.now (6 * a.k + a.j) (omega (arith, c.if-pairs-k.true))
 
-mul-word-at : tie.Need-overflow-mul-word-at
+mul-word-at : tie.Need-overflow_mul-k
 mul-word-at c = search rules
 
-add-word-at : tie.Need-overflow-add-word-at
+add-word-at : tie.Need-overflow_add-k
 add-word-at c = search rules
 
-word-at-requires : tie.Need-word-at-requires
+word-at-requires : tie.Need-word_at-requires
 word-at-requires c κs = search rules
 
-returns-2 : tie.Need-returns-2
+returns-2 : tie.Need-returns
 returns-2 c = search rules
 
-pub number-at-spec : {M : Type 1} → statement M
-number-at-spec = tie.close (tie.spec returns mul-word-at add-word-at word-at-requires returns-2)
+pub number_at_spec : {M : Type 1} → statement M
+number_at_spec =
+    tie.close
+    (tie.spec
+    returns
+    mul-word-at
+    add-word-at
+    word-at-requires
+    returns-2)

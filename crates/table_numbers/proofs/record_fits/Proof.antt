@@ -7,38 +7,37 @@ use Rattle.table_numbers.proofs.Records.{record_last, record_ops}
 use Rattle.table_numbers.proofs.record_fits.Statement.{statement}
 use Rattle.table_numbers.proofs.record_fits.Tie as tie
 
-last-fits-requires : tie.Need-last-fits-requires
+last-fits-requires : tie.Need-last_fits-requires
 last-fits-requires c κs = search rules
 
-returns : tie.Need-returns
+returns : tie.Need-returns-then-not-last_fits
 returns c =
-    let a = c.before.before.args in
-    record_last a.pairs.now a.ops.now a.k (sym c.before.last_fits.ensures ∙ not-true _ c.if1.true)
+    let a = c.args in
+    record_last a.pairs.now a.ops.now a.k (sym c.last_fits.ensures ∙ c.if-not-last_fits.true)
 
-number-at-requires : tie.Need-number-at-requires
+number-at-requires : tie.Need-number_at-first-requires
 number-at-requires c κs = search rules
 
-cast-first : tie.Need-overflow-cast-first
+cast-first : tie.Need-overflow_cast-first
 cast-first c = search rules
 
-number-at-requires-2 : tie.Need-number-at-requires-2
+number-at-requires-2 : tie.Need-number_at-count-requires
 number-at-requires-2 c κs = search rules
 
-cast-count : tie.Need-overflow-cast-count
+cast-count : tie.Need-overflow_cast-count
 cast-count c = search rules
 
-add-result : tie.Need-overflow-add-result
+add-result : tie.Need-overflow_add-result
 add-result c = search rules
 
-returns-2 : tie.Need-returns-2
+returns-2 : tie.Need-returns
 returns-2 c =
-    let d = c.before.before in
-    let a = d.before.before.args in
-    record_ops a.pairs.now a.ops.now a.k (sym d.before.last_fits.ensures ∙ not-false _ d.if1.false) c.before.number_at.ensures
-    c.number-at2.ensures
+    let a = c.args in
+    record_ops a.pairs.now a.ops.now a.k (sym c.last_fits.ensures ∙ c.if-not-last_fits.false) c.number_at-first.ensures
+    c.number_at-count.ensures
 
-pub record-fits-spec : {M : Type 1} → statement M
-record-fits-spec =
+pub record_fits_spec : {M : Type 1} → statement M
+record_fits_spec =
     tie.close
     (tie.spec
     last-fits-requires

@@ -49,34 +49,34 @@ module _ {pairs out z : List ℤ} {r : ℕ} (b : Begun pairs out z r) where
         list = written_list (pos 0) (length out) (2 * pair_count pairs) (λ j. number pairs (j / 2) (j % 2)) (sym number_is ∙ e) b.zeros w;
       }
 
-begun : (c : tie.After-keys-refusal) →
-    Begun c.before.before.before.before.args.pairs.now c.before.before.before.before.args.out.now c.before.before.zero-i32.new.0
-    c.keys-refusal.result
-begun c = let z = c.before.before.zero-i32 in record { zeros = z.ensures; same = z.auto.0; refusal = c.keys-refusal.ensures }
+begun : (c : tie.After-keys_refusal-refusal) →
+    Begun c.args.pairs.now c.args.out.now c.zero_i32.new.s
+    c.keys_refusal-refusal.result
+begun c = record { zeros = c.zero_i32.ensures; same = c.zero_i32.auto.s; refusal = c.keys_refusal-refusal.ensures }
 
-zero-i32-requires : tie.Need-zero-i32-requires
+zero-i32-requires : tie.Need-zero_i32-requires
 zero-i32-requires c κs = search rules
 
-keys-refusal-requires : tie.Need-keys-refusal-requires
+keys-refusal-requires : tie.Need-keys_refusal-refusal-requires
 keys-refusal-requires c κs = search rules
 
-same_length : tie.Need-same-length
+same_length : tie.Need-shape_of-out-then-refusal-ne0
 same_length c = search rules
 
-returns : tie.Need-returns
-returns c = refused (begun c.before) c.if1.true
+returns : tie.Need-returns-then-refusal-ne0
+returns c = refused (begun c.before) c.if-refusal-ne0.true
 
-write-keys-requires : tie.Need-write-keys-requires
-write-keys-requires c κs = enough (begun c.before.before) c.before.if1.false
+write-keys-requires : tie.Need-write_keys-requires
+write-keys-requires c κs = enough (begun c.before.before) c.if-refusal-ne0.false
 
-same-length-2 : tie.Need-same-length-2
+same-length-2 : tie.Need-shape_of-out
 same-length-2 c = search rules
 
-returns-2 : tie.Need-returns-2
-returns-2 c = done (begun c.before.before.before.before) c.before.before.before.if1.false c.before.write-keys.ensures
+returns-2 : tie.Need-returns
+returns-2 c = done (begun c.before.before.before.before) c.if-refusal-ne0.false c.write_keys.ensures
 
-pub all-pairs-with-replacements-spec : {M : Type 1} → statement M
-all-pairs-with-replacements-spec =
+pub all_pairs_with_replacements_spec : {M : Type 1} → statement M
+all_pairs_with_replacements_spec =
     tie.close
     (tie.spec
     zero-i32-requires

@@ -10,23 +10,28 @@ use Rattle.table_queries.proofs.has_pair.Tie as tie
 find-requires : tie.Need-find-requires
 find-requires c κs = search rules
 
-enum_told : tie.Need-enum-told
+enum_told : tie.Need-enum_told-1
 enum_told c = search rules
 
-enum-told-2 : tie.Need-enum-told-2
+enum-told-2 : tie.Need-enum_told-in-Nothing
 enum-told-2 c = search rules
 
-returns : tie.Need-returns
+returns : tie.Need-returns-in-At
 returns c =
-    let f = c.before.before in
-    let a = f.before.args in
-    found_some (find a.pairs.now (key_by a.left a.right)) (sym f.find.ensures ∙ c.enum_told.given.1)
+    let a = c.args in
+    found_some (find a.pairs.now (key_by a.left a.right)) (sym c.find.ensures ∙ c.in-At.is)
 
-returns-2 : tie.Need-returns-2
+returns-2 : tie.Need-returns-in-Nothing
 returns-2 c =
-    let f = c.before.before in
-    let a = f.before.args in
-    found_none (find a.pairs.now (key_by a.left a.right)) (sym f.find.ensures ∙ c.enum-told2.given.1)
+    let a = c.args in
+    found_none (find a.pairs.now (key_by a.left a.right)) (sym c.find.ensures ∙ c.in-Nothing.is)
 
-pub has-pair-spec : {M : Type 1} → statement M
-has-pair-spec = tie.close (tie.spec find-requires enum_told enum-told-2 returns returns-2)
+pub has_pair_spec : {M : Type 1} → statement M
+has_pair_spec =
+    tie.close
+    (tie.spec
+    find-requires
+    enum_told
+    enum-told-2
+    returns
+    returns-2)

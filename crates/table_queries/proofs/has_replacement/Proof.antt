@@ -9,33 +9,36 @@ use borrow.Author.Rules.{rules}
 use Rattle.table_queries.proofs.has_replacement.Statement.{statement}
 use Rattle.table_queries.proofs.has_replacement.Tie as tie
 
-refusal : (c : tie.After-has-refusal) →
-    c.has-refusal.result ≡ has_refusal c.before.args.pairs.now c.before.args.boundary c.before.args.left c.before.args.right
+refusal : (c : tie.After-has_refusal-refusal) →
+    c.has_refusal-refusal.result ≡ has_refusal c.args.pairs.now c.args.boundary c.args.left c.args.right
 refusal c =
-    let a = c.before in
-    rw (number_word a.args.boundary a.ranges.boundary, number_word a.args.left a.ranges.left, number_word a.args.right a.ranges.right) at
-    c.has-refusal.ensures
+    rw (number_word c.args.boundary c.ranges.boundary, number_word c.args.left c.ranges.left, number_word c.args.right c.ranges.right) at
+    c.has_refusal-refusal.ensures
 
-entry : (c : tie.After-has-entry) →
-    c.has-entry.result ≡ has_entry c.before.before.before.args.pairs.now c.before.before.before.args.left
-    (right_item c.before.before.before.args.boundary c.before.before.before.args.right)
+entry : (c : tie.After-has_entry) →
+    c.has_entry.result ≡ has_entry c.args.pairs.now c.args.left
+    (right_item c.args.boundary c.args.right)
 entry c =
-    let a = c.before.before.before in
-    rw (number_word a.args.boundary a.ranges.boundary, number_word a.args.left a.ranges.left, number_word a.args.right a.ranges.right) at
-    c.has-entry.ensures
+    rw (number_word c.args.boundary c.ranges.boundary, number_word c.args.left c.ranges.left, number_word c.args.right c.ranges.right) at
+    c.has_entry.ensures
 
-has-refusal-requires : tie.Need-has-refusal-requires
+has-refusal-requires : tie.Need-has_refusal-refusal-requires
 has-refusal-requires c κs = search rules
 
-returns : tie.Need-returns
-returns c = told_refused _ _ _ (refusal c.before) c.if1.true
+returns : tie.Need-returns-then-refusal-ne0
+returns c = told_refused _ _ _ (refusal c.before) c.if-refusal-ne0.true
 
-has-entry-requires : tie.Need-has-entry-requires
+has-entry-requires : tie.Need-has_entry-requires
 has-entry-requires c κs = search rules
 
-returns-2 : tie.Need-returns-2
-returns-2 c = told_is _ _ _ _ (refusal c.before.before) c.before.if1.false (entry c)
+returns-2 : tie.Need-returns
+returns-2 c = told_is _ _ _ _ (refusal c.before.before) c.if-refusal-ne0.false (entry c)
 
-pub has-replacement-spec : {M : Type 1} → statement M
-has-replacement-spec =
-    tie.close (tie.spec has-refusal-requires returns has-entry-requires returns-2)
+pub has_replacement_spec : {M : Type 1} → statement M
+has_replacement_spec =
+    tie.close
+    (tie.spec
+    has-refusal-requires
+    returns
+    has-entry-requires
+    returns-2)

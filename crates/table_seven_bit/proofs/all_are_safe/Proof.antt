@@ -13,52 +13,47 @@ use Rattle.table_seven_bit.proofs.Laws.{table_fits}
 use Rattle.table_seven_bit.proofs.all_are_safe.Statement.{statement}
 use Rattle.table_seven_bit.proofs.all_are_safe.Tie as tie
 
-abbrev invariant-loop : tie.invariant-loop
+abbrev invariant-loop : tie.invariant-loop-k
 invariant-loop pairs ops k₀ k = (k ≤ pair_count pairs) × (every k (pair_is_safe pairs ops) ≡ true)
 
-abbrev decreases-loop : tie.decreases-loop
+abbrev decreases-loop : tie.decreases-loop-k
 decreases-loop pairs ops k₀ k = pair_count pairs - k
 
-loop-holds : tie.Need-loop-init invariant-loop decreases-loop
+loop-holds : tie.Need-loop-k-init invariant-loop decreases-loop
 loop-holds c = (omega arith, every_none (pair_is_safe c.args.pairs.now c.args.ops.now))
 
-pair-is-safe-requires : tie.Need-pair-is-safe-requires invariant-loop decreases-loop
+pair-is-safe-requires : tie.Need-pair_is_safe-requires invariant-loop decreases-loop
 pair-is-safe-requires c κs =
-    let l = c.before in
-    let a = l.before in
-    (c.loop-test.true, table_fits a.args.pairs.now a.args.ops.now l.loop.k a.requires c.loop-test.true)
+    (c.loop-k-test.true, table_fits c.args.pairs.now c.args.ops.now c.loop-k.k c.requires c.loop-k-test.true)
 
-returns : tie.Need-returns invariant-loop decreases-loop
+returns : tie.Need-returns-then-not-pair_is_safe invariant-loop decreases-loop
 returns c =
-    let l = c.before.before.before in
-    let a = l.before.args in
-    sym (every_fails (pair_count a.pairs.now) l.loop.k (pair_is_safe a.pairs.now a.ops.now) c.before.before.loop-test.true
-    (sym c.before.pair-is-safe.ensures ∙ not-true _ c.if1.true))
+    let a = c.args in
+    sym (every_fails (pair_count a.pairs.now) c.loop-k.k (pair_is_safe a.pairs.now a.ops.now) c.loop-k-test.true
+    (sym c.pair_is_safe.ensures ∙ c.if-not-pair_is_safe.true))
 
-add-k : tie.Need-overflow-add-k invariant-loop decreases-loop
+add-k : tie.Need-overflow_add-k invariant-loop decreases-loop
 add-k c = omega arith
 
-loop-less : tie.Need-loop-smaller invariant-loop decreases-loop
+loop-less : tie.Need-loop-k-smaller invariant-loop decreases-loop
 loop-less c = omega arith
 
-loop-again : tie.Need-loop-preserved invariant-loop decreases-loop
+loop-again : tie.Need-loop-k-preserved invariant-loop decreases-loop
 loop-again c =
-    let l = c.before.before.before in
-    let a = l.before.args in (
+    let a = c.args in (
       omega arith,
-      every_more l.loop.k (pair_is_safe a.pairs.now a.ops.now) l.loop.invariant.1
-          (sym c.before.pair-is-safe.ensures ∙ not-false _ c.if1.false),
+      every_more c.loop-k.k (pair_is_safe a.pairs.now a.ops.now) c.loop-k.invariant.1
+          (sym c.pair_is_safe.ensures ∙ c.if-not-pair_is_safe.false),
     )
 
-returns-2 : tie.Need-returns-2 invariant-loop decreases-loop
+returns-2 : tie.Need-returns invariant-loop decreases-loop
 returns-2 c =
-    let l = c.before in
-    let a = l.before.args in
-    sym (every_to (pair_count a.pairs.now) l.loop.k (pair_is_safe a.pairs.now a.ops.now) l.loop.invariant.1 l.loop.invariant.0
-    c.loop-test.false)
+    let a = c.args in
+    sym (every_to (pair_count a.pairs.now) c.loop-k.k (pair_is_safe a.pairs.now a.ops.now) c.loop-k.invariant.1 c.loop-k.invariant.0
+    c.loop-k-test.false)
 
-pub all-are-safe-spec : {M : Type 1} → statement M
-all-are-safe-spec =
+pub all_are_safe_spec : {M : Type 1} → statement M
+all_are_safe_spec =
     tie.close
     (tie.spec
     invariant-loop

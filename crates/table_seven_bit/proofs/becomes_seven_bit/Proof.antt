@@ -12,42 +12,41 @@ use borrow.Author.Rules.{rules}
 use Rattle.table_seven_bit.proofs.becomes_seven_bit.Statement.{statement}
 use Rattle.table_seven_bit.proofs.becomes_seven_bit.Tie as tie
 
-ops_are : (c : tie.After-ops-are-seven-bit) →
-    becomes_seven_bit c.before.before.before.args.pairs.now c.before.before.before.args.ops.now c.before.before.before.args.k
-    ≡ both c.ops-are-seven-bit.result (ltb (last_code c.before.before.before.args.pairs.now c.before.before.before.args.k) 128)
+ops_are : (c : tie.After-ops_are_seven_bit) →
+    becomes_seven_bit c.args.pairs.now c.args.ops.now c.args.k
+    ≡ both c.ops_are_seven_bit.result (ltb (last_code c.args.pairs.now c.args.k) 128)
 ops_are c =
-    let a = c.before.before.before.args in
-    becomes_by a.pairs.now a.ops.now a.k c.before.before.number_at.ensures c.before.number-at2.ensures c.ops-are-seven-bit.ensures
+    let a = c.args in
+    becomes_by a.pairs.now a.ops.now a.k c.number_at-first.ensures c.number_at-count.ensures c.ops_are_seven_bit.ensures
 
-number-at-requires : tie.Need-number-at-requires
+number-at-requires : tie.Need-number_at-first-requires
 number-at-requires c κs = search rules
 
-cast-first : tie.Need-overflow-cast-first
+cast-first : tie.Need-overflow_cast-first
 cast-first c = search rules
 
-number-at-requires-2 : tie.Need-number-at-requires-2
+number-at-requires-2 : tie.Need-number_at-count-requires
 number-at-requires-2 c κs = search rules
 
-cast-count : tie.Need-overflow-cast-count
+cast-count : tie.Need-overflow_cast-count
 cast-count c = search rules
 
-ops-are-seven-bit-requires : tie.Need-ops-are-seven-bit-requires
+ops-are-seven-bit-requires : tie.Need-ops_are_seven_bit-requires
 ops-are-seven-bit-requires c κs =
-    let a = c.before.before in
-    entry_end a.args.pairs.now a.args.ops.now a.args.k a.requires.1 c.before.number_at.ensures c.number-at2.ensures
+    entry_end c.args.pairs.now c.args.ops.now c.args.k c.requires.1 c.number_at-first.ensures c.number_at-count.ensures
 
-returns : tie.Need-returns
-returns c = sym (ops_are c.before ∙ rw (not-true c.before.ops-are-seven-bit.result c.if1.true))
+returns : tie.Need-returns-then-not-ops_are_seven_bit
+returns c = sym (ops_are c.before ∙ rw (c.if-not-ops_are_seven_bit.true))
 
-number-at-requires-3 : tie.Need-number-at-requires-3
+number-at-requires-3 : tie.Need-number_at-requires
 number-at-requires-3 c κs = search rules
 
-returns-2 : tie.Need-returns-2
+returns-2 : tie.Need-returns
 returns-2 c =
-    sym (ops_are c.before.before ∙ rw (not-false c.before.before.ops-are-seven-bit.result c.before.if1.false, c.number-at3.ensures.is))
+    sym (ops_are c.before.before ∙ rw (c.if-not-ops_are_seven_bit.false, c.number_at.ensures.is))
 
-pub becomes-seven-bit-spec : {M : Type 1} → statement M
-becomes-seven-bit-spec =
+pub becomes_seven_bit_spec : {M : Type 1} → statement M
+becomes_seven_bit_spec =
     tie.close
     (tie.spec
     number-at-requires

@@ -6,18 +6,23 @@ use borrow.Author.Rules.{rules}
 use Rattle.table_seven_bit.proofs.is_seven_bit_safe.Statement.{statement}
 use Rattle.table_seven_bit.proofs.is_seven_bit_safe.Tie as tie
 
-table-refusal-requires : tie.Need-table-refusal-requires
+table-refusal-requires : tie.Need-table_refusal-refusal-requires
 table-refusal-requires c κs = search rules
 
-returns : tie.Need-returns
-returns c = told_refused _ _ _ c.before.table-refusal.ensures c.if1.true
+returns : tie.Need-returns-then-refusal-ne0
+returns c = told_refused _ _ _ c.table_refusal-refusal.ensures c.if-refusal-ne0.true
 
-all-are-safe-requires : tie.Need-all-are-safe-requires
-all-are-safe-requires c κs = sym c.before.table-refusal.ensures ∙ c.if1.false
+all-are-safe-requires : tie.Need-all_are_safe-requires
+all-are-safe-requires c κs = sym c.table_refusal-refusal.ensures ∙ c.if-refusal-ne0.false
 
-returns-2 : tie.Need-returns-2
-returns-2 c = told_is _ _ _ _ c.before.before.table-refusal.ensures c.before.if1.false c.all-are-safe.ensures
+returns-2 : tie.Need-returns
+returns-2 c = told_is _ _ _ _ c.table_refusal-refusal.ensures c.if-refusal-ne0.false c.all_are_safe.ensures
 
-pub is-seven-bit-safe-spec : {M : Type 1} → statement M
-is-seven-bit-safe-spec =
-    tie.close (tie.spec table-refusal-requires returns all-are-safe-requires returns-2)
+pub is_seven_bit_safe_spec : {M : Type 1} → statement M
+is_seven_bit_safe_spec =
+    tie.close
+    (tie.spec
+    table-refusal-requires
+    returns
+    all-are-safe-requires
+    returns-2)

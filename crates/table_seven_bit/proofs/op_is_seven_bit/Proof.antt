@@ -5,20 +5,25 @@ use borrow.Author.Rules.{rules}
 use Rattle.table_seven_bit.proofs.op_is_seven_bit.Statement.{statement}
 use Rattle.table_seven_bit.proofs.op_is_seven_bit.Tie as tie
 
-kind-at-requires : tie.Need-kind-at-requires
+kind-at-requires : tie.Need-kind_at-requires
 kind-at-requires c κs = search rules
 
-returns : tie.Need-returns
-returns c = let a = c.before.before.args in seven_kern a.ops.now a.i c.before.kind_at.ensures c.if1.true
+returns : tie.Need-returns-then-kind_at-eq2
+returns c = let a = c.args in seven_kern a.ops.now a.i c.kind_at.ensures c.if-kind_at-eq2.true
 
-value-at-requires : tie.Need-value-at-requires
+value-at-requires : tie.Need-value_at-requires
 value-at-requires c κs = search rules
 
-returns-2 : tie.Need-returns-2
+returns-2 : tie.Need-returns
 returns-2 c =
-    let d = c.before in
-    let a = d.before.before.args in
-    seven_code a.ops.now a.i d.before.kind_at.ensures d.if1.false c.value_at.ensures
+    let a = c.args in
+    seven_code a.ops.now a.i c.kind_at.ensures c.if-kind_at-eq2.false c.value_at.ensures
 
-pub op-is-seven-bit-spec : {M : Type 1} → statement M
-op-is-seven-bit-spec = tie.close (tie.spec kind-at-requires returns value-at-requires returns-2)
+pub op_is_seven_bit_spec : {M : Type 1} → statement M
+op_is_seven_bit_spec =
+    tie.close
+    (tie.spec
+    kind-at-requires
+    returns
+    value-at-requires
+    returns-2)

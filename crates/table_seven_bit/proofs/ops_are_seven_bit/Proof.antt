@@ -12,51 +12,48 @@ use Rattle.captions.specs.Queries.{op_is_seven_bit}
 use Rattle.table_seven_bit.proofs.ops_are_seven_bit.Statement.{statement}
 use Rattle.table_seven_bit.proofs.ops_are_seven_bit.Tie as tie
 
-abbrev invariant-loop : tie.invariant-loop
+abbrev invariant-loop : tie.invariant-loop-i
 invariant-loop ops first count i₀ i = (i ≤ count) × (every i (λ j. op_is_seven_bit ops (first + j)) ≡ true)
 
-abbrev decreases-loop : tie.decreases-loop
+abbrev decreases-loop : tie.decreases-loop-i
 decreases-loop ops first count i₀ i = count - i
 
-loop-holds : tie.Need-loop-init invariant-loop decreases-loop
+loop-holds : tie.Need-loop-i-init invariant-loop decreases-loop
 loop-holds c = (omega arith, every_none (λ j. op_is_seven_bit c.args.ops.now (c.args.first + j)))
 
-add-op-is-seven-bit : tie.Need-overflow-add-op-is-seven-bit invariant-loop decreases-loop
+add-op-is-seven-bit : tie.Need-overflow_add-first invariant-loop decreases-loop
 add-op-is-seven-bit c = omega arith
 
-op-is-seven-bit-requires : tie.Need-op-is-seven-bit-requires invariant-loop decreases-loop
+op-is-seven-bit-requires : tie.Need-op_is_seven_bit-requires invariant-loop decreases-loop
 op-is-seven-bit-requires c κs = omega arith
 
-returns : tie.Need-returns invariant-loop decreases-loop
+returns : tie.Need-returns-then-not-op_is_seven_bit invariant-loop decreases-loop
 returns c =
-    let l = c.before.before.before in
-    let a = l.before.args in
-    sym (every_fails a.count l.loop.i (λ j. op_is_seven_bit a.ops.now (a.first + j)) c.before.before.loop-test.true
-    (sym c.before.op-is-seven-bit.ensures ∙ not-true _ c.if1.true))
+    let a = c.args in
+    sym (every_fails a.count c.loop-i.i (λ j. op_is_seven_bit a.ops.now (a.first + j)) c.loop-i-test.true
+    (sym c.op_is_seven_bit.ensures ∙ c.if-not-op_is_seven_bit.true))
 
-add-i : tie.Need-overflow-add-i invariant-loop decreases-loop
+add-i : tie.Need-overflow_add-i invariant-loop decreases-loop
 add-i c = omega arith
 
-loop-less : tie.Need-loop-smaller invariant-loop decreases-loop
+loop-less : tie.Need-loop-i-smaller invariant-loop decreases-loop
 loop-less c = omega arith
 
-loop-again : tie.Need-loop-preserved invariant-loop decreases-loop
+loop-again : tie.Need-loop-i-preserved invariant-loop decreases-loop
 loop-again c =
-    let l = c.before.before.before in
-    let a = l.before.args in (
+    let a = c.args in (
       omega arith,
-      every_more l.loop.i (λ j. op_is_seven_bit a.ops.now (a.first + j)) l.loop.invariant.1
-          (sym c.before.op-is-seven-bit.ensures ∙ not-false _ c.if1.false),
+      every_more c.loop-i.i (λ j. op_is_seven_bit a.ops.now (a.first + j)) c.loop-i.invariant.1
+          (sym c.op_is_seven_bit.ensures ∙ c.if-not-op_is_seven_bit.false),
     )
 
-returns-2 : tie.Need-returns-2 invariant-loop decreases-loop
+returns-2 : tie.Need-returns invariant-loop decreases-loop
 returns-2 c =
-    let l = c.before in
-    let a = l.before.args in
-    sym (every_to a.count l.loop.i (λ j. op_is_seven_bit a.ops.now (a.first + j)) l.loop.invariant.1 l.loop.invariant.0 c.loop-test.false)
+    let a = c.args in
+    sym (every_to a.count c.loop-i.i (λ j. op_is_seven_bit a.ops.now (a.first + j)) c.loop-i.invariant.1 c.loop-i.invariant.0 c.loop-i-test.false)
 
-pub ops-are-seven-bit-spec : {M : Type 1} → statement M
-ops-are-seven-bit-spec =
+pub ops_are_seven_bit_spec : {M : Type 1} → statement M
+ops_are_seven_bit_spec =
     tie.close
     (tie.spec
     invariant-loop

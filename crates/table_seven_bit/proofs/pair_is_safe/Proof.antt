@@ -6,44 +6,38 @@ use borrow.Author.Rules.{rules}
 use Rattle.table_seven_bit.proofs.pair_is_safe.Statement.{statement}
 use Rattle.table_seven_bit.proofs.pair_is_safe.Tie as tie
 
-number-at-requires : tie.Need-number-at-requires
+number-at-requires : tie.Need-number_at-requires
 number-at-requires c κs = search rules
 
-left-place-requires : tie.Need-left-place-requires
+left-place-requires : tie.Need-left_place-requires
 left-place-requires c κs = search rules
 
-returns : tie.Need-returns
+returns : tie.Need-returns-then-left_place-gt128
 returns c =
-    let p = c.before in
-    let a = p.before.before.args in
-    safe_left a.pairs.now a.ops.now a.k p.before.number_at.ensures p.left_place_lem.ensures c.if1.true
+    let a = c.args in
+    safe_left a.pairs.now a.ops.now a.k c.number_at.ensures c.left_place.ensures c.if-left_place-gt128.true
 
-number-at-requires-2 : tie.Need-number-at-requires-2
+number-at-requires-2 : tie.Need-number_at-requires-2
 number-at-requires-2 c κs = search rules
 
-returns-2 : tie.Need-returns-2
+returns-2 : tie.Need-returns-then-number_at-ge128
 returns-2 c =
-    let f = c.before.before in
-    let p = f.before in
-    let a = p.before.before.args in
-    safe_right a.pairs.now a.ops.now a.k p.before.number_at.ensures p.left_place_lem.ensures f.if1.false c.before.number-at2.ensures
-    c.if2.true
+    let a = c.args in
+    safe_right a.pairs.now a.ops.now a.k c.number_at.ensures c.left_place.ensures c.if-left_place-gt128.false c.number_at-2.ensures
+    c.if-number_at-ge128.true
 
-becomes-seven-bit-requires : tie.Need-becomes-seven-bit-requires
+becomes-seven-bit-requires : tie.Need-becomes_seven_bit-requires
 becomes-seven-bit-requires c κs = search rules
 
-returns-3 : tie.Need-returns-3
+returns-3 : tie.Need-returns
 returns-3 c =
-    let s = c.before in
-    let f = s.before.before in
-    let p = f.before in
-    let a = p.before.before.args in
-    c.becomes-seven-bit.ensures
-    ∙ safe_both a.pairs.now a.ops.now a.k p.before.number_at.ensures p.left_place_lem.ensures f.if1.false
-    s.before.number-at2.ensures s.if2.false
+    let a = c.args in
+    c.becomes_seven_bit.ensures
+    ∙ safe_both a.pairs.now a.ops.now a.k c.number_at.ensures c.left_place.ensures c.if-left_place-gt128.false
+    c.number_at-2.ensures c.if-number_at-ge128.false
 
-pub pair-is-safe-spec : {M : Type 1} → statement M
-pair-is-safe-spec =
+pub pair_is_safe_spec : {M : Type 1} → statement M
+pair_is_safe_spec =
     tie.close
     (tie.spec
     number-at-requires

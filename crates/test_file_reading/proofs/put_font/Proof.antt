@@ -16,73 +16,71 @@ use Rattle.test_file_reading.proofs.put_font.Tie as tie
 put_on : {d d' : List ℤ} {i w r : ℕ} → Put d i w r d' → i < length d → r ≡ i + 1
 put_on {d} {d'} {i} p h = p.next ∙ rw (lt-ltb i (length d) h)
 
-enum-known-answer : tie.Need-enum-known-answer
+enum-known-answer : tie.Need-enum_known-answer
 enum-known-answer c = search rules
 
-cast-t18 : tie.Need-overflow-cast-t18
+cast-t18 : tie.Need-overflow_cast-sizes
 cast-t18 c = search rules
 
-cast-t19 : tie.Need-overflow-cast-t19
+cast-t19 : tie.Need-overflow_cast-sizes-in-Font
 cast-t19 c = search rules
 
-cast-t20 : tie.Need-overflow-cast-t20
+cast-t20 : tie.Need-overflow_cast-sizes-in-Font-2
 cast-t20 c = search rules
 
-word-of-requires : tie.Need-word-of-requires
+word-of-requires : tie.Need-word_of-requires
 word-of-requires c κs = search rules
 
-word-of-requires-2 : tie.Need-word-of-requires-2
+word-of-requires-2 : tie.Need-word_of-requires-in-Font
 word-of-requires-2 c κs = search rules
 
-slice-aggregate-put-words : tie.Need-slice-aggregate-put-words
+slice-aggregate-put-words : tie.Need-slice_bounds-put_words-end
 slice-aggregate-put-words c = search rules
 
-put-words-requires : tie.Need-put-words-requires
+put-words-requires : tie.Need-put_words-requires
 put-words-requires c κs = search rules
 
-mul-put-lists : tie.Need-overflow-mul-put-lists
+mul-put-lists : tie.Need-overflow_mul-a
 mul-put-lists c = search rules
 
-mul-put-lists-2 : tie.Need-overflow-mul-put-lists-2
+mul-put-lists-2 : tie.Need-overflow_mul-c
 mul-put-lists-2 c = search rules
 
-put-lists-requires : tie.Need-put-lists-requires
+put-lists-requires : tie.Need-put_lists-requires
 put-lists-requires c κs = search rules
 
-enum-known-answer-2 : tie.Need-enum-known-answer-2
+enum-known-answer-2 : tie.Need-enum_known-answer-in-Refused-1
 enum-known-answer-2 c = search rules
 
-put-one-requires : tie.Need-put-one-requires
+put-one-requires : tie.Need-put_one-at-requires
 put-one-requires c κs = search rules
 
-left-over-of-requires : tie.Need-left-over-of-requires
+left-over-of-requires : tie.Need-left_over_of-requires
 left-over-of-requires c κs = search rules
 
-put-count-requires : tie.Need-put-count-requires
+put-count-requires : tie.Need-put_count-requires
 put-count-requires c κs = search rules
 
-same_length : tie.Need-same-length
+same_length : tie.Need-shape_of-out-in-Font
 same_length c = search rules
 
-returns : tie.Need-returns
+returns : tie.Need-returns-in-Font
 returns c =
-    let k = c.before.before.before.before.put-words.auto.0 in
-    λ h. let e = c.before.put-lists.ensures (omega (arith, k)) in (omega (arith, e.0), e.1)
+    let k = c.put_words.auto.out in
+    λ h. let e = c.put_lists.ensures (omega (arith, k)) in (omega (arith, e.0), e.1)
 
-same-length-2 : tie.Need-same-length-2
+same-length-2 : tie.Need-shape_of-out-in-Refused
 same-length-2 c = search rules
 
-returns-2 : tie.Need-returns-2
+returns-2 : tie.Need-returns-in-Refused
 returns-2 c =
-    let p = c.before.before.before.before.before.put_one in
-    let q = c.before.put_count in
     λ h.
-    let e = put_on p.ensures (omega arith) in
-    let f = put_on q.ensures (omega (arith, e, p.auto.0)) in
-    (omega (arith, e, f), omega (arith, e, f, p.auto.0, q.auto.0))
+    let e = put_on c.put_one-at.ensures (omega arith) in
+    let f = put_on c.put_count.ensures (omega (arith, e, c.put_one-at.auto.out)) in
+    (omega (arith, e, f), omega (arith, e, f, c.put_one-at.auto.out, c.put_count.auto.out))
 
-pub put-font-spec : {M : Type 1} → statement M
-put-font-spec =
+pub put_font_spec : {M : Type 1} → statement M
+put_font_spec =
     tie.close
     (tie.spec
     enum-known-answer

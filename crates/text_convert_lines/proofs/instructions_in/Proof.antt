@@ -6,20 +6,23 @@ use borrow.Author.Tests.{eq-eqb, ne_eqb}
 use Rattle.text_convert_lines.proofs.instructions_in.Statement.{statement}
 use Rattle.text_convert_lines.proofs.instructions_in.Tie as tie
 
-u8-at-requires : tie.Need-u8-at-requires
+u8-at-requires : tie.Need-u8_at-requires
 u8-at-requires c κs = search rules
 
-returns : tie.Need-returns
+returns : tie.Need-returns-then-u8_at-eq73
 returns c =
-    let u = c.before in
-    let a = u.before.before.args in
-    rw (eq-eqb (get_or a.text.now a.at 0) 73 (sym u.u8-at.ensures ∙ c.if1.true))
+    let a = c.args in
+    rw (eq-eqb (get_or a.text.now a.at 0) 73 (sym c.u8_at.ensures ∙ c.if-u8_at-eq73.true))
 
-returns-2 : tie.Need-returns-2
+returns-2 : tie.Need-returns-else-u8_at-eq73
 returns-2 c =
-    let u = c.before in
-    let a = u.before.before.args in
-    rw (ne_eqb (get_or a.text.now a.at 0) 73 (λ e. c.if1.false (u.u8-at.ensures ∙ e)))
+    let a = c.args in
+    rw (ne_eqb (get_or a.text.now a.at 0) 73 (λ e. c.if-u8_at-eq73.false (c.u8_at.ensures ∙ e)))
 
-pub instructions-in-spec : {M : Type 1} → statement M
-instructions-in-spec = tie.close (tie.spec u8-at-requires returns returns-2)
+pub instructions_in_spec : {M : Type 1} → statement M
+instructions_in_spec =
+    tie.close
+    (tie.spec
+    u8-at-requires
+    returns
+    returns-2)

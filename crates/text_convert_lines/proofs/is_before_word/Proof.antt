@@ -5,16 +5,21 @@ use borrow.Author.Tests.{lt-ltb, le-ltb}
 use Rattle.text_convert_lines.proofs.is_before_word.Statement.{statement}
 use Rattle.text_convert_lines.proofs.is_before_word.Tie as tie
 
-shared-slice-read-result : tie.Need-shared-slice-read-result
+shared-slice-read-result : tie.Need-bounds-text-at
 shared-slice-read-result c = search rules
 
-returns : tie.Need-returns
+returns : tie.Need-returns-then-at-text
 returns c =
-    let a = c.before.before.args in
-    rw (lt-ltb a.at (length a.text.now) c.before.if1.true)
+    let a = c.args in
+    rw (lt-ltb a.at (length a.text.now) c.if-at-text.true)
 
-returns-2 : tie.Need-returns-2
-returns-2 c = let a = c.before.args in rw (le-ltb a.at (length a.text.now) c.if1.false)
+returns-2 : tie.Need-returns-else-at-text
+returns-2 c = let a = c.args in rw (le-ltb a.at (length a.text.now) c.if-at-text.false)
 
-pub is-before-word-spec : {M : Type 1} → statement M
-is-before-word-spec = tie.close (tie.spec shared-slice-read-result returns returns-2)
+pub is_before_word_spec : {M : Type 1} → statement M
+is_before_word_spec =
+    tie.close
+    (tie.spec
+    shared-slice-read-result
+    returns
+    returns-2)

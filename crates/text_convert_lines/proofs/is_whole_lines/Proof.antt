@@ -5,17 +5,23 @@ use borrow.Author.Tests.{eq-eqb, ne_eqb}
 use Rattle.text_convert_lines.proofs.is_whole_lines.Statement.{statement}
 use Rattle.text_convert_lines.proofs.is_whole_lines.Tie as tie
 
-returns : tie.Need-returns
-returns c = let a = c.before.args in rw (eq-eqb (length a.text.now) 0 c.if1.true)
+returns : tie.Need-returns-then-text-eq0
+returns c = let a = c.args in rw (eq-eqb (length a.text.now) 0 c.if-text-eq0.true)
 
-sub-result : tie.Need-overflow-sub-result
+sub-result : tie.Need-overflow_sub-result
 sub-result c = search rules
 
-shared-slice-read-result : tie.Need-shared-slice-read-result
+shared-slice-read-result : tie.Need-bounds-text-text
 shared-slice-read-result c = search rules
 
-returns-2 : tie.Need-returns-2
-returns-2 c = let a = c.before.before.args in rw (ne_eqb (length a.text.now) 0 c.before.if1.false)
+returns-2 : tie.Need-returns
+returns-2 c = let a = c.args in rw (ne_eqb (length a.text.now) 0 c.if-text-eq0.false)
 
-pub is-whole-lines-spec : {M : Type 1} → statement M
-is-whole-lines-spec = tie.close (tie.spec returns sub-result shared-slice-read-result returns-2)
+pub is_whole_lines_spec : {M : Type 1} → statement M
+is_whole_lines_spec =
+    tie.close
+    (tie.spec
+    returns
+    sub-result
+    shared-slice-read-result
+    returns-2)

@@ -5,32 +5,36 @@ use Rattle.text_convert_lines.proofs.Standing.{instruction_put, instruction_left
 use Rattle.text_convert_lines.proofs.put_instruction.Statement.{statement}
 use Rattle.text_convert_lines.proofs.put_instruction.Tie as tie
 
-put-lines-requires : tie.Need-put-lines-requires
+put-lines-requires : tie.Need-put_lines-next-requires
 put-lines-requires c κs = search rules
 
-add-result : tie.Need-overflow-add-result
+add-result : tie.Need-overflow_add-result
 add-result c = search rules
 
-same_length : tie.Need-same-length
+same_length : tie.Need-shape_of-out-then-next-to
 same_length c = search rules
 
-returns : tie.Need-returns
+returns : tie.Need-returns-then-next-to
 returns c =
-    let p = c.before.before.before in
-    let s = p.before.before.before in
-    let a = s.args in
-    instruction_left a.instructions.now a.i a.out.now a.to s.requires.0 s.requires.1 (omega (arith, s.well-formed)) p.put-lines.ensures
-    c.if1.true _ (search rules)
+    let a = c.args in
+    instruction_left a.instructions.now a.i a.out.now a.to c.requires.0 c.requires.1 (omega (arith, c.well_formed)) c.put_lines-next.ensures
+    c.if-next-to.true _ (search rules)
 
-same-length-2 : tie.Need-same-length-2
+same-length-2 : tie.Need-shape_of-out
 same-length-2 c = search rules
 
-returns-2 : tie.Need-returns-2
+returns-2 : tie.Need-returns
 returns-2 c =
-    let p = c.before.before.before in
-    let s = p.before.before.before in
-    let a = s.args in
-    instruction_put a.instructions.now a.i a.out.now a.to s.requires.0 s.requires.1 (omega (arith, s.well-formed)) p.put-lines.ensures c.if1.false
+    let a = c.args in
+    instruction_put a.instructions.now a.i a.out.now a.to c.requires.0 c.requires.1 (omega (arith, c.well_formed)) c.put_lines-next.ensures c.if-next-to.false
 
-pub put-instruction-spec : {M : Type 1} → statement M
-put-instruction-spec = tie.close (tie.spec put-lines-requires add-result same_length returns same-length-2 returns-2)
+pub put_instruction_spec : {M : Type 1} → statement M
+put_instruction_spec =
+    tie.close
+    (tie.spec
+    put-lines-requires
+    add-result
+    same_length
+    returns
+    same-length-2
+    returns-2)

@@ -6,44 +6,37 @@ use Rattle.text_convert_lines.proofs.Standing.{counted_next, line_is, line_stays
 use Rattle.text_convert_lines.proofs.put_next.Statement.{statement}
 use Rattle.text_convert_lines.proofs.put_next.Tie as tie
 
-instructions-in-requires : tie.Need-instructions-in-requires
+instructions-in-requires : tie.Need-instructions_in-requires
 instructions-in-requires c κs = search rules
 
-put-instruction-requires : tie.Need-put-instruction-requires
+put-instruction-requires : tie.Need-put_instruction-requires
 put-instruction-requires c κs = search rules
 
-same_length : tie.Need-same-length
+same_length : tie.Need-shape_of-out-then-instructions_in-eq1
 same_length c = search rules
 
-returns : tie.Need-returns
+returns : tie.Need-returns-then-instructions_in-eq1
 returns c =
-    let q = c.before.before in
-    let t = q.before.before in
-    let x = t.before in
-    let a = x.before.before.before.args in
-    line_is a.instructions.now a.i a.text.now a.n (sym x.instructions-in.ensures ∙ t.if1.true) q.put-instruction.ensures
+    let a = c.args in
+    line_is a.instructions.now a.i a.text.now a.n (sym c.instructions_in.ensures ∙ c.if-instructions_in-eq1.true) c.put_instruction.ensures
 
-slice-aggregate-put-bytes : tie.Need-slice-aggregate-put-bytes
+slice-aggregate-put-bytes : tie.Need-slice_bounds-put_bytes-end
 slice-aggregate-put-bytes c =
-    let s = c.before.before.before.before.before.before in
-    sym (length-take-le s.args.n s.args.text.now s.requires.0)
+    sym (length-take-le c.args.n c.args.text.now c.requires.0)
 
-put-bytes-requires : tie.Need-put-bytes-requires
+put-bytes-requires : tie.Need-put_bytes-requires
 put-bytes-requires c κs = search rules
 
-same-length-2 : tie.Need-same-length-2
+same-length-2 : tie.Need-shape_of-out
 same-length-2 c = search rules
 
-returns-2 : tie.Need-returns-2
+returns-2 : tie.Need-returns
 returns-2 c =
-    let q = c.before.before in
-    let t = q.before.before.before in
-    let x = t.before in
-    let a = x.before.before.before.args in
-    line_stays a.instructions.now a.i a.text.now a.n (λ e. t.if1.false (x.instructions-in.ensures ∙ e)) (counted_next q.put-bytes.ensures)
+    let a = c.args in
+    line_stays a.instructions.now a.i a.text.now a.n (λ e. c.if-instructions_in-eq1.false (c.instructions_in.ensures ∙ e)) (counted_next c.put_bytes.ensures)
 
-pub put-next-spec : {M : Type 1} → statement M
-put-next-spec =
+pub put_next_spec : {M : Type 1} → statement M
+put_next_spec =
     tie.close
     (tie.spec
     instructions-in-requires

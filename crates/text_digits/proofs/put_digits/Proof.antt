@@ -8,139 +8,125 @@ use Rattle.text_digits.proofs.put_digits.Statement.{statement}
 use Rattle.text_digits.proofs.put_digits.Tie as tie
 
 -- what is written after each two digits
-after_one : (c : tie.After-put-low) → let s = c.before.before.before.before in
-    Written s.args.n s.args.end s.args.out.now c.put_low.new.0 (s.args.end - 2) c.put_low.result
+after_one : (c : tie.After-put_low-a) → let s = c.before.before.before.before in
+    Written c.args.n c.args.end c.args.out.now c.put_low-a.new.out (c.args.end - 2) c.put_low-a.result
 after_one c =
-    let i = c.before.before in
-    let s = i.before.before in
-    written_low (s.args.end - 2) (written_none s.args.n s.args.end s.args.out.now s.ranges.n.fits) s.requires.0 i.if1.false
-    (omega (arith, s.requires.0)) c.put_low.ensures
+    let s = c.before.before.before.before in
+    written_low (c.args.end - 2) (written_none c.args.n c.args.end c.args.out.now c.ranges.n.fits) c.requires.0 c.if-n-lt100.false
+    (omega (arith, c.requires.0)) c.put_low-a.ensures
 
-after_two : (c : tie.After-put-low2) → let s = c.before.before.before.before.before.before.before.before.before in
-    Written s.args.n s.args.end s.args.out.now c.put-low2.new.0 (s.args.end - 4) c.put-low2.result
+after_two : (c : tie.After-put_low-b) → let s = c.before.before.before.before.before.before.before.before.before in
+    Written c.args.n c.args.end c.args.out.now c.put_low-b.new.out (c.args.end - 4) c.put_low-b.result
 after_two c =
-    let i = c.before.before in
     let s = c.before.before.before.before.before.before.before.before.before in
-    written_low (s.args.end - 4) (after_one i.before.before.before) s.requires.0 i.if2.false (omega (arith, s.requires.0)) c.put-low2.ensures
+    written_low (c.args.end - 4) (after_one c.before.before.before.before.before) c.requires.0 c.if-a-lt100.false (omega (arith, c.requires.0)) c.put_low-b.ensures
 
-after-three : (c : tie.After-put-low3) →
+after-three : (c : tie.After-put_low-c) →
     let s = c.before.before.before.before.before.before.before.before.before.before.before.before.before.before in
-    Written s.args.n s.args.end s.args.out.now c.put-low3.new.0 (s.args.end - 6) c.put-low3.result
+    Written c.args.n c.args.end c.args.out.now c.put_low-c.new.out (c.args.end - 6) c.put_low-c.result
 after-three c =
-    let i = c.before.before in
     let s = c.before.before.before.before.before.before.before.before.before.before.before.before.before.before in
-    written_low (s.args.end - 6) (after_two i.before.before.before) s.requires.0 i.if3.false (omega (arith, s.requires.0)) c.put-low3.ensures
+    written_low (c.args.end - 6) (after_two c.before.before.before.before.before) c.requires.0 c.if-b-lt100.false (omega (arith, c.requires.0)) c.put_low-c.ensures
 
-after-four : (c : tie.After-put-low4) →
-    let s =
-    c.before.before.before.before.before.before.before.before.before.before.before.before.before.before.before.before.before.before.before in Written s.args.n s.args.end s.args.out.now c.put-low4.new.0 (s.args.end - 8) c.put-low4.result
+after-four : (c : tie.After-put_low-d) →
+    let s = c.before.before.before.before.before.before.before.before.before.before.before.before.before.before.before.before.before.before.before in Written c.args.n c.args.end c.args.out.now c.put_low-d.new.out (c.args.end - 8) c.put_low-d.result
 after-four c =
-    let i = c.before.before in
-    let s =
-    c.before.before.before.before.before.before.before.before.before.before.before.before.before.before.before.before.before.before.before in
-    written_low (s.args.end - 8) (after-three i.before.before.before) s.pre.0 i.if4.false (omega (arith, s.pre.0)) c.put-low4.ensures
+    let s = c.before.before.before.before.before.before.before.before.before.before.before.before.before.before.before.before.before.before.before in
+    written_low (c.args.end - 8) (after-three c.before.before.before.before.before) c.requires.0 c.if-c-lt100.false (omega (arith, c.requires.0)) c.put_low-d.ensures
 
 -- at most two digits are left
-last-few : (c : tie.After-put-low4) → c.put-low4.result < 100
+last-few : (c : tie.After-put_low-d) → c.put_low-d.result < 100
 last-few c =
     let w = after-four c in
     omega (arith, w.few, w.ten)
 
-put-top-requires : tie.Need-put-top-requires
+put-top-requires : tie.Need-put_top-requires
 put-top-requires c κs = search rules
 
-same_length : tie.Need-same-length
+same_length : tie.Need-shape_of-out-then-n-lt100
 same_length c = search rules
 
-returns : tie.Need-returns
+returns : tie.Need-returns-then-n-lt100
 returns c = search rules
 
-sub-put-low : tie.Need-overflow-sub-put-low
+sub-put-low : tie.Need-overflow_sub-end
 sub-put-low c = search rules
 
-put-low-requires : tie.Need-put-low-requires
+put-low-requires : tie.Need-put_low-a-requires
 put-low-requires c κs = search rules
 
-sub-put-top : tie.Need-overflow-sub-put-top
+sub-put-top : tie.Need-overflow_sub-end-then-a-lt100
 sub-put-top c = search rules
 
-put-top-requires-2 : tie.Need-put-top-requires-2
+put-top-requires-2 : tie.Need-put_top-requires-then-a-lt100
 put-top-requires-2 c κs = search rules
 
-same-length-2 : tie.Need-same-length-2
+same-length-2 : tie.Need-shape_of-out-then-a-lt100
 same-length-2 c = search rules
 
-returns-2 : tie.Need-returns-2
+returns-2 : tie.Need-returns-then-a-lt100
 returns-2 c =
-    let x = c.before.before in
-    let i = x.before.before in
-    written_top x.put-top2.result (after_one i.before.before.before) i.if2.true x.put-top2.ensures.0 x.put-top2.ensures.1
+    written_top c.put_top-then-a-lt100.result (after_one c.before.before.before.before.before.before.before) c.if-a-lt100.true c.put_top-then-a-lt100.ensures.0 c.put_top-then-a-lt100.ensures.1
 
-sub-put-low-2 : tie.Need-overflow-sub-put-low-2
+sub-put-low-2 : tie.Need-overflow_sub-end-2
 sub-put-low-2 c = search rules
 
-put-low-requires-2 : tie.Need-put-low-requires-2
+put-low-requires-2 : tie.Need-put_low-b-requires
 put-low-requires-2 c κs = search rules
 
-sub-put-top-2 : tie.Need-overflow-sub-put-top-2
+sub-put-top-2 : tie.Need-overflow_sub-end-then-b-lt100
 sub-put-top-2 c = search rules
 
-put-top-requires-3 : tie.Need-put-top-requires-3
+put-top-requires-3 : tie.Need-put_top-requires-then-b-lt100
 put-top-requires-3 c κs = search rules
 
-same-length-3 : tie.Need-same-length-3
+same-length-3 : tie.Need-shape_of-out-then-b-lt100
 same-length-3 c = search rules
 
-returns-3 : tie.Need-returns-3
+returns-3 : tie.Need-returns-then-b-lt100
 returns-3 c =
-    let x = c.before.before in
-    let i = x.before.before in
-    written_top x.put-top3.result (after_two i.before.before.before) i.if3.true x.put-top3.ensures.0 x.put-top3.ensures.1
+    written_top c.put_top-then-b-lt100.result (after_two c.before.before.before.before.before.before.before) c.if-b-lt100.true c.put_top-then-b-lt100.ensures.0 c.put_top-then-b-lt100.ensures.1
 
-sub-put-low-3 : tie.Need-overflow-sub-put-low-3
+sub-put-low-3 : tie.Need-overflow_sub-end-3
 sub-put-low-3 c = search rules
 
-put-low-requires-3 : tie.Need-put-low-requires-3
+put-low-requires-3 : tie.Need-put_low-c-requires
 put-low-requires-3 c κs = search rules
 
-sub-put-top-3 : tie.Need-overflow-sub-put-top-3
+sub-put-top-3 : tie.Need-overflow_sub-end-then-c-lt100
 sub-put-top-3 c = search rules
 
-put-top-requires-4 : tie.Need-put-top-requires-4
+put-top-requires-4 : tie.Need-put_top-requires-then-c-lt100
 put-top-requires-4 c κs = search rules
 
-same-length-4 : tie.Need-same-length-4
+same-length-4 : tie.Need-shape_of-out-then-c-lt100
 same-length-4 c = search rules
 
-returns-4 : tie.Need-returns-4
+returns-4 : tie.Need-returns-then-c-lt100
 returns-4 c =
-    let x = c.before.before in
-    let i = x.before.before in
-    written_top x.put-top4.result (after-three i.before.before.before) i.if4.true x.put-top4.ensures.0 x.put-top4.ensures.1
+    written_top c.put_top-then-c-lt100.result (after-three c.before.before.before.before.before.before.before) c.if-c-lt100.true c.put_top-then-c-lt100.ensures.0 c.put_top-then-c-lt100.ensures.1
 
-sub-put-low-4 : tie.Need-overflow-sub-put-low-4
+sub-put-low-4 : tie.Need-overflow_sub-end-4
 sub-put-low-4 c = search rules
 
-put-low-requires-4 : tie.Need-put-low-requires-4
+put-low-requires-4 : tie.Need-put_low-d-requires
 put-low-requires-4 c κs = search rules
 
-sub-put-top-4 : tie.Need-overflow-sub-put-top-4
+sub-put-top-4 : tie.Need-overflow_sub-end-5
 sub-put-top-4 c = search rules
 
-put-top-requires-5 : tie.Need-put-top-requires-5
+put-top-requires-5 : tie.Need-put_top-requires-2
 put-top-requires-5 c κs = search rules
 
-same-length-5 : tie.Need-same-length-5
+same-length-5 : tie.Need-shape_of-out
 same-length-5 c = search rules
 
-returns-5 : tie.Need-returns-5
+returns-5 : tie.Need-returns
 returns-5 c =
-    let x = c.before.before in
-    let l = x.before.before.before.before in
-    written_top x.put-top5.result (after-four l) (last-few l) x.put-top5.ensures.0 x.put-top5.ensures.1
+    written_top c.put_top-2.result (after-four (c.before.before.before.before.before.before)) (last-few (c.before.before.before.before.before.before)) c.put_top-2.ensures.0 c.put_top-2.ensures.1
 
-pub put-digits-spec : {M : Type 1} → statement M
-put-digits-spec =
+pub put_digits_spec : {M : Type 1} → statement M
+put_digits_spec =
     tie.close
     (tie.spec
     put-top-requires

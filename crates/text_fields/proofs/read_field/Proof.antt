@@ -11,55 +11,53 @@ use Rattle.text_fields.proofs.Leading.{past_none, ends_short, ends_whole}
 use Rattle.text_fields.proofs.read_field.Statement.{statement}
 use Rattle.text_fields.proofs.read_field.Tie as tie
 
-returns : tie.Need-returns
-returns c = sym (ap number_reply (past_none c.before.before.args.text.now c.before.before.args.at c.if1.true))
+returns : tie.Need-returns-then-text-at
+returns c = sym (ap number_reply (past_none c.args.text.now c.args.at c.if-text-at.true))
 
-sub-if2 : tie.Need-overflow-sub-if2
+sub-if2 : tie.Need-overflow_sub-text
 sub-if2 c = search rules
 
-short : (c : tie.Then2) → let a = c.before.before.before.args in EndsField a.text.now a.at (length a.text.now)
-short c = let a = c.before.before.before.args in ends_short a.text.now a.at (omega (arith, c.before.if1.false)) c.if2.true
+short : (c : tie.Then-text-at-lt12) → let a = c.args in EndsField a.text.now a.at (length a.text.now)
+short c = let a = c.args in ends_short a.text.now a.at (omega (arith, c.if-text-at.false)) c.if-text-at-lt12.true
 
-whole : (c : tie.Else2) → let a = c.before.before.before.args in EndsField a.text.now a.at (a.at + 12)
-whole c = let a = c.before.before.before.args in ends_whole a.text.now a.at (omega (arith, c.before.if1.false, c.if2.false))
+whole : (c : tie.Else-text-at-lt12) → let a = c.args in EndsField a.text.now a.at (a.at + 12)
+whole c = let a = c.args in ends_whole a.text.now a.at (omega (arith, c.if-text-at.false, c.if-text-at-lt12.false))
 
-read-part-requires : tie.Need-read-part-requires
+read-part-requires : tie.Need-read_part-requires
 read-part-requires c κs = (short c).part
 
-returns-2 : tie.Need-returns-2
-returns-2 c = c.read-part.ensures ∙ sym (ap (λ l. number_reply (read_field l)) (short c.before).is)
+returns-2 : tie.Need-returns-then-text-at-lt12
+returns-2 c = c.read_part.ensures ∙ sym (ap (λ l. number_reply (read_field l)) (short c.before).is)
 
-eight-blanks-requires : tie.Need-eight-blanks-requires
+eight-blanks-requires : tie.Need-eight_blanks-requires
 eight-blanks-requires c κs = search rules
 
-add-read-last : tie.Need-overflow-add-read-last
+add-read-last : tie.Need-overflow_add-at
 add-read-last c = search rules
 
-add-read-last-2 : tie.Need-overflow-add-read-last-2
+add-read-last-2 : tie.Need-overflow_add-at-then-eight_blanks
 add-read-last-2 c = search rules
 
-read-last-requires : tie.Need-read-last-requires
+read-last-requires : tie.Need-read_last-requires
 read-last-requires c κs = search rules
 
-returns-3 : tie.Need-returns-3
+returns-3 : tie.Need-returns-then-eight_blanks
 returns-3 c =
-    let i = c.before in
-    let w = i.before.before in
-    c.read-last.ensures
-    ∙ sym (ap number_reply ((i.before.eight-blanks.ensures i.if3.true).reads _ (omega arith) (whole w).part.inside))
-    ∙ sym (ap (λ l. number_reply (read_field l)) (whole w).is)
+    c.read_last.ensures
+    ∙ sym (ap number_reply ((c.eight_blanks.ensures c.if-eight_blanks.true).reads _ (omega arith) (whole (c.before.before.before)).part.inside))
+    ∙ sym (ap (λ l. number_reply (read_field l)) (whole (c.before.before.before)).is)
 
-add-read-part : tie.Need-overflow-add-read-part
+add-read-part : tie.Need-overflow_add-at-2
 add-read-part c = search rules
 
-read-part-requires-2 : tie.Need-read-part-requires-2
+read-part-requires-2 : tie.Need-read_part-requires-2
 read-part-requires-2 c κs = (whole c.before.before).part
 
-returns-4 : tie.Need-returns-4
-returns-4 c = c.read-part2.ensures ∙ sym (ap (λ l. number_reply (read_field l)) (whole c.before.before.before).is)
+returns-4 : tie.Need-returns
+returns-4 c = c.read_part-2.ensures ∙ sym (ap (λ l. number_reply (read_field l)) (whole c.before.before.before).is)
 
-pub read-field-spec : {M : Type 1} → statement M
-read-field-spec =
+pub read_field_spec : {M : Type 1} → statement M
+read_field_spec =
     tie.close
     (tie.spec
     returns

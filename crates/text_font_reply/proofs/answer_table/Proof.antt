@@ -22,22 +22,22 @@ use Rattle.text_font_reply.proofs.Laws.{refused_known, fresh_run, items_room, ta
 use Rattle.text_font_reply.proofs.answer_table.Statement.{statement}
 use Rattle.text_font_reply.proofs.answer_table.Tie as tie
 
-item-list-requires : tie.Need-item-list-requires
+item-list-requires : tie.Need-item_list-items-requires
 item-list-requires c κs = search rules
 
-word-of-requires : tie.Need-word-of-requires
+word-of-requires : tie.Need-word_of-requires
 word-of-requires c κs = search rules
 
-array-share-prefix-items : tie.Need-array-share-prefix-items
+array-share-prefix-items : tie.Need-slice_bounds-items-end
 array-share-prefix-items c = search rules
 
-slice-aggregate-write-reply : tie.Need-slice-aggregate-write-reply
+slice-aggregate-write-reply : tie.Need-slice_bounds-write_reply-end
 slice-aggregate-write-reply c = search rules
 
-write-reply-requires : tie.Need-write-reply-requires
+write-reply-requires : tie.Need-write_reply-requires
 write-reply-requires c κs = search rules
 
-same_length : tie.Need-same-length
+same_length : tie.Need-shape_of-reply-then-word_of-ge2147483648
 same_length c = search rules
 
 -- what is answered for a boundary's bits is answered for the boundary
@@ -62,126 +62,107 @@ letters-passed s items r reply' h =
     subst (λ (z : ℤ). WritesReply (reply_bytes a.pairs.now a.ops.now a.loops.now z items) a.reply.now r reply')
     (number_word a.letters s.ranges.letters) h
 
-returns : tie.Need-returns
+returns : tie.Need-returns-then-word_of-ge2147483648
 returns c =
-    let x = c.before.before.write-reply in
-    let t = c.before.before.before.before.before in
-    let s = t.before.before.before.before.before in
-    let a = s.args in
-    same s x.result x.new.1.1.1.1.1.0
-    (table_alone a.reply.now x.result x.new.1.1.1.1.1.0 a.pairs.now a.ops.now a.loops.now (number_of (word_of a.boundary))
-    a.word.now a.letters t.before.word_of.result (word_passed s.ranges.letters t.before.word_of.ensures) t.if1.true
-    (letters-passed s [] x.result x.new.1.1.1.1.1.0 x.ensures))
+    let a = c.args in
+    same (c.before.before.before.before.before.before.before.before.before.before) c.write_reply.result c.write_reply.new.reply
+    (table_alone a.reply.now c.write_reply.result c.write_reply.new.reply a.pairs.now a.ops.now a.loops.now (number_of (word_of a.boundary))
+    a.word.now a.letters c.word_of.result (word_passed c.ranges.letters c.word_of.ensures) c.if-word_of-ge2147483648.true
+    (letters-passed (c.before.before.before.before.before.before.before.before.before.before) [] c.write_reply.result c.write_reply.new.reply c.write_reply.ensures))
 
-slice-aggregate-set-fresh : tie.Need-slice-aggregate-set-fresh
+slice-aggregate-set-fresh : tie.Need-slice_bounds-set_fresh-end
 slice-aggregate-set-fresh c = search rules
 
-set-fresh-requires : tie.Need-set-fresh-requires
+set-fresh-requires : tie.Need-set_fresh-requires
 set-fresh-requires c κs = search rules
 
-enum-known-n : tie.Need-enum-known-n
+enum-known-n : tie.Need-enum_known-n
 enum-known-n c = search rules
 
 -- what set_fresh told, of a list that is abstract but for its length
-run_as : (f : tie.After-set-fresh) (r : Written) → r ≡ f.set-fresh.result → let s = f.before.before.before.before.before.before.before in
-    let a = s.args in
-    Tells (fresh_run a.pairs.now a.ops.now (number_of (word_of a.boundary)) a.word.now) f.before.before.before.before.item-list.result r
-    f.set-fresh.new.1.1.1.1.1.0
+run_as : (f : tie.After-set_fresh) (r : Written) → r ≡ f.set_fresh.result → let a = f.args in
+    Tells (fresh_run a.pairs.now a.ops.now (number_of (word_of a.boundary)) a.word.now) f.item_list-items.result r
+    f.set_fresh.new.items
 run_as f r e =
-    let i = f.before.before.before.before in
-    let a = i.before.before.before.args in
-    subst (λ (x : Written). Tells (fresh_run a.pairs.now a.ops.now (number_of (word_of a.boundary)) a.word.now) i.item-list.result x
-    f.set-fresh.new.1.1.1.1.1.0) (sym e)
+    let a = f.args in
+    subst (λ (x : Written). Tells (fresh_run a.pairs.now a.ops.now (number_of (word_of a.boundary)) a.word.now) f.item_list-items.result x
+    f.set_fresh.new.items) (sym e)
     (subst (λ (n : ℕ). Tells
     (items_from a.pairs.now a.ops.now (number_of (word_of a.boundary)) a.word.now plain_options (n / 6)
-    (fresh_state a.word.now plain_options)) i.item-list.result f.set-fresh.result f.set-fresh.new.1.1.1.1.1.0)
-    (sym i.item-list.ensures) f.set-fresh.ensures)
+    (fresh_state a.word.now plain_options)) f.item_list-items.result f.set_fresh.result f.set_fresh.new.items)
+    (sym f.item_list-items.ensures) f.set_fresh.ensures)
 
-told : (v : tie.After-n) → let f = v.before.before.before in let s = f.before.before.before.before.before.before.before in let a = s.args in
-    Tells (fresh_run a.pairs.now a.ops.now (number_of (word_of a.boundary)) a.word.now) f.before.before.before.before.item-list.result
-    (written.Count v.n.given.0.0) f.set-fresh.new.1.1.1.1.1.0
-told v = run_as v.before.before.before (written.Count v.n.given.0.0) (sym v.n.given.1)
+told : (v : tie.In-Count-2) → let a = v.args in
+    Tells (fresh_run a.pairs.now a.ops.now (number_of (word_of a.boundary)) a.word.now) v.item_list-items.result
+    (written.Count v.in-Count.n) v.set_fresh.new.items
+told v = run_as v.before.before.before (written.Count v.in-Count.n) (sym v.in-Count.is)
 
-kept : (f : tie.After-set-fresh) → length f.set-fresh.new.1.1.1.1.1.0 ≡ 5310
-kept f = omega (arith, f.set-fresh.auto.1.1.1.1.1.0, f.before.before.before.before.item-list.ensures)
+kept : (f : tie.After-set_fresh) → length f.set_fresh.new.items ≡ 5310
+kept f = omega (arith, f.set_fresh.auto.items, f.item_list-items.ensures)
 
-fits : (v : tie.After-n) → 6 * v.n.given.0.0 ≤ 5310
+fits : (v : tie.In-Count-2) → 6 * v.in-Count.n ≤ 5310
 fits v =
-    let f = v.before.before.before in
-    let i = f.before.before.before.before in
-    let a = i.before.before.before.args in
-    items_room a.pairs.now a.ops.now (number_of (word_of a.boundary)) a.word.now i.item-list.result f.set-fresh.new.1.1.1.1.1.0
-    i.item-list.ensures v.n.given.0.0 (told v) (kept f)
+    let a = v.args in
+    items_room a.pairs.now a.ops.now (number_of (word_of a.boundary)) a.word.now v.item_list-items.result v.set_fresh.new.items
+    v.item_list-items.ensures v.in-Count.n (told v) (kept (v.before.before.before))
 
-mul-items : tie.Need-overflow-mul-items
+mul-items : tie.Need-overflow_mul-items
 mul-items c = omega (arith, fits c.before)
 
-array-share-prefix-items-2 : tie.Need-array-share-prefix-items-2
-array-share-prefix-items-2 c = let v = c.before in omega (arith, fits v, kept v.before.before.before)
+array-share-prefix-items-2 : tie.Need-slice_bounds-items-end-in-Count
+array-share-prefix-items-2 c = omega (arith, fits (c.before), kept c.before.before.before)
 
-slice-aggregate-write-reply-2 : tie.Need-slice-aggregate-write-reply-2
+slice-aggregate-write-reply-2 : tie.Need-slice_bounds-write_reply-end-in-Count
 slice-aggregate-write-reply-2 c =
-    let v = c.before.before in
-    let f = v.before.before.before in
-    sym (length-take-le (6 * v.n.given.0.0) f.set-fresh.new.1.1.1.1.1.0 (omega (arith, fits v, kept f)))
+    sym (length-take-le (6 * c.in-Count.n) c.set_fresh.new.items (omega (arith, fits (c.before), kept (c.before.before.before))))
 
-write-reply-requires-2 : tie.Need-write-reply-requires-2
+write-reply-requires-2 : tie.Need-write_reply-requires-in-Count
 write-reply-requires-2 c κs = search rules
 
-enum-known-n-2 : tie.Need-enum-known-n-2
+enum-known-n-2 : tie.Need-enum_known-n-in-Refused-1
 enum-known-n-2 c = search rules
 
 -- a run that was refused has a number
-stopped : (v : tie.After-n2) → let f = v.before.before.before in let s = f.before.before.before.before.before.before.before in let a = s.args in
-    (v.n2.given.0.0 ≡ (fresh_run a.pairs.now a.ops.now (number_of (word_of a.boundary)) a.word.now).number) × (0 < v.n2.given.0.0)
+stopped : (v : tie.In-Refused-2) → let f = v.before.before.before in let a = v.args in
+    (v.in-Refused.n ≡ (fresh_run a.pairs.now a.ops.now (number_of (word_of a.boundary)) a.word.now).number) × (0 < v.in-Refused.n)
 stopped v =
     let f = v.before.before.before in
-    let a = f.before.before.before.before.before.before.before.args in
+    let a = v.args in
     let r = fresh_run a.pairs.now a.ops.now (number_of (word_of a.boundary)) a.word.now in
-    refused_known r.number v.n2.given.0.0 (length r.values / 6) (run_as f (written.Refused v.n2.given.0.0) (sym v.n2.given.1)).answer
+    refused_known r.number v.in-Refused.n (length r.values / 6) (run_as (v.before.before.before) (written.Refused v.in-Refused.n) (sym v.in-Refused.is)).answer
 
 refuse-requires : tie.Need-refuse-requires
-refuse-requires c κs = (stopped c.before.before).1
+refuse-requires c κs = (stopped c.before).1
 
-same-length-2 : tie.Need-same-length-2
+same-length-2 : tie.Need-shape_of-reply-in-Count
 same-length-2 c = search rules
 
-returns-2 : tie.Need-returns-2
+returns-2 : tie.Need-returns-in-Count
 returns-2 c =
-    let x = c.before.before.write-reply2 in
-    let v = c.before.before.before.before.before.before in
-    let f = v.before.before.before in
-    let i = f.before.before.before.before in
-    let s = i.before.before.before in
-    let a = s.args in
-    let k = v.n.given.0.0 in
-    let items = f.set-fresh.new.1.1.1.1.1.0 in
-    same s x.result x.new.1.1.1.1.1.0
-    (table_set a.reply.now x.result x.new.1.1.1.1.1.0 a.pairs.now a.ops.now a.loops.now (number_of (word_of a.boundary))
-    a.word.now i.item-list.result items i.item-list.ensures k (told v) a.letters f.before.before.before.word_of.result
-    (word_passed s.ranges.letters f.before.before.before.word_of.ensures) f.before.before.if1.false
-    (letters-passed s (take (6 * k) items) x.result x.new.1.1.1.1.1.0 x.ensures))
+    let a = c.args in
+    let k = c.in-Count.n in
+    let items = c.set_fresh.new.items in
+    same (c.before.before.before.before.before.before.before.before.before.before.before.before.before.before) c.write_reply-in-Count.result c.write_reply-in-Count.new.reply
+    (table_set a.reply.now c.write_reply-in-Count.result c.write_reply-in-Count.new.reply a.pairs.now a.ops.now a.loops.now (number_of (word_of a.boundary))
+    a.word.now c.item_list-items.result items c.item_list-items.ensures k (told (c.before.before.before.before.before)) a.letters c.word_of.result
+    (word_passed c.ranges.letters c.word_of.ensures) c.if-word_of-ge2147483648.false
+    (letters-passed (c.before.before.before.before.before.before.before.before.before.before.before.before.before.before) (take (6 * k) items) c.write_reply-in-Count.result c.write_reply-in-Count.new.reply c.write_reply-in-Count.ensures))
 
-same-length-3 : tie.Need-same-length-3
+same-length-3 : tie.Need-shape_of-reply-in-Refused
 same-length-3 c = search rules
 
-returns-3 : tie.Need-returns-3
+returns-3 : tie.Need-returns-in-Refused
 returns-3 c =
-    let x = c.before.before.refuse in
-    let v = c.before.before.before.before.before in
-    let f = v.before.before.before in
-    let i = f.before.before.before.before in
-    let s = i.before.before.before in
-    let a = s.args in
-    let k = v.n2.given.0.0 in
-    same s x.result x.new.0
-    (table_refused a.reply.now x.result x.new.0 a.pairs.now a.ops.now a.loops.now (number_of (word_of a.boundary)) a.word.now
-    i.item-list.result f.set-fresh.new.1.1.1.1.1.0 k (run_as f (written.Refused k) (sym v.n2.given.1)) a.letters
-    f.before.before.before.word_of.result (word_passed s.ranges.letters f.before.before.before.word_of.ensures)
-    f.before.before.if1.false x.ensures)
+    let a = c.args in
+    let k = c.in-Refused.n in
+    same (c.before.before.before.before.before.before.before.before.before.before.before.before.before) c.refuse.result c.refuse.new.reply
+    (table_refused a.reply.now c.refuse.result c.refuse.new.reply a.pairs.now a.ops.now a.loops.now (number_of (word_of a.boundary)) a.word.now
+    c.item_list-items.result c.set_fresh.new.items k (run_as (c.before.before.before.before.before.before) (written.Refused k) (sym c.in-Refused.is)) a.letters
+    c.word_of.result (word_passed c.ranges.letters c.word_of.ensures)
+    c.if-word_of-ge2147483648.false c.refuse.ensures)
 
-pub answer-table-spec : {M : Type 1} → statement M
-answer-table-spec =
+pub answer_table_spec : {M : Type 1} → statement M
+answer_table_spec =
     tie.close
     (tie.spec
     item-list-requires

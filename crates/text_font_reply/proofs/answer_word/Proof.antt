@@ -11,54 +11,45 @@ use Rattle.text_font_reply.proofs.Laws.{word_refused, word_taken}
 use Rattle.text_font_reply.proofs.answer_word.Statement.{statement}
 use Rattle.text_font_reply.proofs.answer_word.Tie as tie
 
-letters-refusal-requires : tie.Need-letters-refusal-requires
+letters-refusal-requires : tie.Need-letters_refusal-none-requires
 letters-refusal-requires c κs = search rules
 
-refuse-word-requires : tie.Need-refuse-word-requires
+refuse-word-requires : tie.Need-refuse_word-requires
 refuse-word-requires c κs = search rules
 
-same_length : tie.Need-same-length
+same_length : tie.Need-shape_of-reply-then-none-ne0
 same_length c = search rules
 
-returns : tie.Need-returns
+returns : tie.Need-returns-then-none-ne0
 returns c =
-    let w = c.before.before in
-    let t = w.before.before in
-    let l = t.before in
-    let a = l.before.before.before.args in
-    let x = w.refuse-word in
-    word_refused a.pairs.now a.ops.now a.loops.now a.boundary a.letters a.word.now a.reply.now x.result
-    x.new.1.1.1.1.0 l.letters-refusal.result l.letters-refusal.ensures t.if1.true x.ensures
+    let a = c.args in
+    word_refused a.pairs.now a.ops.now a.loops.now a.boundary a.letters a.word.now a.reply.now c.refuse_word.result
+    c.refuse_word.new.reply c.letters_refusal-none.result c.letters_refusal-none.ensures c.if-none-ne0.true c.refuse_word.ensures
 
-answer-table-requires : tie.Need-answer-table-requires
+answer-table-requires : tie.Need-answer_table-requires
 answer-table-requires c κs = search rules
 
-same-length-2 : tie.Need-same-length-2
+same-length-2 : tie.Need-shape_of-reply
 same-length-2 c = search rules
 
-returns-2 : tie.Need-returns-2
+returns-2 : tie.Need-returns
 returns-2 c =
-    let w = c.before.before in
-    let e = w.before.before in
-    let l = e.before in
-    let s = l.before.before.before in
-    let a = s.args in
-    let x = w.answer-table in
+    let a = c.args in
     let ps = a.pairs.now in
     let os = a.ops.now in
     let ls = a.loops.now in
-    let d = x.new.1.1.1.1.1.1.0 in
-    word_taken ps os ls a.boundary a.letters a.word.now a.reply.now x.result d l.letters-refusal.result l.letters-refusal.ensures
-    e.if1.false
+    let d = c.answer_table.new.reply in
+    word_taken ps os ls a.boundary a.letters a.word.now a.reply.now c.answer_table.result d c.letters_refusal-none.result c.letters_refusal-none.ensures
+    c.if-none-ne0.false
     (subst (λ (z : ℤ). AnswersBytes (fresh_number ps os ls z a.letters a.word.now (length a.reply.now))
-    (fresh_bytes ps os ls z a.letters a.word.now) a.reply.now x.result d)
-    (number_word a.boundary s.ranges.boundary)
+    (fresh_bytes ps os ls z a.letters a.word.now) a.reply.now c.answer_table.result d)
+    (number_word a.boundary c.ranges.boundary)
     (subst (λ (z : ℤ). AnswersBytes (fresh_number ps os ls (number_of (word_of a.boundary)) z a.word.now (length a.reply.now))
-    (fresh_bytes ps os ls (number_of (word_of a.boundary)) z a.word.now) a.reply.now x.result d)
-    (number_word a.letters s.ranges.letters) x.ensures))
+    (fresh_bytes ps os ls (number_of (word_of a.boundary)) z a.word.now) a.reply.now c.answer_table.result d)
+    (number_word a.letters c.ranges.letters) c.answer_table.ensures))
 
-pub answer-word-spec : {M : Type 1} → statement M
-answer-word-spec =
+pub answer_word_spec : {M : Type 1} → statement M
+answer_word_spec =
     tie.close
     (tie.spec
     letters-refusal-requires

@@ -13,48 +13,45 @@ use Rattle.text_font_reply.proofs.Laws.{signs_each, signs_fail}
 use Rattle.text_font_reply.proofs.signs_refusal.Statement.{statement}
 use Rattle.text_font_reply.proofs.signs_refusal.Tie as tie
 
-abbrev invariant-loop : tie.invariant-loop
+abbrev invariant-loop : tie.invariant-loop-i
 invariant-loop word i₀ i = (i ≤ length word) × (every i (λ j. ltb (get_or word j 0) 2147483648) ≡ true)
 
-abbrev decreases-loop : tie.decreases-loop
+abbrev decreases-loop : tie.decreases-loop-i
 decreases-loop word i₀ i = length word - i
 
-loop-holds : tie.Need-loop-init invariant-loop decreases-loop
+loop-holds : tie.Need-loop-i-init invariant-loop decreases-loop
 loop-holds c = (omega arith, every_none (λ j. ltb (get_or c.args.word.now j 0) 2147483648))
 
-mul-if1 : tie.Need-overflow-mul-if1 invariant-loop decreases-loop
+mul-if1 : tie.Need-offset_bounds-word-i invariant-loop decreases-loop
 mul-if1 c = omega arith
 
-shared-slice-read-if1 : tie.Need-shared-slice-read-if1 invariant-loop decreases-loop
+shared-slice-read-if1 : tie.Need-bounds-word-i invariant-loop decreases-loop
 shared-slice-read-if1 c = omega arith
 
-returns : tie.Need-returns invariant-loop decreases-loop
+returns : tie.Need-returns-then-word-i-ge2147483648 invariant-loop decreases-loop
 returns c =
-    let l = c.before.before.before in
-    signs_fail l.before.args.word.now l.loop.i c.before.before.loop-test.true c.if1.true
+    signs_fail c.args.word.now c.loop-i.i c.loop-i-test.true c.if-word-i-ge2147483648.true
 
-add-i : tie.Need-overflow-add-i invariant-loop decreases-loop
+add-i : tie.Need-overflow_add-i invariant-loop decreases-loop
 add-i c = omega arith
 
-loop-less : tie.Need-loop-smaller invariant-loop decreases-loop
+loop-less : tie.Need-loop-i-smaller invariant-loop decreases-loop
 loop-less c = omega arith
 
-loop-again : tie.Need-loop-preserved invariant-loop decreases-loop
+loop-again : tie.Need-loop-i-preserved invariant-loop decreases-loop
 loop-again c =
-    let l = c.before.before.before in
-    let word = l.before.args.word.now in (
+    let word = c.args.word.now in (
       omega arith,
-      every_more l.loop.i (λ j. ltb (get_or word j 0) 2147483648) l.loop.invariant.1
-          (lt-ltb (get_or word l.loop.i 0) 2147483648 c.if1.false),
+      every_more c.loop-i.i (λ j. ltb (get_or word j 0) 2147483648) c.loop-i.invariant.1
+          (lt-ltb (get_or word c.loop-i.i 0) 2147483648 c.if-word-i-ge2147483648.false),
     )
 
-returns-2 : tie.Need-returns-2 invariant-loop decreases-loop
+returns-2 : tie.Need-returns invariant-loop decreases-loop
 returns-2 c =
-    let l = c.before in
-    signs_each l.before.args.word.now l.loop.i l.loop.invariant.1 l.loop.invariant.0 c.loop-test.false
+    signs_each c.args.word.now c.loop-i.i c.loop-i.invariant.1 c.loop-i.invariant.0 c.loop-i-test.false
 
-pub signs-refusal-spec : {M : Type 1} → statement M
-signs-refusal-spec =
+pub signs_refusal_spec : {M : Type 1} → statement M
+signs_refusal_spec =
     tie.close
     (tie.spec
     invariant-loop

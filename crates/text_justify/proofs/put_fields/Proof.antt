@@ -16,111 +16,98 @@ use Rattle.text_justify.proofs.Fit.{Fit, fit_of, where_fits, where_misses}
 use Rattle.text_justify.proofs.put_fields.Statement.{statement}
 use Rattle.text_justify.proofs.put_fields.Tie as tie
 
-abbrev invariant-loop : tie.invariant-loop
+abbrev invariant-loop : tie.invariant-loop-j
 invariant-loop numbers from n out₀ at next₀ j₀ out next j = (j ≤ n) × (next ≡ at + 12 * j) × (out ≡ filled out₀ at (numbers_from numbers from j) (n - j))
 
-abbrev decreases-loop : tie.decreases-loop
+abbrev decreases-loop : tie.decreases-loop-j
 decreases-loop numbers from n out₀ at next₀ j₀ out next j = n - j
 
-kept : (l : tie.At-loop invariant-loop decreases-loop) → length l.loop.out ≡ length l.before.before.before.before.before.before.before.before.args.out.now
+kept : (l : tie.At-loop-j invariant-loop decreases-loop) → length l.loop-j.out ≡ length l.args.out.now
 kept l =
-    let b = l.before.before.before in
-    let a = b.before.before.before.before.before.args in
-    ap length l.loop.invariant.2
-    ∙ length-sets b.put-blanks.new.0 a.at (fields_of (numbers_from a.numbers.now a.from l.loop.j) ++ replicate (12 * (a.n - l.loop.j)) 32)
-    ∙ b.put-blanks.auto.0
+    let a = l.args in
+    ap length l.loop-j.invariant.2
+    ∙ length-sets l.put_blanks.new.out a.at (fields_of (numbers_from a.numbers.now a.from l.loop-j.j) ++ replicate (12 * (a.n - l.loop-j.j)) 32)
+    ∙ l.put_blanks.auto.out
 
 -- the fields are taken; they are not
-fitting : (c : tie.Else1 invariant-loop decreases-loop) → let a = c.before.before.before.args in
+fitting : (c : tie.Else-not-fields_fit invariant-loop decreases-loop) → let a = c.args in
     fields_fit 18446744073709551609 a.from a.n a.at (length a.out.now) ≡ true
-fitting c = sym c.before.fields_fit.ensures ∙ not-false _ c.if1.false
+fitting c = sym c.fields_fit.ensures ∙ c.if-not-fields_fit.false
 
-missing : (c : tie.Then1 invariant-loop decreases-loop) → let a = c.before.before.before.args in
+missing : (c : tie.Then-not-fields_fit invariant-loop decreases-loop) → let a = c.args in
     fields_fit 18446744073709551609 a.from a.n a.at (length a.out.now) ≡ false
-missing c = sym c.before.fields_fit.ensures ∙ not-true _ c.if1.true
+missing c = sym c.fields_fit.ensures ∙ c.if-not-fields_fit.true
 
-room : (c : tie.Else1 invariant-loop decreases-loop) → let a = c.before.before.before.args in Fit 18446744073709551609 a.from a.n a.at (length a.out.now)
-room c = let a = c.before.before.before.args in fit_of 18446744073709551609 a.from a.n a.at (length a.out.now) (fitting c)
+room : (c : tie.Else-not-fields_fit invariant-loop decreases-loop) → let a = c.args in Fit 18446744073709551609 a.from a.n a.at (length a.out.now)
+room c = let a = c.args in fit_of 18446744073709551609 a.from a.n a.at (length a.out.now) (fitting c)
 
-fields-fit-requires : tie.Need-fields-fit-requires invariant-loop decreases-loop
+fields-fit-requires : tie.Need-fields_fit-requires invariant-loop decreases-loop
 fields-fit-requires c κs = tt
 
-returns : tie.Need-returns invariant-loop decreases-loop
-returns c = let a = c.before.before.before.args in where_misses a.out.now a.at (numbers_from a.numbers.now a.from a.n) (missing c)
+returns : tie.Need-returns-then-not-fields_fit invariant-loop decreases-loop
+returns c = let a = c.args in where_misses a.out.now a.at (numbers_from a.numbers.now a.from a.n) (missing c)
 
-mul-put-blanks : tie.Need-overflow-mul-put-blanks invariant-loop decreases-loop
+mul-put-blanks : tie.Need-overflow_mul-n invariant-loop decreases-loop
 mul-put-blanks c = omega (arith, (room c.before).six)
 
-put-blanks-requires : tie.Need-put-blanks-requires invariant-loop decreases-loop
+put-blanks-requires : tie.Need-put_blanks-requires invariant-loop decreases-loop
 put-blanks-requires c κs = omega (arith, (room c.before).place)
 
-loop-holds : tie.Need-loop-init invariant-loop decreases-loop
+loop-holds : tie.Need-loop-j-init invariant-loop decreases-loop
 loop-holds c =
-    let b = c.before.before in
-    let a = b.before.before.before.before.before.args in
-    let d = b.put-blanks.new.0 in (
+    let a = c.args in
+    let d = c.put_blanks.new.out in (
       omega arith,
       omega arith,
-      fields_none d a.at a.numbers.now a.from a.n (sets_there (replicate (12 * a.n) 32) a.out.now d a.at b.put-blanks.ensures),
+      fields_none d a.at a.numbers.now a.from a.n (sets_there (replicate (12 * a.n) 32) a.out.now d a.at c.put_blanks.ensures),
     )
 
-add-word-at : tie.Need-overflow-add-word-at invariant-loop decreases-loop
+add-word-at : tie.Need-overflow_add-from invariant-loop decreases-loop
 add-word-at c =
-    let l = c.before.before in
-    let r = room l.before.before.before.before.before in
-    omega (arith, r.six, r.first, l.loop.invariant.0, c.before.loop-test.true)
+    let r = room c.before.before.before.before.before.before.before in
+    omega (arith, r.six, r.first, c.loop-j.invariant.0, c.loop-j-test.true)
 
-word-at-requires : tie.Need-word-at-requires invariant-loop decreases-loop
+word-at-requires : tie.Need-word_at-requires invariant-loop decreases-loop
 word-at-requires c κs = tt
 
-put-number-requires : tie.Need-put-number-requires invariant-loop decreases-loop
+put-number-requires : tie.Need-put_number-requires invariant-loop decreases-loop
 put-number-requires c κs =
-    let l = c.before.before.before in
-    omega (arith, kept l, (room l.before.before.before.before.before).place, c.before.before.loop-test.true)
+    omega (arith, kept (c.before.before.before), (room c.before.before.before.before.before.before.before.before).place, c.loop-j-test.true)
 
-add-next : tie.Need-overflow-add-next invariant-loop decreases-loop
+add-next : tie.Need-overflow_add-next invariant-loop decreases-loop
 add-next c =
-    let l = c.before.before.before.before.before.before in
-    let i = l.before.before.before.before.before in
-    omega (arith, (room i).place, i.before.before.before.well-formed, l.loop.invariant.1, c.before.before.before.before.before.loop-test.true)
+    omega (arith, (room (c.before.before.before.before.before.before.before.before.before.before.before)).place, c.well_formed, c.loop-j.invariant.1, c.loop-j-test.true)
 
-add-j : tie.Need-overflow-add-j invariant-loop decreases-loop
+add-j : tie.Need-overflow_add-j invariant-loop decreases-loop
 add-j c = omega arith
 
-loop-less : tie.Need-loop-smaller invariant-loop decreases-loop
+loop-less : tie.Need-loop-j-smaller invariant-loop decreases-loop
 loop-less c = omega arith
 
-loop-again : tie.Need-loop-preserved invariant-loop decreases-loop
+loop-again : tie.Need-loop-j-preserved invariant-loop decreases-loop
 loop-again c =
-    let x = c.before.before.put-number in
-    let w = c.before.before.before.word_at in
-    let i = c.before.before.before.before.before in
-    let l = i.before in
-    let b = l.before.before.before in
-    let a = b.before.before.before.before.before.args in (
+    let a = c.args in (
       omega arith,
       omega arith,
-      fields_more b.put-blanks.new.0 a.at a.numbers.now a.from a.n l.loop.j i.loop-test.true l.loop.invariant.1 l.loop.invariant.2
-          w.ensures x.ensures,
+      fields_more c.put_blanks.new.out a.at a.numbers.now a.from a.n c.loop-j.j c.loop-j-test.true c.loop-j.invariant.1 c.loop-j.invariant.2
+          c.word_at.ensures c.put_number.ensures,
     )
 
-same_length : tie.Need-same-length invariant-loop decreases-loop
+same_length : tie.Need-shape_of-out invariant-loop decreases-loop
 same_length c = kept c.before
 
-returns-2 : tie.Need-returns-2 invariant-loop decreases-loop
+returns-2 : tie.Need-returns invariant-loop decreases-loop
 returns-2 c =
-    let l = c.before in
-    let b = l.before.before.before in
-    let a = b.before.before.before.before.before.args in
-    let e : l.loop.j ≡ a.n = omega arith in
+    let a = c.args in
+    let e : c.loop-j.j ≡ a.n = omega arith in
     let fs = fields_of (numbers_from a.numbers.now a.from a.n) in
     let same : length (replicate {A = ℕ} (12 * a.n) 32) ≡ length fs = length-replicate (12 * a.n) 32 ∙ sym (from_length a.numbers.now a.from a.n) in
-    where_fits a.out.now a.at (numbers_from a.numbers.now a.from a.n) (fitting b.before.before)
-    (sets_over (replicate (12 * a.n) 32) fs a.out.now b.put-blanks.new.0 l.loop.out a.at same b.put-blanks.ensures
-    (fields_all b.put-blanks.new.0 a.at a.numbers.now a.from a.n l.loop.j e l.loop.invariant.2))
+    where_fits a.out.now a.at (numbers_from a.numbers.now a.from a.n) (fitting c.before.before.before.before.before.before)
+    (sets_over (replicate (12 * a.n) 32) fs a.out.now c.put_blanks.new.out c.loop-j.out a.at same c.put_blanks.ensures
+    (fields_all c.put_blanks.new.out a.at a.numbers.now a.from a.n c.loop-j.j e c.loop-j.invariant.2))
 
-pub put-fields-spec : {M : Type 1} → statement M
-put-fields-spec =
+pub put_fields_spec : {M : Type 1} → statement M
+put_fields_spec =
     tie.close
     (tie.spec
     invariant-loop

@@ -13,92 +13,83 @@ use Rattle.text_lines.proofs.Taken.{line_fits, six_numbers, index_fits, place_fi
 use Rattle.text_lines.proofs.put_lines.Statement.{statement}
 use Rattle.text_lines.proofs.put_lines.Tie as tie
 
-abbrev invariant-loop : tie.invariant-loop
+abbrev invariant-loop : tie.invariant-loop-i
 invariant-loop letter numbers k count n out₀ at next₀ i₀ out next i = (i ≤ count) × (Puts (bytes_of (lines_from letter n numbers k i)) out₀ at next out)
 
-abbrev decreases-loop : tie.decreases-loop
+abbrev decreases-loop : tie.decreases-loop-i
 decreases-loop letter numbers k count n out₀ at next₀ i₀ out next i = count - i
 
 -- the lines are taken
-fitting : (c : tie.Else1 invariant-loop decreases-loop) → let a = c.before.before.before.args in lines_fit a.n a.k a.count a.at (length a.out.now) ≡ true
-fitting c = sym c.before.lines_fit.ensures ∙ not-false _ c.if1.false
+fitting : (c : tie.Else-not-lines_fit invariant-loop decreases-loop) → let a = c.args in lines_fit a.n a.k a.count a.at (length a.out.now) ≡ true
+fitting c = sym c.lines_fit.ensures ∙ c.if-not-lines_fit.false
 
 -- they are not
-missing : (c : tie.Then1 invariant-loop decreases-loop) → let a = c.before.before.before.args in lines_fit a.n a.k a.count a.at (length a.out.now) ≡ false
-missing c = sym c.before.lines_fit.ensures ∙ not-true _ c.if1.true
+missing : (c : tie.Then-not-lines_fit invariant-loop decreases-loop) → let a = c.args in lines_fit a.n a.k a.count a.at (length a.out.now) ≡ false
+missing c = sym c.lines_fit.ensures ∙ c.if-not-lines_fit.true
 
-lines-fit-requires : tie.Need-lines-fit-requires invariant-loop decreases-loop
+lines-fit-requires : tie.Need-lines_fit-requires invariant-loop decreases-loop
 lines-fit-requires c κs = tt
 
-returns : tie.Need-returns invariant-loop decreases-loop
+returns : tie.Need-returns-then-not-lines_fit invariant-loop decreases-loop
 returns c =
-    let a = c.before.before.before.args in
+    let a = c.args in
     where_left (lines_fit a.n a.k a.count a.at (length a.out.now)) (bytes_of (lines_from a.letter a.n a.numbers.now a.k a.count))
     a.out.now a.at (missing c)
 
-loop-holds : tie.Need-loop-init invariant-loop decreases-loop
-loop-holds c = let a = c.before.before.before.args in (omega arith, lines_none a.letter a.n a.numbers.now a.k a.out.now a.at)
+loop-holds : tie.Need-loop-i-init invariant-loop decreases-loop
+loop-holds c = let a = c.args in (omega arith, lines_none a.letter a.n a.numbers.now a.k a.out.now a.at)
 
 -- a place among the numbers fits
-place : (c : tie.In-loop invariant-loop decreases-loop) → let a = c.before.before.before.before.before.args in a.n * (a.k + c.before.loop.i) + 6 < 2 ^ 64
+place : (c : tie.In-loop-i invariant-loop decreases-loop) → let a = c.args in a.n * (a.k + c.loop-i.i) + 6 < 2 ^ 64
 place c =
-    let l = c.before in
-    let s = l.before.before.before.before in
-    let a = s.args in
-    place_fits a.letter a.n a.numbers.now a.k a.count a.out.now a.at (fitting l.before) (omega (arith, s.well-formed)) l.loop.i
-    c.loop-test.true
+    let a = c.args in
+    place_fits a.letter a.n a.numbers.now a.k a.count a.out.now a.at (fitting c.before.before) (omega (arith, c.well_formed)) c.loop-i.i
+    c.loop-i-test.true
 
-add-put-line : tie.Need-overflow-add-put-line invariant-loop decreases-loop
+add-put-line : tie.Need-overflow_add-k invariant-loop decreases-loop
 add-put-line c =
-    let l = c.before in
-    let s = l.before.before.before.before in
-    let a = s.args in
+    let a = c.args in
     record {
-      fits = index_fits a.letter a.n a.numbers.now a.k a.count a.out.now a.at (fitting l.before) (omega (arith, s.well-formed))
-          l.loop.i c.loop-test.true;
+      fits = index_fits a.letter a.n a.numbers.now a.k a.count a.out.now a.at (fitting c.before.before) (omega (arith, c.well_formed))
+          c.loop-i.i c.loop-i-test.true;
     }
 
-mul-put-line : tie.Need-overflow-mul-put-line invariant-loop decreases-loop
+mul-put-line : tie.Need-overflow_mul-n invariant-loop decreases-loop
 mul-put-line c = record { fits = omega (arith, place c) }
 
-put-line-requires : tie.Need-put-line-requires invariant-loop decreases-loop
+put-line-requires : tie.Need-put_line-next-requires invariant-loop decreases-loop
 put-line-requires c κs =
-    let i = c.before in
-    let l = i.before in
-    let a = l.before.before.before.before.args in (
-      six_numbers a.letter a.n a.numbers.now a.k a.count a.out.now a.at (fitting l.before),
-      place i,
-      line_fits a.letter a.n a.numbers.now a.k a.count a.out.now a.at (fitting l.before) l.loop.i i.loop-test.true
-          l.loop.invariant.1,
+    let a = c.args in (
+      six_numbers a.letter a.n a.numbers.now a.k a.count a.out.now a.at (fitting c.before.before.before),
+      place (c.before),
+      line_fits a.letter a.n a.numbers.now a.k a.count a.out.now a.at (fitting c.before.before.before) c.loop-i.i c.loop-i-test.true
+          c.loop-i.invariant.1,
     )
 
-add-i : tie.Need-overflow-add-i invariant-loop decreases-loop
+add-i : tie.Need-overflow_add-i invariant-loop decreases-loop
 add-i c = omega arith
 
-loop-less : tie.Need-loop-smaller invariant-loop decreases-loop
+loop-less : tie.Need-loop-i-smaller invariant-loop decreases-loop
 loop-less c = omega arith
 
-loop-again : tie.Need-loop-preserved invariant-loop decreases-loop
+loop-again : tie.Need-loop-i-preserved invariant-loop decreases-loop
 loop-again c =
-    let x = c.before.before.put-line in
-    let l = c.before.before.before.before.before in
-    let a = l.before.before.before.before.args in
-    (omega arith, lines_more a.letter a.n a.numbers.now a.k a.out.now a.at l.loop.i l.loop.invariant.1 x.ensures)
+    let a = c.args in
+    (omega arith, lines_more a.letter a.n a.numbers.now a.k a.out.now a.at c.loop-i.i c.loop-i.invariant.1 c.put_line-next.ensures)
 
-same_length : tie.Need-same-length invariant-loop decreases-loop
-same_length c = puts_length c.before.loop.invariant.1
+same_length : tie.Need-shape_of-out invariant-loop decreases-loop
+same_length c = puts_length c.loop-i.invariant.1
 
-returns-2 : tie.Need-returns-2 invariant-loop decreases-loop
+returns-2 : tie.Need-returns invariant-loop decreases-loop
 returns-2 c =
-    let l = c.before in
-    let a = l.before.before.before.before.args in
-    let e : l.loop.i ≡ a.count = omega arith in
-    where_taken (lines_fit a.n a.k a.count a.at (length a.out.now)) (fitting l.before)
-    (subst (λ (j : ℕ). Puts (bytes_of (lines_from a.letter a.n a.numbers.now a.k j)) a.out.now a.at l.loop.next l.loop.out) e
-    l.loop.invariant.1)
+    let a = c.args in
+    let e : c.loop-i.i ≡ a.count = omega arith in
+    where_taken (lines_fit a.n a.k a.count a.at (length a.out.now)) (fitting c.before.before)
+    (subst (λ (j : ℕ). Puts (bytes_of (lines_from a.letter a.n a.numbers.now a.k j)) a.out.now a.at c.loop-i.next c.loop-i.out) e
+    c.loop-i.invariant.1)
 
-pub put-lines-spec : {M : Type 1} → statement M
-put-lines-spec =
+pub put_lines_spec : {M : Type 1} → statement M
+put_lines_spec =
     tie.close
     (tie.spec
     invariant-loop

@@ -17,68 +17,63 @@ use Rattle.text_lines.proofs.put_pair.Statement.{statement}
 use Rattle.text_lines.proofs.put_pair.Tie as tie
 
 -- the line is taken; it is not
-fitting : (c : tie.Else1) → let a = c.before.before.before.args in lines_fit 5 a.k 1 a.at (length a.out.now) ≡ true
-fitting c = sym c.before.lines_fit.ensures ∙ not-false _ c.if1.false
+fitting : (c : tie.Else-not-lines_fit) → let a = c.args in lines_fit 5 a.k 1 a.at (length a.out.now) ≡ true
+fitting c = sym c.lines_fit.ensures ∙ c.if-not-lines_fit.false
 
-missing : (c : tie.Then1) → let a = c.before.before.before.args in lines_fit 5 a.k 1 a.at (length a.out.now) ≡ false
-missing c = sym c.before.lines_fit.ensures ∙ not-true _ c.if1.true
+missing : (c : tie.Then-not-lines_fit) → let a = c.args in lines_fit 5 a.k 1 a.at (length a.out.now) ≡ false
+missing c = sym c.lines_fit.ensures ∙ c.if-not-lines_fit.true
 
-room : (c : tie.Else1) → let a = c.before.before.before.args in (a.at + 62 ≤ length a.out.now) × (a.k ≤ 2 ^ 60)
-room c = let a = c.before.before.before.args in pair_fits a.k a.at (length a.out.now) (fitting c)
+room : (c : tie.Else-not-lines_fit) → let a = c.args in (a.at + 62 ≤ length a.out.now) × (a.k ≤ 2 ^ 60)
+room c = let a = c.args in pair_fits a.k a.at (length a.out.now) (fitting c)
 
-lines-fit-requires : tie.Need-lines-fit-requires
+lines-fit-requires : tie.Need-lines_fit-requires
 lines-fit-requires c κs = search rules
 
-returns : tie.Need-returns
+returns : tie.Need-returns-then-not-lines_fit
 returns c =
-    let a = c.before.before.before.args in
+    let a = c.args in
     where_left (lines_fit 5 a.k 1 a.at (length a.out.now)) (line_bytes (pair_line a.pairs.now a.k)) a.out.now a.at (missing c)
 
-slice-write-out : tie.Need-slice-write-out
+slice-write-out : tie.Need-bounds-out-at
 slice-write-out c = omega (arith, room c)
 
-mul-put-pair-fields : tie.Need-overflow-mul-put-pair-fields
+mul-put-pair-fields : tie.Need-overflow_mul-k
 mul-put-pair-fields c = omega (arith, room c)
 
-add-put-pair-fields : tie.Need-overflow-add-put-pair-fields
-add-put-pair-fields c = omega (arith, room c.before, c.before.before.before.before.well-formed)
+add-put-pair-fields : tie.Need-overflow_add-at
+add-put-pair-fields c = omega (arith, room c.before, c.well_formed)
 
-put-pair-fields-requires : tie.Need-put-pair-fields-requires
+put-pair-fields-requires : tie.Need-put_pair_fields-requires
 put-pair-fields-requires c κs = search rules
 
-add-out : tie.Need-overflow-add-out
-add-out c = let i = c.before.before.before.before in omega (arith, room i, i.before.before.before.well-formed)
+add-out : tie.Need-overflow_add-out
+add-out c = omega (arith, room (c.before.before.before.before), c.well_formed)
 
-slice-write-out-2 : tie.Need-slice-write-out-2
+slice-write-out-2 : tie.Need-bounds-out-at-2
 slice-write-out-2 c =
-    let x = c.before.before in
-    let i = x.before.before in
-    let a = i.before.before.before.args in
-    omega (arith, room i, x.put-pair-fields.auto.1.1.0, length-set a.out.now a.at 80)
+    let a = c.args in
+    omega (arith, room (c.before.before.before.before), c.put_pair_fields.auto.out, length-set a.out.now a.at 80)
 
-add-result : tie.Need-overflow-add-result
-add-result c = let i = c.before.before.before.before in omega (arith, room i, i.before.before.before.well-formed)
+add-result : tie.Need-overflow_add-result
+add-result c = omega (arith, room (c.before.before.before.before), c.well_formed)
 
-same_length : tie.Need-same-length
+same_length : tie.Need-shape_of-out
 same_length c =
-    let x = c.before.before in
-    let a = x.before.before.before.before.before.args in
-    length-set x.put-pair-fields.new.1.1.0 (a.at + 61) 10 ∙ x.put-pair-fields.auto.1.1.0 ∙ length-set a.out.now a.at 80
+    let a = c.args in
+    length-set c.put_pair_fields.new.out (a.at + 61) 10 ∙ c.put_pair_fields.auto.out ∙ length-set a.out.now a.at 80
 
-returns-2 : tie.Need-returns-2
+returns-2 : tie.Need-returns
 returns-2 c =
-    let x = c.before.before in
-    let i = x.before.before in
-    let a = i.before.before.before.args in
+    let a = c.args in
     let l = set a.out.now a.at 80 in
-    let fits = fit_is 9223372036854775808 (6 * a.k) 5 (a.at + 1) (length l) (omega arith) (omega (arith, (room i).1))
-    (omega (arith, (room i).0, length-set a.out.now a.at 80)) in
-    where_taken (lines_fit 5 a.k 1 a.at (length a.out.now)) (fitting i)
-    (pair_puts a.pairs.now a.k a.out.now x.put-pair-fields.new.1.1.0 a.at
-    (fits_where l (a.at + 1) (five_from a.pairs.now (6 * a.k)) fits x.put-pair-fields.ensures))
+    let fits = fit_is 9223372036854775808 (6 * a.k) 5 (a.at + 1) (length l) (omega arith) (omega (arith, (room (c.before.before.before.before)).1))
+    (omega (arith, (room (c.before.before.before.before)).0, length-set a.out.now a.at 80)) in
+    where_taken (lines_fit 5 a.k 1 a.at (length a.out.now)) (fitting (c.before.before.before.before))
+    (pair_puts a.pairs.now a.k a.out.now c.put_pair_fields.new.out a.at
+    (fits_where l (a.at + 1) (five_from a.pairs.now (6 * a.k)) fits c.put_pair_fields.ensures))
 
-pub put-pair-spec : {M : Type 1} → statement M
-put-pair-spec =
+pub put_pair_spec : {M : Type 1} → statement M
+put_pair_spec =
     tie.close
     (tie.spec
     lines-fit-requires

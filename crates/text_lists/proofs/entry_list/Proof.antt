@@ -8,5 +8,8 @@ use Rattle.text_lists.proofs.entry_list.Tie as tie
 returns : tie.Need-returns
 returns c = zeroed {A = ℤ} 5040 (pos 0)
 
-pub entry-list-spec : {M : Type 1} → statement M
-entry-list-spec = tie.close (tie.spec returns)
+pub entry_list_spec : {M : Type 1} → statement M
+entry_list_spec =
+    tie.close
+    (tie.spec
+    returns)

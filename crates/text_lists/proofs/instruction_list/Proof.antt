@@ -8,5 +8,8 @@ use Rattle.text_lists.proofs.instruction_list.Tie as tie
 returns : tie.Need-returns
 returns c = zeroed {A = ℤ} 2048 (pos 0)
 
-pub instruction-list-spec : {M : Type 1} → statement M
-instruction-list-spec = tie.close (tie.spec returns)
+pub instruction_list_spec : {M : Type 1} → statement M
+instruction_list_spec =
+    tie.close
+    (tie.spec
+    returns)

@@ -8,5 +8,8 @@ use Rattle.text_lists.proofs.kern_list.Tie as tie
 returns : tie.Need-returns
 returns c = zeroed {A = ℤ} 1024 (pos 0)
 
-pub kern-list-spec : {M : Type 1} → statement M
-kern-list-spec = tie.close (tie.spec returns)
+pub kern_list_spec : {M : Type 1} → statement M
+kern_list_spec =
+    tie.close
+    (tie.spec
+    returns)

@@ -8,5 +8,8 @@ use Rattle.text_lists.proofs.letter_list.Tie as tie
 returns : tie.Need-returns
 returns c = zeroed {A = ℕ} 64 0
 
-pub letter-list-spec : {M : Type 1} → statement M
-letter-list-spec = tie.close (tie.spec returns)
+pub letter_list_spec : {M : Type 1} → statement M
+letter_list_spec =
+    tie.close
+    (tie.spec
+    returns)

@@ -7,17 +7,23 @@ use Rattle.columns.specs.Scanned.{letters_in}
 use Rattle.text_lists.proofs.letters_in.Statement.{statement}
 use Rattle.text_lists.proofs.letters_in.Tie as tie
 
-word-of-requires : tie.Need-word-of-requires
+word-of-requires : tie.Need-word_of-w-requires
 word-of-requires c κs = search rules
 
-cast-result : tie.Need-overflow-cast-result
+cast-result : tie.Need-overflow_cast-result
 cast-result c = search rules
 
-returns : tie.Need-returns
-returns c = sym (ap letters_in (read_pos (word_passed c.before.before.ranges.letters c.before.word_of.ensures) c.if1.true))
+returns : tie.Need-returns-then-w-lt2147483648
+returns c = sym (ap letters_in (read_pos (word_passed c.ranges.letters c.word_of-w.ensures) c.if-w-lt2147483648.true))
 
-returns-2 : tie.Need-returns-2
-returns-2 c = sym (ap letters_in (read_neg (word_passed c.before.before.ranges.letters c.before.word_of.ensures) c.if1.false))
+returns-2 : tie.Need-returns-else-w-lt2147483648
+returns-2 c = sym (ap letters_in (read_neg (word_passed c.ranges.letters c.word_of-w.ensures) c.if-w-lt2147483648.false))
 
-pub letters-in-spec : {M : Type 1} → statement M
-letters-in-spec = tie.close (tie.spec word-of-requires cast-result returns returns-2)
+pub letters_in_spec : {M : Type 1} → statement M
+letters_in_spec =
+    tie.close
+    (tie.spec
+    word-of-requires
+    cast-result
+    returns
+    returns-2)

@@ -8,5 +8,8 @@ use Rattle.text_lists.proofs.line_kerns.Tie as tie
 returns : tie.Need-returns
 returns c = zeroed {A = ℤ} 512 (pos 0)
 
-pub line-kerns-spec : {M : Type 1} → statement M
-line-kerns-spec = tie.close (tie.spec returns)
+pub line_kerns_spec : {M : Type 1} → statement M
+line_kerns_spec =
+    tie.close
+    (tie.spec
+    returns)

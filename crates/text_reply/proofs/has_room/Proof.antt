@@ -4,11 +4,15 @@ use borrow.Author.Tests.{le-leb, lt-leb}
 use Rattle.text_reply.proofs.has_room.Statement.{statement}
 use Rattle.text_reply.proofs.has_room.Tie as tie
 
-returns : tie.Need-returns
-returns c = rw (le-leb _ _ c.if1.true)
+returns : tie.Need-returns-then-size-le65536
+returns c = rw (le-leb _ _ c.if-size-le65536.true)
 
-returns-2 : tie.Need-returns-2
-returns-2 c = rw (lt-leb _ _ c.if1.false)
+returns-2 : tie.Need-returns-else-size-le65536
+returns-2 c = rw (lt-leb _ _ c.if-size-le65536.false)
 
-pub has-room-spec : {M : Type 1} → statement M
-has-room-spec = tie.close (tie.spec returns returns-2)
+pub has_room_spec : {M : Type 1} → statement M
+has_room_spec =
+    tie.close
+    (tie.spec
+    returns
+    returns-2)

@@ -4,37 +4,33 @@ use borrow.Author.Rules.{rules}
 use Rattle.text_scan.proofs.read_text.Statement.{statement}
 use Rattle.text_scan.proofs.read_text.Tie as tie
 
-zero-lists-requires : tie.Need-zero-lists-requires
+zero-lists-requires : tie.Need-zero_lists-requires
 zero-lists-requires c κs = search rules
 
-read-zeroed-requires : tie.Need-read-zeroed-requires
+read-zeroed-requires : tie.Need-read_zeroed-read-requires
 read-zeroed-requires c κs = search rules
 
-enum_told : tie.Need-enum-told
+enum_told : tie.Need-enum_told-1
 enum_told c = search rules
 
-enum-told-2 : tie.Need-enum-told-2
+enum-told-2 : tie.Need-enum_told-in-Unreadable
 enum-told-2 c = search rules
 
-zero-lists-requires-2 : tie.Need-zero-lists-requires-2
+zero-lists-requires-2 : tie.Need-zero_lists-requires-in-Unreadable
 zero-lists-requires-2 c κs = search rules
 
-returns : tie.Need-returns
+returns : tie.Need-returns-in-Text
 returns c =
-    let x = c.before.before.read-zeroed in
-    x.ensures.on c.enum_told.given.0.0 c.enum_told.given.1
+    c.read_zeroed-read.ensures.on c.in-Text.field-0 c.in-Text.is
 
-returns-2 : tie.Need-returns-2
+returns-2 : tie.Need-returns-in-Unreadable
 returns-2 c =
-    let u = c.before.before.before.before.before in
-    let x = u.before.before in
-    let a = x.before.before.before.before.before.before.before.before.before.before.before.args in
-    let y = c.zero-lists2 in
-    clears a.text.now x.read-zeroed.result y.new.0 y.new.1.0 y.new.1.1.0 y.new.1.1.1.0 u.enum-told2.given.1
-    (x.read-zeroed.ensures.stuck u.enum-told2.given.1) y.ensures
+    let a = c.args in
+    clears a.text.now c.read_zeroed-read.result c.zero_lists-in-Unreadable.new.instructions c.zero_lists-in-Unreadable.new.kerns c.zero_lists-in-Unreadable.new.entries c.zero_lists-in-Unreadable.new.word c.in-Unreadable.is
+    (c.read_zeroed-read.ensures.stuck c.in-Unreadable.is) c.zero_lists-in-Unreadable.ensures
 
-pub read-text-spec : {M : Type 1} → statement M
-read-text-spec =
+pub read_text_spec : {M : Type 1} → statement M
+read_text_spec =
     tie.close
     (tie.spec
     zero-lists-requires

@@ -11,48 +11,43 @@ use borrow.Author.Rules.{rules}
 use Rattle.text_shared.proofs.copy_front.Statement.{statement}
 use Rattle.text_shared.proofs.copy_front.Tie as tie
 
-abbrev invariant-loop : tie.invariant-loop
+abbrev invariant-loop : tie.invariant-loop-j
 invariant-loop from k to₀ j₀ to j = (j ≤ k) × Appending (take j from) to₀ to
 
-abbrev decreases-loop : tie.decreases-loop
+abbrev decreases-loop : tie.decreases-loop-j
 decreases-loop from k to₀ j₀ to j = k - j
 
-loop-holds : tie.Need-loop-init invariant-loop decreases-loop
+loop-holds : tie.Need-loop-j-init invariant-loop decreases-loop
 loop-holds c = (omega arith, appending_none c.args.to.now)
 
-word-at-requires : tie.Need-word-at-requires invariant-loop decreases-loop
+word-at-requires : tie.Need-word_at-requires invariant-loop decreases-loop
 word-at-requires c κs = search rules
 
-put-word-requires : tie.Need-put-word-requires invariant-loop decreases-loop
+put-word-requires : tie.Need-put_word-requires invariant-loop decreases-loop
 put-word-requires c κs = search rules
 
-add-j : tie.Need-overflow-add-j invariant-loop decreases-loop
-add-j c = let l = c.before.before.before.before.before in omega (arith, l.loop.invariant.0, c.before.before.before.before.loop-test.true)
+add-j : tie.Need-overflow_add-j invariant-loop decreases-loop
+add-j c = omega (arith, c.loop-j.invariant.0, c.loop-j-test.true)
 
-loop-less : tie.Need-loop-smaller invariant-loop decreases-loop
-loop-less c = omega (arith, c.before.before.before.before.loop-test.true)
+loop-less : tie.Need-loop-j-smaller invariant-loop decreases-loop
+loop-less c = omega (arith, c.loop-j-test.true)
 
-loop-again : tie.Need-loop-preserved invariant-loop decreases-loop
-loop-again c =
-    let t = c.before.before.before.before in
-    let l = t.before in
-    let b = l.before in (
-      omega (arith, t.loop-test.true),
-      copying_more b.args.from.now b.args.to.now b.args.k b.requires.0 t.loop-test.true b.requires.1 l.loop.invariant.1 c.before.put_word.ensures
-          (number_is c.before.before.word_at.ensures),
-    )
+loop-again : tie.Need-loop-j-preserved invariant-loop decreases-loop
+loop-again c = (
+  omega (arith, c.loop-j-test.true),
+  copying_more c.args.from.now c.args.to.now c.args.k c.requires.0 c.loop-j-test.true c.requires.1 c.loop-j.invariant.1 c.put_word.ensures
+      (number_is c.word_at.ensures),
+)
 
-same_length : tie.Need-same-length invariant-loop decreases-loop
-same_length c = appending_length c.before.before.args.to.now c.before.loop.invariant.1
+same_length : tie.Need-shape_of-to invariant-loop decreases-loop
+same_length c = appending_length c.args.to.now c.loop-j.invariant.1
 
 returns : tie.Need-returns invariant-loop decreases-loop
 returns c =
-    let l = c.before in
-    let b = l.before in
-    copying_all b.args.from.now b.args.to.now b.args.k b.requires.0 {j = l.loop.j} (omega (arith, c.loop-test.false, l.loop.invariant.0)) l.loop.invariant.1
+    copying_all c.args.from.now c.args.to.now c.args.k c.requires.0 {j = c.loop-j.j} (omega (arith, c.loop-j-test.false, c.loop-j.invariant.0)) c.loop-j.invariant.1
 
-pub copy-front-spec : {M : Type 1} → statement M
-copy-front-spec =
+pub copy_front_spec : {M : Type 1} → statement M
+copy_front_spec =
     tie.close
     (tie.spec
     invariant-loop

@@ -5,26 +5,26 @@ use borrow.Author.Rules.{rules}
 use Rattle.text_shared.proofs.share_front.Statement.{statement}
 use Rattle.text_shared.proofs.share_front.Tie as tie
 
-slice-relend-prefix-share-kerns : tie.Need-slice-relend-prefix-share-kerns
+slice-relend-prefix-share-kerns : tie.Need-slice_bounds-share_kerns-end
 slice-relend-prefix-share-kerns c = search rules
 
-slice-aggregate-share-kerns : tie.Need-slice-aggregate-share-kerns
-slice-aggregate-share-kerns c = let b = c.before in sym (length-take-le b.args.n b.args.instructions.now b.requires)
+slice-aggregate-share-kerns : tie.Need-slice_bounds-share_kerns-end-2
+slice-aggregate-share-kerns c = sym (length-take-le c.args.n c.args.instructions.now c.requires)
 
-share-kerns-requires : tie.Need-share-kerns-requires
+share-kerns-requires : tie.Need-share_kerns-requires
 share-kerns-requires c κs = search rules
 
-same_length : tie.Need-same-length
+same_length : tie.Need-shape_of-instructions
 same_length c = search rules
 
-same-length-2 : tie.Need-same-length-2
+same-length-2 : tie.Need-shape_of-kerns
 same-length-2 c = search rules
 
 returns : tie.Need-returns
-returns c = let x = c.before.before.share-kerns in record { program = x.new.0; shares = x.ensures; list = refl }
+returns c = record { program = c.share_kerns.new.instructions; shares = c.share_kerns.ensures; list = refl }
 
-pub share-front-spec : {M : Type 1} → statement M
-share-front-spec =
+pub share_front_spec : {M : Type 1} → statement M
+share_front_spec =
     tie.close
     (tie.spec
     slice-relend-prefix-share-kerns

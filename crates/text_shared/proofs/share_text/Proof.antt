@@ -1,66 +1,67 @@
 -- `text_shared::share_text` meets its contract: the kerns copied behind zeros, and the program shared. Assumes nothing.
 use mathlib.Core.Path.{◌≡◌, ap}
-use mathlib.Core.Logic.{◌⊎◌, inl, inr, ⊎_elim}
+use mathlib.Core.Logic.{◌⊎◌, inl, inr}
 use Prim.Native.Nat.{◌<◌, ◌≤◌}
 use native.Mathlib.Omega.{arith}
 use lib.IntN.{pos}
 use lib.ListN.{length, replicate, length-replicate}
 use borrow.Author.Rules.{rules}
-use borrow.Author.Tests.{ltb-true, ltb-false}
 use Rattle.text_shared.proofs.Laws.{blank_of, text_past, text_shared}
 use Rattle.text_shared.proofs.share_text.Statement.{statement}
 use Rattle.text_shared.proofs.share_text.Tie as tie
+use Rattle.text_shared.proofs.share_text.Lts.{then-i-gt2048-via-then-i-gt2048, then-i-gt2048-via-else-i-gt2048+then-k-gt512}
 
 -- the list of kerns, zeros
-blank : (z : tie.After-zero-i32) → z.zero-i32.new.0 ≡ replicate 1024 (pos 0)
-blank z = blank_of z.before.before.args.kerns.now z.zero-i32.new.0 1024 z.before.zero-i32-arg.given.0.1 z.zero-i32.ensures
+blank : (z : tie.After-zero_i32) → z.zero_i32.new.s ≡ replicate 1024 (pos 0)
+blank z = blank_of z.args.kerns.now z.zero_i32.new.s 1024 z.zero_i32-arg-1.given.0.1 z.zero_i32.ensures
 
 -- past the limits, by either test
-past : (j : tie.Joined1) → let a = j.before.before.before.args in (2048 < a.i) ⊎ (512 < a.k)
-past j = ⊎_elim (λ t. inl t.taken) (λ t. inr (ltb-true _ _ t.1.taken)) j.if1.branch
+past : (j : tie.Joined-then-i-gt2048) → let a = j.args in (2048 < a.i) ⊎ (512 < a.k)
+past j =
+    elim j.then-i-gt2048.branch [
+      | then-i-gt2048-via-then-i-gt2048 w ↦ inl w.if-i-gt2048.true
+      | then-i-gt2048-via-else-i-gt2048+then-k-gt512 w ↦ inr w.if-k-gt512.true
+    ]
 
 -- within them
-few : (e : tie.Else2) → let a = e.before.before.before.before.args in (a.i ≤ 2048) × (a.k ≤ 512)
-few e = (e.before.if1.false, ltb-false _ _ e.if2.false)
+few : (e : tie.Else-k-gt512) → let a = e.args in (a.i ≤ 2048) × (a.k ≤ 512)
+few e = (e.if-i-gt2048.false, e.if-k-gt512.false)
 
-zero-i32-requires : tie.Need-zero-i32-requires
+zero-i32-requires : tie.Need-zero_i32-requires
 zero-i32-requires c κs = search rules
 
-returns : tie.Need-returns
+returns : tie.Need-returns-then-i-gt2048
 returns c =
-    let z = c.before in
-    let a = z.before.before.args in
-    text_past a.i a.k a.instructions.now a.own.now (past c) (blank z)
+    let a = c.args in
+    text_past a.i a.k a.instructions.now a.own.now (past c) (blank (c.before))
 
-own-long : (c : tie.After-copy-front-arg2) → let a = c.before.before.before.before.before.before.args in length a.own.now ≡ 512
+own-long : (c : tie.After-copy_front-arg-2-1) → let a = c.args in length a.own.now ≡ 512
 own-long c = search rules
 
-copy-front-requires : tie.Need-copy-front-requires
+copy-front-requires : tie.Need-copy_front-requires
 copy-front-requires c κs =
-    let e = c.before.before in
-    let z = e.before.before in
-    (omega (arith, (few e).1, own-long c), omega (arith, (few e).1, ap length (blank z), length-replicate 1024 (pos 0)))
+    (omega (arith, (few (c.before.before)).1, own-long c), omega (arith, (few (c.before.before)).1, ap length (blank (c.before.before.before.before)), length-replicate 1024 (pos 0)))
 
-program_long : (c : tie.After-share-front-arg2) → let a = c.before.before.before.before.before.before.before.before.before.args in
+program_long : (c : tie.After-share_front-arg-2-1) → let a = c.args in
     length a.instructions.now ≡ 2048
 program_long c = search rules
 
-share-front-requires : tie.Need-share-front-requires
+share-front-requires : tie.Need-share_front-requires
 share-front-requires c κs =
-    let e = c.before.before.before.before.before in
-    omega (arith, (few e).0, program_long c)
+    omega (arith, (few (c.before.before.before.before.before)).0, program_long c)
 
-returns-2 : tie.Need-returns-2
+returns-2 : tie.Need-returns
 returns-2 c =
-    let s = c.before in
-    let f = s.before.before in
-    let o = f.before in
-    let e = o.before.before in
-    let z = e.before.before in
-    let a = z.before.before.args in
-    text_shared a.i a.k a.instructions.now a.own.now (few e).0 (few e).1 (program_long s) (own-long o) (blank z) f.copy-front.ensures
-    c.share-front.ensures
+    let a = c.args in
+    text_shared a.i a.k a.instructions.now a.own.now (few (c.before.before.before.before.before.before)).0 (few (c.before.before.before.before.before.before)).1 (program_long (c.before)) (own-long (c.before.before.before.before)) (blank (c.before.before.before.before.before.before.before.before)) c.copy_front.ensures
+    c.share_front.ensures
 
-pub share-text-spec : {M : Type 1} → statement M
-share-text-spec =
-    tie.close (tie.spec zero-i32-requires returns copy-front-requires share-front-requires returns-2)
+pub share_text_spec : {M : Type 1} → statement M
+share_text_spec =
+    tie.close
+    (tie.spec
+    zero-i32-requires
+    returns
+    copy-front-requires
+    share-front-requires
+    returns-2)

@@ -24,45 +24,45 @@ unfolding design_at
 by_words (pos n) s m f h = number_pos (design_word n (word_of s) (word_of m)) (word_below n (word_of s) (word_of m) h)
 by_words (negsuc n) s m f h = absurd (omega (arith, f.sfits))
 
-word-of-requires : tie.Need-word-of-requires
+word-of-requires : tie.Need-word_of-design-requires
 word-of-requires c κs = search rules
 
-returns : tie.Need-returns
+returns : tie.Need-returns-then-design-ge2147483648
 returns c =
     let s = c.before.before in
     let a = s.args in
-    let d = word_as c.before.word_of.ensures s.ranges.«design-size» in
-    negative a.«design-size» a.size a.magnification s.ranges.«design-size» (rw d at c.if1.true)
+    let d = word_as c.word_of-design.ensures s.ranges.design_size in
+    negative a.design_size a.size a.magnification s.ranges.design_size (rw d at c.if-design-ge2147483648.true)
 
-word-of-requires-2 : tie.Need-word-of-requires-2
+word-of-requires-2 : tie.Need-word_of-requires
 word-of-requires-2 c κs = search rules
 
-word-of-requires-3 : tie.Need-word-of-requires-3
+word-of-requires-3 : tie.Need-word_of-requires-2
 word-of-requires-3 c κs = search rules
 
-design-word-requires : tie.Need-design-word-requires
+design-word-requires : tie.Need-design_word-requires
 design-word-requires c κs = search rules
 
-number-of-requires : tie.Need-number-of-requires
+number-of-requires : tie.Need-number_of-requires
 number-of-requires c κs = search rules
 
-returns-2 : tie.Need-returns-2
+returns-2 : tie.Need-returns
 returns-2 c =
     let w = c.before in
     let i = w.before.before.before in
     let s = i.before.before in
     let a = s.args in
     let f = s.ranges in
-    let d = word_as i.before.word_of.ensures f.«design-size» in
-    let x = word_as w.before.before.word-of2.ensures f.size in
-    let y = word_as w.before.word-of3.ensures f.magnification in
-    let e = w.design-word.ensures ∙ (λ j. design_word (d j) (x j) (y j)) in
-    let h = by_words a.«design-size» a.size a.magnification f.«design-size» (rw d at i.if1.false) in
-    ap (λ (z : ℤ). number_of (word_of z)) (c.number_of_lem.ensures ∙ ap number_of e ∙ h)
-    ∙ number_word (design_at a.«design-size» a.size a.magnification) (design_fits a.«design-size» a.size a.magnification f.«design-size»)
+    let d = word_as i.word_of-design.ensures f.design_size in
+    let x = word_as w.word_of.ensures f.size in
+    let y = word_as w.word_of-2.ensures f.magnification in
+    let e = w.design_word.ensures ∙ (λ j. design_word (d j) (x j) (y j)) in
+    let h = by_words a.design_size a.size a.magnification f.design_size (rw d at i.if-design-ge2147483648.false) in
+    ap (λ (z : ℤ). number_of (word_of z)) (c.number_of.ensures ∙ ap number_of e ∙ h)
+    ∙ number_word (design_at a.design_size a.size a.magnification) (design_fits a.design_size a.size a.magnification f.design_size)
 
-pub design-at-spec : {M : Type 1} → statement M
-design-at-spec =
+pub design_at_spec : {M : Type 1} → statement M
+design_at_spec =
     tie.close
     (tie.spec
     word-of-requires

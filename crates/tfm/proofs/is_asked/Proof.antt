@@ -4,11 +4,15 @@ use Rattle.tfm.proofs.Sizes.{asked_size, asked_magnified}
 use Rattle.tfm.proofs.is_asked.Statement.{statement}
 use Rattle.tfm.proofs.is_asked.Tie as tie
 
-returns : tie.Need-returns
-returns c = let a = c.before.args in asked_size a.size a.magnification c.if1.true
+returns : tie.Need-returns-then-size-ne0
+returns c = let a = c.args in asked_size a.size a.magnification c.if-size-ne0.true
 
-returns-2 : tie.Need-returns-2
-returns-2 c = let a = c.before.args in asked_magnified a.size a.magnification c.if1.false
+returns-2 : tie.Need-returns-else-size-ne0
+returns-2 c = let a = c.args in asked_magnified a.size a.magnification c.if-size-ne0.false
 
-pub is-asked-spec : {M : Type 1} → statement M
-is-asked-spec = tie.close (tie.spec returns returns-2)
+pub is_asked_spec : {M : Type 1} → statement M
+is_asked_spec =
+    tie.close
+    (tie.spec
+    returns
+    returns-2)

@@ -49,41 +49,41 @@ module _ {z w low : ℕ} {m : Multiplier} (k : Known z w m low) where
   at-255 : w / 16777216 ≡ 255 → Scaled (number_of (word_of (number_of low -ℤ number_of (m.alpha * m.z)))) ≡ scaled_from z w
   at-255 e = rw (number_word (number_of low -ℤ number_of (m.alpha * m.z)) fits, difference, k.summed, k.halved, top_255 z w e)
 
-known : (c : tie.After-low-bytes) → Known c.before.before.args.z c.before.before.args.word c.before.halve.result c.low-bytes.result
-known c = record { small = c.before.before.requires; halved = c.before.halve.ensures; summed = c.low-bytes.ensures }
+known : (c : tie.After-low_bytes-low) → Known c.args.z c.args.word c.halve-m.result c.low_bytes-low.result
+known c = record { small = c.requires; halved = c.halve-m.ensures; summed = c.low_bytes-low.ensures }
 
-halve-requires : tie.Need-halve-requires
+halve-requires : tie.Need-halve-m-requires
 halve-requires c κs = search rules
 
-low-bytes-requires : tie.Need-low-bytes-requires
-low-bytes-requires c κs = m-below c.before.args.z c.halve.result c.before.requires c.halve.ensures
+low-bytes-requires : tie.Need-low_bytes-low-requires
+low-bytes-requires c κs = m-below c.args.z c.halve-m.result c.requires c.halve-m.ensures
 
-cast-v : tie.Need-overflow-cast-v
+cast-v : tie.Need-overflow_cast-v
 cast-v c = record { sfits = low-lt (known c.before) }
 
-returns : tie.Need-returns
-returns c = at-0 (known c.before) c.if1.true
+returns : tie.Need-returns-then-top-eq0
+returns c = at-0 (known c.before) c.if-top-eq0.true
 
-mul-sixteen : tie.Need-overflow-mul-sixteen
+mul-sixteen : tie.Need-overflow_mul-sixteen
 mul-sixteen c = omega (arith, times-lt (known c.before.before.before))
 
-cast-v-2 : tie.Need-overflow-cast-v-2
+cast-v-2 : tie.Need-overflow_cast-v-then-top-eq255
 cast-v-2 c = record { sfits = low-lt (known c.before.before.before) }
 
-cast-v-3 : tie.Need-overflow-cast-v-3
+cast-v-3 : tie.Need-overflow_cast-v-then-top-eq255-2
 cast-v-3 c = record { sfits = times-lt (known c.before.before.before) }
 
-sub-v : tie.Need-overflow-sub-v
+sub-v : tie.Need-overflow_sub-v
 sub-v c = fits (known c.before.before.before)
 
-returns-2 : tie.Need-returns-2
-returns-2 c = at-255 (known c.before.before.before) c.before.if2.true
+returns-2 : tie.Need-returns-then-top-eq255
+returns-2 c = at-255 (known c.before.before.before) c.if-top-eq255.true
 
-returns-3 : tie.Need-returns-3
-returns-3 c = let a = c.before.before.before.before.args in sym (top_other a.z a.word c.before.if1.false c.if2.false)
+returns-3 : tie.Need-returns
+returns-3 c = let a = c.args in sym (top_other a.z a.word c.if-top-eq0.false c.if-top-eq255.false)
 
-pub scaled-from-spec : {M : Type 1} → statement M
-scaled-from-spec =
+pub scaled_from_spec : {M : Type 1} → statement M
+scaled_from_spec =
     tie.close
     (tie.spec
     halve-requires

@@ -19,35 +19,40 @@ refused : (n : ℕ) (t : ToScaled) (v : ℤ) → t ≡ Scaled v → (n ≡ 0 →
 refused zero t v e h = absurd (h refl)
 refused (suc n) t v e h = rw e
 
-enum_told : tie.Need-enum-told
+enum_told : tie.Need-enum_told-1
 enum_told c = search rules
 
-enum-told-2 : tie.Need-enum-told-2
+enum-told-2 : tie.Need-enum_told-in-TooLarge
 enum-told-2 c = search rules
 
-enum-known-scaled : tie.Need-enum-known-scaled
+enum-known-scaled : tie.Need-enum_known-scaled
 enum-known-scaled c = search rules
 
-returns : tie.Need-returns
+returns : tie.Need-returns-in-NegativeDesignSize
 returns c = search rules
 
-returns-2 : tie.Need-returns-2
+returns-2 : tie.Need-returns-in-TooLarge
 returns-2 c = search rules
 
-returns-3 : tie.Need-returns-3
+returns-3 : tie.Need-returns-then-number-eq0
 returns-3 c =
-    let g = c.before.before.scaled.given in
-    let a = c.before.before.before.before.args in
-    ap At.Scaled (number_word g.0.0 (record { sfits = c.before.known_told.given.0.1 }))
-    ∙ taken a.number a.scaled g.0.0 g.1 c.if1.true
+    let a = c.args in
+    ap At.Scaled (number_word c.in-Scaled.v (record { sfits = c.in-Scaled.known_told-1-own.given.0.1 }))
+    ∙ taken a.number a.scaled c.in-Scaled.v c.in-Scaled.is c.if-number-eq0.true
 
-returns-4 : tie.Need-returns-4
+returns-4 : tie.Need-returns-else-number-eq0
 returns-4 c =
-    let g = c.before.before.scaled.given in
-    let a = c.before.before.before.before.args in
-    refused a.number a.scaled g.0.0 g.1 c.if1.false
+    let a = c.args in
+    refused a.number a.scaled c.in-Scaled.v c.in-Scaled.is c.if-number-eq0.false
 
-pub size-scaled-spec : {M : Type 1} → statement M
-size-scaled-spec =
+pub size_scaled_spec : {M : Type 1} → statement M
+size_scaled_spec =
     tie.close
-    (tie.spec enum_told enum-told-2 enum-known-scaled returns returns-2 returns-3 returns-4)
+    (tie.spec
+    enum_told
+    enum-told-2
+    enum-known-scaled
+    returns
+    returns-2
+    returns-3
+    returns-4)

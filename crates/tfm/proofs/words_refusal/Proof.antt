@@ -8,40 +8,40 @@ use Rattle.tfm.proofs.Sizes.{refused_two, refused_size, refused_none, refused_la
 use Rattle.tfm.proofs.words_refusal.Statement.{statement}
 use Rattle.tfm.proofs.words_refusal.Tie as tie
 
-returns : tie.Need-returns
-returns c = let a = c.before.before.args in refused_two a.design a.size a.magnification c.before.if1.true (λ e. omega arith)
+returns : tie.Need-returns-then-magnification-ne0
+returns c = let a = c.args in refused_two a.design a.size a.magnification c.if-size-ne0.true (λ e. omega arith)
 
-z-refusal-requires : tie.Need-z-refusal-requires
+z-refusal-requires : tie.Need-z_refusal-requires
 z-refusal-requires c κs = search rules
 
-returns-2 : tie.Need-returns-2
+returns-2 : tie.Need-returns-then-size-ne0
 returns-2 c =
-    let a = c.before.before.before.args in
-    c.z-refusal.ensures ∙ refused_size a.design a.size a.magnification c.before.before.if1.true (omega arith)
+    let a = c.args in
+    c.z_refusal.ensures ∙ refused_size a.design a.size a.magnification c.if-size-ne0.true (omega arith)
 
-returns-3 : tie.Need-returns-3
-returns-3 c = let a = c.before.before.args in refused_none a.design a.size a.magnification c.before.if1.false c.if3.true
+returns-3 : tie.Need-returns-then-magnification-eq0
+returns-3 c = let a = c.args in refused_none a.design a.size a.magnification c.if-size-ne0.false c.if-magnification-eq0.true
 
-returns-4 : tie.Need-returns-4
+returns-4 : tie.Need-returns-then-magnification-gt32768
 returns-4 c =
-    let a = c.before.before.before.args in
-    refused_large a.design a.size a.magnification c.before.before.if1.false c.if4.true
+    let a = c.args in
+    refused_large a.design a.size a.magnification c.if-size-ne0.false c.if-magnification-gt32768.true
 
 magnify-requires : tie.Need-magnify-requires
 magnify-requires c κs = search rules
 
-z-refusal-requires-2 : tie.Need-z-refusal-requires-2
+z-refusal-requires-2 : tie.Need-z_refusal-requires-2
 z-refusal-requires-2 c κs = search rules
 
-returns-5 : tie.Need-returns-5
+returns-5 : tie.Need-returns
 returns-5 c =
     let t = c.before.before in
-    let a = t.before.before.before.args in
-    c.z-refusal2.ensures ∙ ap z_refusal c.before.magnify.ensures
-    ∙ refused_magnified a.design a.size a.magnification t.before.before.if1.false t.before.if3.false t.if4.false
+    let a = t.args in
+    c.z_refusal-2.ensures ∙ ap z_refusal c.magnify.ensures
+    ∙ refused_magnified a.design a.size a.magnification t.if-size-ne0.false t.if-magnification-eq0.false t.if-magnification-gt32768.false
 
-pub words-refusal-spec : {M : Type 1} → statement M
-words-refusal-spec =
+pub words_refusal_spec : {M : Type 1} → statement M
+words_refusal_spec =
     tie.close
     (tie.spec
     returns

@@ -9,27 +9,31 @@ use borrow.Author.Rules.{rules}
 use Rattle.word_items.proofs.put_item.Statement.{statement}
 use Rattle.word_items.proofs.put_item.Tie as tie
 
-is-small-requires : tie.Need-is-small-requires
+is-small-requires : tie.Need-is_small-requires
 is-small-requires c κs = search rules
 
-write-item-requires : tie.Need-write-item-requires
-write-item-requires c κs = let i = c.before.before in test_small i.before.args.answer (sym i.is-small.ensures ∙ c.before.if1.true)
+write-item-requires : tie.Need-write_item-requires
+write-item-requires c κs = test_small c.args.answer (sym c.is_small.ensures ∙ c.if-is_small.true)
 
-same_length : tie.Need-same-length
+same_length : tie.Need-shape_of-items
 same_length c = search rules
 
-returns : tie.Need-returns
+returns : tie.Need-returns-then-is_small
 returns c =
-    let x = c.before.write-item in
-    let i = c.before.before.before.before in
-    let a = i.before.args in
-    x.ensures
+    let a = c.args in
+    c.write_item.ensures
     ∙ ap (λ (b : Bool). cond b (six_at a.items.now a.at (answer_reply a.answer).values) a.items.now)
-    (sym (sym i.is-small.ensures ∙ c.before.before.before.if1.true))
+    (sym (sym c.is_small.ensures ∙ c.if-is_small.true))
 
-returns-2 : tie.Need-returns-2
-returns-2 c = rw (sym c.before.is-small.ensures ∙ c.if1.false)
+returns-2 : tie.Need-returns-else-is_small
+returns-2 c = rw (sym c.is_small.ensures ∙ c.if-is_small.false)
 
-pub put-item-spec : {M : Type 1} → statement M
-put-item-spec =
-    tie.close (tie.spec is-small-requires write-item-requires same_length returns returns-2)
+pub put_item_spec : {M : Type 1} → statement M
+put_item_spec =
+    tie.close
+    (tie.spec
+    is-small-requires
+    write-item-requires
+    same_length
+    returns
+    returns-2)

@@ -5,44 +5,44 @@ use borrow.Author.Rules.{rules}
 use Rattle.word_items.proofs.stopped.Statement.{statement}
 use Rattle.word_items.proofs.stopped.Tie as tie
 
-enum_told : tie.Need-enum-told
+enum_told : tie.Need-enum_told-1
 enum_told c = search rules
 
-enum-told-2 : tie.Need-enum-told-2
+enum-told-2 : tie.Need-enum_told-in-Ligature
 enum-told-2 c = search rules
 
-enum-told-3 : tie.Need-enum-told-3
+enum-told-3 : tie.Need-enum_told-in-Kern
 enum-told-3 c = search rules
 
-enum-told-4 : tie.Need-enum-told-4
+enum-told-4 : tie.Need-enum_told-in-End
 enum-told-4 c = search rules
 
-enum-known-answer : tie.Need-enum-known-answer
+enum-known-answer : tie.Need-enum_known-answer
 enum-known-answer c = search rules
 
-zero-i32-requires : tie.Need-zero-i32-requires
+zero-i32-requires : tie.Need-zero_i32-requires
 zero-i32-requires c κs = search rules
 
-returns : tie.Need-returns
-returns c = rw c.enum_told.given.1 (refl, refl)
+returns : tie.Need-returns-in-Char
+returns c = rw c.in-Char.is (refl, refl)
 
-returns-2 : tie.Need-returns-2
-returns-2 c = rw c.enum-told2.given.1 (refl, refl)
+returns-2 : tie.Need-returns-in-Ligature
+returns-2 c = rw c.in-Ligature.is (refl, refl)
 
-returns-3 : tie.Need-returns-3
-returns-3 c = rw c.enum-told3.given.1 (refl, refl)
+returns-3 : tie.Need-returns-in-Kern
+returns-3 c = rw c.in-Kern.is (refl, refl)
 
-returns-4 : tie.Need-returns-4
-returns-4 c = rw c.enum-told4.given.1 (refl, refl)
+returns-4 : tie.Need-returns-in-End
+returns-4 c = rw c.in-End.is (refl, refl)
 
-same_length : tie.Need-same-length
+same_length : tie.Need-shape_of-items
 same_length c = search rules
 
-returns-5 : tie.Need-returns-5
-returns-5 c = rw c.before.before.before.before.answer.given.1 (refl, c.before.zero-i32.ensures)
+returns-5 : tie.Need-returns-in-Refused
+returns-5 c = rw c.in-Refused.is (refl, c.zero_i32.ensures)
 
-pub stopped-spec : {M : Type 1} → statement M
-stopped-spec =
+pub stopped_spec : {M : Type 1} → statement M
+stopped_spec =
     tie.close
     (tie.spec
     enum_told

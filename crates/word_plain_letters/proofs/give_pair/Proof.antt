@@ -10,113 +10,99 @@ use Rattle.word_plain_letters.proofs.give_pair.Statement.{statement}
 use Rattle.word_plain_letters.proofs.give_pair.Tie as tie
 
 -- the entry is a kern pair, and its ops and its place are inside
-pair : (c : tie.Else1) → let a = c.before.before.args in
-    (is_kern_pair a.pairs.now a.ops.now a.place ≡ true) × (c.before.kern_op_lem.result ≡ suc (first_op a.pairs.now a.place))
+pair : (c : tie.Else-q-eq0) → let a = c.args in
+    (is_kern_pair a.pairs.now a.ops.now a.place ≡ true) × (c.kern_op-q.result ≡ suc (first_op a.pairs.now a.place))
 pair c =
-    let a = c.before.before.args in
-    op_pair a.pairs.now a.ops.now a.place c.before.kern_op_lem.result c.before.kern_op_lem.ensures c.if1.false
+    let a = c.args in
+    op_pair a.pairs.now a.ops.now a.place c.kern_op-q.result c.kern_op-q.ensures c.if-q-eq0.false
 
-inside : (c : tie.Else1) → let a = c.before.before.args in
-    (c.before.kern_op_lem.result + 1 ≤ op_count a.ops.now) × (a.place < pair_count a.pairs.now)
+inside : (c : tie.Else-q-eq0) → let a = c.args in
+    (c.kern_op-q.result + 1 ≤ op_count a.ops.now) × (a.place < pair_count a.pairs.now)
 inside c =
-    let a = c.before.before.args in
+    let a = c.args in
     let p = pair_is a.pairs.now a.ops.now a.place (pair c).0 in
     (omega (arith, p.among, (pair c).1), p.there)
 
-kern-op-requires : tie.Need-kern-op-requires
+kern-op-requires : tie.Need-kern_op-q-requires
 kern-op-requires c κs = search rules
 
-returns : tie.Need-returns
+returns : tie.Need-returns-then-q-eq0
 returns c = stops
 
 minus-requires : tie.Need-minus-requires
 minus-requires c κs = search rules
 
-returns-2 : tie.Need-returns-2
+returns-2 : tie.Need-returns-then-minus-lt12
 returns-2 c = stops
 
-sub-word-at : tie.Need-overflow-sub-word-at
+sub-word-at : tie.Need-overflow_sub-q
 sub-word-at c = search rules
 
-mul-word-at : tie.Need-overflow-mul-word-at
+mul-word-at : tie.Need-overflow_mul-q
 mul-word-at c =
-    let e = c.before.before.before in
-    let b = e.before.before.well-formed in
-    omega (arith, (inside e).0, (inside e).1)
+    let b = c.well_formed in
+    omega (arith, (inside (c.before.before.before)).0, (inside (c.before.before.before)).1)
 
-add-word-at : tie.Need-overflow-add-word-at
+add-word-at : tie.Need-overflow_add-q
 add-word-at c =
-    let e = c.before.before.before in
-    let b = e.before.before.well-formed in
-    omega (arith, (inside e).0, (inside e).1)
+    let b = c.well_formed in
+    omega (arith, (inside (c.before.before.before)).0, (inside (c.before.before.before)).1)
 
-word-at-requires : tie.Need-word-at-requires
+word-at-requires : tie.Need-word_at-requires
 word-at-requires c κs = search rules
 
-write-six-requires : tie.Need-write-six-requires
+write-six-requires : tie.Need-write_six-requires
 write-six-requires c κs = search rules
 
-add-write-six : tie.Need-overflow-add-write-six
+add-write-six : tie.Need-overflow_add-at
 add-write-six c = search rules
 
-mul-word-at-2 : tie.Need-overflow-mul-word-at-2
+mul-word-at-2 : tie.Need-overflow_mul-q-2
 mul-word-at-2 c =
-    let e = c.before.before.before.before.before.before.before in
-    let b = e.before.before.well-formed in
-    omega (arith, (inside e).0, (inside e).1)
+    let b = c.well_formed in
+    omega (arith, (inside (c.before.before.before.before.before.before.before)).0, (inside (c.before.before.before.before.before.before.before)).1)
 
-add-word-at-2 : tie.Need-overflow-add-word-at-2
+add-word-at-2 : tie.Need-overflow_add-q-2
 add-word-at-2 c =
-    let e = c.before.before.before.before.before.before.before in
-    let b = e.before.before.well-formed in
-    omega (arith, (inside e).0, (inside e).1)
+    let b = c.well_formed in
+    omega (arith, (inside (c.before.before.before.before.before.before.before)).0, (inside (c.before.before.before.before.before.before.before)).1)
 
-word-at-requires-2 : tie.Need-word-at-requires-2
+word-at-requires-2 : tie.Need-word_at-requires-2
 word-at-requires-2 c κs = search rules
 
-write-six-requires-2 : tie.Need-write-six-requires-2
+write-six-requires-2 : tie.Need-write_six-requires-2
 write-six-requires-2 c κs = search rules
 
-add-t15 : tie.Need-overflow-add-t15
+add-t15 : tie.Need-overflow_add-result
 add-t15 c =
-    let e = c.before.before.before.before.before.before.before.before.before.before in
-    let b = e.before.before.well-formed in
-    omega (arith, (inside e).0, (inside e).1)
+    let b = c.well_formed in
+    omega (arith, (inside (c.before.before.before.before.before.before.before.before.before.before)).0, (inside (c.before.before.before.before.before.before.before.before.before.before)).1)
 
-mul-word-at-3 : tie.Need-overflow-mul-word-at-3
+mul-word-at-3 : tie.Need-overflow_mul-place
 mul-word-at-3 c =
-    let e = c.before.before.before.before.before.before.before.before.before.before in
-    let b = e.before.before.well-formed in
-    omega (arith, (inside e).0, (inside e).1)
+    let b = c.well_formed in
+    omega (arith, (inside (c.before.before.before.before.before.before.before.before.before.before)).0, (inside (c.before.before.before.before.before.before.before.before.before.before)).1)
 
-add-word-at-3 : tie.Need-overflow-add-word-at-3
+add-word-at-3 : tie.Need-overflow_add-place
 add-word-at-3 c =
-    let e = c.before.before.before.before.before.before.before.before.before.before in
-    let b = e.before.before.well-formed in
-    omega (arith, (inside e).0, (inside e).1)
+    let b = c.well_formed in
+    omega (arith, (inside (c.before.before.before.before.before.before.before.before.before.before)).0, (inside (c.before.before.before.before.before.before.before.before.before.before)).1)
 
-word-at-requires-3 : tie.Need-word-at-requires-3
+word-at-requires-3 : tie.Need-word_at-requires-3
 word-at-requires-3 c κs = search rules
 
-same_length : tie.Need-same-length
+same_length : tie.Need-shape_of-items
 same_length c = search rules
 
-returns-3 : tie.Need-returns-3
+returns-3 : tie.Need-returns
 returns-3 c =
-    let w = c.before.before in
-    let v = w.before in
-    let u = v.before.before.before in
-    let r = u.before in
-    let f = r.before.before in
-    let e = f.before.before in
-    let s = e.before.before in
-    let a = s.args in
-    gives_kerns a.pairs.now a.ops.now a.place a.start a.items.now a.at (pair e).0
-    (omega (arith, f.if2.false, f.before.minus.ensures)) (pair e).1 r.word_at.ensures v.word-at2.ensures c.word-at3.ensures
-    u.write-six.ensures w.write-six2.ensures
+    let a = c.args in
+    gives_kerns a.pairs.now a.ops.now a.place a.start a.items.now a.at (pair (c.before.before.before.before.before.before.before.before.before.before.before)).0
+    (omega (arith, c.if-minus-lt12.false, c.minus.ensures)) (pair (c.before.before.before.before.before.before.before.before.before.before.before)).1 c.word_at.ensures c.word_at-2.ensures c.word_at-3.ensures
+    c.write_six.ensures c.write_six-2.ensures
 
-pub give-pair-spec : {M : Type 1} → statement M
-give-pair-spec =
+pub give_pair_spec : {M : Type 1} → statement M
+give_pair_spec =
     tie.close
     (tie.spec
     kern-op-requires

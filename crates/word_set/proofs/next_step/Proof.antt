@@ -19,35 +19,34 @@ passed c =
     let a = c.args in
     ap (λ (z : ℤ). step_of a.pairs.now a.ops.now z a.word.now a.options a.s) (number_word a.boundary c.ranges.boundary)
 
-kern-step-requires : tie.Need-kern-step-requires
+kern-step-requires : tie.Need-kern_step-requires
 kern-step-requires c κs = search rules
 
-returns : tie.Need-returns
+returns : tie.Need-returns-then-pairs-pair
 returns c = c.kern_step.ensures ∙ passed c.before.before.before
 
-is-ready-requires : tie.Need-is-ready-requires
+is-ready-requires : tie.Need-is_ready-requires
 is-ready-requires c κs = search rules
 
-kern-step-requires-2 : tie.Need-kern-step-requires-2
+kern-step-requires-2 : tie.Need-kern_step-requires-then-not-is_ready
 kern-step-requires-2 c κs = search rules
 
-returns-2 : tie.Need-returns-2
-returns-2 c = c.kern-step2.ensures ∙ passed c.before.before.before.before.before
+returns-2 : tie.Need-returns-then-not-is_ready
+returns-2 c = c.kern_step-then-not-is_ready.ensures ∙ passed c.before.before.before.before.before
 
-quick-step-requires : tie.Need-quick-step-requires
+quick-step-requires : tie.Need-quick_step-requires
 quick-step-requires c κs = search rules
 
-returns-3 : tie.Need-returns-3
+returns-3 : tie.Need-returns
 returns-3 c =
-    let b = c.before.before.before.before.before in
-    let a = b.args in
-    let q = b.requires c.before.before.before.if1.false in
-    c.quick-step.ensures
+    let a = c.args in
+    let q = c.requires c.if-pairs-pair.false in
+    c.quick_step.ensures
     ∙ sym (quick_steps a.pairs.now a.ops.now a.boundary a.word.now a.options a.s a.pair q.0 q.1
-    (sym c.before.before.is-ready.ensures ∙ not-false _ c.before.if2.false))
+    (sym c.is_ready.ensures ∙ c.if-not-is_ready.false))
 
-pub next-step-spec : {M : Type 1} → statement M
-next-step-spec =
+pub next_step_spec : {M : Type 1} → statement M
+next_step_spec =
     tie.close
     (tie.spec
     kern-step-requires

@@ -15,33 +15,35 @@ use borrow.Author.Rules.{rules}
 use Rattle.word_set.proofs.set_fresh.Statement.{statement}
 use Rattle.word_set.proofs.set_fresh.Tie as tie
 
-zero-i32-requires : tie.Need-zero-i32-requires
+zero-i32-requires : tie.Need-zero_i32-requires
 zero-i32-requires c κs = search rules
 
-fresh-state-requires : tie.Need-fresh-state-requires
+fresh-state-requires : tie.Need-fresh_state-fresh-requires
 fresh-state-requires c κs = search rules
 
-set-from-requires : tie.Need-set-from-requires
+set-from-requires : tie.Need-set_from-requires
 set-from-requires c κs =
-    let z = c.before.before.before in
-    blank z.before.before.before.args.items.now z.zero-i32.new.0 z.zero-i32.ensures
+    blank c.args.items.now c.zero_i32.new.s c.zero_i32.ensures
 
-same_length : tie.Need-same-length
+same_length : tie.Need-shape_of-items
 same_length c = search rules
 
 returns : tie.Need-returns
 returns c =
-    let x = c.before.set-from in
-    let f = c.before.before.before in
-    let z = f.before.before in
-    let s = z.before.before.before in
-    let a = s.args in
+    let a = c.args in
     subst (λ (y : ℤ). Tells
     (items_from a.pairs.now a.ops.now y a.word.now a.options (length a.items.now / 6) (fresh_state a.word.now a.options))
-    a.items.now x.result x.new.1.1.1.1.1.1.0) (number_word a.boundary s.ranges.boundary)
-    (tells_zeroed (step_of a.pairs.now a.ops.now (number_of (word_of a.boundary)) a.word.now a.options) a.items.now z.zero-i32.new.0
-    f.fresh-state.result (fresh_state a.word.now a.options) f.fresh-state.ensures z.zero-i32.auto.0 x.result
-    x.new.1.1.1.1.1.1.0 x.ensures)
+    a.items.now c.set_from.result c.set_from.new.items) (number_word a.boundary c.ranges.boundary)
+    (tells_zeroed (step_of a.pairs.now a.ops.now (number_of (word_of a.boundary)) a.word.now a.options) a.items.now c.zero_i32.new.s
+    c.fresh_state-fresh.result (fresh_state a.word.now a.options) c.fresh_state-fresh.ensures c.zero_i32.auto.s c.set_from.result
+    c.set_from.new.items c.set_from.ensures)
 
-pub set-fresh-spec : {M : Type 1} → statement M
-set-fresh-spec = tie.close (tie.spec zero-i32-requires fresh-state-requires set-from-requires same_length returns)
+pub set_fresh_spec : {M : Type 1} → statement M
+set_fresh_spec =
+    tie.close
+    (tie.spec
+    zero-i32-requires
+    fresh-state-requires
+    set-from-requires
+    same_length
+    returns)

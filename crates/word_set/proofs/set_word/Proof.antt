@@ -13,62 +13,52 @@ use borrow.Author.Rules.{rules}
 use Rattle.word_set.proofs.set_word.Statement.{statement}
 use Rattle.word_set.proofs.set_word.Tie as tie
 
-zero-i32-requires : tie.Need-zero-i32-requires
+zero-i32-requires : tie.Need-zero_i32-requires
 zero-i32-requires c κs = search rules
 
 begin-requires : tie.Need-begin-requires
 begin-requires c κs = search rules
 
-enum-known-state : tie.Need-enum-known-state
+enum-known-state : tie.Need-enum_known-state
 enum-known-state c = search rules
 
-set-from-requires : tie.Need-set-from-requires
+set-from-requires : tie.Need-set_from-requires
 set-from-requires c κs =
-    let z = c.before.before.before.before.before.before in
-    blank z.before.before.before.args.items.now z.zero-i32.new.0 z.zero-i32.ensures
+    blank c.args.items.now c.zero_i32.new.s c.zero_i32.ensures
 
-enum-known-n : tie.Need-enum-known-n
+enum-known-n : tie.Need-enum_known-n
 enum-known-n c = search rules
 
-same_length : tie.Need-same-length
+same_length : tie.Need-shape_of-items-in-Run
 same_length c = search rules
 
-returns : tie.Need-returns
+returns : tie.Need-returns-in-Run
 returns c =
-    let x = c.before.set-from in
-    let v = c.before.before.before.before in
-    let g = v.before.before in
-    let z = g.before.before in
-    let s = z.before.before.before in
-    let a = s.args in
-    subst (λ (y : ℤ). Sets a.pairs.now a.ops.now y a.word.now a.options a.items.now x.result x.new.1.1.1.1.1.1.0)
-    (number_word a.boundary s.ranges.boundary)
-    (sets_run a.pairs.now a.ops.now (number_of (word_of a.boundary)) a.word.now a.options a.items.now z.zero-i32.new.0
-    v.state.given.0.0
-    (sym v.state.given.1
-    ∙ begin_is a.pairs.now a.ops.now (number_of (word_of a.boundary)) a.word.now a.options g.begin.result g.begin.ensures)
-    z.zero-i32.auto.0 x.result x.new.1.1.1.1.1.1.0 x.ensures)
+    let a = c.args in
+    subst (λ (y : ℤ). Sets a.pairs.now a.ops.now y a.word.now a.options a.items.now c.set_from.result c.set_from.new.items)
+    (number_word a.boundary c.ranges.boundary)
+    (sets_run a.pairs.now a.ops.now (number_of (word_of a.boundary)) a.word.now a.options a.items.now c.zero_i32.new.s
+    c.in-Run.state
+    (sym c.in-Run.is
+    ∙ begin_is a.pairs.now a.ops.now (number_of (word_of a.boundary)) a.word.now a.options c.begin.result c.begin.ensures)
+    c.zero_i32.auto.s c.set_from.result c.set_from.new.items c.set_from.ensures)
 
-same-length-2 : tie.Need-same-length-2
+same-length-2 : tie.Need-shape_of-items-in-Refused
 same-length-2 c = search rules
 
-returns-2 : tie.Need-returns-2
+returns-2 : tie.Need-returns-in-Refused
 returns-2 c =
-    let v = c.before in
-    let g = v.before.before in
-    let z = g.before.before in
-    let s = z.before.before.before in
-    let a = s.args in
-    subst (λ (y : ℤ). Sets a.pairs.now a.ops.now y a.word.now a.options a.items.now (Refused v.n.given.0.0) z.zero-i32.new.0)
-    (number_word a.boundary s.ranges.boundary)
-    (sets_refused a.pairs.now a.ops.now (number_of (word_of a.boundary)) a.word.now a.options a.items.now z.zero-i32.new.0
-    v.n.given.0.0
-    (sym v.n.given.1
-    ∙ begin_is a.pairs.now a.ops.now (number_of (word_of a.boundary)) a.word.now a.options g.begin.result g.begin.ensures)
-    z.zero-i32.ensures)
+    let a = c.args in
+    subst (λ (y : ℤ). Sets a.pairs.now a.ops.now y a.word.now a.options a.items.now (Refused c.in-Refused.n) c.zero_i32.new.s)
+    (number_word a.boundary c.ranges.boundary)
+    (sets_refused a.pairs.now a.ops.now (number_of (word_of a.boundary)) a.word.now a.options a.items.now c.zero_i32.new.s
+    c.in-Refused.n
+    (sym c.in-Refused.is
+    ∙ begin_is a.pairs.now a.ops.now (number_of (word_of a.boundary)) a.word.now a.options c.begin.result c.begin.ensures)
+    c.zero_i32.ensures)
 
-pub set-word-spec : {M : Type 1} → statement M
-set-word-spec =
+pub set_word_spec : {M : Type 1} → statement M
+set_word_spec =
     tie.close
     (tie.spec
     zero-i32-requires

@@ -9,52 +9,45 @@ use borrow.Author.Rules.{rules}
 use Rattle.word_set_checked.proofs.checked_refusal.Statement.{statement}
 use Rattle.word_set_checked.proofs.checked_refusal.Tie as tie
 
-edges : (c : tie.After-edges-refusal) → c.edges-refusal.result ≡ edges_refusal c.before.before.args.boundary c.before.before.args.options
+edges : (c : tie.After-edges_refusal-edges) → c.edges_refusal-edges.result ≡ edges_refusal c.args.boundary c.args.options
 edges c =
-    let a = c.before.before in
-    c.edges-refusal.ensures ∙ ap (λ (z : ℤ). edges_refusal z a.args.options) (number_word a.args.boundary a.ranges.boundary)
+    c.edges_refusal-edges.ensures ∙ ap (λ (z : ℤ). edges_refusal z c.args.options) (number_word c.args.boundary c.ranges.boundary)
 
-edges-refusal-requires : tie.Need-edges-refusal-requires
+edges-refusal-requires : tie.Need-edges_refusal-edges-requires
 edges-refusal-requires c κs = search rules
 
-returns : tie.Need-returns
-returns c = first_refusal _ (edges c.before) c.if1.true
+returns : tie.Need-returns-then-edges-ne0
+returns c = first_refusal _ (edges c.before) c.if-edges-ne0.true
 
-word-refusal-requires : tie.Need-word-refusal-requires
+word-refusal-requires : tie.Need-word_refusal-long-requires
 word-refusal-requires c κs = search rules
 
-returns-2 : tie.Need-returns-2
+returns-2 : tie.Need-returns-then-long-ne0
 returns-2 c =
-    let d = c.before.before in
-    later_refusal_lem (edges d.before) d.if1.false (first_refusal _ c.before.word-refusal.ensures c.if2.true)
+    later_refusal_lem (edges c.before.before.before) c.if-edges-ne0.false (first_refusal _ c.word_refusal-long.ensures c.if-long-ne0.true)
 
-letters-refusal-requires : tie.Need-letters-refusal-requires
+letters-refusal-requires : tie.Need-letters_refusal-letters-requires
 letters-refusal-requires c κs = search rules
 
-returns-3 : tie.Need-returns-3
+returns-3 : tie.Need-returns-then-letters-ne0
 returns-3 c =
-    let w = c.before.before in
-    let d = w.before.before in
-    later_refusal_lem (edges d.before) d.if1.false
-    (later_refusal_lem w.before.word-refusal.ensures w.if2.false (first_refusal _ c.before.letters-refusal.ensures c.if3.true))
+    later_refusal_lem (edges c.before.before.before.before.before) c.if-edges-ne0.false
+    (later_refusal_lem c.word_refusal-long.ensures c.if-long-ne0.false (first_refusal _ c.letters_refusal-letters.ensures c.if-letters-ne0.true))
 
-override-refusal-requires : tie.Need-override-refusal-requires
+override-refusal-requires : tie.Need-override_refusal-requires
 override-refusal-requires c κs = search rules
 
-returns-4 : tie.Need-returns-4
+returns-4 : tie.Need-returns
 returns-4 c =
-    let t = c.before.before in
-    let w = t.before.before in
-    let d = w.before.before in
-    later_refusal_lem (edges d.before) d.if1.false
-    (later_refusal_lem w.before.word-refusal.ensures w.if2.false
-    (later_refusal_lem t.before.letters-refusal.ensures t.if3.false
-    (c.override-refusal.ensures
+    later_refusal_lem (edges c.before.before.before.before.before.before.before) c.if-edges-ne0.false
+    (later_refusal_lem c.word_refusal-long.ensures c.if-long-ne0.false
+    (later_refusal_lem c.letters_refusal-letters.ensures c.if-letters-ne0.false
+    (c.override_refusal.ensures
     ∙ ap override_refusal
-    (number_word d.before.before.before.args.options.right_boundary_override (record { sfits = c.before.struct_told.given.1.0.1 })))))
+    (number_word c.args.options.right_boundary_override (record { sfits = c.struct_told-1.given.1.0.1 })))))
 
-pub checked-refusal-spec : {M : Type 1} → statement M
-checked-refusal-spec =
+pub checked_refusal_spec : {M : Type 1} → statement M
+checked_refusal_spec =
     tie.close
     (tie.spec
     edges-refusal-requires

@@ -17,54 +17,48 @@ use Rattle.word_set_checked.proofs.set_checked_word.Statement.{statement}
 use Rattle.word_set_checked.proofs.set_checked_word.Tie as tie
 
 -- the number, by the boundary character as it was lent
-asked : (c : tie.After-checked-refusal) → let a = c.before.before.args in
-    c.checked-refusal.result ≡ checked_refusal a.boundary a.word.now a.options
+asked : (c : tie.After-checked_refusal-refusal) → let a = c.args in
+    c.checked_refusal-refusal.result ≡ checked_refusal a.boundary a.word.now a.options
 asked c =
-    let s = c.before.before in
-    c.checked-refusal.ensures ∙ ap (λ (z : ℤ). checked_refusal z s.args.word.now s.args.options)
-    (number_word s.args.boundary s.ranges.boundary)
+    c.checked_refusal-refusal.ensures ∙ ap (λ (z : ℤ). checked_refusal z c.args.word.now c.args.options)
+    (number_word c.args.boundary c.ranges.boundary)
 
-checked-refusal-requires : tie.Need-checked-refusal-requires
+checked-refusal-requires : tie.Need-checked_refusal-refusal-requires
 checked-refusal-requires c κs = search rules
 
-zero-i32-requires : tie.Need-zero-i32-requires
+zero-i32-requires : tie.Need-zero_i32-requires
 zero-i32-requires c κs = search rules
 
-same_length : tie.Need-same-length
+same_length : tie.Need-shape_of-items-then-refusal-ne0
 same_length c = search rules
 
-returns : tie.Need-returns
+returns : tie.Need-returns-then-refusal-ne0
 returns c =
-    let z = c.before in
-    let r = z.before.before.before in
-    let a = r.before.before.args in
-    refused_tells (checked_refusal a.boundary a.word.now a.options) r.checked-refusal.result
+    let a = c.args in
+    refused_tells (checked_refusal a.boundary a.word.now a.options) c.checked_refusal-refusal.result
     (items_from a.pairs.now a.ops.now a.boundary a.word.now a.options (length a.items.now / 6)
     (fresh_state a.word.now a.options))
-    a.items.now z.zero-i32.new.0 (asked r) z.before.before.if1.true z.zero-i32.ensures
+    a.items.now c.zero_i32.new.s (asked (c.before.before.before.before)) c.if-refusal-ne0.true c.zero_i32.ensures
 
-set-fresh-requires : tie.Need-set-fresh-requires
+set-fresh-requires : tie.Need-set_fresh-requires
 set-fresh-requires c κs = search rules
 
-same-length-2 : tie.Need-same-length-2
+same-length-2 : tie.Need-shape_of-items
 same-length-2 c = search rules
 
-returns-2 : tie.Need-returns-2
+returns-2 : tie.Need-returns
 returns-2 c =
-    let f = c.before in
-    let r = f.before.before.before in
-    let s = r.before.before in
-    let a = s.args in
+    let a = c.args in
     let run : ℤ → Reply = λ z. items_from a.pairs.now a.ops.now z a.word.now a.options (length a.items.now / 6)
     (fresh_state a.word.now a.options) in
-    taken_tells (checked_refusal a.boundary a.word.now a.options) r.checked-refusal.result (run a.boundary) a.items.now
-    f.set-fresh.result f.set-fresh.new.1.1.1.1.1.0 (asked r) f.before.before.if1.false
-    (subst (λ (z : ℤ). Tells (run z) a.items.now f.set-fresh.result f.set-fresh.new.1.1.1.1.1.0)
-    (number_word a.boundary s.ranges.boundary)
-    f.set-fresh.ensures)
+    taken_tells (checked_refusal a.boundary a.word.now a.options) c.checked_refusal-refusal.result (run a.boundary) a.items.now
+    c.set_fresh.result c.set_fresh.new.items (asked (c.before.before.before.before)) c.if-refusal-ne0.false
+    (subst (λ (z : ℤ). Tells (run z) a.items.now c.set_fresh.result c.set_fresh.new.items)
+    (number_word a.boundary c.ranges.boundary)
+    c.set_fresh.ensures)
 
-pub set-checked-word-spec : {M : Type 1} → statement M
-set-checked-word-spec =
+pub set_checked_word_spec : {M : Type 1} → statement M
+set_checked_word_spec =
     tie.close
     (tie.spec
     checked-refusal-requires

@@ -20,26 +20,33 @@ wide w l = sfits_widen tt (number_fits w l)
 back : (w : ℕ) → 2 ^ 31 ≤ w → w < 2 ^ 32 → to_z w64 (of_z w64 (to_z w64 w -ℤ pos 4294967296)) ≡ number_of w
 back w h l = rw (difference_is w h l) (to_z-of_z w64 (number_of w) (wide w l))
 
-cast-result : tie.Need-overflow-cast-result
+cast-result : tie.Need-overflow_cast-result
 cast-result c = search rules
 
-cast-result-2 : tie.Need-overflow-cast-result-2
+cast-result-2 : tie.Need-overflow_cast-result-else-w-lt2147483648
 cast-result-2 c = search rules
 
-sub-result : tie.Need-overflow-sub-result
-sub-result c = rw (difference_is c.before.args.w c.if1.false c.before.ranges.w.fits) (wide c.before.args.w c.before.ranges.w.fits)
+sub-result : tie.Need-overflow_sub-result
+sub-result c = rw (difference_is c.before.args.w c.if-w-lt2147483648.false c.before.ranges.w.fits) (wide c.before.args.w c.before.ranges.w.fits)
 
-cast-result-3 : tie.Need-overflow-cast-result-3
-cast-result-3 c = rw (back c.before.args.w c.if1.false c.before.ranges.w.fits) (number_fits c.before.args.w c.before.ranges.w.fits)
+cast-result-3 : tie.Need-overflow_cast-result-else-w-lt2147483648-2
+cast-result-3 c = rw (back c.before.args.w c.if-w-lt2147483648.false c.before.ranges.w.fits) (number_fits c.before.args.w c.before.ranges.w.fits)
 
-returns : tie.Need-returns
+returns : tie.Need-returns-then-w-lt2147483648
 returns c = search rules
 
-returns-2 : tie.Need-returns-2
+returns-2 : tie.Need-returns-else-w-lt2147483648
 returns-2 c =
-    rw (back c.before.args.w c.if1.false c.before.ranges.w.fits)
+    rw (back c.before.args.w c.if-w-lt2147483648.false c.before.ranges.w.fits)
     (number_word (number_of c.before.args.w) (number_fits c.before.args.w c.before.ranges.w.fits))
 
-pub number-of-spec : {M : Type 1} → statement M
-number-of-spec =
-    tie.close (tie.spec cast-result cast-result-2 sub-result cast-result-3 returns returns-2)
+pub number_of_spec : {M : Type 1} → statement M
+number_of_spec =
+    tie.close
+    (tie.spec
+    cast-result
+    cast-result-2
+    sub-result
+    cast-result-3
+    returns
+    returns-2)

@@ -41,25 +41,32 @@ natural-is x f t = rw (to_z-of_z w32 x f) (go x (rw (to_z-of_z w32 x f) at t))
     go (pos n) u = refl
     go (negsuc n) u = let z : ◌≡◌ {A = ℕ} 0 1 = cc in absurd (omega arith)
 
-cast-result : tie.Need-overflow-cast-result
+cast-result : tie.Need-overflow_cast-result
 cast-result c = rw (to_z-of_z w32 c.before.args.x c.before.ranges.x) (sfits_widen tt c.before.ranges.x)
 
-add-result : tie.Need-overflow-add-result
-add-result c = rw (sum c.before.args.x c.before.ranges.x c.if1.true) (word_wide c.before.args.x c.before.ranges.x)
+add-result : tie.Need-overflow_add-result
+add-result c = rw (sum c.before.args.x c.before.ranges.x c.if-x-lt0.true) (word_wide c.before.args.x c.before.ranges.x)
 
-cast-result-2 : tie.Need-overflow-cast-result-2
+cast-result-2 : tie.Need-overflow_cast-result-then-x-lt0
 cast-result-2 c =
-    rw (wide-sum c.before.args.x c.before.ranges.x c.if1.true) (tt, record { fits = word_lt c.before.args.x c.before.ranges.x })
+    rw (wide-sum c.before.args.x c.before.ranges.x c.if-x-lt0.true) (tt, record { fits = word_lt c.before.args.x c.before.ranges.x })
 
-cast-result-3 : tie.Need-overflow-cast-result-3
-cast-result-3 c = natural c.before.args.x c.before.ranges.x c.if1.false
+cast-result-3 : tie.Need-overflow_cast-result-else-x-lt0
+cast-result-3 c = natural c.before.args.x c.before.ranges.x c.if-x-lt0.false
 
-returns : tie.Need-returns
-returns c = rw (wide-sum c.before.args.x c.before.ranges.x c.if1.true)
+returns : tie.Need-returns-then-x-lt0
+returns c = rw (wide-sum c.before.args.x c.before.ranges.x c.if-x-lt0.true)
 
-returns-2 : tie.Need-returns-2
-returns-2 c = natural-is c.before.args.x c.before.ranges.x c.if1.false
+returns-2 : tie.Need-returns-else-x-lt0
+returns-2 c = natural-is c.before.args.x c.before.ranges.x c.if-x-lt0.false
 
-pub word-of-spec : {M : Type 1} → statement M
-word-of-spec =
-    tie.close (tie.spec cast-result add-result cast-result-2 cast-result-3 returns returns-2)
+pub word_of_spec : {M : Type 1} → statement M
+word_of_spec =
+    tie.close
+    (tie.spec
+    cast-result
+    add-result
+    cast-result-2
+    cast-result-3
+    returns
+    returns-2)

@@ -5,11 +5,15 @@ use borrow.Author.Rules.{rules}
 use Rattle.c_states.proofs.states.flag_of.Statement.{statement}
 use Rattle.c_states.proofs.states.flag_of.Tie as tie
 
-returns : tie.Need-returns
+returns : tie.Need-returns-in-0
 returns c = search rules
 
-returns-2 : tie.Need-returns-2
-returns-2 c = flag_other c.before.args.n c.match.rest
+returns-2 : tie.Need-returns-in_default
+returns-2 c = flag_other c.args.n c.in_default.in_default-own.rest
 
-pub flag-of-spec : {M : Type 1} → statement M
-flag-of-spec = tie.close (tie.spec returns returns-2)
+pub flag_of_spec : {M : Type 1} → statement M
+flag_of_spec =
+    tie.close
+    (tie.spec
+    returns
+    returns-2)

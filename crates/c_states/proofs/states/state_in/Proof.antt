@@ -6,18 +6,24 @@ use borrow.Author.Rules.{rules}
 use Rattle.c_states.proofs.states.state_in.Statement.{statement}
 use Rattle.c_states.proofs.states.state_in.Tie as tie
 
-is-state-requires : tie.Need-is-state-requires
+is-state-requires : tie.Need-is_state-requires
 is-state-requires c κs = search rules
 
-state-at-requires : tie.Need-state-at-requires
+state-at-requires : tie.Need-state_at-requires
 state-at-requires c κs =
-    let i = c.before in let s = i.before.before.args.list.now in let e = sym i.is_state.ensures ∙ c.if1.true in (state_long s e, state_code s e)
+    let s = c.args.list.now in let e = sym c.is_state.ensures ∙ c.if-is_state.true in (state_long s e, state_code s e)
 
-returns : tie.Need-returns
-returns c = rw (sym c.before.before.is_state.ensures ∙ c.before.if1.true) c.state-at.ensures
+returns : tie.Need-returns-then-is_state
+returns c = rw (sym c.is_state.ensures ∙ c.if-is_state.true) c.state_at.ensures
 
-returns-2 : tie.Need-returns-2
-returns-2 c = rw (sym c.before.is_state.ensures ∙ c.if1.false)
+returns-2 : tie.Need-returns
+returns-2 c = rw (sym c.is_state.ensures ∙ c.if-is_state.false)
 
-pub state-in-spec : {M : Type 1} → statement M
-state-in-spec = tie.close (tie.spec is-state-requires state-at-requires returns returns-2)
+pub state_in_spec : {M : Type 1} → statement M
+state_in_spec =
+    tie.close
+    (tie.spec
+    is-state-requires
+    state-at-requires
+    returns
+    returns-2)

@@ -10,35 +10,37 @@ use borrow.Author.Rules.{rules}
 use Rattle.c_steps.proofs.items.tell.Statement.{statement}
 use Rattle.c_steps.proofs.items.tell.Tie as tie
 
-is-item-requires : tie.Need-is-item-requires
+is-item-requires : tie.Need-is_item-requires
 is-item-requires c κs = search rules
 
-put-word-requires : tie.Need-put-word-requires
+put-word-requires : tie.Need-put_word-requires
 put-word-requires c κs = search rules
 
-put-item-requires : tie.Need-put-item-requires
+put-item-requires : tie.Need-put_item-requires
 put-item-requires c κs = search rules
 
-same_length : tie.Need-same-length
+same_length : tie.Need-shape_of-item
 same_length c = search rules
 
-returns : tie.Need-returns
+returns : tie.Need-returns-then-is_item
 returns c =
-    let p = c.before.put_item in
-    let w = c.before.before.before.before.put_word in
-    let i = c.before.before.before.before.before.before.before in
-    let a = i.before.args in
-    p.ensures ∙ ap (λ (d : List ℤ). item_at d 1 a.answer) w.ensures
+    let a = c.args in
+    c.put_item.ensures ∙ ap (λ (d : List ℤ). item_at d 1 a.answer) c.put_word.ensures
     ∙ sym (ap (λ (b : Bool). cond b (item_at (set a.item.now 0 (pos 1)) 1 a.answer) a.item.now)
-    (sym i.is_item_lem.ensures ∙ c.before.before.before.before.before.before.if1.true))
+    (sym c.is_item.ensures ∙ c.if-is_item.true))
 
-returns-2 : tie.Need-returns-2
+returns-2 : tie.Need-returns-else-is_item
 returns-2 c =
-    let i = c.before in
-    let a = i.before.args in
-    sym (ap (λ (b : Bool). cond b (item_at (set a.item.now 0 (pos 1)) 1 a.answer) a.item.now) (sym i.is_item_lem.ensures ∙ c.if1.false))
+    let a = c.args in
+    sym (ap (λ (b : Bool). cond b (item_at (set a.item.now 0 (pos 1)) 1 a.answer) a.item.now) (sym c.is_item.ensures ∙ c.if-is_item.false))
 
-pub tell-spec : {M : Type 1} → statement M
-tell-spec =
+pub tell_spec : {M : Type 1} → statement M
+tell_spec =
     tie.close
-    (tie.spec is-item-requires put-word-requires put-item-requires same_length returns returns-2)
+    (tie.spec
+    is-item-requires
+    put-word-requires
+    put-item-requires
+    same_length
+    returns
+    returns-2)

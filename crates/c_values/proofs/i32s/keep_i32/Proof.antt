@@ -6,19 +6,24 @@ use Rattle.c_values.proofs.Telling.{zeroed}
 use Rattle.c_values.proofs.i32s.keep_i32.Statement.{statement}
 use Rattle.c_values.proofs.i32s.keep_i32.Tie as tie
 
-zero-i32-requires : tie.Need-zero-i32-requires
+zero-i32-requires : tie.Need-zero_i32-requires
 zero-i32-requires c κs = search rules
 
-same_length : tie.Need-same-length
+same_length : tie.Need-shape_of-out
 same_length c = search rules
 
-returns : tie.Need-returns
+returns : tie.Need-returns-then-number-ne0
 returns c =
-    let i = c.before.before.before in
-    zeroed (pos 0) i.before.args.number i.before.args.out.now (λ z. omega (arith, z, i.if1.true)) c.before.zero-i32.ensures
+    zeroed (pos 0) c.args.number c.args.out.now (λ z. omega (arith, z, c.if-number-ne0.true)) c.zero_i32.ensures
 
-returns-2 : tie.Need-returns-2
+returns-2 : tie.Need-returns-else-number-ne0
 returns-2 c = search rules
 
-pub keep-i32-spec : {M : Type 1} → statement M
-keep-i32-spec = tie.close (tie.spec zero-i32-requires same_length returns returns-2)
+pub keep_i32_spec : {M : Type 1} → statement M
+keep_i32_spec =
+    tie.close
+    (tie.spec
+    zero-i32-requires
+    same_length
+    returns
+    returns-2)

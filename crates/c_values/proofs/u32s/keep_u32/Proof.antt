@@ -5,19 +5,24 @@ use Rattle.c_values.proofs.Telling.{zeroed}
 use Rattle.c_values.proofs.u32s.keep_u32.Statement.{statement}
 use Rattle.c_values.proofs.u32s.keep_u32.Tie as tie
 
-zero-u32-requires : tie.Need-zero-u32-requires
+zero-u32-requires : tie.Need-zero_u32-requires
 zero-u32-requires c κs = search rules
 
-same_length : tie.Need-same-length
+same_length : tie.Need-shape_of-out
 same_length c = search rules
 
-returns : tie.Need-returns
+returns : tie.Need-returns-then-number-ne0
 returns c =
-    let i = c.before.before.before.before in
-    zeroed 0 i.before.before.args.number i.before.before.args.out.now (λ z. omega (arith, z, i.if1.true)) c.before.before.zero-u32.ensures
+    zeroed 0 c.args.number c.args.out.now (λ z. omega (arith, z, c.if-number-ne0.true)) c.zero_u32.ensures
 
-returns-2 : tie.Need-returns-2
+returns-2 : tie.Need-returns-else-number-ne0
 returns-2 c = search rules
 
-pub keep-u32-spec : {M : Type 1} → statement M
-keep-u32-spec = tie.close (tie.spec zero-u32-requires same_length returns returns-2)
+pub keep_u32_spec : {M : Type 1} → statement M
+keep_u32_spec =
+    tie.close
+    (tie.spec
+    zero-u32-requires
+    same_length
+    returns
+    returns-2)

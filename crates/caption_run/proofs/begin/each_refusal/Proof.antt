@@ -14,53 +14,48 @@ use Rattle.caption_run.proofs.BeginLaws.{letters_each, letters_fail}
 use Rattle.caption_run.proofs.begin.each_refusal.Statement.{statement}
 use Rattle.caption_run.proofs.begin.each_refusal.Tie as tie
 
-abbrev invariant-loop : tie.invariant-loop
+abbrev invariant-loop : tie.invariant-loop-i
 invariant-loop word i₀ i = (i ≤ length word) × (every i (λ j. is_letter (get_or word j 0)) ≡ true)
 
-abbrev decreases-loop : tie.decreases-loop
+abbrev decreases-loop : tie.decreases-loop-i
 decreases-loop word i₀ i = length word - i
 
-loop-holds : tie.Need-loop-init invariant-loop decreases-loop
-loop-holds c = (omega arith, every_none (λ j. is_letter (get_or c.before.args.word.now j 0)))
+loop-holds : tie.Need-loop-i-init invariant-loop decreases-loop
+loop-holds c = (omega arith, every_none (λ j. is_letter (get_or c.args.word.now j 0)))
 
-mul-is-letter : tie.Need-overflow-mul-is-letter invariant-loop decreases-loop
+mul-is-letter : tie.Need-offset_bounds-word-i invariant-loop decreases-loop
 mul-is-letter c = omega arith
 
-shared-slice-read-is-letter : tie.Need-shared-slice-read-is-letter invariant-loop decreases-loop
+shared-slice-read-is-letter : tie.Need-bounds-word-i invariant-loop decreases-loop
 shared-slice-read-is-letter c = omega arith
 
-is-letter-requires : tie.Need-is-letter-requires invariant-loop decreases-loop
+is-letter-requires : tie.Need-is_letter-requires invariant-loop decreases-loop
 is-letter-requires c κs = search rules
 
-returns : tie.Need-returns invariant-loop decreases-loop
+returns : tie.Need-returns-then-not-is_letter invariant-loop decreases-loop
 returns c =
-    let l = c.before.before.before.before in
-    let r = c.before.is-letter in
-    letters_fail l.before.before.args.word.now l.loop.i c.before.before.before.loop-test.true
-    (sym r.ensures ∙ not-true r.result c.if1.true)
+    letters_fail c.args.word.now c.loop-i.i c.loop-i-test.true
+    (sym c.is_letter.ensures ∙ c.if-not-is_letter.true)
 
-add-i : tie.Need-overflow-add-i invariant-loop decreases-loop
+add-i : tie.Need-overflow_add-i invariant-loop decreases-loop
 add-i c = omega arith
 
-loop-less : tie.Need-loop-smaller invariant-loop decreases-loop
+loop-less : tie.Need-loop-i-smaller invariant-loop decreases-loop
 loop-less c = omega arith
 
-loop-again : tie.Need-loop-preserved invariant-loop decreases-loop
-loop-again c =
-    let l = c.before.before.before.before in
-    let r = c.before.is-letter in (
-      omega arith,
-      every_more l.loop.i (λ j. is_letter (get_or l.before.before.args.word.now j 0)) l.loop.invariant.1
-          (sym r.ensures ∙ not-false r.result c.if1.false),
-    )
+loop-again : tie.Need-loop-i-preserved invariant-loop decreases-loop
+loop-again c = (
+  omega arith,
+  every_more c.loop-i.i (λ j. is_letter (get_or c.args.word.now j 0)) c.loop-i.invariant.1
+      (sym c.is_letter.ensures ∙ c.if-not-is_letter.false),
+)
 
-returns-2 : tie.Need-returns-2 invariant-loop decreases-loop
+returns-2 : tie.Need-returns invariant-loop decreases-loop
 returns-2 c =
-    let l = c.before in
-    letters_each l.before.before.args.word.now l.loop.i l.loop.invariant.1 l.loop.invariant.0 c.loop-test.false
+    letters_each c.args.word.now c.loop-i.i c.loop-i.invariant.1 c.loop-i.invariant.0 c.loop-i-test.false
 
-pub each-refusal-spec : {M : Type 1} → statement M
-each-refusal-spec =
+pub each_refusal_spec : {M : Type 1} → statement M
+each_refusal_spec =
     tie.close
     (tie.spec
     invariant-loop

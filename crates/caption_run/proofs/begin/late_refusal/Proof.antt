@@ -6,14 +6,19 @@ use borrow.Author.Rules.{rules}
 use Rattle.caption_run.proofs.begin.late_refusal.Statement.{statement}
 use Rattle.caption_run.proofs.begin.late_refusal.Tie as tie
 
-table-refusal-requires : tie.Need-table-refusal-requires
+table-refusal-requires : tie.Need-table_refusal-table-requires
 table-refusal-requires c κs = search rules
 
-returns : tie.Need-returns
-returns c = first_refusal _ c.before.table-refusal.ensures c.if1.true
+returns : tie.Need-returns-then-table-ne0
+returns c = first_refusal _ c.table_refusal-table.ensures c.if-table-ne0.true
 
-returns-2 : tie.Need-returns-2
-returns-2 c = later_refusal_lem c.before.table-refusal.ensures c.if1.false refl
+returns-2 : tie.Need-returns
+returns-2 c = later_refusal_lem c.table_refusal-table.ensures c.if-table-ne0.false refl
 
-pub late-refusal-spec : {M : Type 1} → statement M
-late-refusal-spec = tie.close (tie.spec table-refusal-requires returns returns-2)
+pub late_refusal_spec : {M : Type 1} → statement M
+late_refusal_spec =
+    tie.close
+    (tie.spec
+    table-refusal-requires
+    returns
+    returns-2)

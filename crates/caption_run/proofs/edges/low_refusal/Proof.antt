@@ -7,21 +7,25 @@ use borrow.Author.Rules.{rules}
 use Rattle.caption_run.proofs.edges.low_refusal.Statement.{statement}
 use Rattle.caption_run.proofs.edges.low_refusal.Tie as tie
 
-word-of-requires : tie.Need-word-of-requires
+word-of-requires : tie.Need-word_of-w-requires
 word-of-requires c κs = search rules
 
-returns : tie.Need-returns
-returns c = low_within (word_passed c.before.before.ranges.over c.before.word_of.ensures) c.if1.true
+returns : tie.Need-returns-then-w-le2147483647
+returns c = low_within (word_passed c.ranges.over c.word_of-w.ensures) c.if-w-le2147483647.true
 
-returns-2 : tie.Need-returns-2
+returns-2 : tie.Need-returns-then-w
 returns-2 c =
-    let w = c.before.before in
-    low_past _ (word_passed w.before.ranges.over w.word_of.ensures) c.before.if1.false (eq-eqb w.word_of.result 4294967295 c.if2.true)
+    low_past _ (word_passed c.ranges.over c.word_of-w.ensures) c.if-w-le2147483647.false (eq-eqb c.word_of-w.result 4294967295 c.if-w.true)
 
-returns-3 : tie.Need-returns-3
+returns-3 : tie.Need-returns-else-w
 returns-3 c =
-    let w = c.before.before in
-    low_past _ (word_passed w.before.ranges.over w.word_of.ensures) c.before.if1.false (ne_eqb w.word_of.result 4294967295 c.if2.false)
+    low_past _ (word_passed c.ranges.over c.word_of-w.ensures) c.if-w-le2147483647.false (ne_eqb c.word_of-w.result 4294967295 c.if-w.false)
 
-pub low-refusal-spec : {M : Type 1} → statement M
-low-refusal-spec = tie.close (tie.spec word-of-requires returns returns-2 returns-3)
+pub low_refusal_spec : {M : Type 1} → statement M
+low_refusal_spec =
+    tie.close
+    (tie.spec
+    word-of-requires
+    returns
+    returns-2
+    returns-3)

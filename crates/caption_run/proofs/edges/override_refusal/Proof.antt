@@ -7,26 +7,29 @@ use borrow.Author.Rules.{rules}
 use Rattle.caption_run.proofs.edges.override_refusal.Statement.{statement}
 use Rattle.caption_run.proofs.edges.override_refusal.Tie as tie
 
-word-of-requires : tie.Need-word-of-requires
+word-of-requires : tie.Need-word_of-w-requires
 word-of-requires c κs = search rules
 
-returns : tie.Need-returns
-returns c = over_none (word_passed c.before.before.ranges.over c.before.word_of.ensures) c.if1.true
+returns : tie.Need-returns-then-w-ge2147483648
+returns c = over_none (word_passed c.ranges.over c.word_of-w.ensures) c.if-w-ge2147483648.true
 
-is-letter-requires : tie.Need-is-letter-requires
+is-letter-requires : tie.Need-is_letter-requires
 is-letter-requires c κs = search rules
 
-returns-2 : tie.Need-returns-2
+returns-2 : tie.Need-returns-then-is_letter
 returns-2 c =
-    let l = c.before in
-    let w = l.before.before in
-    over_letter _ (word_passed w.before.ranges.over w.word_of.ensures) l.before.if1.false (sym l.is-letter.ensures ∙ c.if2.true)
+    over_letter _ (word_passed c.ranges.over c.word_of-w.ensures) c.if-w-ge2147483648.false (sym c.is_letter.ensures ∙ c.if-is_letter.true)
 
-returns-3 : tie.Need-returns-3
+returns-3 : tie.Need-returns-else-is_letter
 returns-3 c =
-    let l = c.before in
-    let w = l.before.before in
-    over_letter _ (word_passed w.before.ranges.over w.word_of.ensures) l.before.if1.false (sym l.is-letter.ensures ∙ c.if2.false)
+    over_letter _ (word_passed c.ranges.over c.word_of-w.ensures) c.if-w-ge2147483648.false (sym c.is_letter.ensures ∙ c.if-is_letter.false)
 
-pub override-refusal-spec : {M : Type 1} → statement M
-override-refusal-spec = tie.close (tie.spec word-of-requires returns is-letter-requires returns-2 returns-3)
+pub override_refusal_spec : {M : Type 1} → statement M
+override_refusal_spec =
+    tie.close
+    (tie.spec
+    word-of-requires
+    returns
+    is-letter-requires
+    returns-2
+    returns-3)

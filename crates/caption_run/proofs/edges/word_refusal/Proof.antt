@@ -5,11 +5,15 @@ use borrow.Author.Tests.{le-leb, lt-leb}
 use Rattle.caption_run.proofs.edges.word_refusal.Statement.{statement}
 use Rattle.caption_run.proofs.edges.word_refusal.Tie as tie
 
-returns : tie.Need-returns
-returns c = rw (le-leb (length c.before.args.word.now) 65535 c.if1.true)
+returns : tie.Need-returns-then-word-le65535
+returns c = rw (le-leb (length c.args.word.now) 65535 c.if-word-le65535.true)
 
-returns-2 : tie.Need-returns-2
-returns-2 c = rw (lt-leb (length c.before.args.word.now) 65535 c.if1.false)
+returns-2 : tie.Need-returns-else-word-le65535
+returns-2 c = rw (lt-leb (length c.args.word.now) 65535 c.if-word-le65535.false)
 
-pub word-refusal-spec : {M : Type 1} → statement M
-word-refusal-spec = tie.close (tie.spec returns returns-2)
+pub word_refusal_spec : {M : Type 1} → statement M
+word_refusal_spec =
+    tie.close
+    (tie.spec
+    returns
+    returns-2)

@@ -18,25 +18,31 @@ passed c =
     let a = c.args in
     ap (λ (z : ℤ). step_of a.pairs.now a.ops.now z a.word.now a.options a.state) (number_word a.boundary c.ranges.boundary)
 
-is-kern-requires : tie.Need-is-kern-requires
+is-kern-requires : tie.Need-is_kern-requires
 is-kern-requires c κs = search rules
 
-give-kern-requires : tie.Need-give-kern-requires
+give-kern-requires : tie.Need-give_kern-requires
 give-kern-requires c κs = search rules
 
-returns : tie.Need-returns
+returns : tie.Need-returns-then-is_kern
 returns c =
-    let a = c.before.before.before.before.args in
-    c.give-kern.ensures
+    let a = c.args in
+    c.give_kern.ensures
     ∙ sym (quick_kerns a.pairs.now a.ops.now (number_of (word_of a.boundary)) a.word.now a.options a.state
-    (sym c.before.before.is-kern.ensures ∙ c.before.if1.true)) ∙ passed c.before.before.before.before
+    (sym c.is_kern.ensures ∙ c.if-is_kern.true)) ∙ passed c.before.before.before.before
 
-turned-step-requires : tie.Need-turned-step-requires
+turned-step-requires : tie.Need-turned_step-requires
 turned-step-requires c κs = search rules
 
-returns-2 : tie.Need-returns-2
-returns-2 c = c.turned-step.ensures ∙ passed c.before.before.before.before
+returns-2 : tie.Need-returns
+returns-2 c = c.turned_step.ensures ∙ passed c.before.before.before.before
 
-pub kern-step-spec : {M : Type 1} → statement M
-kern-step-spec =
-    tie.close (tie.spec is-kern-requires give-kern-requires returns turned-step-requires returns-2)
+pub kern_step_spec : {M : Type 1} → statement M
+kern_step_spec =
+    tie.close
+    (tie.spec
+    is-kern-requires
+    give-kern-requires
+    returns
+    turned-step-requires
+    returns-2)

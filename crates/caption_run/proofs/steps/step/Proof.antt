@@ -26,59 +26,59 @@ answered c r e =
     stepped_as a.pairs.now a.ops.now a.boundary a.word.now a.options a.state
     (e ∙ ap (λ (z : ℤ). step_of a.pairs.now a.ops.now z a.word.now a.options a.state) (number_word a.boundary c.ranges.boundary))
 
-quick : (c : tie.Else1) → let a = c.before.before.before.args in
+quick : (c : tie.Else-left-eq0) → let a = c.args in
     (is_quick a.ops.now (number_of (word_of a.boundary)) a.word.now a.options a.state ≡ true)
-    × (c.before.quick-left.result ≡ suc (plain_code a.state.next_left))
+    × (c.quick_left-left.result ≡ suc (plain_code a.state.next_left))
 quick c =
-    let a = c.before.before.before.args in
-    left_quick a.ops.now (number_of (word_of a.boundary)) a.word.now a.options a.state c.before.quick-left.result
-    c.before.quick-left.ensures c.if1.false
+    let a = c.args in
+    left_quick a.ops.now (number_of (word_of a.boundary)) a.word.now a.options a.state c.quick_left-left.result
+    c.quick_left-left.ensures c.if-left-eq0.false
 
-there : (c : tie.Else1) → let a = c.before.before.before.args in a.state.read < length a.word.now
+there : (c : tie.Else-left-eq0) → let a = c.args in a.state.read < length a.word.now
 there c =
-    let a = c.before.before.before.args in
+    let a = c.args in
     (quick_is a.ops.now (number_of (word_of a.boundary)) a.word.now a.options a.state (quick c).0).there
 
-quick-left-requires : tie.Need-quick-left-requires
+quick-left-requires : tie.Need-quick_left-left-requires
 quick-left-requires c κs = search rules
 
-kern-step-requires : tie.Need-kern-step-requires
+kern-step-requires : tie.Need-kern_step-requires
 kern-step-requires c κs = search rules
 
-returns : tie.Need-returns
+returns : tie.Need-returns-then-left-eq0
 returns c = answered c.before.before.before.before c.kern_step.result c.kern_step.ensures
 
-mul-found-place : tie.Need-overflow-mul-found-place
+mul-found-place : tie.Need-offset_bounds-word-read
 mul-found-place c = omega (arith, there c)
 
-shared-slice-read-found-place : tie.Need-shared-slice-read-found-place
+shared-slice-read-found-place : tie.Need-bounds-word-read
 shared-slice-read-found-place c = there c.before
 
-found-place-requires : tie.Need-found-place-requires
+found-place-requires : tie.Need-found_place-k-requires
 found-place-requires c κs = search rules
 
-is-ready-requires : tie.Need-is-ready-requires
+is-ready-requires : tie.Need-is_ready-requires
 is-ready-requires c κs = search rules
 
-quick-step-requires : tie.Need-quick-step-requires
+quick-step-requires : tie.Need-quick_step-requires
 quick-step-requires c κs = search rules
 
-returns-2 : tie.Need-returns-2
+returns-2 : tie.Need-returns-then-is_ready
 returns-2 c =
-    let a = c.before.before.before.before.before.before.before.before.args in
+    let a = c.args in
     let q = quick c.before.before.before.before.before in
-    answered c.before.before.before.before.before.before.before.before c.quick-step.result
-    (c.quick-step.ensures
+    answered c.before.before.before.before.before.before.before.before c.quick_step.result
+    (c.quick_step.ensures
     ∙ sym (quick_steps a.pairs.now a.ops.now (number_of (word_of a.boundary)) a.word.now a.options a.state
-    c.before.before.before.found_place_lem.result q.0
-    (c.before.before.before.found_place_lem.ensures ∙ ap (λ (l : ℕ). found_place a.pairs.now l (next_letter a.word.now a.state)) q.1)
-    (sym c.before.before.is-ready.ensures ∙ c.before.if2.true)))
+    c.found_place-k.result q.0
+    (c.found_place-k.ensures ∙ ap (λ (l : ℕ). found_place a.pairs.now l (next_letter a.word.now a.state)) q.1)
+    (sym c.is_ready.ensures ∙ c.if-is_ready.true)))
 
-turned-step-requires : tie.Need-turned-step-requires
+turned-step-requires : tie.Need-turned_step-requires
 turned-step-requires c κs = search rules
 
-returns-3 : tie.Need-returns-3
-returns-3 c = answered c.before.before.before.before.before.before.before.before c.turned-step.result c.turned-step.ensures
+returns-3 : tie.Need-returns
+returns-3 c = answered c.before.before.before.before.before.before.before.before c.turned_step.result c.turned_step.ensures
 
 pub step_spec : {M : Type 1} → statement M
 step_spec =

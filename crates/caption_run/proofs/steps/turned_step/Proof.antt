@@ -9,59 +9,50 @@ use borrow.Author.Rules.{rules}
 use Rattle.caption_run.proofs.steps.turned_step.Statement.{statement}
 use Rattle.caption_run.proofs.steps.turned_step.Tie as tie
 
-right : (c : tie.After-right-item) → let a = c.before.before.before.before.before.before.before.args in
-    or_boundary (number_of c.right_item_lem.result) ≡ right_item a.boundary a.options.right_boundary_override
+right : (c : tie.After-right_item-right) → let a = c.args in
+    or_boundary (number_of c.right_item-right.result) ≡ right_item a.boundary a.options.right_boundary_override
 right c =
     let a = c.before.before.before.before.before.before.before in
-    c.right_item_lem.ensures
+    c.right_item-right.ensures
     ∙ (λ i. right_item (number_word a.args.boundary a.ranges.boundary i)
     (number_word a.args.options.right_boundary_override (record { sfits = search rules }) i))
 
-edges-refusal-requires : tie.Need-edges-refusal-requires
+edges-refusal-requires : tie.Need-edges_refusal-edges-requires
 edges-refusal-requires c κs = search rules
 
-returns : tie.Need-returns
+returns : tie.Need-returns-then-edges-ne0
 returns c =
-    let e = c.before in
-    let a = e.before.before in
-    refused_edges a.args.pairs.now a.args.ops.now a.args.boundary a.args.word.now a.args.options a.args.state a.ranges.boundary
-    e.edges-refusal.result e.edges-refusal.ensures c.if1.true
+    refused_edges c.args.pairs.now c.args.ops.now c.args.boundary c.args.word.now c.args.options c.args.state c.ranges.boundary
+    c.edges_refusal-edges.result c.edges_refusal-edges.ensures c.if-edges-ne0.true
 
-word-refusal-requires : tie.Need-word-refusal-requires
+word-refusal-requires : tie.Need-word_refusal-letters-requires
 word-refusal-requires c κs = search rules
 
-returns-2 : tie.Need-returns-2
+returns-2 : tie.Need-returns-then-letters-ne0
 returns-2 c =
-    let w = c.before in
-    let e = w.before.before in
-    let a = e.before.before in
-    refused_word a.args.pairs.now a.args.ops.now a.args.boundary a.args.word.now a.args.options a.args.state a.ranges.boundary
-    e.edges-refusal.result e.edges-refusal.ensures
-    w.before.if1.false w.word-refusal.result w.word-refusal.ensures c.if2.true
+    refused_word c.args.pairs.now c.args.ops.now c.args.boundary c.args.word.now c.args.options c.args.state c.ranges.boundary
+    c.edges_refusal-edges.result c.edges_refusal-edges.ensures
+    c.if-edges-ne0.false c.word_refusal-letters.result c.word_refusal-letters.ensures c.if-letters-ne0.true
 
-right-item-requires : tie.Need-right-item-requires
+right-item-requires : tie.Need-right_item-right-requires
 right-item-requires c κs = search rules
 
-run-requires : tie.Need-run-requires
+run-requires : tie.Need-run-given-requires
 run-requires c κs = search rules
 
-hand-back-requires : tie.Need-hand-back-requires
+hand-back-requires : tie.Need-hand_back-requires
 hand-back-requires c κs = search rules
 
-returns-3 : tie.Need-returns-3
+returns-3 : tie.Need-returns
 returns-3 c =
-    let i = c.before.before in
-    let w = i.before.before.before in
-    let e = w.before.before in
-    let a = e.before.before in
-    rw c.hand-back.ensures
-    (step_given a.args.pairs.now a.args.ops.now a.args.boundary a.args.word.now a.args.options a.args.state a.ranges.boundary
-    e.edges-refusal.result e.edges-refusal.ensures
-    w.before.if1.false w.word-refusal.result w.word-refusal.ensures (or_boundary (number_of i.right_item_lem.result)) c.before.run.result
-    i.before.before.if2.false (right i) c.before.run.ensures)
+    rw c.hand_back.ensures
+    (step_given c.args.pairs.now c.args.ops.now c.args.boundary c.args.word.now c.args.options c.args.state c.ranges.boundary
+    c.edges_refusal-edges.result c.edges_refusal-edges.ensures
+    c.if-edges-ne0.false c.word_refusal-letters.result c.word_refusal-letters.ensures (or_boundary (number_of c.right_item-right.result)) c.run-given.result
+    c.if-letters-ne0.false (right (c.before.before)) c.run-given.ensures)
 
-pub turned-step-spec : {M : Type 1} → statement M
-turned-step-spec =
+pub turned_step_spec : {M : Type 1} → statement M
+turned_step_spec =
     tie.close
     (tie.spec
     edges-refusal-requires

@@ -6,38 +6,36 @@ use borrow.Author.Rules.{rules}
 use Rattle.compile_prepare.proofs.encode.effect_of.Statement.{statement}
 use Rattle.compile_prepare.proofs.encode.effect_of.Tie as tie
 
-enum-known-operation : tie.Need-enum-known-operation
+enum-known-operation : tie.Need-enum_known-operation
 enum-known-operation c = search rules
 
-kern-effect-requires : tie.Need-kern-effect-requires
+kern-effect-requires : tie.Need-kern_effect-requires
 kern-effect-requires c κs = search rules
 
-enum-known-operation-2 : tie.Need-enum-known-operation-2
+enum-known-operation-2 : tie.Need-enum_known-operation-in-Ligature-1
 enum-known-operation-2 c = search rules
 
-op-byte-requires : tie.Need-op-byte-requires
+op-byte-requires : tie.Need-op_byte-requires
 op-byte-requires c κs = search rules
 
-cast-t8 : tie.Need-overflow-cast-t8
+cast-t8 : tie.Need-overflow_cast-result
 cast-t8 c = search rules
 
-returns : tie.Need-returns
+returns : tie.Need-returns-in-Kern
 returns c =
-    let a = c.before.before.before.before in
-    kern_effect_is a.args.design-size _ a.args.operation _ c.kern-effect.result (number_word a.args.design-size a.ranges.design-size)
-    c.before.before.operation.given.1 c.kern-effect.ensures
+    kern_effect_is c.args.design_size _ c.args.operation _ c.kern_effect.result (number_word c.args.design_size c.ranges.design_size)
+    c.in-Kern.is c.kern_effect.ensures
 
-returns-2 : tie.Need-returns-2
+returns-2 : tie.Need-returns-in-Ligature
 returns-2 c =
-    let a = c.before.before.before.before.before in
-    ligature_effect a.args.design-size a.args.operation _ _ _ c.before.op_byte_lem.result c.before.before.before.operation2.given.1
-    c.before.op_byte_lem.ensures
+    ligature_effect c.args.design_size c.args.operation _ _ _ c.op_byte.result c.in-Ligature.is
+    c.op_byte.ensures
 
-returns-3 : tie.Need-returns-3
-returns-3 c = let a = c.before in other_effect a.args.design-size a.args.operation c.match.keys3
+returns-3 : tie.Need-returns-in_default
+returns-3 c = other_effect c.args.design_size c.args.operation c.in_default.in_default-own.keys3
 
-pub effect-of-spec : {M : Type 1} → statement M
-effect-of-spec =
+pub effect_of_spec : {M : Type 1} → statement M
+effect_of_spec =
     tie.close
     (tie.spec
     enum-known-operation

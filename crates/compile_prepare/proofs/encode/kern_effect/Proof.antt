@@ -14,35 +14,38 @@ use Rattle.compile_prepare.proofs.encode.kern_effect.Statement.{statement}
 use Rattle.compile_prepare.proofs.encode.kern_effect.Tie as tie
 
 -- what scaling answers, from its reply
-scaled : (c : tie.After-at-design-size) → c.at_design_size.result ≡ to_scaled c.before.args.kern.0 c.before.args.design-size
+scaled : (c : tie.After-at_design_size) → c.at_design_size.result ≡ to_scaled c.args.kern.0 c.args.design_size
 scaled c =
-    let a = c.before in
-    scaled_injective c.at_design_size.result (to_scaled a.args.kern.0 (number_of (word_of a.args.design-size))) c.at_design_size.ensures
-    ∙ ap (to_scaled a.args.kern.0) (number_word a.args.design-size a.ranges.design-size)
+    scaled_injective c.at_design_size.result (to_scaled c.args.kern.0 (number_of (word_of c.args.design_size))) c.at_design_size.ensures
+    ∙ ap (to_scaled c.args.kern.0) (number_word c.args.design_size c.ranges.design_size)
 
-at-design-size-requires : tie.Need-at-design-size-requires
+at-design-size-requires : tie.Need-at_design_size-requires
 at-design-size-requires c κs = search rules
 
-enum-known-v : tie.Need-enum-known-v
+enum-known-v : tie.Need-enum_known-v
 enum-known-v c = search rules
 
-word-of-requires : tie.Need-word-of-requires
+word-of-requires : tie.Need-word_of-requires
 word-of-requires c κs = search rules
 
-returns : tie.Need-returns
+returns : tie.Need-returns-in-Scaled
 returns c =
-    let a = c.before.before.before.before.before in
-    let f : SFits w32 c.before.before.v.given.0.0 = record { sfits = c.before.known_told.given.0.1 } in
-    kern_scaled c.before.before.before.before.at_design_size.result c.before.before.v.given.0.0 c.word_of.result
-    c.before.before.v.given.1
-    (c.word_of.ensures ∙ ap word_of (number_word c.before.before.v.given.0.0 f))
-    ∙ ap kern_effect (scaled c.before.before.before.before)
+    let f : SFits w32 c.in-Scaled.v = record { sfits = c.in-Scaled.known_told-1-own.given.0.1 } in
+    kern_scaled c.at_design_size.result c.in-Scaled.v c.word_of.result
+    c.in-Scaled.is
+    (c.word_of.ensures ∙ ap word_of (number_word c.in-Scaled.v f))
+    ∙ ap kern_effect (scaled c.before.before)
 
-returns-2 : tie.Need-returns-2
+returns-2 : tie.Need-returns-in_default
 returns-2 c =
-    let a = c.before.before in
-    kern_unscaled c.before.at_design_size.result c.match.keys2 ∙ ap kern_effect (scaled c.before)
+    kern_unscaled c.at_design_size.result c.in_default.in_default-own.keys2 ∙ ap kern_effect (scaled c.before)
 
-pub kern-effect-spec : {M : Type 1} → statement M
-kern-effect-spec =
-    tie.close (tie.spec at-design-size-requires enum-known-v word-of-requires returns returns-2)
+pub kern_effect_spec : {M : Type 1} → statement M
+kern_effect_spec =
+    tie.close
+    (tie.spec
+    at-design-size-requires
+    enum-known-v
+    word-of-requires
+    returns
+    returns-2)

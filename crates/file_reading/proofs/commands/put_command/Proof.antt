@@ -20,73 +20,67 @@ numbers : (file : List ℕ) (w : ℕ) {a b c d : ℕ} {x y z u : ℤ} → a ≡ 
     ◌≡◌ {A = List ℤ} (x ∷ y ∷ z ∷ u ∷ []) (command_numbers file w)
 numbers file w ea eb ec ed ex ey ez eu = rw (ex, ey, ez, eu, ea, eb, ec, ed)
 
-word-byte-requires : tie.Need-word-byte-requires
+word-byte-requires : tie.Need-word_byte-a-requires
 word-byte-requires c κs = search rules
 
-word-byte-requires-2 : tie.Need-word-byte-requires-2
+word-byte-requires-2 : tie.Need-word_byte-b-requires
 word-byte-requires-2 c κs = search rules
 
-word-byte-requires-3 : tie.Need-word-byte-requires-3
+word-byte-requires-3 : tie.Need-word_byte-c-requires
 word-byte-requires-3 c κs = search rules
 
-word-byte-requires-4 : tie.Need-word-byte-requires-4
+word-byte-requires-4 : tie.Need-word_byte-d-requires
 word-byte-requires-4 c κs = search rules
 
-next-word-requires : tie.Need-next-word-requires
+next-word-requires : tie.Need-next_word-requires
 next-word-requires c κs = search rules
 
-put-word-requires : tie.Need-put-word-requires
+put-word-requires : tie.Need-put_word-requires
 put-word-requires c κs = search rules
 
-add-put-word : tie.Need-overflow-add-put-word
+add-put-word : tie.Need-overflow_add-at
 add-put-word c = search rules
 
-cast-put-word : tie.Need-overflow-cast-put-word
+cast-put-word : tie.Need-overflow_cast-b
 cast-put-word c = search rules
 
-put-word-requires-2 : tie.Need-put-word-requires-2
+put-word-requires-2 : tie.Need-put_word-requires-2
 put-word-requires-2 c κs = search rules
 
-add-put-word-2 : tie.Need-overflow-add-put-word-2
+add-put-word-2 : tie.Need-overflow_add-at-2
 add-put-word-2 c = search rules
 
-kind-word-requires : tie.Need-kind-word-requires
+kind-word-requires : tie.Need-kind_word-requires
 kind-word-requires c κs = search rules
 
-put-word-requires-3 : tie.Need-put-word-requires-3
+put-word-requires-3 : tie.Need-put_word-requires-3
 put-word-requires-3 c κs = search rules
 
-add-put-word-3 : tie.Need-overflow-add-put-word-3
+add-put-word-3 : tie.Need-overflow_add-at-3
 add-put-word-3 c = search rules
 
-operand-word-requires : tie.Need-operand-word-requires
+operand-word-requires : tie.Need-operand_word-requires
 operand-word-requires c κs = search rules
 
-put-word-requires-4 : tie.Need-put-word-requires-4
+put-word-requires-4 : tie.Need-put_word-requires-4
 put-word-requires-4 c κs = search rules
 
-same_length : tie.Need-same-length
+same_length : tie.Need-shape_of-out
 same_length c = search rules
 
 returns : tie.Need-returns
 returns c =
-    let o = c.before.before in
-    let k = o.before.before.before.before in
-    let p = k.before.before.before in
-    let n = p.before.before.before.before in
-    let d = n.before.before in
-    let t = d.before.before.before.before.before in
-    let b : number_of d.before.before.word-byte2.result ≡ pos d.before.before.word-byte2.result =
-    number_pos d.before.before.word-byte2.result (omega arith) in
-    four_stored t.args.out.now t.args.at (number_of n.next_word.result) (number_of d.before.before.word-byte2.result)
-    (number_of k.kind-word.result) (number_of o.operand-word.result) p.before.before.before.put_word.ensures p.put-word2.ensures
-    o.before.before.before.put-word3.ensures c.before.put-word4.ensures
-    ∙ ap (sets t.args.out.now t.args.at)
-    (numbers t.args.file.now t.args.w d.before.before.before.word_byte.ensures d.before.before.word-byte2.ensures
-    d.before.word-byte3.ensures d.word-byte4.ensures n.next_word.ensures b k.kind-word.ensures o.operand-word.ensures)
+    let b : number_of c.word_byte-b.result ≡ pos c.word_byte-b.result =
+    number_pos c.word_byte-b.result (omega arith) in
+    four_stored c.args.out.now c.args.at (number_of c.next_word.result) (number_of c.word_byte-b.result)
+    (number_of c.kind_word.result) (number_of c.operand_word.result) c.put_word.ensures c.put_word-2.ensures
+    c.put_word-3.ensures c.put_word-4.ensures
+    ∙ ap (sets c.args.out.now c.args.at)
+    (numbers c.args.file.now c.args.w c.word_byte-a.ensures c.word_byte-b.ensures
+    c.word_byte-c.ensures c.word_byte-d.ensures c.next_word.ensures b c.kind_word.ensures c.operand_word.ensures)
 
-pub put-command-spec : {M : Type 1} → statement M
-put-command-spec =
+pub put_command_spec : {M : Type 1} → statement M
+put_command_spec =
     tie.close
     (tie.spec
     word-byte-requires

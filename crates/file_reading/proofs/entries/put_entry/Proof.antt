@@ -22,51 +22,47 @@ tagged : (file : List ℕ) (c w : ℕ) {b : ℕ} → is_lig_tagged file w ≡ tr
     ◌≡◌ {A = List ℤ} (number_of c ∷ number_of b ∷ []) (char_entry file c w)
 tagged file c w {b} t h l e = rw (t, number_pos c h, number_pos b l, e)
 
-is-lig-tagged-requires : tie.Need-is-lig-tagged-requires
+is-lig-tagged-requires : tie.Need-is_lig_tagged-requires
 is-lig-tagged-requires c κs = search rules
 
-returns : tie.Need-returns
+returns : tie.Need-returns-then-not-is_lig_tagged
 returns c =
-    let e = sym c.before.is-lig-tagged.ensures ∙ not-true _ c.if1.true in
+    let e = sym c.is_lig_tagged.ensures ∙ c.if-not-is_lig_tagged.true in
     (rw e, rw e (omega arith))
 
-put-word-requires : tie.Need-put-word-requires
+put-word-requires : tie.Need-put_word-requires
 put-word-requires c κs = search rules
 
-add-put-word : tie.Need-overflow-add-put-word
+add-put-word : tie.Need-overflow_add-at
 add-put-word c = search rules
 
-word-byte-requires : tie.Need-word-byte-requires
+word-byte-requires : tie.Need-word_byte-requires
 word-byte-requires c κs = search rules
 
-cast-put-word : tie.Need-overflow-cast-put-word
+cast-put-word : tie.Need-overflow_cast-word_byte
 cast-put-word c = search rules
 
-put-word-requires-2 : tie.Need-put-word-requires-2
+put-word-requires-2 : tie.Need-put_word-requires-2
 put-word-requires-2 c κs = search rules
 
-add-result : tie.Need-overflow-add-result
+add-result : tie.Need-overflow_add-result
 add-result c = search rules
 
-same_length : tie.Need-same-length
+same_length : tie.Need-shape_of-out
 same_length c = search rules
 
-returns-2 : tie.Need-returns-2
+returns-2 : tie.Need-returns
 returns-2 c =
-    let w = c.before.before in
-    let p = w.before.before.before in
-    let e = p.before.before in
-    let t = e.before.before.before in
-    let d = t.args.out.now in
-    let at = t.args.at in
-    let g = tagged t.args.file.now t.args.c t.args.w (sym e.before.is-lig-tagged.ensures ∙ not-false _ e.if1.false) t.requires.0
-    (omega arith) w.word_byte.ensures in (
-      two_stored d at (number_of t.args.c) (number_of w.word_byte.result) p.put_word.ensures c.before.put-word2.ensures ∙ ap (sets d at) g,
+    let d = c.args.out.now in
+    let at = c.args.at in
+    let g = tagged c.args.file.now c.args.c c.args.w (sym c.is_lig_tagged.ensures ∙ c.if-not-is_lig_tagged.false) c.requires.0
+    (omega arith) c.word_byte.ensures in (
+      two_stored d at (number_of c.args.c) (number_of c.word_byte.result) c.put_word.ensures c.put_word-2.ensures ∙ ap (sets d at) g,
       ap (λ (vs : List ℤ). at + length vs) g,
     )
 
-pub put-entry-spec : {M : Type 1} → statement M
-put-entry-spec =
+pub put_entry_spec : {M : Type 1} → statement M
+put_entry_spec =
     tie.close
     (tie.spec
     is-lig-tagged-requires

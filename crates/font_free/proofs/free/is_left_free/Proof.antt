@@ -8,52 +8,50 @@ use borrow.Author.Rules.{rules}
 use Rattle.font_free.proofs.free.is_left_free.Statement.{statement}
 use Rattle.font_free.proofs.free.is_left_free.Tie as tie
 
-enum_told : tie.Need-enum-told
+enum_told : tie.Need-enum_told-1
 enum_told c = search rules
 
-is-boundary-free-requires : tie.Need-is-boundary-free-requires
+is-boundary-free-requires : tie.Need-is_boundary_free-requires
 is-boundary-free-requires c κs = search rules
 
-enum-known-left : tie.Need-enum-known-left
+enum-known-left : tie.Need-enum_known-left
 enum-known-left c = search rules
 
-is-character-free-requires : tie.Need-is-character-free-requires
+is-character-free-requires : tie.Need-is_character_free-requires
 is-character-free-requires c κs = search rules
 
-enum-told-2 : tie.Need-enum-told-2
+enum-told-2 : tie.Need-enum_told-in-Lig
 enum-told-2 c = search rules
 
-enum-told-3 : tie.Need-enum-told-3
+enum-told-3 : tie.Need-enum_told-in-FinalLig
 enum-told-3 c = search rules
 
-enum-told-4 : tie.Need-enum-told-4
+enum-told-4 : tie.Need-enum_told-in-None
 enum-told-4 c = search rules
 
-returns : tie.Need-returns
+returns : tie.Need-returns-in-Boundary
 returns c =
-    let t = c.before in
-    let a = t.before.before.before.args in
-    c.is-boundary-free.ensures
-    ∙ ap (left_free a.pairs.now (or_boundary (number_of a.right)) a.word.now a.read) (sym t.enum_told.given.1)
+    let a = c.args in
+    c.is_boundary_free.ensures
+    ∙ ap (left_free a.pairs.now (or_boundary (number_of a.right)) a.word.now a.read) (sym c.in-Boundary.is)
 
-returns-2 : tie.Need-returns-2
+returns-2 : tie.Need-returns-in-Char
 returns-2 c =
-    let t = c.before.before in
-    let a = t.before.before.before.args in
-    c.is-character-free.ensures
-    ∙ ap (left_free a.pairs.now (or_boundary (number_of a.right)) a.word.now a.read) (sym t.left.given.1)
+    let a = c.args in
+    c.is_character_free.ensures
+    ∙ ap (left_free a.pairs.now (or_boundary (number_of a.right)) a.word.now a.read) (sym c.in-Char.is)
 
-returns-3 : tie.Need-returns-3
+returns-3 : tie.Need-returns-in-Lig
 returns-3 c = search rules
 
-returns-4 : tie.Need-returns-4
+returns-4 : tie.Need-returns-in-FinalLig
 returns-4 c = search rules
 
-returns-5 : tie.Need-returns-5
+returns-5 : tie.Need-returns-in-None
 returns-5 c = search rules
 
-pub is-left-free-spec : {M : Type 1} → statement M
-is-left-free-spec =
+pub is_left_free_spec : {M : Type 1} → statement M
+is_left_free_spec =
     tie.close
     (tie.spec
     enum_told

@@ -7,61 +7,55 @@ use borrow.Author.Rules.{rules}
 use Rattle.font_free.proofs.passing.passed.Statement.{statement}
 use Rattle.font_free.proofs.passing.passed.Tie as tie
 
-returns : tie.Need-returns
-returns c = let a = c.before.before.before.args in rw (ne_eqb a.s.ops 0 c.if1.true)
+returns : tie.Need-returns-then-s-ne0
+returns c = let a = c.args in rw (ne_eqb a.s.ops 0 c.if-s-ne0.true)
 
-enum_told : tie.Need-enum-told
+enum_told : tie.Need-enum_told-1
 enum_told c = search rules
 
-past-boundary-requires : tie.Need-past-boundary-requires
+past-boundary-requires : tie.Need-past_boundary-requires
 past-boundary-requires c κs = search rules
 
-enum-told-2 : tie.Need-enum-told-2
+enum-told-2 : tie.Need-enum_told-in-Char
 enum-told-2 c = search rules
 
-enum-told-3 : tie.Need-enum-told-3
+enum-told-3 : tie.Need-enum_told-in-Lig
 enum-told-3 c = search rules
 
-enum-told-4 : tie.Need-enum-told-4
+enum-told-4 : tie.Need-enum_told-in-FinalLig
 enum-told-4 c = search rules
 
-enum-told-5 : tie.Need-enum-told-5
+enum-told-5 : tie.Need-enum_told-in-None
 enum-told-5 c = search rules
 
-returns-2 : tie.Need-returns-2
+returns-2 : tie.Need-returns-in-Boundary
 returns-2 c =
-    let t = c.before in
-    let i = t.before.before in
-    let a = i.before.before.before.args in
-    rw (eq-eqb a.s.ops 0 i.if1.false)
-    (c.past_boundary_lem.ensures ∙ ap (passed_left a.pairs.now a.ops.now a.word.now a.s) (sym t.enum_told.given.1))
+    let a = c.args in
+    rw (eq-eqb a.s.ops 0 c.if-s-ne0.false)
+    (c.past_boundary.ensures ∙ ap (passed_left a.pairs.now a.ops.now a.word.now a.s) (sym c.in-Boundary.is))
 
-returns-3 : tie.Need-returns-3
+returns-3 : tie.Need-returns-in-Char
 returns-3 c =
-    let i = c.before.before in
-    let a = i.before.before.before.args in
-    rw (eq-eqb a.s.ops 0 i.if1.false) (ap (passed_left a.pairs.now a.ops.now a.word.now a.s) (sym c.enum-told2.given.1))
+    let a = c.args in
+    rw (eq-eqb a.s.ops 0 c.if-s-ne0.false) (ap (passed_left a.pairs.now a.ops.now a.word.now a.s) (sym c.in-Char.is))
 
-returns-4 : tie.Need-returns-4
+returns-4 : tie.Need-returns-in-Lig
 returns-4 c =
-    let i = c.before.before in
-    let a = i.before.before.before.args in
-    rw (eq-eqb a.s.ops 0 i.if1.false) (ap (passed_left a.pairs.now a.ops.now a.word.now a.s) (sym c.enum-told3.given.1))
+    let a = c.args in
+    rw (eq-eqb a.s.ops 0 c.if-s-ne0.false) (ap (passed_left a.pairs.now a.ops.now a.word.now a.s) (sym c.in-Lig.is))
 
-returns-5 : tie.Need-returns-5
+returns-5 : tie.Need-returns-in-FinalLig
 returns-5 c =
-    let i = c.before.before in
-    let a = i.before.before.before.args in
-    rw (eq-eqb a.s.ops 0 i.if1.false) (ap (passed_left a.pairs.now a.ops.now a.word.now a.s) (sym c.enum-told4.given.1))
+    let a = c.args in
+    rw (eq-eqb a.s.ops 0 c.if-s-ne0.false) (ap (passed_left a.pairs.now a.ops.now a.word.now a.s) (sym c.in-FinalLig.is))
 
-returns-6 : tie.Need-returns-6
+returns-6 : tie.Need-returns-in-None
 returns-6 c =
-    let i = c.before.before in
-    let a = i.before.before.before.args in
-    rw (eq-eqb a.s.ops 0 i.if1.false) (ap (passed_left a.pairs.now a.ops.now a.word.now a.s) (sym c.enum-told5.given.1))
+    let a = c.args in
+    rw (eq-eqb a.s.ops 0 c.if-s-ne0.false) (ap (passed_left a.pairs.now a.ops.now a.word.now a.s) (sym c.in-None.is))
 
-pub passed-spec : {M : Type 1} → statement M
-passed-spec =
+pub passed_spec : {M : Type 1} → statement M
+passed_spec =
     tie.close
     (tie.spec
     returns

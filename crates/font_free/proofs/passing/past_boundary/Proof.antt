@@ -11,63 +11,55 @@ use borrow.Author.Rules.{rules}
 use Rattle.font_free.proofs.passing.past_boundary.Statement.{statement}
 use Rattle.font_free.proofs.passing.past_boundary.Tie as tie
 
-returns : tie.Need-returns
+returns : tie.Need-returns-then-word-read
 returns c =
-    let a = c.before.before.args in
-    rw (le-ltb a.s.read (length a.word.now) c.if1.true)
+    let a = c.args in
+    rw (le-ltb a.s.read (length a.word.now) c.if-word-read.true)
 
-mul-y : tie.Need-overflow-mul-y
+mul-y : tie.Need-offset_bounds-word-read
 mul-y c = search rules
 
-shared-slice-read-y : tie.Need-shared-slice-read-y
+shared-slice-read-y : tie.Need-bounds-word-read
 shared-slice-read-y c = search rules
 
-returns-2 : tie.Need-returns-2
+returns-2 : tie.Need-returns-then-y-gt255
 returns-2 c =
-    let i = c.before.before in
-    let a = i.before.before.args in
+    let a = c.args in
     let y = get_or a.word.now a.s.read 0 in
-    rw (lt-ltb a.s.read (length a.word.now) i.if1.false)
-    (ap (passed_by a.pairs.now a.ops.now a.s) (sym (within_right a.pairs.now 0 y c.if2.true)))
+    rw (lt-ltb a.s.read (length a.word.now) c.if-word-read.false)
+    (ap (passed_by a.pairs.now a.ops.now a.s) (sym (within_right a.pairs.now 0 y c.if-y-gt255.true)))
 
 find-requires : tie.Need-find-requires
 find-requires c κs = search rules
 
-enum-known-k : tie.Need-enum-known-k
+enum-known-k : tie.Need-enum_known-k
 enum-known-k c = search rules
 
-past-pair-requires : tie.Need-past-pair-requires
+past-pair-requires : tie.Need-past_pair-requires
 past-pair-requires c κs = search rules
 
-enum_told : tie.Need-enum-told
+enum_told : tie.Need-enum_told-1
 enum_told c = search rules
 
-returns-3 : tie.Need-returns-3
+returns-3 : tie.Need-returns-in-At
 returns-3 c =
-    let t = c.before.before in
-    let f = t.before.before in
-    let e = f.before in
-    let i = e.before.before in
-    let a = i.before.before.args in
+    let a = c.args in
     let y = get_or a.word.now a.s.read 0 in
-    rw (lt-ltb a.s.read (length a.word.now) i.if1.false)
-    (c.past-pair.ensures
+    rw (lt-ltb a.s.read (length a.word.now) c.if-word-read.false)
+    (c.past_pair.ensures
     ∙ ap (passed_by a.pairs.now a.ops.now a.s)
-    (sym (looked_some a.pairs.now 0 y (omega arith) e.if2.false _ (sym t.k.given.1 ∙ f.find.ensures))))
+    (sym (looked_some a.pairs.now 0 y (omega arith) c.if-y-gt255.false _ (sym c.in-At.is ∙ c.find.ensures))))
 
-returns-4 : tie.Need-returns-4
+returns-4 : tie.Need-returns-in-Nothing
 returns-4 c =
-    let f = c.before.before in
-    let e = f.before in
-    let i = e.before.before in
-    let a = i.before.before.args in
+    let a = c.args in
     let y = get_or a.word.now a.s.read 0 in
-    rw (lt-ltb a.s.read (length a.word.now) i.if1.false)
+    rw (lt-ltb a.s.read (length a.word.now) c.if-word-read.false)
     (ap (passed_by a.pairs.now a.ops.now a.s)
-    (sym (looked_none a.pairs.now 0 y (omega arith) e.if2.false (sym c.enum_told.given.1 ∙ f.find.ensures))))
+    (sym (looked_none a.pairs.now 0 y (omega arith) c.if-y-gt255.false (sym c.in-Nothing.is ∙ c.find.ensures))))
 
-pub past-boundary-spec : {M : Type 1} → statement M
-past-boundary-spec =
+pub past_boundary_spec : {M : Type 1} → statement M
+past_boundary_spec =
     tie.close
     (tie.spec
     returns

@@ -8,23 +8,28 @@ use borrow.Author.Rules.{rules}
 use Rattle.font_free.proofs.passing.past_pair.Statement.{statement}
 use Rattle.font_free.proofs.passing.past_pair.Tie as tie
 
-gives-nothing-requires : tie.Need-gives-nothing-requires
+gives-nothing-requires : tie.Need-gives_nothing-requires
 gives-nothing-requires c κs = search rules
 
-past-entry-requires : tie.Need-past-entry-requires
+past-entry-requires : tie.Need-past_entry-requires
 past-entry-requires c κs =
-    let g = c.before in
-    let a = g.before.args in (
-      g.before.requires,
+    let a = c.args in (
+      c.requires,
       both_right (record_fits a.pairs.now a.ops.now a.k) (gives_nothing a.pairs.now a.k)
-          (sym g.Gives-nothing.ensures ∙ c.if1.true),
+          (sym c.gives_nothing.ensures ∙ c.if-gives_nothing.true),
     )
 
-returns : tie.Need-returns
-returns c = let i = c.before in rw (sym i.before.Gives-nothing.ensures ∙ i.if1.true) c.past-entry.ensures
+returns : tie.Need-returns-then-gives_nothing
+returns c = rw (sym c.gives_nothing.ensures ∙ c.if-gives_nothing.true) c.past_entry.ensures
 
-returns-2 : tie.Need-returns-2
-returns-2 c = rw (sym c.before.Gives-nothing.ensures ∙ c.if1.false)
+returns-2 : tie.Need-returns
+returns-2 c = rw (sym c.gives_nothing.ensures ∙ c.if-gives_nothing.false)
 
-pub past-pair-spec : {M : Type 1} → statement M
-past-pair-spec = tie.close (tie.spec gives-nothing-requires past-entry-requires returns returns-2)
+pub past_pair_spec : {M : Type 1} → statement M
+past_pair_spec =
+    tie.close
+    (tie.spec
+    gives-nothing-requires
+    past-entry-requires
+    returns
+    returns-2)

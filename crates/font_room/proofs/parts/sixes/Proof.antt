@@ -8,17 +8,23 @@ use borrow.Author.Rules.{rules}
 use Rattle.font_room.proofs.parts.sixes.Statement.{statement}
 use Rattle.font_room.proofs.parts.sixes.Tie as tie
 
-returns : tie.Need-returns
+returns : tie.Need-returns-then-list-n
 returns c = let a = c.before.args in sym (take_all (6 * a.n) a.list.now (omega arith))
 
-mul-result : tie.Need-overflow-mul-result
+mul-result : tie.Need-overflow_mul-result
 mul-result c = search rules
 
-slice-aggregate-result : tie.Need-slice-aggregate-result
+slice-aggregate-result : tie.Need-slice_bounds-result-end
 slice-aggregate-result c = sym (length-take-le _ _ (omega arith))
 
-returns-2 : tie.Need-returns-2
+returns-2 : tie.Need-returns
 returns-2 c = search rules
 
-pub sixes-spec : {M : Type 1} → statement M
-sixes-spec = tie.close (tie.spec returns mul-result slice-aggregate-result returns-2)
+pub sixes_spec : {M : Type 1} → statement M
+sixes_spec =
+    tie.close
+    (tie.spec
+    returns
+    mul-result
+    slice-aggregate-result
+    returns-2)

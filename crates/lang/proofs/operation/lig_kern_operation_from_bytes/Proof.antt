@@ -9,22 +9,28 @@ use Rattle.lang.proofs.operation.lig_kern_operation_from_bytes.Tie as tie
 ligature-requires : tie.Need-ligature-requires
 ligature-requires c κs = search rules
 
-cast-high : tie.Need-overflow-cast-high
+cast-high : tie.Need-overflow_cast-high
 cast-high c = search rules
 
-mul-index : tie.Need-overflow-mul-index
+mul-index : tie.Need-overflow_mul-index
 mul-index c = search rules
 
-add-index : tie.Need-overflow-add-index
+add-index : tie.Need-overflow_add-index
 add-index c = search rules
 
-returns : tie.Need-returns
-returns c = let a = c.before.before.args in c.ligature.ensures ∙ sym (below_128 a.op_byte_lem a.remainder (omega arith))
+returns : tie.Need-returns-then-op_byte-lt128
+returns c = let a = c.args in c.ligature.ensures ∙ sym (below_128 a.op_byte a.remainder (omega arith))
 
-returns-2 : tie.Need-returns-2
-returns-2 c = let a = c.before.args in sym (kern_index a.op_byte_lem a.remainder (omega arith))
+returns-2 : tie.Need-returns-else-op_byte-lt128
+returns-2 c = let a = c.args in sym (kern_index a.op_byte a.remainder (omega arith))
 
-pub lig-kern-operation-from-bytes-spec : {M : Type 1} → statement M
-lig-kern-operation-from-bytes-spec =
+pub lig_kern_operation_from_bytes_spec : {M : Type 1} → statement M
+lig_kern_operation_from_bytes_spec =
     tie.close
-    (tie.spec ligature-requires cast-high mul-index add-index returns returns-2)
+    (tie.spec
+    ligature-requires
+    cast-high
+    mul-index
+    add-index
+    returns
+    returns-2)

@@ -6,7 +6,7 @@ use borrow.Author.Rules.{rules}
 use Rattle.lang.proofs.operation.ligature.Statement.{statement}
 use Rattle.lang.proofs.operation.ligature.Tie as tie
 
-add-if1 : tie.Need-overflow-add-if1
+add-if1 : tie.Need-overflow_add-b
 add-if1 c = search rules
 
 retains-requires : tie.Need-retains-requires
@@ -15,18 +15,24 @@ retains-requires c κs = search rules
 marked-requires : tie.Need-marked-requires
 marked-requires c κs = search rules
 
-marked-requires-2 : tie.Need-marked-requires-2
+marked-requires-2 : tie.Need-marked-requires-else-a-b
 marked-requires-2 c κs = search rules
 
-returns : tie.Need-returns
+returns : tie.Need-returns-then-a-b
 returns c =
-    let a = c.before.before.before.args in
-    c.marked.ensures ∙ rw c.before.retains.ensures (sym (within_retained a.op_byte_lem a.inserted (omega arith)))
+    let a = c.args in
+    c.marked.ensures ∙ rw c.retains.ensures (sym (within_retained a.op_byte a.inserted (omega arith)))
 
-returns-2 : tie.Need-returns-2
-returns-2 c = let a = c.before.before.args in c.marked2.ensures ∙ sym (beyond_retained a.op_byte_lem a.inserted (omega arith))
+returns-2 : tie.Need-returns-else-a-b
+returns-2 c = let a = c.args in c.marked-else-a-b.ensures ∙ sym (beyond_retained a.op_byte a.inserted (omega arith))
 
-pub ligature-spec : {M : Type 1} → statement M
-ligature-spec =
+pub ligature_spec : {M : Type 1} → statement M
+ligature_spec =
     tie.close
-    (tie.spec add-if1 retains-requires marked-requires marked-requires-2 returns returns-2)
+    (tie.spec
+    add-if1
+    retains-requires
+    marked-requires
+    marked-requires-2
+    returns
+    returns-2)

@@ -9,5 +9,8 @@ use Rattle.pack.proofs.numbers.is_present.Tie as tie
 returns : tie.Need-returns
 returns c = present_test c.args.word (ltb c.args.word 2147483648) refl
 
-pub is-present-spec : {M : Type 1} → statement M
-is-present-spec = tie.close (tie.spec returns)
+pub is_present_spec : {M : Type 1} → statement M
+is_present_spec =
+    tie.close
+    (tie.spec
+    returns)

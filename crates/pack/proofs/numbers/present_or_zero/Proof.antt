@@ -5,11 +5,15 @@ use mathlib.Core.Path.{sym}
 use Rattle.pack.proofs.numbers.present_or_zero.Statement.{statement}
 use Rattle.pack.proofs.numbers.present_or_zero.Tie as tie
 
-returns : tie.Need-returns
-returns c = sym (present_is c.before.args.word c.if1.true)
+returns : tie.Need-returns-then-word-lt2147483648
+returns c = sym (present_is c.args.word c.if-word-lt2147483648.true)
 
-returns-2 : tie.Need-returns-2
-returns-2 c = sym (absent_is c.before.args.word c.if1.false)
+returns-2 : tie.Need-returns-else-word-lt2147483648
+returns-2 c = sym (absent_is c.args.word c.if-word-lt2147483648.false)
 
-pub present-or-zero-spec : {M : Type 1} → statement M
-present-or-zero-spec = tie.close (tie.spec returns returns-2)
+pub present_or_zero_spec : {M : Type 1} → statement M
+present_or_zero_spec =
+    tie.close
+    (tie.spec
+    returns
+    returns-2)

@@ -5,23 +5,21 @@ use borrow.Author.Rules.{rules}
 use Rattle.pl_apply.proofs.state.at_least.Statement.{statement}
 use Rattle.pl_apply.proofs.state.at_least.Tie as tie
 
-add-result : tie.Need-overflow-add-result
+add-result : tie.Need-overflow_add-result
 add-result c = search rules
 
-returns : tie.Need-returns
+returns : tie.Need-returns-then-needed-n
 returns c =
-    let if1 = c.if1 in
-    let args = c.before.args in
-    rw (le-leb args.needed args.n if1.true)
+    let args = c.args in
+    rw (le-leb args.needed args.n c.if-needed-n.true)
 
-returns-2 : tie.Need-returns-2
+returns-2 : tie.Need-returns-else-needed-n
 returns-2 c =
-    let if1 = c.if1 in
-    let args = c.before.args in
-    rw (lt-leb args.needed args.n if1.false)
+    let args = c.args in
+    rw (lt-leb args.needed args.n c.if-needed-n.false)
 
-pub at-least-spec : {M : Type 1} → statement M
-at-least-spec =
+pub at_least_spec : {M : Type 1} → statement M
+at_least_spec =
     tie.close
     (tie.spec
     add-result

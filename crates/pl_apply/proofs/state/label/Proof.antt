@@ -8,47 +8,40 @@ use native.Mathlib.Omega.{arith}
 use Rattle.pl_apply.proofs.state.label.Statement.{statement}
 use Rattle.pl_apply.proofs.state.label.Tie as tie
 
-may-label-requires : tie.Need-may-label-requires
+may-label-requires : tie.Need-may_label-requires
 may-label-requires c κs = search rules
 
-same_length : tie.Need-same-length
+same_length : tie.Need-shape_of-labels-then-not-may_label
 same_length c = search rules
 
-returns : tie.Need-returns
+returns : tie.Need-returns-then-not-may_label
 returns c =
-    let if1 = c.if1 in
-    let may-label = c.before.may-label in
-    held_back (sym may-label.ensures ∙ not-true _ if1.true)
+    held_back (sym c.may_label.ensures ∙ c.if-not-may_label.true)
 
 smaller-requires : tie.Need-smaller-requires
 smaller-requires c κs = search rules
 
-cast-put-word : tie.Need-overflow-cast-put-word
+cast-put-word : tie.Need-overflow_cast-smaller
 cast-put-word c = search rules
 
-put-word-requires : tie.Need-put-word-requires
+put-word-requires : tie.Need-put_word-requires
 put-word-requires c κs = search rules
 
-at-least-requires : tie.Need-at-least-requires
+at-least-requires : tie.Need-at_least-needed-requires
 at-least-requires c κs = search rules
 
-same-length-2 : tie.Need-same-length-2
+same-length-2 : tie.Need-shape_of-labels
 same-length-2 c = search rules
 
-returns-2 : tie.Need-returns-2
+returns-2 : tie.Need-returns
 returns-2 c =
-    let at_least = c.at_least in
-    let put_word = c.before.before.put_word in
-    let smaller = c.before.before.before.smaller in
-    let if1 = c.before.before.before.before.before.if1 in
-    let may-label = c.before.before.before.before.before.before.may-label in
-    let args = c.before.before.before.before.before.before.before.before.args in
-    let l = small_number smaller.result (omega (arith, at_most_right args.s.steps 65535, smaller.ensures)) in
-    let_through_to (sym may-label.ensures ∙ not-false _ if1.false) (rw at_least.ensures)
-    (put_word.ensures ∙ rw (l, smaller.ensures))
+    let args = c.args in
+    let l = small_number c.smaller.result (omega (arith, at_most_right args.s.steps 65535, c.smaller.ensures)) in
+    let_through_to (sym c.may_label.ensures ∙ c.if-not-may_label.false) (rw c.at_least-needed.ensures)
+    (c.put_word.ensures ∙ rw (l, c.smaller.ensures))
 
-pub label-spec : {M : Type 1} → statement M
-label-spec =
+pub label_spec : {M : Type 1} → statement M
+label_spec =
     tie.close
     (tie.spec
     may-label-requires

@@ -11,36 +11,33 @@ use native.Mathlib.Omega.{arith}
 use Rattle.pl_apply.proofs.state.skip.Statement.{statement}
 use Rattle.pl_apply.proofs.state.skip.Tie as tie
 
-returns : tie.Need-returns
+returns : tie.Need-returns-then-n-gt127
 returns c =
-    let if1 = c.if1 in
-    let args = c.before.args in
-    held_back (both_no (may_end args.s) (lt-leb args.n 127 if1.true))
+    let args = c.args in
+    held_back (both_no (may_end args.s) (lt-leb args.n 127 c.if-n-gt127.true))
 
-add-at-least : tie.Need-overflow-add-at-least
+add-at-least : tie.Need-overflow_add-s
 add-at-least c = search rules
 
-at-least-requires : tie.Need-at-least-requires
+at-least-requires : tie.Need-at_least-requires
 at-least-requires c κs = search rules
 
-end-step-requires : tie.Need-end-step-requires
+end-step-requires : tie.Need-end_step-requires
 end-step-requires c κs = search rules
 
-same_length : tie.Need-same-length
+same_length : tie.Need-shape_of-instructions
 same_length c = search rules
 
-returns-2 : tie.Need-returns-2
+returns-2 : tie.Need-returns
 returns-2 c =
-    let End-step = c.before.End-step in
-    let at_least = c.before.before.before.at_least in
-    let if1 = c.before.before.before.before.before.if1 in
-    let args = c.before.before.before.before.before.before.args in
-    let l = small_number args.n (omega (arith, if1.false)) in
-    skips (le-leb args.n 127 if1.false) End-step.ensures (ap (λ (k : ℕ). ended_at k args.s) at_least.ensures)
+    let End-step = c.end_step in
+    let args = c.args in
+    let l = small_number args.n (omega (arith, c.if-n-gt127.false)) in
+    skips (le-leb args.n 127 c.if-n-gt127.false) End-step.ensures (ap (λ (k : ℕ). ended_at k args.s) c.at_least.ensures)
     (ap (λ (z : ℤ). next_set args.s.steps z args.instructions.now) l)
 
-pub skip-spec : {M : Type 1} → statement M
-skip-spec =
+pub skip_spec : {M : Type 1} → statement M
+skip_spec =
     tie.close
     (tie.spec
     returns

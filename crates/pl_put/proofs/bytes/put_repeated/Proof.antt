@@ -11,47 +11,45 @@ use borrow.Author.Rules.{rules}
 use Rattle.pl_put.proofs.bytes.put_repeated.Statement.{statement}
 use Rattle.pl_put.proofs.bytes.put_repeated.Tie as tie
 
-abbrev invariant-loop : tie.invariant-loop
+abbrev invariant-loop : tie.invariant-loop-i
 invariant-loop out₀ at b n next₀ i₀ out next i = (i ≤ n) × PutsCounted out₀ at (replicate i b) next out
 
-abbrev decreases-loop : tie.decreases-loop
+abbrev decreases-loop : tie.decreases-loop-i
 decreases-loop out₀ at b n next₀ i₀ out next i = n - i
 
-add-smaller : tie.Need-overflow-add-smaller invariant-loop decreases-loop
+add-smaller : tie.Need-overflow_add-out invariant-loop decreases-loop
 add-smaller c = search rules
 
-smaller-requires : tie.Need-smaller-requires invariant-loop decreases-loop
+smaller-requires : tie.Need-smaller-next-requires invariant-loop decreases-loop
 smaller-requires c κs = search rules
 
-loop-holds : tie.Need-loop-init invariant-loop decreases-loop
-loop-holds c = let a = c.before.before.args in (omega arith, counted_none a.out.now a.at c.smaller.ensures)
+loop-holds : tie.Need-loop-i-init invariant-loop decreases-loop
+loop-holds c = let a = c.args in (omega arith, counted_none a.out.now a.at c.smaller-next.ensures)
 
-put-byte-requires : tie.Need-put-byte-requires invariant-loop decreases-loop
+put-byte-requires : tie.Need-put_byte-next-requires invariant-loop decreases-loop
 put-byte-requires c κs = search rules
 
-add-i : tie.Need-overflow-add-i invariant-loop decreases-loop
+add-i : tie.Need-overflow_add-i invariant-loop decreases-loop
 add-i c = search rules
 
-loop-less : tie.Need-loop-smaller invariant-loop decreases-loop
+loop-less : tie.Need-loop-i-smaller invariant-loop decreases-loop
 loop-less c = search rules
 
-loop-again : tie.Need-loop-preserved invariant-loop decreases-loop
+loop-again : tie.Need-loop-i-preserved invariant-loop decreases-loop
 loop-again c =
-    let l = c.before.before.before.before.before in
-    let a = l.before.before.before.args in
-    (omega arith, repeated_more a.b l.loop.i l.loop.invariant.1 c.before.before.put_byte.ensures)
+    let a = c.args in
+    (omega arith, repeated_more a.b c.loop-i.i c.loop-i.invariant.1 c.put_byte-next.ensures)
 
-same_length : tie.Need-same-length invariant-loop decreases-loop
-same_length c = counted_long c.before.loop.invariant.1
+same_length : tie.Need-shape_of-out invariant-loop decreases-loop
+same_length c = counted_long c.loop-i.invariant.1
 
 returns : tie.Need-returns invariant-loop decreases-loop
 returns c =
-    let l = c.before in
-    let a = l.before.before.before.args in
-    repeated_all a.b l.loop.i a.n (omega arith) l.loop.invariant.1
+    let a = c.args in
+    repeated_all a.b c.loop-i.i a.n (omega arith) c.loop-i.invariant.1
 
-pub put-repeated-spec : {M : Type 1} → statement M
-put-repeated-spec =
+pub put_repeated_spec : {M : Type 1} → statement M
+put_repeated_spec =
     tie.close
     (tie.spec
     invariant-loop

@@ -14,125 +14,98 @@ use native.Mathlib.Omega.{arith}
 use Rattle.pl_read.proofs.whole.read_all.Statement.{statement}
 use Rattle.pl_read.proofs.whole.read_all.Tie as tie
 
-abbrev invariant-loop : tie.invariant-loop
+abbrev invariant-loop : tie.invariant-loop-p
 invariant-loop text instructions₀ labels₀ s₀ at₀ instructions labels s at =
     (length instructions ≡ length instructions₀) × (length labels ≡ length labels₀) × Going text instructions₀ s at instructions labels
 
-abbrev decreases-loop : tie.decreases-loop
+abbrev decreases-loop : tie.decreases-loop-p
 decreases-loop text instructions₀ labels₀ s₀ at₀ instructions labels s at = length text - at
 
-loop-holds : tie.Need-loop-init invariant-loop decreases-loop
+loop-holds : tie.Need-loop-p-init invariant-loop decreases-loop
 loop-holds c =
-    let pre = c.before.requires in
+    let pre = c.requires in
     (refl, refl, going_start _ _ (pre))
 
 property-requires : tie.Need-property-requires invariant-loop decreases-loop
 property-requires c κs = search rules
 
-enum-known-p : tie.Need-enum-known-p invariant-loop decreases-loop
+enum-known-p : tie.Need-enum_known-p invariant-loop decreases-loop
 enum-known-p c = search rules
 
-enum_told : tie.Need-enum-told invariant-loop decreases-loop
+enum_told : tie.Need-enum_told-1 invariant-loop decreases-loop
 enum_told c = search rules
 
-same_length : tie.Need-same-length invariant-loop decreases-loop
+same_length : tie.Need-shape_of-instructions-in_default invariant-loop decreases-loop
 same_length c = omega arith
 
-same-length-2 : tie.Need-same-length-2 invariant-loop decreases-loop
+same-length-2 : tie.Need-shape_of-labels-in_default invariant-loop decreases-loop
 same-length-2 c = omega arith
 
-returns : tie.Need-returns invariant-loop decreases-loop
+returns : tie.Need-returns-in_default invariant-loop decreases-loop
 returns c =
-    let enum_told = c.enum_told in
-    let property = c.before.before.property in
-    let loop = c.before.before.before.loop in
-    (going_stuck loop.invariant.2 (read_none property.ensures enum_told.given.1), omega arith)
+    (going_stuck c.loop-p.invariant.2 (read_none c.property.ensures c.in_default.is), omega arith)
 
-least-bytes-requires : tie.Need-least-bytes-requires invariant-loop decreases-loop
+least-bytes-requires : tie.Need-least_bytes-requires invariant-loop decreases-loop
 least-bytes-requires c κs = search rules
 
-same-length-3 : tie.Need-same-length-3 invariant-loop decreases-loop
+same-length-3 : tie.Need-shape_of-instructions-then-least_bytes-eq0 invariant-loop decreases-loop
 same-length-3 c = omega arith
 
-same-length-4 : tie.Need-same-length-4 invariant-loop decreases-loop
+same-length-4 : tie.Need-shape_of-labels-then-least_bytes-eq0 invariant-loop decreases-loop
 same-length-4 c = omega arith
 
-returns-2 : tie.Need-returns-2 invariant-loop decreases-loop
-returns-2 c =
-    let if1 = c.if1 in
-    let least-bytes = c.before.least-bytes in
-    let p = c.before.before.before.p in
-    let property = c.before.before.before.before.before.property in
-    let loop = c.before.before.before.before.before.before.loop in (
-      going_done loop.invariant.2 (read_at property.ensures p.given.1).0 (no_bytes p.given.0.0
-          (sym least-bytes.ensures.0 ∙ if1.true)),
-      omega (arith, loop.invariant.2.few, loop.invariant.2.within),
-    )
+returns-2 : tie.Need-returns-then-least_bytes-eq0 invariant-loop decreases-loop
+returns-2 c = (
+  going_done c.loop-p.invariant.2 (read_at c.property.ensures c.in-Read.is).0 (no_bytes c.in-Read.p
+      (sym c.least_bytes.ensures.0 ∙ c.if-least_bytes-eq0.true)),
+  omega (arith, c.loop-p.invariant.2.few, c.loop-p.invariant.2.within),
+)
 
 applied-requires : tie.Need-applied-requires invariant-loop decreases-loop
 applied-requires c κs = search rules
 
-enum-known-t : tie.Need-enum-known-t invariant-loop decreases-loop
+enum-known-t : tie.Need-enum_known-t invariant-loop decreases-loop
 enum-known-t c = search rules
 
-enum-told-2 : tie.Need-enum-told-2 invariant-loop decreases-loop
+enum-told-2 : tie.Need-enum_told-in_default-applied invariant-loop decreases-loop
 enum-told-2 c = search rules
 
-same-length-5 : tie.Need-same-length-5 invariant-loop decreases-loop
+same-length-5 : tie.Need-shape_of-instructions-in_default-applied invariant-loop decreases-loop
 same-length-5 c = omega arith
 
-same-length-6 : tie.Need-same-length-6 invariant-loop decreases-loop
+same-length-6 : tie.Need-shape_of-labels-in_default-applied invariant-loop decreases-loop
 same-length-6 c = omega arith
 
-returns-3 : tie.Need-returns-3 invariant-loop decreases-loop
+returns-3 : tie.Need-returns-in_default-applied invariant-loop decreases-loop
 returns-3 c =
-    let enum-told2 = c.enum-told2 in
-    let applied = c.before.before.before.before.applied in
-    let if1 = c.before.before.before.before.before.before.before.if1 in
-    let least-bytes = c.before.before.before.before.before.before.before.before.least-bytes in
-    let p = c.before.before.before.before.before.before.before.before.before.before.p in
-    let property = c.before.before.before.before.before.before.before.before.before.before.before.before.property in
-    let loop = c.before.before.before.before.before.before.before.before.before.before.before.before.before.loop in
-    let k = read_at property.ensures p.given.1 in (
-      going_refused loop.invariant.2 k.0 (any_bytes p.given.0.0 (λ e. if1.false (least-bytes.ensures.0 ∙ e)))
-          (applied.ensures (omega (arith, k.1 loop.invariant.2.within, k.2, loop.invariant.2.few)) _ _ loop.invariant.2.stands) enum-told2.given.1,
+    let k = read_at c.property.ensures c.in-Read.is in (
+      going_refused c.loop-p.invariant.2 k.0 (any_bytes c.in-Read.p (λ e. c.if-least_bytes-eq0.false (c.least_bytes.ensures.0 ∙ e)))
+          (c.applied.ensures (omega (arith, k.1 c.loop-p.invariant.2.within, k.2, c.loop-p.invariant.2.few)) _ _ c.loop-p.invariant.2.stands) c.in_default-applied.is,
       omega arith,
     )
 
-loop-less : tie.Need-loop-smaller invariant-loop decreases-loop
+loop-less : tie.Need-loop-p-smaller invariant-loop decreases-loop
 loop-less c =
-    let if1 = c.before.before.before.before.before.before.before.before.if1 in
-    let least-bytes = c.before.before.before.before.before.before.before.before.before.least-bytes in
-    let p = c.before.before.before.before.before.before.before.before.before.before.before.p in
-    let property = c.before.before.before.before.before.before.before.before.before.before.before.before.before.property in
-    let loop = c.before.before.before.before.before.before.before.before.before.before.before.before.before.before.loop in
-    let k = read_at property.ensures p.given.1 in
+    let k = read_at c.property.ensures c.in-Read.is in
     omega (
       arith,
-      going_less loop.invariant.2 k.0 (any_bytes p.given.0.0 (λ e. if1.false (least-bytes.ensures.0 ∙ e))) _
-          (k.1 loop.invariant.2.within),
+      going_less c.loop-p.invariant.2 k.0 (any_bytes c.in-Read.p (λ e. c.if-least_bytes-eq0.false (c.least_bytes.ensures.0 ∙ e))) _
+          (k.1 c.loop-p.invariant.2.within),
       k.2,
     )
 
-loop-again : tie.Need-loop-preserved invariant-loop decreases-loop
+loop-again : tie.Need-loop-p-preserved invariant-loop decreases-loop
 loop-again c =
-    let t = c.before.t in
-    let applied = c.before.before.before.before.before.applied in
-    let if1 = c.before.before.before.before.before.before.before.before.if1 in
-    let least-bytes = c.before.before.before.before.before.before.before.before.before.least-bytes in
-    let p = c.before.before.before.before.before.before.before.before.before.before.before.p in
-    let property = c.before.before.before.before.before.before.before.before.before.before.before.before.before.property in
-    let loop = c.before.before.before.before.before.before.before.before.before.before.before.before.before.before.loop in
-    let k = read_at property.ensures p.given.1 in (
+    let k = read_at c.property.ensures c.in-Read.is in (
       omega arith,
       omega arith,
-      going_on loop.invariant.2 k.0 (any_bytes p.given.0.0 (λ e. if1.false (least-bytes.ensures.0 ∙ e)))
-          (applied.ensures (omega (arith, k.1 loop.invariant.2.within, k.2, loop.invariant.2.few)) _ _ loop.invariant.2.stands) t.given.1 refl
-          (k.1 loop.invariant.2.within) k.2,
+      going_on c.loop-p.invariant.2 k.0 (any_bytes c.in-Read.p (λ e. c.if-least_bytes-eq0.false (c.least_bytes.ensures.0 ∙ e)))
+          (c.applied.ensures (omega (arith, k.1 c.loop-p.invariant.2.within, k.2, c.loop-p.invariant.2.few)) _ _ c.loop-p.invariant.2.stands) c.in-To.is refl
+          (k.1 c.loop-p.invariant.2.within) k.2,
     )
 
-pub read-all-spec : {M : Type 1} → statement M
-read-all-spec =
+pub read_all_spec : {M : Type 1} → statement M
+read_all_spec =
     tie.close
     (tie.spec
     invariant-loop

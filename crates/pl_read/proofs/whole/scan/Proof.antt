@@ -10,64 +10,51 @@ use native.Mathlib.Omega.{arith}
 use Rattle.pl_read.proofs.whole.scan.Statement.{statement}
 use Rattle.pl_read.proofs.whole.scan.Tie as tie
 
-good-indents-requires : tie.Need-good-indents-requires
+good-indents-requires : tie.Need-good_indents-requires
 good-indents-requires c κs = search rules
 
-returns : tie.Need-returns
+returns : tie.Need-returns-then-not-good_indents
 returns c =
-    let if1 = c.if1 in
-    let good-indents = c.before.good-indents in
-    let args = c.before.before.before.args in
-    scan_bad args.text.now (sym good-indents.ensures ∙ not-true _ if1.true)
+    let args = c.args in
+    scan_bad args.text.now (sym c.good_indents.ensures ∙ c.if-not-good_indents.true)
 
-read-all-requires : tie.Need-read-all-requires
+read-all-requires : tie.Need-read_all-requires
 read-all-requires c κs = search rules
 
-enum-known-s : tie.Need-enum-known-s
+enum-known-s : tie.Need-enum_known-s
 enum-known-s c = search rules
 
-enum_told : tie.Need-enum-told
+enum_told : tie.Need-enum_told-1
 enum_told c = search rules
 
-same_length : tie.Need-same-length
+same_length : tie.Need-shape_of-instructions-in_default
 same_length c = search rules
 
-same-length-2 : tie.Need-same-length-2
+same-length-2 : tie.Need-shape_of-labels-in_default
 same-length-2 c = search rules
 
-returns-2 : tie.Need-returns-2
+returns-2 : tie.Need-returns-in_default
 returns-2 c =
-    let enum_told = c.enum_told in
-    let read_all = c.before.before.before.before.read_all in
-    let if1 = c.before.before.before.before.before.before.before.if1 in
-    let good-indents = c.before.before.before.before.before.before.before.before.good-indents in
-    let args = c.before.before.before.before.before.before.before.before.before.before.args in
-    scan_none args.text.now (sym good-indents.ensures ∙ not-false _ if1.false) read_all.ensures.0 enum_told.given.1
+    let args = c.args in
+    scan_none args.text.now (sym c.good_indents.ensures ∙ c.if-not-good_indents.false) c.read_all.ensures.0 c.in_default.is
 
 finish-requires : tie.Need-finish-requires
 finish-requires c κs =
-    let s = c.before.before.s in
-    let read_all = c.before.before.before.before.before.before.read_all in
-    let h = rw s.given.1 at read_all.ensures.1 in omega (arith, h)
+    let h = rw c.in-To.is at c.read_all.ensures.1 in omega (arith, h)
 
-same-length-3 : tie.Need-same-length-3
+same-length-3 : tie.Need-shape_of-instructions
 same-length-3 c = search rules
 
-same-length-4 : tie.Need-same-length-4
+same-length-4 : tie.Need-shape_of-labels
 same-length-4 c = search rules
 
-returns-3 : tie.Need-returns-3
+returns-3 : tie.Need-returns
 returns-3 c =
-    let finish = c.before.finish in
-    let s = c.before.before.before.before.s in
-    let read_all = c.before.before.before.before.before.before.before.before.read_all in
-    let if1 = c.before.before.before.before.before.before.before.before.before.before.before.if1 in
-    let good-indents = c.before.before.before.before.before.before.before.before.before.before.before.before.good-indents in
-    let args = c.before.before.before.before.before.before.before.before.before.before.before.before.before.before.args in
-    scan_all args.text.now (sym good-indents.ensures ∙ not-false _ if1.false) read_all.ensures.0 s.given.1 (λ l st. finish.ensures _ l _ st)
+    let args = c.args in
+    scan_all args.text.now (sym c.good_indents.ensures ∙ c.if-not-good_indents.false) c.read_all.ensures.0 c.in-To.is (λ l st. c.finish.ensures _ l _ st)
 
-pub scan-spec : {M : Type 1} → statement M
-scan-spec =
+pub scan_spec : {M : Type 1} → statement M
+scan_spec =
     tie.close
     (tie.spec
     good-indents-requires

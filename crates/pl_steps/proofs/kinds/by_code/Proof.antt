@@ -13,113 +13,70 @@ use Rattle.pl_steps.proofs.kinds.by_code.Tie as tie
 comment-requires : tie.Need-comment-requires
 comment-requires c κs = search rules
 
-returns : tie.Need-returns
+returns : tie.Need-returns-then-code-eq0
 returns c =
-    let comment = c.comment in
-    let if1 = c.before.if1 in
-    let args = c.before.before.before.args in
-    property_from_lem comment.result comment.ensures (sym (rw (eq-eqb args.code 0 if1.true))) (λ h. (λ p. omega arith, h))
+    let args = c.args in
+    property_from_lem c.comment.result c.comment.ensures (sym (rw (eq-eqb args.code 0 c.if-code-eq0.true))) (λ h. (λ p. omega arith, h))
 
-returns-2 : tie.Need-returns-2
+returns-2 : tie.Need-returns-then-code-eq10
 returns-2 c =
-    let if2 = c.if2 in
-    let if1 = c.before.if1 in
-    let args = c.before.before.before.args in
-    let pre = c.before.before.before.requires in
-    property_at_lem _ (rw (ne_eqb args.code 0 if1.false, eq-eqb args.code 10 if2.true)) (λ h. omega arith) (pre)
+    let args = c.args in
+    let pre = c.requires in
+    property_at_lem _ (rw (ne_eqb args.code 0 c.if-code-eq0.false, eq-eqb args.code 10 c.if-code-eq10.true)) (λ h. omega arith) (pre)
 
 boundary-requires : tie.Need-boundary-requires
 boundary-requires c κs = search rules
 
-returns-3 : tie.Need-returns-3
+returns-3 : tie.Need-returns-then-code-eq11
 returns-3 c =
-    let boundary = c.boundary in
-    let if3 = c.before.if3 in
-    let if2 = c.before.before.if2 in
-    let if1 = c.before.before.before.if1 in
-    let args = c.before.before.before.before.before.args in
-    property_from_lem boundary.result boundary.ensures (sym (rw (ne_eqb args.code 0 if1.false, ne_eqb args.code 10 if2.false, eq-eqb args.code 11 if3.true))) (λ h. (λ p. omega arith, h))
+    let args = c.args in
+    property_from_lem c.boundary.result c.boundary.ensures (sym (rw (ne_eqb args.code 0 c.if-code-eq0.false, ne_eqb args.code 10 c.if-code-eq10.false, eq-eqb args.code 11 c.if-code-eq11.true))) (λ h. (λ p. omega arith, h))
 
 label-requires : tie.Need-label-requires
 label-requires c κs = search rules
 
-returns-4 : tie.Need-returns-4
+returns-4 : tie.Need-returns-then-code-eq70
 returns-4 c =
-    let label = c.label in
-    let if4 = c.before.if4 in
-    let if3 = c.before.before.if3 in
-    let if2 = c.before.before.before.if2 in
-    let if1 = c.before.before.before.before.if1 in
-    let args = c.before.before.before.before.before.before.args in
-    property_from_lem label.result label.ensures (sym (rw (ne_eqb args.code 0 if1.false, ne_eqb args.code 10 if2.false, ne_eqb args.code 11 if3.false, eq-eqb args.code 70 if4.true))) (λ h. (λ p. omega arith, h))
+    let args = c.args in
+    property_from_lem c.label.result c.label.ensures (sym (rw (ne_eqb args.code 0 c.if-code-eq0.false, ne_eqb args.code 10 c.if-code-eq10.false, ne_eqb args.code 11 c.if-code-eq11.false, eq-eqb args.code 70 c.if-code-eq70.true))) (λ h. (λ p. omega arith, h))
 
-closed-by-requires : tie.Need-closed-by-requires
+closed-by-requires : tie.Need-closed_by-requires
 closed-by-requires c κs = search rules
 
-returns-5 : tie.Need-returns-5
+returns-5 : tie.Need-returns-then-code-eq71
 returns-5 c =
-    let closed_by_lem = c.closed_by_lem in
-    let if5 = c.before.if5 in
-    let if4 = c.before.before.if4 in
-    let if3 = c.before.before.before.if3 in
-    let if2 = c.before.before.before.before.if2 in
-    let if1 = c.before.before.before.before.before.if1 in
-    let args = c.before.before.before.before.before.before.before.args in
-    property_from_lem closed_by_lem.result closed_by_lem.ensures (sym (rw (ne_eqb args.code 0 if1.false, ne_eqb args.code 10 if2.false, ne_eqb args.code 11 if3.false, ne_eqb args.code 70 if4.false, eq-eqb args.code 71 if5.true))) (λ h. (λ p. omega arith, h))
+    let args = c.args in
+    property_from_lem c.closed_by.result c.closed_by.ensures (sym (rw (ne_eqb args.code 0 c.if-code-eq0.false, ne_eqb args.code 10 c.if-code-eq10.false, ne_eqb args.code 11 c.if-code-eq11.false, ne_eqb args.code 70 c.if-code-eq70.false, eq-eqb args.code 71 c.if-code-eq71.true))) (λ h. (λ p. omega arith, h))
 
 skip-requires : tie.Need-skip-requires
 skip-requires c κs = search rules
 
-returns-6 : tie.Need-returns-6
+returns-6 : tie.Need-returns-then-code-eq72
 returns-6 c =
-    let skip = c.skip in
-    let if6 = c.before.if6 in
-    let if5 = c.before.before.if5 in
-    let if4 = c.before.before.before.if4 in
-    let if3 = c.before.before.before.before.if3 in
-    let if2 = c.before.before.before.before.before.if2 in
-    let if1 = c.before.before.before.before.before.before.if1 in
-    let args = c.before.before.before.before.before.before.before.before.args in
-    property_from_lem skip.result skip.ensures (sym (rw (ne_eqb args.code 0 if1.false, ne_eqb args.code 10 if2.false, ne_eqb args.code 11 if3.false, ne_eqb args.code 70 if4.false, ne_eqb args.code 71 if5.false, eq-eqb args.code 72 if6.true))) (λ h. (λ p. omega arith, h))
+    let args = c.args in
+    property_from_lem c.skip.result c.skip.ensures (sym (rw (ne_eqb args.code 0 c.if-code-eq0.false, ne_eqb args.code 10 c.if-code-eq10.false, ne_eqb args.code 11 c.if-code-eq11.false, ne_eqb args.code 70 c.if-code-eq70.false, ne_eqb args.code 71 c.if-code-eq71.false, eq-eqb args.code 72 c.if-code-eq72.true))) (λ h. (λ p. omega arith, h))
 
-kern-from-requires : tie.Need-kern-from-requires
+kern-from-requires : tie.Need-kern_from-requires
 kern-from-requires c κs = search rules
 
-returns-7 : tie.Need-returns-7
+returns-7 : tie.Need-returns-then-code-eq73
 returns-7 c =
-    let kern-from = c.kern-from in
-    let if7 = c.before.if7 in
-    let if6 = c.before.before.if6 in
-    let if5 = c.before.before.before.if5 in
-    let if4 = c.before.before.before.before.if4 in
-    let if3 = c.before.before.before.before.before.if3 in
-    let if2 = c.before.before.before.before.before.before.if2 in
-    let if1 = c.before.before.before.before.before.before.before.if1 in
-    let args = c.before.before.before.before.before.before.before.before.before.args in
-    property_from_lem kern-from.result kern-from.ensures (sym (rw (ne_eqb args.code 0 if1.false, ne_eqb args.code 10 if2.false, ne_eqb args.code 11 if3.false, ne_eqb args.code 70 if4.false, ne_eqb args.code 71 if5.false, ne_eqb args.code 72 if6.false, eq-eqb args.code 73 if7.true))) (λ h. (λ p. omega arith, h))
+    let args = c.args in
+    property_from_lem c.kern_from.result c.kern_from.ensures (sym (rw (ne_eqb args.code 0 c.if-code-eq0.false, ne_eqb args.code 10 c.if-code-eq10.false, ne_eqb args.code 11 c.if-code-eq11.false, ne_eqb args.code 70 c.if-code-eq70.false, ne_eqb args.code 71 c.if-code-eq71.false, ne_eqb args.code 72 c.if-code-eq72.false, eq-eqb args.code 73 c.if-code-eq73.true))) (λ h. (λ p. omega arith, h))
 
-op-of-requires : tie.Need-op-of-requires
+op-of-requires : tie.Need-op_of-requires
 op-of-requires c κs = search rules
 
-ligature-from-requires : tie.Need-ligature-from-requires
+ligature-from-requires : tie.Need-ligature_from-requires
 ligature-from-requires c κs = search rules
 
-returns-8 : tie.Need-returns-8
+returns-8 : tie.Need-returns
 returns-8 c =
-    let ligature-from = c.ligature-from in
-    let op-of = c.before.op-of in
-    let if7 = c.before.before.if7 in
-    let if6 = c.before.before.before.if6 in
-    let if5 = c.before.before.before.before.if5 in
-    let if4 = c.before.before.before.before.before.if4 in
-    let if3 = c.before.before.before.before.before.before.if3 in
-    let if2 = c.before.before.before.before.before.before.before.if2 in
-    let if1 = c.before.before.before.before.before.before.before.before.if1 in
-    let args = c.before.before.before.before.before.before.before.before.before.before.args in
-    property_from_lem ligature-from.result ligature-from.ensures (sym (rw (ne_eqb args.code 0 if1.false, ne_eqb args.code 10 if2.false, ne_eqb args.code 11 if3.false, ne_eqb args.code 70 if4.false, ne_eqb args.code 71 if5.false, ne_eqb args.code 72 if6.false, ne_eqb args.code 73 if7.false, op-of.ensures))) (λ h. (λ p. omega arith, h))
+    let args = c.args in
+    property_from_lem c.ligature_from.result c.ligature_from.ensures (sym (rw (ne_eqb args.code 0 c.if-code-eq0.false, ne_eqb args.code 10 c.if-code-eq10.false, ne_eqb args.code 11 c.if-code-eq11.false, ne_eqb args.code 70 c.if-code-eq70.false, ne_eqb args.code 71 c.if-code-eq71.false, ne_eqb args.code 72 c.if-code-eq72.false, ne_eqb args.code 73 c.if-code-eq73.false, c.op_of.ensures))) (λ h. (λ p. omega arith, h))
 
-pub by-code-spec : {M : Type 1} → statement M
-by-code-spec =
+pub by_code_spec : {M : Type 1} → statement M
+by_code_spec =
     tie.close
     (tie.spec
     comment-requires

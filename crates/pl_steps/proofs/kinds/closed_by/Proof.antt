@@ -12,32 +12,28 @@ use native.Mathlib.Omega.{arith}
 use Rattle.pl_steps.proofs.kinds.closed_by.Statement.{statement}
 use Rattle.pl_steps.proofs.kinds.closed_by.Tie as tie
 
-past-end-requires : tie.Need-past-end-requires
+past-end-requires : tie.Need-past_end-requires
 past-end-requires c κs = search rules
 
-enum-known-n : tie.Need-enum-known-n
+enum-known-n : tie.Need-enum_known-n
 enum-known-n c = search rules
 
-enum_told : tie.Need-enum-told
+enum_told : tie.Need-enum_told-1
 enum_told c = search rules
 
-returns : tie.Need-returns
+returns : tie.Need-returns-in-At
 returns c =
-    let n = c.before.n in
-    let past_end = c.before.before.before.past_end in
-    let args = c.before.before.before.before.before.args in
-    let k = known_at past_end.ensures n.given.1 in
+    let args = c.args in
+    let k = known_at c.past_end.ensures c.in-At.is in
     property_at_lem _ (ap (λ o. then_by o (λ rest. some (args.p, rest))) k.0) (λ h. omega (arith, k.1 h)) k.2
 
-returns-2 : tie.Need-returns-2
+returns-2 : tie.Need-returns-in-Refused
 returns-2 c =
-    let enum_told = c.enum_told in
-    let past_end = c.before.before.past_end in
-    let args = c.before.before.before.before.args in
-    property_none _ (ap (λ o. then_by o (λ rest. some (args.p, rest))) (known_none past_end.ensures enum_told.given.1))
+    let args = c.args in
+    property_none _ (ap (λ o. then_by o (λ rest. some (args.p, rest))) (known_none c.past_end.ensures c.in-Refused.is))
 
-pub closed-by-spec : {M : Type 1} → statement M
-closed-by-spec =
+pub closed_by_spec : {M : Type 1} → statement M
+closed_by_spec =
     tie.close
     (tie.spec
     past-end-requires

@@ -12,30 +12,26 @@ use native.Mathlib.Omega.{arith}
 use Rattle.pl_steps.proofs.kinds.comment.Statement.{statement}
 use Rattle.pl_steps.proofs.kinds.comment.Tie as tie
 
-past-comment-requires : tie.Need-past-comment-requires
+past-comment-requires : tie.Need-past_comment-requires
 past-comment-requires c κs = search rules
 
-enum-known-n : tie.Need-enum-known-n
+enum-known-n : tie.Need-enum_known-n
 enum-known-n c = search rules
 
-enum_told : tie.Need-enum-told
+enum_told : tie.Need-enum_told-1
 enum_told c = search rules
 
-returns : tie.Need-returns
+returns : tie.Need-returns-in-At
 returns c =
-    let n = c.before.n in
-    let past-comment = c.before.before.before.past-comment in
-    let k = known_at past-comment.ensures n.given.1 in
+    let k = known_at c.past_comment.ensures c.in-At.is in
     property_at_lem _ (ap (λ o. then_by o (λ rest. some (property.Comment, rest))) k.0) (λ h. omega (arith, k.1 h)) k.2
 
-returns-2 : tie.Need-returns-2
+returns-2 : tie.Need-returns-in-Refused
 returns-2 c =
-    let enum_told = c.enum_told in
-    let past-comment = c.before.before.past-comment in
-    property_none _ (ap (λ o. then_by o (λ rest. some (property.Comment, rest))) (known_none past-comment.ensures enum_told.given.1))
+    property_none _ (ap (λ o. then_by o (λ rest. some (property.Comment, rest))) (known_none c.past_comment.ensures c.in-Refused.is))
 
-pub comment-spec : {M : Type 1} → statement M
-comment-spec =
+pub comment_spec : {M : Type 1} → statement M
+comment_spec =
     tie.close
     (tie.spec
     past-comment-requires

@@ -15,78 +15,62 @@ use native.Mathlib.Omega.{arith}
 use Rattle.pl_steps.proofs.kinds.label_from.Statement.{statement}
 use Rattle.pl_steps.proofs.kinds.label_from.Tie as tie
 
-returns : tie.Need-returns
+returns : tie.Need-returns-then-text-at
 returns c =
-    let if1 = c.if1 in
-    let args = c.before.before.args in
-    property_none _ (rw (at_end_lem args.text.now args.at if1.true))
+    let args = c.args in
+    property_none _ (rw (at_end_lem args.text.now args.at c.if-text-at.true))
 
-shared-slice-read-upper-case : tie.Need-shared-slice-read-upper-case
+shared-slice-read-upper-case : tie.Need-bounds-text-at
 shared-slice-read-upper-case c = search rules
 
-upper-case-requires : tie.Need-upper-case-requires
+upper-case-requires : tie.Need-upper_case-requires
 upper-case-requires c κs = search rules
 
-character-label-requires : tie.Need-character-label-requires
+character-label-requires : tie.Need-character_label-requires
 character-label-requires c κs = search rules
 
-returns-2 : tie.Need-returns-2
+returns-2 : tie.Need-returns-then-upper_case-ne66
 returns-2 c =
-    let character-label = c.character-label in
-    let if2 = c.before.if2 in
-    let upper-case = c.before.before.upper-case in
-    let if1 = c.before.before.before.before.if1 in
-    let args = c.before.before.before.before.before.before.args in
+    let args = c.args in
     let t = args.text.now in
-    let b = at_byte t args.at if1.false in
-    let u : eqb (upper_case (get_or t args.at 0)) 66 ≡ false = ne_eqb (upper_case (get_or t args.at 0)) 66 (λ e. if2.true (upper-case.ensures ∙ e)) in
-    property_from_lem character-label.result character-label.ensures (rw (b, u)) (λ h. (λ p. omega arith, h))
+    let b = at_byte t args.at c.if-text-at.false in
+    let u : eqb (upper_case (get_or t args.at 0)) 66 ≡ false = ne_eqb (upper_case (get_or t args.at 0)) 66 (λ e. c.if-upper_case-ne66.true (c.upper_case.ensures ∙ e)) in
+    property_from_lem c.character_label.result c.character_label.ensures (rw (b, u)) (λ h. (λ p. omega arith, h))
 
-add-to-paren : tie.Need-overflow-add-to-paren
+add-to-paren : tie.Need-overflow_add-at
 add-to-paren c = search rules
 
-to-paren-requires : tie.Need-to-paren-requires
+to-paren-requires : tie.Need-to_paren-requires
 to-paren-requires c κs = search rules
 
-enum-known-n : tie.Need-enum-known-n
+enum-known-n : tie.Need-enum_known-n
 enum-known-n c = search rules
 
-enum_told : tie.Need-enum-told
+enum_told : tie.Need-enum_told-1
 enum_told c = search rules
 
-returns-3 : tie.Need-returns-3
+returns-3 : tie.Need-returns-in_default
 returns-3 c =
-    let enum_told = c.enum_told in
-    let to-paren = c.before.before.to-paren in
-    let if2 = c.before.before.before.if2 in
-    let upper-case = c.before.before.before.before.upper-case in
-    let if1 = c.before.before.before.before.before.before.if1 in
-    let args = c.before.before.before.before.before.before.before.before.args in
+    let args = c.args in
     let t = args.text.now in
-    let b = at_byte t args.at if1.false in
-    let u : eqb (upper_case (get_or t args.at 0)) 66 ≡ true = eq-eqb (upper_case (get_or t args.at 0)) 66 (sym upper-case.ensures ∙ if2.false) in
-    property_none _ (rw (b, u, known_none to-paren.ensures enum_told.given.1))
+    let b = at_byte t args.at c.if-text-at.false in
+    let u : eqb (upper_case (get_or t args.at 0)) 66 ≡ true = eq-eqb (upper_case (get_or t args.at 0)) 66 (sym c.upper_case.ensures ∙ c.if-upper_case-ne66.false) in
+    property_none _ (rw (b, u, known_none c.to_paren.ensures c.in_default.is))
 
-closed-by-requires : tie.Need-closed-by-requires
+closed-by-requires : tie.Need-closed_by-requires
 closed-by-requires c κs = search rules
 
-returns-4 : tie.Need-returns-4
+returns-4 : tie.Need-returns
 returns-4 c =
-    let closed_by_lem = c.closed_by_lem in
-    let n = c.before.before.n in
-    let to-paren = c.before.before.before.before.to-paren in
-    let if2 = c.before.before.before.before.before.if2 in
-    let upper-case = c.before.before.before.before.before.before.upper-case in
-    let if1 = c.before.before.before.before.before.before.before.before.if1 in
-    let args = c.before.before.before.before.before.before.before.before.before.before.args in
+    let args = c.args in
     let t = args.text.now in
-    let b = at_byte t args.at if1.false in
-    let k = known_at to-paren.ensures n.given.1 in
-    let u : eqb (upper_case (get_or t args.at 0)) 66 ≡ true = eq-eqb (upper_case (get_or t args.at 0)) 66 (sym upper-case.ensures ∙ if2.false) in
-    property_from_lem closed_by_lem.result closed_by_lem.ensures (sym (rw (b, u, k.0))) (λ h. (λ p. omega (arith, k.1 (omega (arith, if1.false))), k.2))
+    let b = at_byte t args.at c.if-text-at.false in
+    let k = known_at c.to_paren.ensures c.in-At.is in
+    let u : eqb (upper_case (get_or t args.at 0)) 66 ≡ true = eq-eqb (upper_case (get_or t args.at 0)) 66 (sym c.upper_case.ensures ∙ c.if-upper_case-ne66.false) in
+    property_from_lem c.closed_by.result c.closed_by.ensures (sym (rw (b, u, k.0))) (λ h. (λ p. omega (arith, k.1 (omega (arith, c.if-text-at.false))), k.2))
 
-pub label-from-spec : {M : Type 1} → statement M
-label-from-spec =
+pub label_from_spec : {M : Type 1} → statement M
+label_from_spec =
     tie.close
     (tie.spec
     returns

@@ -10,34 +10,29 @@ use native.Mathlib.Omega.{arith}
 use Rattle.pl_steps.proofs.kinds.skip.Statement.{statement}
 use Rattle.pl_steps.proofs.kinds.skip.Tie as tie
 
-byte-value-requires : tie.Need-byte-value-requires
+byte-value-requires : tie.Need-byte_value-requires
 byte-value-requires c κs = search rules
 
-enum-known-v : tie.Need-enum-known-v
+enum-known-v : tie.Need-enum_known-v
 enum-known-v c = search rules
 
-enum_told : tie.Need-enum-told
+enum_told : tie.Need-enum_told-1
 enum_told c = search rules
 
-returns : tie.Need-returns
+returns : tie.Need-returns-in_default
 returns c =
-    let enum_told = c.enum_told in
-    let byte-value = c.before.before.byte-value in
-    property_none _ (rw (value_none byte-value.ensures enum_told.given.1))
+    property_none _ (rw (value_none c.byte_value.ensures c.in_default.is))
 
-closed-by-requires : tie.Need-closed-by-requires
+closed-by-requires : tie.Need-closed_by-requires
 closed-by-requires c κs = search rules
 
-returns-2 : tie.Need-returns-2
+returns-2 : tie.Need-returns
 returns-2 c =
-    let closed_by_lem = c.closed_by_lem in
-    let v = c.before.before.v in
-    let byte-value = c.before.before.before.before.byte-value in
-    let k = value_at byte-value.ensures v.given.1 in
-    property_from_lem closed_by_lem.result closed_by_lem.ensures (sym (rw k.0)) (λ h. (λ p. omega (arith, k.1 h), k.2))
+    let k = value_at c.byte_value.ensures c.in-Value.is in
+    property_from_lem c.closed_by.result c.closed_by.ensures (sym (rw k.0)) (λ h. (λ p. omega (arith, k.1 h), k.2))
 
-pub skip-spec : {M : Type 1} → statement M
-skip-spec =
+pub skip_spec : {M : Type 1} → statement M
+skip_spec =
     tie.close
     (tie.spec
     byte-value-requires

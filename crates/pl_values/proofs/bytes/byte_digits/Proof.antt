@@ -11,110 +11,88 @@ use native.Mathlib.Omega.{arith}
 use Rattle.pl_values.proofs.bytes.byte_digits.Statement.{statement}
 use Rattle.pl_values.proofs.bytes.byte_digits.Tie as tie
 
-abbrev invariant-loop : tie.invariant-loop
+abbrev invariant-loop : tie.invariant-loop-i
 invariant-loop text at base n₀ i₀ n i =
     (at ≤ i) × (i ≤ length text) × (n ≤ 255) × (byte_digits base n (drop i text) ≡ byte_digits base 0 (drop at text))
 
-abbrev decreases-loop : tie.decreases-loop
+abbrev decreases-loop : tie.decreases-loop-i
 decreases-loop text at base n₀ i₀ n i = length text - i
 
-loop-holds : tie.Need-loop-init invariant-loop decreases-loop
+loop-holds : tie.Need-loop-i-init invariant-loop decreases-loop
 loop-holds c =
-    let pre = c.before.requires in
+    let pre = c.requires in
     (omega arith, pre.0, omega arith, refl)
 
-shared-slice-read-figure-of : tie.Need-shared-slice-read-figure-of invariant-loop decreases-loop
+shared-slice-read-figure-of : tie.Need-bounds-text-i invariant-loop decreases-loop
 shared-slice-read-figure-of c = omega arith
 
-figure-of-requires : tie.Need-figure-of-requires invariant-loop decreases-loop
+figure-of-requires : tie.Need-figure_of-d-requires invariant-loop decreases-loop
 figure-of-requires c κs = search rules
 
-returns : tie.Need-returns invariant-loop decreases-loop
+returns : tie.Need-returns-then-base-d invariant-loop decreases-loop
 returns c =
-    let if1 = c.if1 in
-    let figure-of = c.before.figure-of in
-    let loop-test = c.before.before.before.loop-test in
-    let loop = c.before.before.before.before.loop in
-    let args = c.before.before.before.before.before.before.args in
-    let f = figure-of.ensures.0 in
-    let l = if1.true in
-    scanned_at _ (sym loop.invariant.3 ∙ digits_stop args.text.now loop.i args.base loop.n loop-test.true (omega (arith, l, f)))
-    (λ _. omega (arith, loop.invariant.0)) loop.invariant.1
+    let args = c.args in
+    let f = c.figure_of-d.ensures.0 in
+    let l = c.if-base-d.true in
+    scanned_at _ (sym c.loop-i.invariant.3 ∙ digits_stop args.text.now c.loop-i.i args.base c.loop-i.n c.loop-i-test.true (omega (arith, l, f)))
+    (λ _. omega (arith, c.loop-i.invariant.0)) c.loop-i.invariant.1
 
-mul-if2 : tie.Need-overflow-mul-if2 invariant-loop decreases-loop
+mul-if2 : tie.Need-overflow_mul-base invariant-loop decreases-loop
 mul-if2 c =
-    let loop = c.before.before.before.before.loop in
-    let args = c.before.before.before.before.before.before.args in
-    let pre = c.before.before.before.before.before.before.requires in
-    omega (arith, digits_small args.base loop.n pre.1 loop.invariant.2)
+    let args = c.args in
+    let pre = c.requires in
+    omega (arith, digits_small args.base c.loop-i.n pre.1 c.loop-i.invariant.2)
 
-add-if2 : tie.Need-overflow-add-if2 invariant-loop decreases-loop
+add-if2 : tie.Need-overflow_add-base invariant-loop decreases-loop
 add-if2 c =
-    let figure-of = c.before.figure-of in
-    let loop = c.before.before.before.before.loop in
-    let args = c.before.before.before.before.before.before.args in
-    let pre = c.before.before.before.before.before.before.requires in
-    omega (arith, digits_small args.base loop.n pre.1 loop.invariant.2, figure-of.ensures.1)
+    let args = c.args in
+    let pre = c.requires in
+    omega (arith, digits_small args.base c.loop-i.n pre.1 c.loop-i.invariant.2, c.figure_of-d.ensures.1)
 
-returns-2 : tie.Need-returns-2 invariant-loop decreases-loop
+returns-2 : tie.Need-returns-then-base-n-gt255 invariant-loop decreases-loop
 returns-2 c =
-    let if2 = c.if2 in
-    let if1 = c.before.if1 in
-    let figure-of = c.before.before.figure-of in
-    let loop-test = c.before.before.before.before.loop-test in
-    let loop = c.before.before.before.before.before.loop in
-    let args = c.before.before.before.before.before.before.before.args in
-    let f = figure-of.ensures.0 in
-    scanned_none _ (sym loop.invariant.3 ∙ digits_over args.text.now loop.i args.base loop.n loop-test.true (omega (arith, if1.false, f))
-    (omega (arith, if2.true, f)))
+    let args = c.args in
+    let f = c.figure_of-d.ensures.0 in
+    scanned_none _ (sym c.loop-i.invariant.3 ∙ digits_over args.text.now c.loop-i.i args.base c.loop-i.n c.loop-i-test.true (omega (arith, c.if-base-d.false, f))
+    (omega (arith, c.if-base-n-gt255.true, f)))
 
-mul-n : tie.Need-overflow-mul-n invariant-loop decreases-loop
+mul-n : tie.Need-overflow_mul-n invariant-loop decreases-loop
 mul-n c =
-    let loop = c.before.before.before.before.before.loop in
-    let args = c.before.before.before.before.before.before.before.args in
-    let pre = c.before.before.before.before.before.before.before.requires in
-    omega (arith, digits_small args.base loop.n pre.1 loop.invariant.2)
+    let args = c.args in
+    let pre = c.requires in
+    omega (arith, digits_small args.base c.loop-i.n pre.1 c.loop-i.invariant.2)
 
-add-n : tie.Need-overflow-add-n invariant-loop decreases-loop
+add-n : tie.Need-overflow_add-n invariant-loop decreases-loop
 add-n c =
-    let figure-of = c.before.before.figure-of in
-    let loop = c.before.before.before.before.before.loop in
-    let args = c.before.before.before.before.before.before.before.args in
-    let pre = c.before.before.before.before.before.before.before.requires in
-    omega (arith, digits_small args.base loop.n pre.1 loop.invariant.2, figure-of.ensures.1)
+    let args = c.args in
+    let pre = c.requires in
+    omega (arith, digits_small args.base c.loop-i.n pre.1 c.loop-i.invariant.2, c.figure_of-d.ensures.1)
 
-add-i : tie.Need-overflow-add-i invariant-loop decreases-loop
+add-i : tie.Need-overflow_add-i invariant-loop decreases-loop
 add-i c = omega arith
 
-loop-less : tie.Need-loop-smaller invariant-loop decreases-loop
+loop-less : tie.Need-loop-i-smaller invariant-loop decreases-loop
 loop-less c = omega arith
 
-loop-again : tie.Need-loop-preserved invariant-loop decreases-loop
+loop-again : tie.Need-loop-i-preserved invariant-loop decreases-loop
 loop-again c =
-    let if2 = c.if2 in
-    let if1 = c.before.if1 in
-    let figure-of = c.before.before.figure-of in
-    let loop-test = c.before.before.before.before.loop-test in
-    let loop = c.before.before.before.before.before.loop in
-    let args = c.before.before.before.before.before.before.before.args in
-    let f = figure-of.ensures.0 in (
+    let args = c.args in
+    let f = c.figure_of-d.ensures.0 in (
       omega arith,
       omega arith,
-      omega (arith, if2.false),
-      rw f (sym (digits_more args.text.now loop.i args.base loop.n loop-test.true (omega (arith, if1.false, f))
-          (omega (arith, if2.false, f))) ∙ loop.invariant.3),
+      omega (arith, c.if-base-n-gt255.false),
+      rw f (sym (digits_more args.text.now c.loop-i.i args.base c.loop-i.n c.loop-i-test.true (omega (arith, c.if-base-d.false, f))
+          (omega (arith, c.if-base-n-gt255.false, f))) ∙ c.loop-i.invariant.3),
     )
 
-returns-3 : tie.Need-returns-3 invariant-loop decreases-loop
+returns-3 : tie.Need-returns invariant-loop decreases-loop
 returns-3 c =
-    let loop-test = c.loop-test in
-    let loop = c.before.loop in
-    let args = c.before.before.before.args in
-    scanned_at _ (sym loop.invariant.3 ∙ digits_end args.text.now loop.i args.base loop.n loop-test.false)
-    (λ _. omega (arith, loop.invariant.0)) loop.invariant.1
+    let args = c.args in
+    scanned_at _ (sym c.loop-i.invariant.3 ∙ digits_end args.text.now c.loop-i.i args.base c.loop-i.n c.loop-i-test.false)
+    (λ _. omega (arith, c.loop-i.invariant.0)) c.loop-i.invariant.1
 
-pub byte-digits-spec : {M : Type 1} → statement M
-byte-digits-spec =
+pub byte_digits_spec : {M : Type 1} → statement M
+byte_digits_spec =
     tie.close
     (tie.spec
     invariant-loop

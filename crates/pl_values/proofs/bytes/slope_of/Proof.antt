@@ -5,28 +5,23 @@ use native.Mathlib.Omega.{arith}
 use Rattle.pl_values.proofs.bytes.slope_of.Statement.{statement}
 use Rattle.pl_values.proofs.bytes.slope_of.Tie as tie
 
-returns : tie.Need-returns
+returns : tie.Need-returns-then-b-eq82
 returns c =
-    let if1 = c.if1 in
-    let args = c.before.args in
-    (rw (eq-eqb args.b 82 if1.true), omega arith)
+    let args = c.args in
+    (rw (eq-eqb args.b 82 c.if-b-eq82.true), omega arith)
 
-returns-2 : tie.Need-returns-2
+returns-2 : tie.Need-returns-then-b-eq73
 returns-2 c =
-    let if2 = c.if2 in
-    let if1 = c.before.if1 in
-    let args = c.before.before.args in
-    (rw (ne_eqb args.b 82 if1.false, eq-eqb args.b 73 if2.true), omega arith)
+    let args = c.args in
+    (rw (ne_eqb args.b 82 c.if-b-eq82.false, eq-eqb args.b 73 c.if-b-eq73.true), omega arith)
 
-returns-3 : tie.Need-returns-3
+returns-3 : tie.Need-returns
 returns-3 c =
-    let if2 = c.if2 in
-    let if1 = c.before.if1 in
-    let args = c.before.before.args in
-    (rw (ne_eqb args.b 82 if1.false, ne_eqb args.b 73 if2.false), omega arith)
+    let args = c.args in
+    (rw (ne_eqb args.b 82 c.if-b-eq82.false, ne_eqb args.b 73 c.if-b-eq73.false), omega arith)
 
-pub slope-of-spec : {M : Type 1} → statement M
-slope-of-spec =
+pub slope_of_spec : {M : Type 1} → statement M
+slope_of_spec =
     tie.close
     (tie.spec
     returns

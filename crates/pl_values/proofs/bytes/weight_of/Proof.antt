@@ -5,37 +5,28 @@ use native.Mathlib.Omega.{arith}
 use Rattle.pl_values.proofs.bytes.weight_of.Statement.{statement}
 use Rattle.pl_values.proofs.bytes.weight_of.Tie as tie
 
-returns : tie.Need-returns
+returns : tie.Need-returns-then-b-eq77
 returns c =
-    let if1 = c.if1 in
-    let args = c.before.args in
-    (rw (eq-eqb args.b 77 if1.true), omega arith)
+    let args = c.args in
+    (rw (eq-eqb args.b 77 c.if-b-eq77.true), omega arith)
 
-returns-2 : tie.Need-returns-2
+returns-2 : tie.Need-returns-then-b-eq66
 returns-2 c =
-    let if2 = c.if2 in
-    let if1 = c.before.if1 in
-    let args = c.before.before.args in
-    (rw (ne_eqb args.b 77 if1.false, eq-eqb args.b 66 if2.true), omega arith)
+    let args = c.args in
+    (rw (ne_eqb args.b 77 c.if-b-eq77.false, eq-eqb args.b 66 c.if-b-eq66.true), omega arith)
 
-returns-3 : tie.Need-returns-3
+returns-3 : tie.Need-returns-then-b-eq76
 returns-3 c =
-    let if3 = c.if3 in
-    let if2 = c.before.if2 in
-    let if1 = c.before.before.if1 in
-    let args = c.before.before.before.args in
-    (rw (ne_eqb args.b 77 if1.false, ne_eqb args.b 66 if2.false, eq-eqb args.b 76 if3.true), omega arith)
+    let args = c.args in
+    (rw (ne_eqb args.b 77 c.if-b-eq77.false, ne_eqb args.b 66 c.if-b-eq66.false, eq-eqb args.b 76 c.if-b-eq76.true), omega arith)
 
-returns-4 : tie.Need-returns-4
+returns-4 : tie.Need-returns
 returns-4 c =
-    let if3 = c.if3 in
-    let if2 = c.before.if2 in
-    let if1 = c.before.before.if1 in
-    let args = c.before.before.before.args in
-    (rw (ne_eqb args.b 77 if1.false, ne_eqb args.b 66 if2.false, ne_eqb args.b 76 if3.false), omega arith)
+    let args = c.args in
+    (rw (ne_eqb args.b 77 c.if-b-eq77.false, ne_eqb args.b 66 c.if-b-eq66.false, ne_eqb args.b 76 c.if-b-eq76.false), omega arith)
 
-pub weight-of-spec : {M : Type 1} → statement M
-weight-of-spec =
+pub weight_of_spec : {M : Type 1} → statement M
+weight_of_spec =
     tie.close
     (tie.spec
     returns

@@ -5,27 +5,29 @@ use borrow.Author.Rules.{rules}
 use Rattle.pl_write.proofs.steps.put_instruction.Statement.{statement}
 use Rattle.pl_write.proofs.steps.put_instruction.Tie as tie
 
-put-step-requires : tie.Need-put-step-requires
+put-step-requires : tie.Need-put_step-next-requires
 put-step-requires c κs = search rules
 
-field-at-requires : tie.Need-field-at-requires
+field-at-requires : tie.Need-field_at-requires
 field-at-requires c κs = search rules
 
-put-next-requires : tie.Need-put-next-requires
+put-next-requires : tie.Need-put_next-requires
 put-next-requires c κs = search rules
 
-same_length : tie.Need-same-length
+same_length : tie.Need-shape_of-out
 same_length c = search rules
 
 returns : tie.Need-returns
 returns c =
-    let x₁ = c.before.before in
-    let x₂ = x₁.before in
-    let x₃ = x₂.before.before.before.before in
-    let x₄ = x₃.before.before.before in
-    instruction_put x₄.args.instructions.now x₄.args.kerns.now x₄.args.i x₃.put_step.ensures x₂.field_at.ensures
-    x₁.put_next.ensures
+    instruction_put c.args.instructions.now c.args.kerns.now c.args.i c.put_step-next.ensures c.field_at.ensures
+    c.put_next.ensures
 
-pub put-instruction-spec : {M : Type 1} → statement M
-put-instruction-spec =
-    tie.close (tie.spec put-step-requires field-at-requires put-next-requires same_length returns)
+pub put_instruction_spec : {M : Type 1} → statement M
+put_instruction_spec =
+    tie.close
+    (tie.spec
+    put-step-requires
+    field-at-requires
+    put-next-requires
+    same_length
+    returns)

@@ -5,54 +5,42 @@ use borrow.Author.Rules.{rules}
 use Rattle.pl_write.proofs.steps.put_step.Statement.{statement}
 use Rattle.pl_write.proofs.steps.put_step.Tie as tie
 
-field-at-requires : tie.Need-field-at-requires
+field-at-requires : tie.Need-field_at-right-requires
 field-at-requires c κs = search rules
 
-field-at-requires-2 : tie.Need-field-at-requires-2
+field-at-requires-2 : tie.Need-field_at-requires
 field-at-requires-2 c κs = search rules
 
-field-at-requires-3 : tie.Need-field-at-requires-3
+field-at-requires-3 : tie.Need-field_at-operand-requires
 field-at-requires-3 c κs = search rules
 
-put-lig-requires : tie.Need-put-lig-requires
+put-lig-requires : tie.Need-put_lig-requires
 put-lig-requires c κs = search rules
 
-same_length : tie.Need-same-length
+same_length : tie.Need-shape_of-out-then-field_at-eq2
 same_length c = search rules
 
-returns : tie.Need-returns
+returns : tie.Need-returns-then-field_at-eq2
 returns c =
-    let x₁ = c.before.before in
-    let x₂ = x₁.before.before in
-    let x₃ = x₂.before in
-    let x₄ = x₃.before in
-    let x₅ = x₄.before in
-    let x₆ = x₅.before.before in
-    step_lig x₆.args.instructions.now x₆.args.kerns.now x₆.args.i x₄.field-at2.ensures x₃.if1.true x₅.field_at.ensures
-    x₂.field-at3.ensures x₁.put-lig.ensures
+    step_lig c.args.instructions.now c.args.kerns.now c.args.i c.field_at.ensures c.if-field_at-eq2.true c.field_at-right.ensures
+    c.field_at-operand.ensures c.put_lig.ensures
 
-kern-of-requires : tie.Need-kern-of-requires
+kern-of-requires : tie.Need-kern_of-requires
 kern-of-requires c κs = search rules
 
-put-krn-requires : tie.Need-put-krn-requires
+put-krn-requires : tie.Need-put_krn-requires
 put-krn-requires c κs = search rules
 
-same-length-2 : tie.Need-same-length-2
+same-length-2 : tie.Need-shape_of-out
 same-length-2 c = search rules
 
-returns-2 : tie.Need-returns-2
+returns-2 : tie.Need-returns
 returns-2 c =
-    let x₁ = c.before.before in
-    let x₂ = x₁.before in
-    let x₃ = x₂.before.before in
-    let x₄ = x₃.before in
-    let x₅ = x₄.before in
-    let x₆ = x₅.before.before in
-    step_krn x₆.args.instructions.now x₆.args.kerns.now x₆.args.i x₄.field-at2.ensures x₃.if1.false x₅.field_at.ensures
-    x₂.kern-of.ensures x₁.put-krn.ensures
+    step_krn c.args.instructions.now c.args.kerns.now c.args.i c.field_at.ensures c.if-field_at-eq2.false c.field_at-right.ensures
+    c.kern_of.ensures c.put_krn.ensures
 
-pub put-step-spec : {M : Type 1} → statement M
-put-step-spec =
+pub put_step_spec : {M : Type 1} → statement M
+put_step_spec =
     tie.close
     (tie.spec
     field-at-requires

@@ -10,57 +10,52 @@ use Rattle.program_kerns.proofs.Sharing.{counted_whole, counted_short}
 use Rattle.program_kerns.proofs.share.gather.Statement.{statement}
 use Rattle.program_kerns.proofs.share.gather.Tie as tie
 
-abbrev invariant-loop : tie.invariant-loop
+abbrev invariant-loop : tie.invariant-loop-i
 invariant-loop instructions kerns₀ links₀ m₀ i₀ kerns links m i =
     (i ≤ count instructions) × (length kerns ≡ length kerns₀) × Gathered instructions i (length kerns₀) kerns links m
 
-abbrev decreases-loop : tie.decreases-loop
+abbrev decreases-loop : tie.decreases-loop-i
 decreases-loop instructions kerns₀ links₀ m₀ i₀ kerns links m i = count instructions - i
 
-loop-holds : tie.Need-loop-init invariant-loop decreases-loop
+loop-holds : tie.Need-loop-i-init invariant-loop decreases-loop
 loop-holds c = (omega arith, refl, c.requires.1)
 
-share-kern-requires : tie.Need-share-kern-requires invariant-loop decreases-loop
+share-kern-requires : tie.Need-share_kern-m-requires invariant-loop decreases-loop
 share-kern-requires c κs =
-    let l = c.before.before.before.loop in
-    (omega (arith, c.before.before.loop-test.true, c.before.before.before.before.requires.0), rw l.invariant.1 l.invariant.2)
+    (omega (arith, c.loop-i-test.true, c.requires.0), rw c.loop-i.invariant.1 c.loop-i.invariant.2)
 
-same_length : tie.Need-same-length invariant-loop decreases-loop
-same_length c = c.before.before.share-kern.auto.1.1.0 ∙ c.before.before.before.before.before.before.loop.invariant.1
+same_length : tie.Need-shape_of-kerns-then-kerns-m invariant-loop decreases-loop
+same_length c = c.share_kern-m.auto.kerns ∙ c.loop-i.invariant.1
 
-returns : tie.Need-returns invariant-loop decreases-loop
+returns : tie.Need-returns-then-kerns-m invariant-loop decreases-loop
 returns c =
-    let a = c.before.before.before.before.before.before.before in
-    let l = c.before.before.before.before.before.before.loop in
-    counted_short (rw l.invariant.1 at c.before.before.share-kern.ensures)
-    (omega (arith, c.if1.true, c.before.before.share-kern.auto.1.1.0, l.invariant.1)) (count a.args.instructions.now)
-    (omega (arith, c.before.before.before.before.before.loop-test.true))
+    counted_short (rw c.loop-i.invariant.1 at c.share_kern-m.ensures)
+    (omega (arith, c.if-kerns-m.true, c.share_kern-m.auto.kerns, c.loop-i.invariant.1)) (count c.args.instructions.now)
+    (omega (arith, c.loop-i-test.true))
 
-add-i : tie.Need-overflow-add-i invariant-loop decreases-loop
-add-i c = omega (arith, c.before.before.before.before.before.loop-test.true, c.before.before.before.before.before.before.before.requires.0)
+add-i : tie.Need-overflow_add-i invariant-loop decreases-loop
+add-i c = omega (arith, c.loop-i-test.true, c.requires.0)
 
-loop-less : tie.Need-loop-smaller invariant-loop decreases-loop
-loop-less c = omega (arith, c.before.before.before.before.before.loop-test.true)
+loop-less : tie.Need-loop-i-smaller invariant-loop decreases-loop
+loop-less c = omega (arith, c.loop-i-test.true)
 
-loop-again : tie.Need-loop-preserved invariant-loop decreases-loop
-loop-again c =
-    let l = c.before.before.before.before.before.before.loop in (
-      omega (arith, c.before.before.before.before.before.loop-test.true),
-      c.before.before.share-kern.auto.1.1.0 ∙ l.invariant.1,
-      rw l.invariant.1 at (c.before.before.share-kern.ensures.whole (omega (arith, c.if1.false, c.before.before.share-kern.auto.1.1.0))),
-    )
+loop-again : tie.Need-loop-i-preserved invariant-loop decreases-loop
+loop-again c = (
+  omega (arith, c.loop-i-test.true),
+  c.share_kern-m.auto.kerns ∙ c.loop-i.invariant.1,
+  rw c.loop-i.invariant.1 at (c.share_kern-m.ensures.whole (omega (arith, c.if-kerns-m.false, c.share_kern-m.auto.kerns))),
+)
 
-same-length-2 : tie.Need-same-length-2 invariant-loop decreases-loop
-same-length-2 c = c.before.loop.invariant.1
+same-length-2 : tie.Need-shape_of-kerns invariant-loop decreases-loop
+same-length-2 c = c.loop-i.invariant.1
 
-returns-2 : tie.Need-returns-2 invariant-loop decreases-loop
+returns-2 : tie.Need-returns invariant-loop decreases-loop
 returns-2 c =
-    let l = c.before.loop in
-    let e : l.i ≡ count c.before.before.args.instructions.now = omega (arith, l.invariant.0, c.loop-test.false) in
-    rw e at (counted_whole l.invariant.2)
+    let e : c.loop-i.i ≡ count c.args.instructions.now = omega (arith, c.loop-i.invariant.0, c.loop-i-test.false) in
+    rw e at (counted_whole c.loop-i.invariant.2)
 
-pub gather-spec : {M : Type 1} → statement M
-gather-spec =
+pub gather_spec : {M : Type 1} → statement M
+gather_spec =
     tie.close
     (tie.spec
     invariant-loop

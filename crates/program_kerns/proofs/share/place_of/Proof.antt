@@ -7,29 +7,29 @@ use borrow.Author.Rules.{rules}
 use Rattle.program_kerns.proofs.share.place_of.Statement.{statement}
 use Rattle.program_kerns.proofs.share.place_of.Tie as tie
 
-slot-of-requires : tie.Need-slot-of-requires
+slot-of-requires : tie.Need-slot_of-slot-requires
 slot-of-requires c κs = search rules
 
-mul-link : tie.Need-overflow-mul-link
-mul-link c = omega (arith, ends_lt c.before.requires c.slot_of.ensures)
+mul-link : tie.Need-offset_bounds-links-slot
+mul-link c = omega (arith, ends_lt c.requires c.slot_of-slot.ensures)
 
-element-copy-out-link : tie.Need-element-copy-out-link
-element-copy-out-link c = omega (arith, ends_lt c.before.requires c.slot_of.ensures)
+element-copy-out-link : tie.Need-bounds-links-slot
+element-copy-out-link c = omega (arith, ends_lt c.requires c.slot_of-slot.ensures)
 
-cast-link : tie.Need-overflow-cast-link
-cast-link c = omega (arith, link_lt c.before.before.requires c.before.slot_of.result)
+cast-link : tie.Need-overflow_cast-link
+cast-link c = omega (arith, link_lt c.requires c.slot_of-slot.result)
 
-returns : tie.Need-returns
-returns c = let a = c.before.before.before in sym (ends_absent a.requires c.before.before.slot_of.ensures a.ranges.word.fits c.if1.true)
+returns : tie.Need-returns-then-link-eq0
+returns c = sym (ends_absent c.requires c.slot_of-slot.ensures c.ranges.word.fits c.if-link-eq0.true)
 
-sub-result : tie.Need-overflow-sub-result
+sub-result : tie.Need-overflow_sub-result
 sub-result c = search rules
 
-returns-2 : tie.Need-returns-2
-returns-2 c = let a = c.before.before.before in ends_found a.requires c.before.before.slot_of.ensures a.ranges.word.fits c.if1.false
+returns-2 : tie.Need-returns
+returns-2 c = ends_found c.requires c.slot_of-slot.ensures c.ranges.word.fits c.if-link-eq0.false
 
-pub place-of-spec : {M : Type 1} → statement M
-place-of-spec =
+pub place_of_spec : {M : Type 1} → statement M
+place_of_spec =
     tie.close
     (tie.spec
     slot-of-requires

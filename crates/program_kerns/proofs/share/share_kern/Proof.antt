@@ -28,82 +28,73 @@ module _ {s : List ℤ} {i n : ℕ} {kerns : List ℤ} {links : List ℕ} {m : �
   slot_lt : {w slot : ℕ} → SearchEnds (take m kerns) links w slot → slot < 65535
   slot_lt h = ends_lt g.linked (among h)
 
-field-at-requires : tie.Need-field-at-requires
+field-at-requires : tie.Need-field_at-requires
 field-at-requires c κs = search rules
 
-returns : tie.Need-returns
+returns : tie.Need-returns-then-field_at-ne0
 returns c =
-    let a = c.before.before in
-    let s = a.args.instructions.now in
-    counted_same a.requires.1 (values_other s a.args.i (kind_not 0 s a.args.i c.before.field_at.ensures c.if1.true))
+    let s = c.args.instructions.now in
+    counted_same c.requires.1 (values_other s c.args.i (kind_not 0 s c.args.i c.field_at.ensures c.if-field_at-ne0.true))
 
-field-at-requires-2 : tie.Need-field-at-requires-2
+field-at-requires-2 : tie.Need-field_at-word-requires
 field-at-requires-2 c κs = search rules
 
-slice-reshare-prefix-slot-of : tie.Need-slice-reshare-prefix-slot-of
-slice-reshare-prefix-slot-of c = gathered_room c.before.before.before.requires.1
+slice-reshare-prefix-slot-of : tie.Need-slice_bounds-slot_of-end
+slice-reshare-prefix-slot-of c = gathered_room c.requires.1
 
-slice-aggregate-slot-of : tie.Need-slice-aggregate-slot-of
-slice-aggregate-slot-of c = let a = c.before.before.before.before in sym (length-take-le a.args.m a.args.kerns.now (gathered_room a.requires.1))
+slice-aggregate-slot-of : tie.Need-slice_bounds-slot_of-end-2
+slice-aggregate-slot-of c = sym (length-take-le c.args.m c.args.kerns.now (gathered_room c.requires.1))
 
-slot-of-requires : tie.Need-slot-of-requires
-slot-of-requires c κs = let g = c.before.before.before.before.before.requires.1 in rw (gathered_front g) g.linked
+slot-of-requires : tie.Need-slot_of-slot-requires
+slot-of-requires c κs = let g = c.requires.1 in rw (gathered_front g) g.linked
 
-mul-if2 : tie.Need-overflow-mul-if2
-mul-if2 c = omega (arith, slot_lt c.before.before.before.before.before.before.requires.1 c.slot_of.ensures)
+mul-if2 : tie.Need-offset_bounds-links-slot
+mul-if2 c = omega (arith, slot_lt c.requires.1 c.slot_of-slot.ensures)
 
-element-copy-out-if2 : tie.Need-element-copy-out-if2
-element-copy-out-if2 c = omega (arith, slot_lt c.before.before.before.before.before.before.requires.1 c.slot_of.ensures)
+element-copy-out-if2 : tie.Need-bounds-links-slot
+element-copy-out-if2 c = omega (arith, slot_lt c.requires.1 c.slot_of-slot.ensures)
 
-same_length : tie.Need-same-length
+same_length : tie.Need-shape_of-kerns-then-links-slot-ne0
 same_length c = search rules
 
-returns-2 : tie.Need-returns-2
+returns-2 : tie.Need-returns-then-links-slot-ne0
 returns-2 c =
-    let p = c.before.before in
-    let r = p.before.before.before in
-    let a = r.before.before.before in
-    let s = a.args.instructions.now in
-    counted_there a.requires.1 r.field-at2.ensures (kind_is 0 s a.args.i r.before.before.field_at.ensures r.before.if1.false)
-    (among a.requires.1 p.slot_of.ensures) c.if2.true
+    let s = c.args.instructions.now in
+    counted_there c.requires.1 c.field_at-word.ensures (kind_is 0 s c.args.i c.field_at.ensures c.if-field_at-ne0.false)
+    (among c.requires.1 c.slot_of-slot.ensures) c.if-links-slot-ne0.true
 
-put-word-requires : tie.Need-put-word-requires
+put-word-requires : tie.Need-put_word-requires
 put-word-requires c κs = search rules
 
-add-links : tie.Need-overflow-add-links
+add-links : tie.Need-overflow_add-links
 add-links c = search rules
 
-cast-links : tie.Need-overflow-cast-links
+cast-links : tie.Need-overflow_cast-links
 cast-links c = search rules
 
-mul-links : tie.Need-overflow-mul-links
+mul-links : tie.Need-offset_bounds-links-slot-2
 mul-links c =
-    let p = c.before.before.before.before.before in
-    omega (arith, slot_lt p.before.before.before.before.before.before.requires.1 p.slot_of.ensures)
+    omega (arith, slot_lt c.requires.1 c.slot_of-slot.ensures)
 
-element-write-links : tie.Need-element-write-links
+element-write-links : tie.Need-bounds-links-slot-2
 element-write-links c =
-    let p = c.before.before.before.before.before in
-    omega (arith, slot_lt p.before.before.before.before.before.before.requires.1 p.slot_of.ensures)
+    omega (arith, slot_lt c.requires.1 c.slot_of-slot.ensures)
 
-add-result : tie.Need-overflow-add-result
+add-result : tie.Need-overflow_add-result
 add-result c = search rules
 
-same-length-2 : tie.Need-same-length-2
+same-length-2 : tie.Need-shape_of-kerns
 same-length-2 c = search rules
 
-returns-3 : tie.Need-returns-3
+returns-3 : tie.Need-returns
 returns-3 c =
-    let p = c.before.before.before.before.before in
-    let r = p.before.before.before in
-    let a = r.before.before.before in
-    let s = a.args.instructions.now in
-    rw c.before.put_word.ensures
-    (counted_more a.requires.1 r.field-at2.ensures (kind_is 0 s a.args.i r.before.before.field_at.ensures r.before.if1.false)
-    (among a.requires.1 p.slot_of.ensures) c.before.before.before.if2.false (few a.requires.1 a.requires.0))
+    let s = c.args.instructions.now in
+    rw c.put_word.ensures
+    (counted_more c.requires.1 c.field_at-word.ensures (kind_is 0 s c.args.i c.field_at.ensures c.if-field_at-ne0.false)
+    (among c.requires.1 c.slot_of-slot.ensures) c.if-links-slot-ne0.false (few c.requires.1 c.requires.0))
 
-pub share-kern-spec : {M : Type 1} → statement M
-share-kern-spec =
+pub share_kern_spec : {M : Type 1} → statement M
+share_kern_spec =
     tie.close
     (tie.spec
     field-at-requires

@@ -38,88 +38,81 @@ module _ {ks : List ℤ} {links : List ℕ} {w slot bit : ℕ} (c : Linked ks li
     unfolding slot_after
     goes = record { slot_is = rw (s.slot_is, add-one bit); descends = onward }
 
-abbrev invariant-loop : tie.invariant-loop
+abbrev invariant-loop : tie.invariant-loop-slot
 invariant-loop kerns links word slot₀ bit₀ slot bit = Comes kerns links word slot bit
 
-abbrev decreases-loop : tie.decreases-loop
+abbrev decreases-loop : tie.decreases-loop-slot
 decreases-loop kerns links word slot₀ bit₀ slot bit = 32 - bit
 
-loop-holds : tie.Need-loop-init invariant-loop decreases-loop
+loop-holds : tie.Need-loop-slot-init invariant-loop decreases-loop
 unfolding slot_after
 loop-holds c = record { slot_is = refl; descends = descends_none c.args.kerns.now c.args.links.now c.args.word }
 
-mul-if1 : tie.Need-overflow-mul-if1 invariant-loop decreases-loop
-mul-if1 c = omega (arith, comes-lt c.before.requires c.loop.invariant)
+mul-if1 : tie.Need-offset_bounds-links-slot invariant-loop decreases-loop
+mul-if1 c = omega (arith, comes-lt c.requires c.loop-slot.invariant)
 
-element-copy-out-if1 : tie.Need-element-copy-out-if1 invariant-loop decreases-loop
-element-copy-out-if1 c = omega (arith, comes-lt c.before.requires c.loop.invariant)
+element-copy-out-if1 : tie.Need-bounds-links-slot invariant-loop decreases-loop
+element-copy-out-if1 c = omega (arith, comes-lt c.requires c.loop-slot.invariant)
 
-mul_at : tie.Need-overflow-mul-at invariant-loop decreases-loop
-mul_at c = omega (arith, comes-lt c.before.before.before.requires c.before.before.loop.invariant)
+mul_at : tie.Need-offset_bounds-links-slot-in-loop-slot invariant-loop decreases-loop
+mul_at c = omega (arith, comes-lt c.requires c.loop-slot.invariant)
 
-element-copy-out-at : tie.Need-element-copy-out-at invariant-loop decreases-loop
-element-copy-out-at c = omega (arith, comes-lt c.before.before.before.requires c.before.before.loop.invariant)
+element-copy-out-at : tie.Need-bounds-links-slot-in-loop-slot invariant-loop decreases-loop
+element-copy-out-at c = omega (arith, comes-lt c.requires c.loop-slot.invariant)
 
-cast-at : tie.Need-overflow-cast-at invariant-loop decreases-loop
-cast-at c = omega (arith, link_lt c.before.before.before.before.requires c.before.before.before.loop.slot)
+cast-at : tie.Need-overflow_cast-at invariant-loop decreases-loop
+cast-at c = omega (arith, link_lt c.requires c.loop-slot.slot)
 
-sub_at : tie.Need-overflow-sub-at invariant-loop decreases-loop
-sub_at c = omega (arith, c.before.if1.true)
+sub_at : tie.Need-overflow_sub-at invariant-loop decreases-loop
+sub_at c = omega (arith, c.loop-slot-test.true)
 
-word-at-requires : tie.Need-word-at-requires invariant-loop decreases-loop
+word-at-requires : tie.Need-word_at-requires invariant-loop decreases-loop
 word-at-requires c κs = search rules
 
-returns : tie.Need-returns invariant-loop decreases-loop
+returns : tie.Need-returns-then-word_at-word invariant-loop decreases-loop
 returns c =
-    let l = c.before.before.before.before.before in
-    ends l.before.requires l.loop.invariant l.before.ranges.word.fits (λ some. sym c.before.word_at.ensures.is ∙ c.if2.true)
+    ends c.requires c.loop-slot.invariant c.ranges.word.fits (λ some. sym c.word_at.ensures.is ∙ c.if-word_at-word.true)
 
 -- a value is passed, so that a bit is left to go on by
-bit-lt-at : (c : tie.Else2 invariant-loop decreases-loop) → c.before.before.before.before.before.loop.bit < 32
+bit-lt-at : (c : tie.Else-word_at-word invariant-loop decreases-loop) → c.loop-slot.bit < 32
 bit-lt-at c =
-    let l = c.before.before.before.before.before in
-    bit-lt l.before.requires l.loop.invariant c.before.before.before.if1.true c.before.word_at.ensures.is c.if2.false
-    l.before.ranges.word.fits
+    bit-lt c.requires c.loop-slot.invariant c.loop-slot-test.true c.word_at.ensures.is c.if-word_at-word.false
+    c.ranges.word.fits
 
-mul-slot : tie.Need-overflow-mul-slot invariant-loop decreases-loop
+mul-slot : tie.Need-overflow_mul-slot invariant-loop decreases-loop
 mul-slot c =
-    let l = c.before.before.before.before.before in
-    omega (arith, link_lt l.before.requires l.loop.slot)
+    omega (arith, link_lt c.requires c.loop-slot.slot)
 
-add-slot : tie.Need-overflow-add-slot invariant-loop decreases-loop
+add-slot : tie.Need-overflow_add-slot invariant-loop decreases-loop
 add-slot c =
-    let l = c.before.before.before.before.before in
-    omega (arith, link_lt l.before.requires l.loop.slot)
+    omega (arith, link_lt c.requires c.loop-slot.slot)
 
-shr-slot : tie.Need-overflow-shr-slot invariant-loop decreases-loop
+shr-slot : tie.Need-overflow_shr-slot invariant-loop decreases-loop
 shr-slot c = bit-lt-at c
 
-cast-slot : tie.Need-overflow-cast-slot invariant-loop decreases-loop
+cast-slot : tie.Need-overflow_cast-slot invariant-loop decreases-loop
 cast-slot c =
-    let l = c.before.before.before.before.before in
-    omega (arith, shr_le l.before.args.word l.loop.bit, l.before.ranges.word.fits)
+    omega (arith, shr_le c.args.word c.loop-slot.bit, c.ranges.word.fits)
 
-add-slot-2 : tie.Need-overflow-add-slot-2 invariant-loop decreases-loop
+add-slot-2 : tie.Need-overflow_add-slot-in-loop-slot invariant-loop decreases-loop
 add-slot-2 c =
-    let l = c.before.before.before.before.before in
-    omega (arith, link_lt l.before.requires l.loop.slot)
+    omega (arith, link_lt c.requires c.loop-slot.slot)
 
-add-bit : tie.Need-overflow-add-bit invariant-loop decreases-loop
+add-bit : tie.Need-overflow_add-bit invariant-loop decreases-loop
 add-bit c = omega (arith, bit-lt-at c)
 
-loop-less : tie.Need-loop-smaller invariant-loop decreases-loop
+loop-less : tie.Need-loop-slot-smaller invariant-loop decreases-loop
 loop-less c = omega (arith, bit-lt-at c)
 
-loop-again : tie.Need-loop-preserved invariant-loop decreases-loop
+loop-again : tie.Need-loop-slot-preserved invariant-loop decreases-loop
 loop-again c =
-    let l = c.before.before.before.before.before in
-    goes l.before.requires l.loop.invariant c.before.before.before.if1.true c.before.word_at.ensures.is c.if2.false
+    goes c.requires c.loop-slot.invariant c.loop-slot-test.true c.word_at.ensures.is c.if-word_at-word.false
 
-returns-2 : tie.Need-returns-2 invariant-loop decreases-loop
-returns-2 c = let l = c.before.before in ends l.before.requires l.loop.invariant l.before.ranges.word.fits (λ some. absurd (some c.if1.false))
+returns-2 : tie.Need-returns invariant-loop decreases-loop
+returns-2 c = ends c.requires c.loop-slot.invariant c.ranges.word.fits (λ some. absurd (some c.loop-slot-test.false))
 
-pub slot-of-spec : {M : Type 1} → statement M
-slot-of-spec =
+pub slot_of_spec : {M : Type 1} → statement M
+slot_of_spec =
     tie.close
     (tie.spec
     invariant-loop

@@ -7,68 +7,52 @@ use Rattle.real_text.proofs.Fractions.{Trying, trying_first, trying_power, tryin
 use Rattle.real_text.proofs.fraction.places_of.Statement.{statement}
 use Rattle.real_text.proofs.fraction.places_of.Tie as tie
 
-abbrev invariant-loop : tie.invariant-loop
+abbrev invariant-loop : tie.invariant-loop-count
 invariant-loop f count₀ power₀ count power = Trying f count power
 
-abbrev decreases-loop : tie.decreases-loop
+abbrev decreases-loop : tie.decreases-loop-count
 decreases-loop f count₀ power₀ count power = 7 - count
 
-loop-holds : tie.Need-loop-init invariant-loop decreases-loop
+loop-holds : tie.Need-loop-count-init invariant-loop decreases-loop
 loop-holds c = trying_first c.args.f
 
-nearest-in-requires : tie.Need-nearest-in-requires invariant-loop decreases-loop
+nearest-in-requires : tie.Need-nearest_in-requires invariant-loop decreases-loop
 nearest-in-requires c κs =
-    let x₁ = c.before in
-    let x₂ = x₁.before in
-    (trying_power x₁.loop.invariant, x₂.requires)
+    (trying_power c.loop-count.invariant, c.requires)
 
-reads-as-requires : tie.Need-reads-as-requires invariant-loop decreases-loop
+reads-as-requires : tie.Need-reads_as-requires invariant-loop decreases-loop
 reads-as-requires c κs =
-    let x₁ = c.before.before in
-    let x₂ = x₁.before in
-    let p = trying_power x₁.loop.invariant in
-    (p, (x₂.requires, omega (arith, c.nearest_in.ensures, nearest_fits x₁.loop.power x₂.args.f x₂.requires p)))
+    let p = trying_power c.loop-count.invariant in
+    (p, (c.requires, omega (arith, c.nearest_in.ensures, nearest_fits c.loop-count.power c.args.f c.requires p)))
 
-returns : tie.Need-returns invariant-loop decreases-loop
+returns : tie.Need-returns-then-reads_as invariant-loop decreases-loop
 returns c =
-    let x₁ = c.before in
-    let x₂ = x₁.before in
-    let x₃ = x₂.before in
-    let x₄ = x₃.before in
-    let x₅ = x₄.before in
-    trying_found x₄.loop.invariant (omega (arith, x₃.loop-test.true)) (read_there x₅.args.f x₄.loop.power x₂.nearest_in.ensures
-    x₁.reads_as.ensures)
-    c.if1.true
+    trying_found c.loop-count.invariant (omega (arith, c.loop-count-test.true)) (read_there c.args.f c.loop-count.power c.nearest_in.ensures
+    c.reads_as.ensures)
+    c.if-reads_as.true
 
-add-count : tie.Need-overflow-add-count invariant-loop decreases-loop
+add-count : tie.Need-overflow_add-count invariant-loop decreases-loop
 add-count c = omega arith
 
-mul_power : tie.Need-overflow-mul-power invariant-loop decreases-loop
+mul_power : tie.Need-overflow_mul-power invariant-loop decreases-loop
 mul_power c =
-    let x₁ = c.before.before.before.before in
-    omega (arith, trying_power x₁.loop.invariant)
+    omega (arith, trying_power c.loop-count.invariant)
 
-loop-less : tie.Need-loop-smaller invariant-loop decreases-loop
+loop-less : tie.Need-loop-count-smaller invariant-loop decreases-loop
 loop-less c = omega arith
 
-loop-again : tie.Need-loop-preserved invariant-loop decreases-loop
+loop-again : tie.Need-loop-count-preserved invariant-loop decreases-loop
 loop-again c =
-    let x₁ = c.before in
-    let x₂ = x₁.before in
-    let x₃ = x₂.before in
-    let x₄ = x₃.before in
-    let x₅ = x₄.before in
-    trying_next x₄.loop.invariant (omega (arith, x₃.loop-test.true)) (read_there x₅.args.f x₄.loop.power x₂.nearest_in.ensures
-    x₁.reads_as.ensures)
-    c.if1.false
+    trying_next c.loop-count.invariant (omega (arith, c.loop-count-test.true)) (read_there c.args.f c.loop-count.power c.nearest_in.ensures
+    c.reads_as.ensures)
+    c.if-reads_as.false
 
-returns-2 : tie.Need-returns-2 invariant-loop decreases-loop
+returns-2 : tie.Need-returns invariant-loop decreases-loop
 returns-2 c =
-    let x₁ = c.before in
-    trying_last x₁.loop.invariant (omega (arith, c.loop-test.false))
+    trying_last c.loop-count.invariant (omega (arith, c.loop-count-test.false))
 
-pub places-of-spec : {M : Type 1} → statement M
-places-of-spec =
+pub places_of_spec : {M : Type 1} → statement M
+places_of_spec =
     tie.close
     (tie.spec
     invariant-loop

@@ -6,33 +6,30 @@ use borrow.Author.Rules.{rules}
 use Rattle.real_text.proofs.fraction.put_fraction.Statement.{statement}
 use Rattle.real_text.proofs.fraction.put_fraction.Tie as tie
 
-places-of-requires : tie.Need-places-of-requires
+places-of-requires : tie.Need-places_of-places-requires
 places-of-requires c κs = search rules
 
-nearest-in-requires : tie.Need-nearest-in-requires
+nearest-in-requires : tie.Need-nearest_in-requires
 nearest-in-requires c κs =
-    let x₁ = c.before in
-    let x₂ = x₁.before.before in
-    (places_power x₂.args.part x₁.places_of.ensures.1, x₂.requires)
+    (places_power c.args.part c.places_of-places.ensures.1, c.requires)
 
-put-digits-requires : tie.Need-put-digits-requires
+put-digits-requires : tie.Need-put_digits-requires
 put-digits-requires c κs =
-    let x₁ = c.before.before in
-    let x₂ = x₁.before.before in
-    places_small x₂.args.part x₂.requires x₁.places_of.ensures.0 x₁.places_of.ensures.1 c.nearest_in.ensures
+    places_small c.args.part c.requires c.places_of-places.ensures.0 c.places_of-places.ensures.1 c.nearest_in.ensures
 
-same_length : tie.Need-same-length
+same_length : tie.Need-shape_of-out
 same_length c = search rules
 
 returns : tie.Need-returns
 returns c =
-    let x₁ = c.before.before in
-    let x₂ = x₁.before in
-    let x₃ = x₂.before.before in
-    let x₄ = x₃.before.before in
-    fraction_put x₄.args.part x₃.places_of.ensures.0 x₃.places_of.ensures.1 x₂.nearest_in.ensures x₁.put-digits.ensures
+    fraction_put c.args.part c.places_of-places.ensures.0 c.places_of-places.ensures.1 c.nearest_in.ensures c.put_digits.ensures
 
-pub put-fraction-spec : {M : Type 1} → statement M
-put-fraction-spec =
+pub put_fraction_spec : {M : Type 1} → statement M
+put_fraction_spec =
     tie.close
-    (tie.spec places-of-requires nearest-in-requires put-digits-requires same_length returns)
+    (tie.spec
+    places-of-requires
+    nearest-in-requires
+    put-digits-requires
+    same_length
+    returns)

@@ -7,42 +7,40 @@ use borrow.Author.Rules.{rules}
 use Rattle.step_items.proofs.give.give_ligature.Statement.{statement}
 use Rattle.step_items.proofs.give.give_ligature.Tie as tie
 
-left-letters-requires : tie.Need-left-letters-requires
+left-letters-requires : tie.Need-left_letters-letters-requires
 left-letters-requires c κs = search rules
 
 refused-requires : tie.Need-refused-requires
 refused-requires c κs = search rules
 
-returns : tie.Need-returns
+returns : tie.Need-returns-then-s
 returns c =
-    let a = c.before.before.before.before.args in
+    let a = c.args in
     c.refused.ensures ∙ sym (ligature_refused a.c a.right a.s (omega arith))
 
-refused-requires-2 : tie.Need-refused-requires-2
+refused-requires-2 : tie.Need-refused-requires-then-s-letters
 refused-requires-2 c κs = search rules
 
-returns-2 : tie.Need-returns-2
+returns-2 : tie.Need-returns-then-s-letters
 returns-2 c =
-    let l = c.before.before.before.before.before in
-    let a = l.before.args in
-    c.refused2.ensures ∙ sym (ligature_refused a.c a.right a.s (omega (arith, l.left-letters.ensures)))
+    let a = c.args in
+    c.refused-then-s-letters.ensures ∙ sym (ligature_refused a.c a.right a.s (omega (arith, c.left_letters-letters.ensures)))
 
-add-n : tie.Need-overflow-add-n
+add-n : tie.Need-overflow_add-n
 add-n c = search rules
 
-takes-boundary-requires : tie.Need-takes-boundary-requires
+takes-boundary-requires : tie.Need-takes_boundary-left-requires
 takes-boundary-requires c κs = search rules
 
-give-item-requires : tie.Need-give-item-requires
+give-item-requires : tie.Need-give_item-requires
 give-item-requires c κs = search rules
 
-returns-3 : tie.Need-returns-3
+returns-3 : tie.Need-returns
 returns-3 c =
-    let l = c.before.before.before.before.before.before.before in
-    rw (c.give-item.ensures, l.left-letters.ensures, c.before.takes-boundary.ensures)
+    rw (c.give_item.ensures, c.left_letters-letters.ensures, c.takes_boundary-left.ensures)
 
-pub give-ligature-spec : {M : Type 1} → statement M
-give-ligature-spec =
+pub give_ligature_spec : {M : Type 1} → statement M
+give_ligature_spec =
     tie.close
     (tie.spec
     left-letters-requires

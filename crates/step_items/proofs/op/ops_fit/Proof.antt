@@ -9,38 +9,40 @@ use borrow.Author.Rules.{rules}
 use Rattle.step_items.proofs.op.ops_fit.Statement.{statement}
 use Rattle.step_items.proofs.op.ops_fit.Tie as tie
 
-op-fits-requires : tie.Need-op-fits-requires
+op-fits-requires : tie.Need-op_fits-requires
 op-fits-requires c κs = search rules
 
-returns : tie.Need-returns
+returns : tie.Need-returns-then-not-op_fits
 returns c =
-    let i = c.before in
-    let a = i.before.args in
-    sym (fit_not a.ops.now a.s (sym i.op_fits.ensures ∙ not-true i.op_fits.result c.if1.true))
+    let a = c.args in
+    sym (fit_not a.ops.now a.s (sym c.op_fits.ensures ∙ c.if-not-op_fits.true))
 
-returns-2 : tie.Need-returns-2
+returns-2 : tie.Need-returns-then-s-lt2
 returns-2 c =
-    let i = c.before.before.before in
-    let a = i.before.args in
-    sym (fit_one a.ops.now a.s (sym i.op_fits.ensures ∙ not-false i.op_fits.result c.before.before.if1.false) (omega arith))
+    let a = c.args in
+    sym (fit_one a.ops.now a.s (sym c.op_fits.ensures ∙ c.if-not-op_fits.false) (omega arith))
 
-add-op-fits : tie.Need-overflow-add-op-fits
+add-op-fits : tie.Need-overflow_add-op
 add-op-fits c =
-    let i = c.before.before.before in
-    let a = i.before.args in
-    omega (arith, fit_there a.ops.now a.s a.s.op (sym i.op_fits.ensures ∙ not-false i.op_fits.result c.before.before.if1.false))
+    let a = c.args in
+    omega (arith, fit_there a.ops.now a.s a.s.op (sym c.op_fits.ensures ∙ c.if-not-op_fits.false))
 
-op-fits-requires-2 : tie.Need-op-fits-requires-2
+op-fits-requires-2 : tie.Need-op_fits-requires-2
 op-fits-requires-2 c κs = search rules
 
-returns-3 : tie.Need-returns-3
+returns-3 : tie.Need-returns
 returns-3 c =
-    let i = c.before.before.before.before in
-    let a = i.before.args in
-    rw (c.op-fits2.ensures, add-one a.s.op)
-    (sym (fit_two a.ops.now a.s (sym i.op_fits.ensures ∙ not-false i.op_fits.result c.before.before.before.if1.false) (omega arith)))
+    let a = c.args in
+    rw (c.op_fits-2.ensures, add-one a.s.op)
+    (sym (fit_two a.ops.now a.s (sym c.op_fits.ensures ∙ c.if-not-op_fits.false) (omega arith)))
 
-pub ops-fit-spec : {M : Type 1} → statement M
-ops-fit-spec =
+pub ops_fit_spec : {M : Type 1} → statement M
+ops_fit_spec =
     tie.close
-    (tie.spec op-fits-requires returns returns-2 add-op-fits op-fits-requires-2 returns-3)
+    (tie.spec
+    op-fits-requires
+    returns
+    returns-2
+    add-op-fits
+    op-fits-requires-2
+    returns-3)

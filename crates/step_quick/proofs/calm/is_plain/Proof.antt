@@ -9,21 +9,26 @@ use borrow.Author.Rules.{rules}
 use Rattle.step_quick.proofs.calm.is_plain.Statement.{statement}
 use Rattle.step_quick.proofs.calm.is_plain.Tie as tie
 
-is-calm-requires : tie.Need-is-calm-requires
+is-calm-requires : tie.Need-is_calm-requires
 is-calm-requires c κs = search rules
 
-returns : tie.Need-returns
-returns c = rw (sym c.before.is-calm.ensures ∙ not-true _ c.if1.true)
+returns : tie.Need-returns-then-not-is_calm
+returns c = rw (sym c.is_calm.ensures ∙ c.if-not-is_calm.true)
 
-is-taken-requires : tie.Need-is-taken-requires
+is-taken-requires : tie.Need-is_taken-requires
 is-taken-requires c κs = search rules
 
-returns-2 : tie.Need-returns-2
+returns-2 : tie.Need-returns
 returns-2 c =
-    let a = c.before.before.before.before in
-    rw (sym c.before.before.is-calm.ensures ∙ not-false _ c.before.if1.false)
-    (c.is-taken.ensures
-    ∙ ap (λ (z : ℤ). is_taken z a.args.word.now a.args.options) (number_word a.args.boundary a.ranges.boundary))
+    rw (sym c.is_calm.ensures ∙ c.if-not-is_calm.false)
+    (c.is_taken.ensures
+    ∙ ap (λ (z : ℤ). is_taken z c.args.word.now c.args.options) (number_word c.args.boundary c.ranges.boundary))
 
-pub is-plain-spec : {M : Type 1} → statement M
-is-plain-spec = tie.close (tie.spec is-calm-requires returns is-taken-requires returns-2)
+pub is_plain_spec : {M : Type 1} → statement M
+is_plain_spec =
+    tie.close
+    (tie.spec
+    is-calm-requires
+    returns
+    is-taken-requires
+    returns-2)

@@ -8,43 +8,48 @@ use borrow.Author.Rules.{rules}
 use Rattle.step_quick.proofs.calm.is_taken.Statement.{statement}
 use Rattle.step_quick.proofs.calm.is_taken.Tie as tie
 
-edge : (c : tie.After-absent-refusal) → c.absent-refusal.result ≡ absent_refusal 255 c.before.before.args.boundary
-edge c = absent_passed c.before.before.ranges.boundary c.absent-refusal.ensures
+edge : (c : tie.After-absent_refusal) → c.absent_refusal.result ≡ absent_refusal 255 c.args.boundary
+edge c = absent_passed c.ranges.boundary c.absent_refusal.ensures
 
 -- the override of the options that were passed is an i32
-override : (c : tie.After-absent-refusal2) →
-    c.absent-refusal2.result ≡ absent_refusal 255 c.before.before.before.before.before.args.options.right_boundary_override
+override : (c : tie.After-absent_refusal-2) →
+    c.absent_refusal-2.result ≡ absent_refusal 255 c.args.options.right_boundary_override
 override c =
-    absent_passed {z = c.before.before.before.before.before.args.options.right_boundary_override}
-    (record { sfits = c.before.struct_told.given.1.0.1 }) c.absent-refusal2.ensures
+    absent_passed {z = c.args.options.right_boundary_override}
+    (record { sfits = c.struct_told-1.given.1.0.1 }) c.absent_refusal-2.ensures
 
-absent-refusal-requires : tie.Need-absent-refusal-requires
+absent-refusal-requires : tie.Need-absent_refusal-requires
 absent-refusal-requires c κs = search rules
 
-returns : tie.Need-returns
+returns : tie.Need-returns-then-absent_refusal-ne0
 returns c =
-    let a = c.before.before.before.args in
+    let a = c.args in
     let e = edge c.before in
-    boundary_refused a.boundary a.word.now a.options (λ h. c.if1.true (e ∙ h))
+    boundary_refused a.boundary a.word.now a.options (λ h. c.if-absent_refusal-ne0.true (e ∙ h))
 
-absent-refusal-requires-2 : tie.Need-absent-refusal-requires-2
+absent-refusal-requires-2 : tie.Need-absent_refusal-requires-2
 absent-refusal-requires-2 c κs = search rules
 
-returns-2 : tie.Need-returns-2
+returns-2 : tie.Need-returns-then-absent_refusal-ne0-2
 returns-2 c =
-    let a = c.before.before.before.before.before.before.args in
+    let a = c.args in
     let f = override c.before in
-    override_refused a.boundary a.word.now a.options (λ h. c.if2.true (f ∙ h))
+    override_refused a.boundary a.word.now a.options (λ h. c.if-absent_refusal-ne0-2.true (f ∙ h))
 
-returns-3 : tie.Need-returns-3
+returns-3 : tie.Need-returns
 returns-3 c =
-    let a = c.before.before.before.before.before.before.args in
+    let a = c.args in
     let e = edge c.before.before.before.before in
     let f = override c.before in
     word_taken a.boundary a.word.now a.options
-    (sym e ∙ c.before.before.before.if1.false) (sym f ∙ c.if2.false)
+    (sym e ∙ c.if-absent_refusal-ne0.false) (sym f ∙ c.if-absent_refusal-ne0-2.false)
 
-pub is-taken-spec : {M : Type 1} → statement M
-is-taken-spec =
+pub is_taken_spec : {M : Type 1} → statement M
+is_taken_spec =
     tie.close
-    (tie.spec absent-refusal-requires returns absent-refusal-requires-2 returns-2 returns-3)
+    (tie.spec
+    absent-refusal-requires
+    returns
+    absent-refusal-requires-2
+    returns-2
+    returns-3)

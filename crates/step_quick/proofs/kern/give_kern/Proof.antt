@@ -8,36 +8,35 @@ use borrow.Author.Rules.{rules}
 use Rattle.step_quick.proofs.kern.give_kern.Statement.{statement}
 use Rattle.step_quick.proofs.kern.give_kern.Tie as tie
 
-returns : tie.Need-returns
-returns c = let a = c.before.args in rw (le-ltb a.s.op (op_count a.ops.now) c.if1.true)
+returns : tie.Need-returns-then-ops-op
+returns c = let a = c.args in rw (le-ltb a.s.op (op_count a.ops.now) c.if-ops-op.true)
 
-after-op-requires : tie.Need-after-op-requires
+after-op-requires : tie.Need-after_op-state-requires
 after-op-requires c κs = search rules
 
-mul-value : tie.Need-overflow-mul-value
+mul-value : tie.Need-overflow_mul-value
 mul-value c = search rules
 
-add-value : tie.Need-overflow-add-value
+add-value : tie.Need-overflow_add-value
 add-value c = search rules
 
-mul-value-2 : tie.Need-overflow-mul-value-2
+mul-value-2 : tie.Need-offset_bounds-ops-op
 mul-value-2 c = search rules
 
-shared-slice-copy-out-value : tie.Need-shared-slice-copy-out-value
+shared-slice-copy-out-value : tie.Need-bounds-ops-op
 shared-slice-copy-out-value c = search rules
 
-returns-2 : tie.Need-returns-2
+returns-2 : tie.Need-returns
 returns-2 c =
-    let o = c.before in
-    let a = o.before.before.args in
+    let a = c.args in
     rw (
-      lt-ltb a.s.op (op_count a.ops.now) o.before.if1.false,
-      number_word (op_value a.ops.now a.s.op) (record { sfits = c.value.given }),
-      o.after_op.ensures.0 (omega (arith, o.before.if1.false)),
+      lt-ltb a.s.op (op_count a.ops.now) c.if-ops-op.false,
+      number_word (op_value a.ops.now a.s.op) (record { sfits = c.value-1.given }),
+      c.after_op-state.ensures.0 (omega (arith, c.if-ops-op.false)),
     )
 
-pub give-kern-spec : {M : Type 1} → statement M
-give-kern-spec =
+pub give_kern_spec : {M : Type 1} → statement M
+give_kern_spec =
     tie.close
     (tie.spec
     returns

@@ -13,33 +13,38 @@ use borrow.Author.Rules.{rules}
 use Rattle.step_quick.proofs.left.quick_left.Statement.{statement}
 use Rattle.step_quick.proofs.left.quick_left.Tie as tie
 
-tested : (c : tie.After-is-quick) → let a = c.before.before.args in
-    c.is_quick_lem.result ≡ is_quick a.ops.now a.boundary a.word.now a.options a.s
+tested : (c : tie.After-is_quick) → let a = c.args in
+    c.is_quick.result ≡ is_quick a.ops.now a.boundary a.word.now a.options a.s
 tested c =
-    let b = c.before.before in
-    let a = b.args in
-    c.is_quick_lem.ensures ∙ ap (λ (z : ℤ). is_quick a.ops.now z a.word.now a.options a.s) (number_word a.boundary b.ranges.boundary)
+    let a = c.args in
+    c.is_quick.ensures ∙ ap (λ (z : ℤ). is_quick a.ops.now z a.word.now a.options a.s) (number_word a.boundary c.ranges.boundary)
 
-quick : (c : tie.Else1) → let a = c.before.before.before.args in is_quick a.ops.now a.boundary a.word.now a.options a.s ≡ true
-quick c = sym (tested c.before) ∙ not-false _ c.if1.false
+quick : (c : tie.Else-not-is_quick) → let a = c.args in is_quick a.ops.now a.boundary a.word.now a.options a.s ≡ true
+quick c = sym (tested c.before) ∙ c.if-not-is_quick.false
 
-is-quick-requires : tie.Need-is-quick-requires
+is-quick-requires : tie.Need-is_quick-requires
 is-quick-requires c κs = search rules
 
-returns : tie.Need-returns
-returns c = rw (sym (tested c.before) ∙ not-true _ c.if1.true)
+returns : tie.Need-returns-then-not-is_quick
+returns c = rw (sym (tested c.before) ∙ c.if-not-is_quick.true)
 
-plain-code-requires : tie.Need-plain-code-requires
+plain-code-requires : tie.Need-plain_code-requires
 plain-code-requires c κs = search rules
 
-add-result : tie.Need-overflow-add-result
+add-result : tie.Need-overflow_add-result
 add-result c =
-    let a = c.before.before.before.before.args in
+    let a = c.args in
     omega (arith, c.plain_code.ensures, (quick_is a.ops.now a.boundary a.word.now a.options a.s (quick c.before)).calm.code)
 
-returns-2 : tie.Need-returns-2
+returns-2 : tie.Need-returns
 returns-2 c = rw (quick c.before, add-one c.plain_code.result, c.plain_code.ensures)
 
-pub quick-left-spec : {M : Type 1} → statement M
-quick-left-spec =
-    tie.close (tie.spec is-quick-requires returns plain-code-requires add-result returns-2)
+pub quick_left_spec : {M : Type 1} → statement M
+quick_left_spec =
+    tie.close
+    (tie.spec
+    is-quick-requires
+    returns
+    plain-code-requires
+    add-result
+    returns-2)

@@ -6,14 +6,19 @@ use borrow.Author.Rules.{rules}
 use Rattle.step_turns.proofs.check.right_fits.Statement.{statement}
 use Rattle.step_turns.proofs.check.right_fits.Tie as tie
 
-returns : tie.Need-returns
-returns c = sym (right_none c.before.args.right c.if1.true)
+returns : tie.Need-returns-then-right-ge2147483648
+returns c = sym (right_none c.args.right c.if-right-ge2147483648.true)
 
-is-letter-requires : tie.Need-is-letter-requires
+is-letter-requires : tie.Need-is_letter-requires
 is-letter-requires c κs = search rules
 
-returns-2 : tie.Need-returns-2
-returns-2 c = c.is-letter.ensures ∙ sym (right_some c.before.before.args.right c.before.if1.false)
+returns-2 : tie.Need-returns
+returns-2 c = c.is_letter.ensures ∙ sym (right_some c.args.right c.if-right-ge2147483648.false)
 
-pub right-fits-spec : {M : Type 1} → statement M
-right-fits-spec = tie.close (tie.spec returns is-letter-requires returns-2)
+pub right_fits_spec : {M : Type 1} → statement M
+right_fits_spec =
+    tie.close
+    (tie.spec
+    returns
+    is-letter-requires
+    returns-2)

@@ -6,44 +6,44 @@ use borrow.Author.Rules.{rules}
 use Rattle.step_turns.proofs.left.longer.Statement.{statement}
 use Rattle.step_turns.proofs.left.longer.Tie as tie
 
-enum_told : tie.Need-enum-told
+enum_told : tie.Need-enum_told-1
 enum_told c = search rules
 
-add-with-pending : tie.Need-overflow-add-with-pending
+add-with-pending : tie.Need-overflow_add-s
 add-with-pending c = search rules
 
-with-pending-requires : tie.Need-with-pending-requires
+with-pending-requires : tie.Need-with_pending-requires
 with-pending-requires c κs = search rules
 
-enum-told-2 : tie.Need-enum-told-2
+enum-told-2 : tie.Need-enum_told-in-Letter
 enum-told-2 c = search rules
 
-add-with-pending-2 : tie.Need-overflow-add-with-pending-2
+add-with-pending-2 : tie.Need-overflow_add-s-in-Letter
 add-with-pending-2 c = search rules
 
-with-pending-requires-2 : tie.Need-with-pending-requires-2
+with-pending-requires-2 : tie.Need-with_pending-requires-in-Letter
 with-pending-requires-2 c κs = search rules
 
-enum-told-3 : tie.Need-enum-told-3
+enum-told-3 : tie.Need-enum_told-in-Boundary
 enum-told-3 c = search rules
 
-add-with-pending-3 : tie.Need-overflow-add-with-pending-3
+add-with-pending-3 : tie.Need-overflow_add-s-in-Boundary
 add-with-pending-3 c = search rules
 
-with-pending-requires-3 : tie.Need-with-pending-requires-3
+with-pending-requires-3 : tie.Need-with_pending-requires-in-Boundary
 with-pending-requires-3 c κs = search rules
 
-returns : tie.Need-returns
-returns c = c.with-pending.ensures ∙ longer_nothing c.before.before.before.before.args.s c.before.before.enum_told.given.1
+returns : tie.Need-returns-in-Nothing
+returns c = c.with_pending.ensures ∙ longer_nothing c.args.s c.in-Nothing.is
 
-returns-2 : tie.Need-returns-2
-returns-2 c = c.with-pending2.ensures ∙ longer_letter c.before.before.before.before.args.s c.before.before.enum-told2.given.1
+returns-2 : tie.Need-returns-in-Letter
+returns-2 c = c.with_pending-in-Letter.ensures ∙ longer_letter c.args.s c.in-Letter.is
 
-returns-3 : tie.Need-returns-3
-returns-3 c = c.with-pending3.ensures ∙ longer_boundary c.before.before.before.before.args.s c.before.before.enum-told3.given.1
+returns-3 : tie.Need-returns-in-Boundary
+returns-3 c = c.with_pending-in-Boundary.ensures ∙ longer_boundary c.args.s c.in-Boundary.is
 
-pub longer-spec : {M : Type 1} → statement M
-longer-spec =
+pub longer_spec : {M : Type 1} → statement M
+longer_spec =
     tie.close
     (tie.spec
     enum_told

@@ -7,24 +7,29 @@ use borrow.Author.Rules.{rules}
 use Rattle.step_turns.proofs.turn.find_within.Statement.{statement}
 use Rattle.step_turns.proofs.turn.find_within.Tie as tie
 
-returns : tie.Need-returns
+returns : tie.Need-returns-then-left-gt256
 returns c =
-    let a = c.before.args in
-    ap found_at (sym (within_left a.pairs.now a.left a.right c.if1.true))
+    let a = c.args in
+    ap found_at (sym (within_left a.pairs.now a.left a.right c.if-left-gt256.true))
 
-returns-2 : tie.Need-returns-2
+returns-2 : tie.Need-returns-then-right-gt255
 returns-2 c =
-    let a = c.before.before.args in
-    ap found_at (sym (within_right a.pairs.now a.left a.right c.if2.true))
+    let a = c.args in
+    ap found_at (sym (within_right a.pairs.now a.left a.right c.if-right-gt255.true))
 
 find-requires : tie.Need-find-requires
 find-requires c κs = search rules
 
-returns-3 : tie.Need-returns-3
+returns-3 : tie.Need-returns
 returns-3 c =
-    let e = c.before.before in
-    let a = e.before.args in
-    c.find.ensures ∙ ap found_at (sym (looks_up_within a.pairs.now a.left a.right e.if1.false c.before.if2.false))
+    let a = c.args in
+    c.find.ensures ∙ ap found_at (sym (looks_up_within a.pairs.now a.left a.right c.if-left-gt256.false c.if-right-gt255.false))
 
-pub find-within-spec : {M : Type 1} → statement M
-find-within-spec = tie.close (tie.spec returns returns-2 find-requires returns-3)
+pub find_within_spec : {M : Type 1} → statement M
+find_within_spec =
+    tie.close
+    (tie.spec
+    returns
+    returns-2
+    find-requires
+    returns-3)

@@ -9,38 +9,35 @@ use borrow.Author.Rules.{rules}
 use Rattle.step_turns.proofs.turn.swallows.Statement.{statement}
 use Rattle.step_turns.proofs.turn.swallows.Tie as tie
 
-character : (c : tie.Else1) → is_character c.before.before.args.x ≡ true
-character c = sym c.before.is-character.ensures ∙ not-false c.before.is-character.result c.if1.false
+character : (c : tie.Else-not-is_character) → is_character c.args.x ≡ true
+character c = sym c.is_character.ensures ∙ c.if-not-is_character.false
 
-is-character-requires : tie.Need-is-character-requires
+is-character-requires : tie.Need-is_character-requires
 is-character-requires c κs = search rules
 
-returns : tie.Need-returns
+returns : tie.Need-returns-then-not-is_character
 returns c =
-    let i = c.before in
-    let a = i.before.args in
-    boundary_keeps a.pairs.now a.x a.k (sym i.is-character.ensures ∙ not-true i.is-character.result c.if1.true)
+    let a = c.args in
+    boundary_keeps a.pairs.now a.x a.k (sym c.is_character.ensures ∙ c.if-not-is_character.true)
 
-number-at-requires : tie.Need-number-at-requires
+number-at-requires : tie.Need-number_at-requires
 number-at-requires c κs = search rules
 
-returns-2 : tie.Need-returns-2
+returns-2 : tie.Need-returns-then-number_at-ne0
 returns-2 c =
-    let n = c.before in
-    let a = n.before.before.before.args in
-    ops_keep a.pairs.now a.x a.k (character n.before) n.number_at.ensures c.if2.true
+    let a = c.args in
+    ops_keep a.pairs.now a.x a.k (character c.before.before) c.number_at.ensures c.if-number_at-ne0.true
 
-number-at-requires-2 : tie.Need-number-at-requires-2
+number-at-requires-2 : tie.Need-number_at-requires-2
 number-at-requires-2 c κs = search rules
 
-returns-3 : tie.Need-returns-3
+returns-3 : tie.Need-returns
 returns-3 c =
-    let n = c.before.before in
-    let a = n.before.before.before.args in
-    last_keeps a.pairs.now a.x a.k (character n.before) n.number_at.ensures c.before.if2.false c.number-at2.ensures
+    let a = c.args in
+    last_keeps a.pairs.now a.x a.k (character c.before.before.before) c.number_at.ensures c.if-number_at-ne0.false c.number_at-2.ensures
 
-pub swallows-spec : {M : Type 1} → statement M
-swallows-spec =
+pub swallows_spec : {M : Type 1} → statement M
+swallows_spec =
     tie.close
     (tie.spec
     is-character-requires

@@ -11,39 +11,36 @@ use borrow.Author.Rules.{rules}
 use Rattle.step_turns.proofs.turn.turn.Statement.{statement}
 use Rattle.step_turns.proofs.turn.turn.Tie as tie
 
-still-few : (c : tie.After-gathered) → c.gathered.result.read < 9223372036854775808
+still-few : (c : tie.After-gathered-after) → c.gathered-after.result.read < 9223372036854775808
 still-few c =
-    let a = c.before.before in
-    omega (arith, a.requires.1, ap (λ (t : State). t.read) c.gathered.ensures ∙ gathered_read a.args.x a.args.s)
+    omega (arith, c.requires.1, ap (λ (t : State). t.read) c.gathered-after.ensures ∙ gathered_read c.args.x c.args.s)
 
-gathered-requires : tie.Need-gathered-requires
+gathered-requires : tie.Need-gathered-after-requires
 gathered-requires c κs = search rules
 
-mul-turn-at-letter : tie.Need-overflow-mul-turn-at-letter
+mul-turn-at-letter : tie.Need-offset_bounds-word-read
 mul-turn-at-letter c = search rules
 
-shared-slice-read-turn-at-letter : tie.Need-shared-slice-read-turn-at-letter
+shared-slice-read-turn-at-letter : tie.Need-bounds-word-read
 shared-slice-read-turn-at-letter c = search rules
 
-turn-at-letter-requires : tie.Need-turn-at-letter-requires
-turn-at-letter-requires c κs = (c.before.before.before.before.requires.0, still-few c.before.before)
+turn-at-letter-requires : tie.Need-turn_at_letter-requires
+turn-at-letter-requires c κs = (c.requires.0, still-few c.before.before)
 
-turn-at-end-requires : tie.Need-turn-at-end-requires
-turn-at-end-requires c κs = (c.before.before.before.requires.0, still-few c.before)
+turn-at-end-requires : tie.Need-turn_at_end-requires
+turn-at-end-requires c κs = (c.requires.0, still-few c.before)
 
-returns : tie.Need-returns
+returns : tie.Need-returns-then-read-word
 returns c =
-    let t = c.before.before in
-    let a = t.before.before.before.args in
-    rw (c.turn-at-letter.ensures, t.before.gathered.ensures)
-    (sym (turn_letter a.pairs.now a.ops.now a.s (or_boundary (number_of a.right)) a.word.now a.x t.if1.true))
+    let a = c.args in
+    rw (c.turn_at_letter.ensures, c.gathered-after.ensures)
+    (sym (turn_letter a.pairs.now a.ops.now a.s (or_boundary (number_of a.right)) a.word.now a.x c.if-read-word.true))
 
-returns-2 : tie.Need-returns-2
+returns-2 : tie.Need-returns-else-read-word
 returns-2 c =
-    let t = c.before in
-    let a = t.before.before.before.args in
-    rw (c.turn-at-end.ensures, t.before.gathered.ensures)
-    (sym (turn_end a.pairs.now a.ops.now a.s (or_boundary (number_of a.right)) a.word.now a.x t.if1.false))
+    let a = c.args in
+    rw (c.turn_at_end.ensures, c.gathered-after.ensures)
+    (sym (turn_end a.pairs.now a.ops.now a.s (or_boundary (number_of a.right)) a.word.now a.x c.if-read-word.false))
 
 pub turn_spec : {M : Type 1} → statement M
 turn_spec =

@@ -11,54 +11,51 @@ use Rattle.step_turns.proofs.turn.turn_with.Statement.{statement}
 use Rattle.step_turns.proofs.turn.turn_with.Tie as tie
 
 -- what the search answers
-key : (c : tie.After-find-within) → let a = c.before.before.args in
-    c.find-within.result ≡ found_at (find_within a.pairs.now (left_place_of a.x) a.y)
+key : (c : tie.After-find_within) → let a = c.args in
+    c.find_within.result ≡ found_at (find_within a.pairs.now (left_place_of a.x) a.y)
 key c =
-    let a = c.before.before.args in
-    c.find-within.ensures ∙ ap (λ (l : ℕ). found_at (find_within a.pairs.now l a.y)) c.before.left-place-of.ensures
+    let a = c.args in
+    c.find_within.ensures ∙ ap (λ (l : ℕ). found_at (find_within a.pairs.now l a.y)) c.left_place_of-left.ensures
 
 -- the pair that was found
-inside : (c : tie.After-k) → let a = c.before.before.before.before.args in
-    find_within a.pairs.now (left_place_of a.x) a.y ≡ some c.k.given.0.0
+inside : (c : tie.In-At) → let a = c.args in
+    find_within a.pairs.now (left_place_of a.x) a.y ≡ some c.in-At.k
 inside c =
-    let f = c.before.before in
-    let a = f.before.before.args in
-    found_some (find_within a.pairs.now (left_place_of a.x) a.y) c.k.given.0.0 (sym (key f) ∙ c.k.given.1)
+    let a = c.args in
+    found_some (find_within a.pairs.now (left_place_of a.x) a.y) c.in-At.k (sym (key c.before) ∙ c.in-At.is)
 
-left-place-of-requires : tie.Need-left-place-of-requires
+left-place-of-requires : tie.Need-left_place_of-left-requires
 left-place-of-requires c κs = search rules
 
-find-within-requires : tie.Need-find-within-requires
+find-within-requires : tie.Need-find_within-requires
 find-within-requires c κs = search rules
 
-enum_told : tie.Need-enum-told
+enum_told : tie.Need-enum_told-1
 enum_told c = search rules
 
-turn-free-requires : tie.Need-turn-free-requires
+turn-free-requires : tie.Need-turn_free-requires
 turn-free-requires c κs = search rules
 
-enum-known-k : tie.Need-enum-known-k
+enum-known-k : tie.Need-enum_known-k
 enum-known-k c = search rules
 
-turn-entered-requires : tie.Need-turn-entered-requires
+turn-entered-requires : tie.Need-turn_entered-requires
 turn-entered-requires c κs = search rules
 
-returns : tie.Need-returns
+returns : tie.Need-returns-in-Nothing
 returns c =
-    let f = c.before.before.before in
-    let a = f.before.before.args in
-    rw c.turn-free.ensures
+    let a = c.args in
+    rw c.turn_free.ensures
     (sym (turn_none a.pairs.now a.ops.now a.s a.x a.letter a.y
-    (found_none (find_within a.pairs.now (left_place_of a.x) a.y) (sym (key f) ∙ c.before.enum_told.given.1))))
+    (found_none (find_within a.pairs.now (left_place_of a.x) a.y) (sym (key (c.before.before)) ∙ c.in-Nothing.is))))
 
-returns-2 : tie.Need-returns-2
+returns-2 : tie.Need-returns-in-At
 returns-2 c =
-    let k = c.before.before in
-    let a = k.before.before.before.before.args in
-    rw c.turn-entered.ensures (sym (turn_some a.pairs.now a.ops.now a.s a.x a.letter a.y k.k.given.0.0 (inside k)))
+    let a = c.args in
+    rw c.turn_entered.ensures (sym (turn_some a.pairs.now a.ops.now a.s a.x a.letter a.y c.in-At.k (inside (c.before))))
 
-pub turn-with-spec : {M : Type 1} → statement M
-turn-with-spec =
+pub turn_with_spec : {M : Type 1} → statement M
+turn_with_spec =
     tie.close
     (tie.spec
     left-place-of-requires

@@ -14,44 +14,41 @@ use borrow.Author.Rules.{rules}
 use Rattle.table_form.proofs.keys.keys_form.Statement.{statement}
 use Rattle.table_form.proofs.keys.keys_form.Tie as tie
 
-abbrev invariant-loop : tie.invariant-loop
+abbrev invariant-loop : tie.invariant-loop-k
 invariant-loop pairs k₀ k = (k ≤ pair_count pairs) × (every k (key_form pairs) ≡ true)
 
-abbrev decreases-loop : tie.decreases-loop
+abbrev decreases-loop : tie.decreases-loop-k
 decreases-loop pairs k₀ k = pair_count pairs - k
 
-loop-holds : tie.Need-loop-init invariant-loop decreases-loop
+loop-holds : tie.Need-loop-k-init invariant-loop decreases-loop
 loop-holds c = (omega arith, every_none (key_form c.args.pairs.now))
 
-key-form-requires : tie.Need-key-form-requires invariant-loop decreases-loop
+key-form-requires : tie.Need-key_form-requires invariant-loop decreases-loop
 key-form-requires c κs = search rules
 
-returns : tie.Need-returns invariant-loop decreases-loop
+returns : tie.Need-returns-then-not-key_form invariant-loop decreases-loop
 returns c =
-    let l = c.before.before.before in
-    let s = l.before.args.pairs.now in
-    sym (every_fails (pair_count s) l.loop.k (key_form s) (omega arith) (sym c.before.key-form.ensures ∙ not-true _ c.if1.true))
+    let s = c.args.pairs.now in
+    sym (every_fails (pair_count s) c.loop-k.k (key_form s) (omega arith) (sym c.key_form.ensures ∙ c.if-not-key_form.true))
 
-add-k : tie.Need-overflow-add-k invariant-loop decreases-loop
+add-k : tie.Need-overflow_add-k invariant-loop decreases-loop
 add-k c = omega arith
 
-loop-less : tie.Need-loop-smaller invariant-loop decreases-loop
+loop-less : tie.Need-loop-k-smaller invariant-loop decreases-loop
 loop-less c = omega arith
 
-loop-again : tie.Need-loop-preserved invariant-loop decreases-loop
+loop-again : tie.Need-loop-k-preserved invariant-loop decreases-loop
 loop-again c =
-    let l = c.before.before.before in
-    let s = l.before.args.pairs.now in
-    (omega arith, every_more l.loop.k (key_form s) l.loop.invariant.1 (sym c.before.key-form.ensures ∙ not-false _ c.if1.false))
+    let s = c.args.pairs.now in
+    (omega arith, every_more c.loop-k.k (key_form s) c.loop-k.invariant.1 (sym c.key_form.ensures ∙ c.if-not-key_form.false))
 
-returns-2 : tie.Need-returns-2 invariant-loop decreases-loop
+returns-2 : tie.Need-returns invariant-loop decreases-loop
 returns-2 c =
-    let l = c.before in
-    let s = l.before.args.pairs.now in
-    sym (every_to (pair_count s) l.loop.k (key_form s) l.loop.invariant.1 l.loop.invariant.0 c.loop-test.false)
+    let s = c.args.pairs.now in
+    sym (every_to (pair_count s) c.loop-k.k (key_form s) c.loop-k.invariant.1 c.loop-k.invariant.0 c.loop-k-test.false)
 
-pub keys-form-spec : {M : Type 1} → statement M
-keys-form-spec =
+pub keys_form_spec : {M : Type 1} → statement M
+keys_form_spec =
     tie.close
     (tie.spec
     invariant-loop

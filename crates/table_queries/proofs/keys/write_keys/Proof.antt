@@ -17,56 +17,51 @@ use Rattle.table_queries.proofs.keys.write_keys.Tie as tie
 abbrev keyNumber : List ℤ → ℕ → ℤ
 keyNumber pairs j = number pairs (j / 2) (j % 2)
 
-abbrev invariant-loop : tie.invariant-loop
+abbrev invariant-loop : tie.invariant-loop-j
 invariant-loop pairs out₀ n j₀ out j = (j ≤ 2 * pair_count pairs) × Filling (keyNumber pairs) out₀ out j
 
-abbrev decreases-loop : tie.decreases-loop
+abbrev decreases-loop : tie.decreases-loop-j
 decreases-loop pairs out₀ n j₀ out j = 2 * pair_count pairs - j
 
-mul-n : tie.Need-overflow-mul-n invariant-loop decreases-loop
+mul-n : tie.Need-overflow_mul-n invariant-loop decreases-loop
 mul-n c = omega arith
 
-loop-holds : tie.Need-loop-init invariant-loop decreases-loop
+loop-holds : tie.Need-loop-j-init invariant-loop decreases-loop
 loop-holds c = let a = c.args in (omega arith, filling_none (keyNumber a.pairs.now) a.out.now)
 
-cast-number-at : tie.Need-overflow-cast-number-at invariant-loop decreases-loop
+cast-number-at : tie.Need-overflow_cast-j invariant-loop decreases-loop
 cast-number-at c = omega arith
 
-number-at-requires : tie.Need-number-at-requires invariant-loop decreases-loop
+number-at-requires : tie.Need-number_at-requires invariant-loop decreases-loop
 number-at-requires c κs = search rules
 
-put-word-requires : tie.Need-put-word-requires invariant-loop decreases-loop
+put-word-requires : tie.Need-put_word-requires invariant-loop decreases-loop
 put-word-requires c κs = search rules
 
-add-j : tie.Need-overflow-add-j invariant-loop decreases-loop
-add-j c = omega (arith, c.before.before.before.before.loop-test.true)
+add-j : tie.Need-overflow_add-j invariant-loop decreases-loop
+add-j c = omega (arith, c.loop-j-test.true)
 
-loop-less : tie.Need-loop-smaller invariant-loop decreases-loop
-loop-less c = omega (arith, c.before.before.before.before.loop-test.true)
+loop-less : tie.Need-loop-j-smaller invariant-loop decreases-loop
+loop-less c = omega (arith, c.loop-j-test.true)
 
-loop-again : tie.Need-loop-preserved invariant-loop decreases-loop
-loop-again c =
-    let a = c.before.before.before.before.before.before in
-    let l = c.before.before.before.before.before.loop in
-    let w = c.before.before.number_at in
-    let p = c.before.put_word in (
-      omega (arith, c.before.before.before.before.loop-test.true),
-      filling_put l.invariant.1 (omega (arith, c.before.before.before.before.loop-test.true, a.requires)) p.ensures (number_is w.ensures),
-    )
+loop-again : tie.Need-loop-j-preserved invariant-loop decreases-loop
+loop-again c = (
+  omega (arith, c.loop-j-test.true),
+  filling_put c.loop-j.invariant.1 (omega (arith, c.loop-j-test.true, c.requires)) c.put_word.ensures (number_is c.number_at.ensures),
+)
 
-same_length : tie.Need-same-length invariant-loop decreases-loop
+same_length : tie.Need-shape_of-out invariant-loop decreases-loop
 same_length c =
-    let a = c.before.before.args in
-    filling_length (keyNumber a.pairs.now) a.out.now c.before.loop.invariant.1
+    let a = c.args in
+    filling_length (keyNumber a.pairs.now) a.out.now c.loop-j.invariant.1
 
 returns : tie.Need-returns invariant-loop decreases-loop
 returns c =
-    let a = c.before.before.args in
-    let l = c.before.loop in
-    filling_to (2 * pair_count a.pairs.now) l.invariant.1 (omega (arith, l.invariant.0, c.loop-test.false))
+    let a = c.args in
+    filling_to (2 * pair_count a.pairs.now) c.loop-j.invariant.1 (omega (arith, c.loop-j.invariant.0, c.loop-j-test.false))
 
-pub write-keys-spec : {M : Type 1} → statement M
-write-keys-spec =
+pub write_keys_spec : {M : Type 1} → statement M
+write_keys_spec =
     tie.close
     (tie.spec
     invariant-loop

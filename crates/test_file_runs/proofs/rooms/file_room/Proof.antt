@@ -9,5 +9,8 @@ use Rattle.test_file_runs.proofs.rooms.file_room.Tie as tie
 returns : tie.Need-returns
 returns c = sym (length-replicate {A = ℕ} 131080 7)
 
-pub file-room-spec : {M : Type 1} → statement M
-file-room-spec = tie.close (tie.spec returns)
+pub file_room_spec : {M : Type 1} → statement M
+file_room_spec =
+    tie.close
+    (tie.spec
+    returns)

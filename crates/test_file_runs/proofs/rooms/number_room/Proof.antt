@@ -9,5 +9,8 @@ use Rattle.test_file_runs.proofs.rooms.number_room.Tie as tie
 returns : tie.Need-returns
 returns c = sym (length-replicate {A = ℤ} 131080 (pos 7))
 
-pub number-room-spec : {M : Type 1} → statement M
-number-room-spec = tie.close (tie.spec returns)
+pub number_room_spec : {M : Type 1} → statement M
+number_room_spec =
+    tie.close
+    (tie.spec
+    returns)

@@ -9,5 +9,8 @@ use Rattle.test_file_runs.proofs.rooms.value_room.Tie as tie
 returns : tie.Need-returns
 returns c = sym (length-replicate {A = ℤ} 32768 (pos 7))
 
-pub value-room-spec : {M : Type 1} → statement M
-value-room-spec = tie.close (tie.spec returns)
+pub value_room_spec : {M : Type 1} → statement M
+value_room_spec =
+    tie.close
+    (tie.spec
+    returns)

@@ -6,32 +6,31 @@ use Rattle.test_requests.proofs.Parts.{kept_none, kept_more}
 use Rattle.test_file_runs.proofs.runs.put_runs.Statement.{statement}
 use Rattle.test_file_runs.proofs.runs.put_runs.Tie as tie
 
-put-count-requires : tie.Need-put-count-requires
+put-count-requires : tie.Need-put_count-from-requires
 put-count-requires c κs = search rules
 
 part-requires : tie.Need-part-requires
 part-requires c κs = search rules
 
-put-each-requires : tie.Need-put-each-requires
+put-each-requires : tie.Need-put_each-to-requires
 put-each-requires c κs = search rules
 
-runs-within-requires : tie.Need-runs-within-requires
+runs-within-requires : tie.Need-runs_within-requires
 runs-within-requires c κs = search rules
 
-put-count-requires-2 : tie.Need-put-count-requires-2
+put-count-requires-2 : tie.Need-put_count-requires
 put-count-requires-2 c κs = search rules
 
-same_length : tie.Need-same-length
+same_length : tie.Need-shape_of-out
 same_length c = search rules
 
 returns : tie.Need-returns
 returns c =
-    let a = c.before.before.before.before.before in
-    let k = kept_more (kept_none _ _) a.before.before.before.before.put_count.ensures in
-    λ h. let e = a.put-each.ensures (k.within h) in (omega (arith, k.on, e.0), omega (arith, c.before.put-count2.auto.0, e.1))
+    let k = kept_more (kept_none _ _) c.put_count-from.ensures in
+    λ h. let e = c.put_each-to.ensures (k.within h) in (omega (arith, k.on, e.0), omega (arith, c.put_count.auto.out, e.1))
 
-pub put-runs-spec : {M : Type 1} → statement M
-put-runs-spec =
+pub put_runs_spec : {M : Type 1} → statement M
+put_runs_spec =
     tie.close
     (tie.spec
     put-count-requires

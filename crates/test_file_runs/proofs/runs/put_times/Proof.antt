@@ -6,35 +6,35 @@ use Rattle.test_requests.proofs.Parts.{Kept, kept_none, kept_more}
 use Rattle.test_file_runs.proofs.runs.put_times.Statement.{statement}
 use Rattle.test_file_runs.proofs.runs.put_times.Tie as tie
 
-abbrev invariant-loop : tie.invariant-loop
+abbrev invariant-loop : tie.invariant-loop-k
 invariant-loop list₀ at times word next₀ k₀ list next k = Kept at list₀ list next
 
-abbrev decreases-loop : tie.decreases-loop
+abbrev decreases-loop : tie.decreases-loop-k
 decreases-loop list₀ at times word next₀ k₀ list next k = times - k
 
-loop-holds : tie.Need-loop-init invariant-loop decreases-loop
+loop-holds : tie.Need-loop-k-init invariant-loop decreases-loop
 loop-holds c = kept_none _ _
 
-put-one-requires : tie.Need-put-one-requires invariant-loop decreases-loop
+put-one-requires : tie.Need-put_one-next-requires invariant-loop decreases-loop
 put-one-requires c κs = tt
 
-add-k : tie.Need-overflow-add-k invariant-loop decreases-loop
+add-k : tie.Need-overflow_add-k invariant-loop decreases-loop
 add-k c = omega arith
 
-loop-less : tie.Need-loop-smaller invariant-loop decreases-loop
+loop-less : tie.Need-loop-k-smaller invariant-loop decreases-loop
 loop-less c = omega arith
 
-loop-again : tie.Need-loop-preserved invariant-loop decreases-loop
-loop-again c = kept_more c.before.before.before.before.loop.invariant c.before.put_one.ensures
+loop-again : tie.Need-loop-k-preserved invariant-loop decreases-loop
+loop-again c = kept_more c.loop-k.invariant c.put_one-next.ensures
 
-same_length : tie.Need-same-length invariant-loop decreases-loop
-same_length c = c.before.loop.invariant.same_length
+same_length : tie.Need-shape_of-list invariant-loop decreases-loop
+same_length c = c.loop-k.invariant.same_length
 
 returns : tie.Need-returns invariant-loop decreases-loop
-returns c = λ h. (c.before.loop.invariant.on, c.before.loop.invariant.within h)
+returns c = λ h. (c.loop-k.invariant.on, c.loop-k.invariant.within h)
 
-pub put-times-spec : {M : Type 1} → statement M
-put-times-spec =
+pub put_times_spec : {M : Type 1} → statement M
+put_times_spec =
     tie.close
     (tie.spec
     invariant-loop

@@ -7,53 +7,52 @@ use lib.ListN.{length}
 use Rattle.test_file_runs.proofs.runs.unroll.Statement.{statement}
 use Rattle.test_file_runs.proofs.runs.unroll.Tie as tie
 
-abbrev invariant-loop : tie.invariant-loop
+abbrev invariant-loop : tie.invariant-loop-i
 invariant-loop runs list₀ next₀ i₀ list next i = (length list ≡ length list₀) × (next ≤ length list)
 
-abbrev decreases-loop : tie.decreases-loop
+abbrev decreases-loop : tie.decreases-loop-i
 decreases-loop runs list₀ next₀ i₀ list next i = length runs / 2 - i
 
-loop-holds : tie.Need-loop-init invariant-loop decreases-loop
+loop-holds : tie.Need-loop-i-init invariant-loop decreases-loop
 loop-holds c = (omega arith, omega arith)
 
-mul-word-at : tie.Need-overflow-mul-word-at invariant-loop decreases-loop
+mul-word-at : tie.Need-overflow_mul-i invariant-loop decreases-loop
 mul-word-at c = omega arith
 
-word-at-requires : tie.Need-word-at-requires invariant-loop decreases-loop
+word-at-requires : tie.Need-word_at-requires invariant-loop decreases-loop
 word-at-requires c κs = tt
 
-mul-word-at-2 : tie.Need-overflow-mul-word-at-2 invariant-loop decreases-loop
+mul-word-at-2 : tie.Need-overflow_mul-i-in-loop-i invariant-loop decreases-loop
 mul-word-at-2 c = omega arith
 
-add-word-at : tie.Need-overflow-add-word-at invariant-loop decreases-loop
+add-word-at : tie.Need-overflow_add-i invariant-loop decreases-loop
 add-word-at c = omega arith
 
-word-at-requires-2 : tie.Need-word-at-requires-2 invariant-loop decreases-loop
+word-at-requires-2 : tie.Need-word_at-requires-in-loop-i invariant-loop decreases-loop
 word-at-requires-2 c κs = tt
 
-put-times-requires : tie.Need-put-times-requires invariant-loop decreases-loop
+put-times-requires : tie.Need-put_times-next-requires invariant-loop decreases-loop
 put-times-requires c κs = tt
 
-add-i : tie.Need-overflow-add-i invariant-loop decreases-loop
+add-i : tie.Need-overflow_add-i-in-loop-i invariant-loop decreases-loop
 add-i c = omega arith
 
-loop-less : tie.Need-loop-smaller invariant-loop decreases-loop
+loop-less : tie.Need-loop-i-smaller invariant-loop decreases-loop
 loop-less c = omega arith
 
-loop-again : tie.Need-loop-preserved invariant-loop decreases-loop
+loop-again : tie.Need-loop-i-preserved invariant-loop decreases-loop
 loop-again c =
-    let p = c.before.put-times in
-    let e = p.ensures (omega arith) in
-    (omega (arith, p.auto.0), omega (arith, e.1))
+    let e = c.put_times-next.ensures (omega arith) in
+    (omega (arith, c.put_times-next.auto.list), omega (arith, e.1))
 
-same_length : tie.Need-same-length invariant-loop decreases-loop
+same_length : tie.Need-shape_of-list invariant-loop decreases-loop
 same_length c = omega arith
 
 returns : tie.Need-returns invariant-loop decreases-loop
 returns c = omega arith
 
-pub unroll-spec : {M : Type 1} → statement M
-unroll-spec =
+pub unroll_spec : {M : Type 1} → statement M
+unroll_spec =
     tie.close
     (tie.spec
     invariant-loop

@@ -16,5 +16,11 @@ items-requires c κs = search rules
 returns : tie.Need-returns
 returns c = cc
 
-pub entries-of-spec : {M : Type 1} → statement M
-entries-of-spec = tie.close (tie.spec after-requires after-requires-2 items-requires returns)
+pub entries_of_spec : {M : Type 1} → statement M
+entries_of_spec =
+    tie.close
+    (tie.spec
+    after-requires
+    after-requires-2
+    items-requires
+    returns)

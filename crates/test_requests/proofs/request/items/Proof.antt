@@ -5,13 +5,13 @@ use Rattle.test_requests.proofs.Parts.{items_none, items_are}
 use Rattle.test_requests.proofs.request.items.Statement.{statement}
 use Rattle.test_requests.proofs.request.items.Tie as tie
 
-slice-aggregate-result : tie.Need-slice-aggregate-result
+slice-aggregate-result : tie.Need-slice_bounds-result-end
 slice-aggregate-result c = search rules
 
-returns : tie.Need-returns
-returns c = let a = c.before.before.args in items_none a.width a.numbers.now a.at (omega arith)
+returns : tie.Need-returns-then-numbers-at
+returns c = let a = c.args in items_none a.width a.numbers.now a.at (omega arith)
 
-add-part : tie.Need-overflow-add-part
+add-part : tie.Need-overflow_add-at
 add-part c = search rules
 
 after-requires : tie.Need-after-requires
@@ -20,13 +20,19 @@ after-requires c κs = search rules
 part-requires : tie.Need-part-requires
 part-requires c κs = search rules
 
-returns-2 : tie.Need-returns-2
+returns-2 : tie.Need-returns
 returns-2 c =
-    let a = c.before.before.before.args in
-    items_are a.width a.numbers.now a.at c.part.result.now c.before.after.result (omega arith) c.before.after.ensures
+    let a = c.args in
+    items_are a.width a.numbers.now a.at c.part.result.now c.after.result (omega arith) c.after.ensures
     c.part.ensures
 
-pub items-spec : {M : Type 1} → statement M
-items-spec =
+pub items_spec : {M : Type 1} → statement M
+items_spec =
     tie.close
-    (tie.spec slice-aggregate-result returns add-part after-requires part-requires returns-2)
+    (tie.spec
+    slice-aggregate-result
+    returns
+    add-part
+    after-requires
+    part-requires
+    returns-2)

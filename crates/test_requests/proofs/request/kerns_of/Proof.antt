@@ -13,5 +13,10 @@ items-requires c κs = search rules
 returns : tie.Need-returns
 returns c = cc
 
-pub kerns-of-spec : {M : Type 1} → statement M
-kerns-of-spec = tie.close (tie.spec after-requires items-requires returns)
+pub kerns_of_spec : {M : Type 1} → statement M
+kerns_of_spec =
+    tie.close
+    (tie.spec
+    after-requires
+    items-requires
+    returns)

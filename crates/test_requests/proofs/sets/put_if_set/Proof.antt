@@ -5,17 +5,23 @@ use Rattle.test_requests.proofs.Parts.{kept_none, kept_more}
 use Rattle.test_requests.proofs.sets.put_if_set.Statement.{statement}
 use Rattle.test_requests.proofs.sets.put_if_set.Tie as tie
 
-returns : tie.Need-returns
+returns : tie.Need-returns-then-mark-eq0
 returns c = search rules
 
-put-count-requires : tie.Need-put-count-requires
+put-count-requires : tie.Need-put_count-requires
 put-count-requires c κs = search rules
 
-same_length : tie.Need-same-length
+same_length : tie.Need-shape_of-out
 same_length c = search rules
 
-returns-2 : tie.Need-returns-2
-returns-2 c = let k = kept_more (kept_none _ _) c.before.put_count.ensures in (k.on, k.within)
+returns-2 : tie.Need-returns
+returns-2 c = let k = kept_more (kept_none _ _) c.put_count.ensures in (k.on, k.within)
 
-pub put-if-set-spec : {M : Type 1} → statement M
-put-if-set-spec = tie.close (tie.spec returns put-count-requires same_length returns-2)
+pub put_if_set_spec : {M : Type 1} → statement M
+put_if_set_spec =
+    tie.close
+    (tie.spec
+    returns
+    put-count-requires
+    same_length
+    returns-2)

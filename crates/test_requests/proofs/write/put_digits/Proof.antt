@@ -7,41 +7,41 @@ use Rattle.test_requests.proofs.write.put_digits.Tie as tie
 div-less : (n : ℕ) → 0 < n → n / 10 < n
 div-less n h = omega arith
 
-abbrev invariant-loop : tie.invariant-loop
+abbrev invariant-loop : tie.invariant-loop-place
 invariant-loop line₀ k size top at₀ place₀ line at place = (at ≤ length line) × (length line ≡ length line₀)
 
-abbrev decreases-loop : tie.decreases-loop
+abbrev decreases-loop : tie.decreases-loop-place
 decreases-loop line₀ k size top at₀ place₀ line at place = place
 
-loop-holds : tie.Need-loop-init invariant-loop decreases-loop
-loop-holds c = (c.before.requires, omega arith)
+loop-holds : tie.Need-loop-place-init invariant-loop decreases-loop
+loop-holds c = (c.requires, omega arith)
 
-div-digit : tie.Need-nonzero-div-digit invariant-loop decreases-loop
+div-digit : tie.Need-nonzero_div-digit invariant-loop decreases-loop
 div-digit c = omega arith
 
-cast-digit : tie.Need-overflow-cast-digit invariant-loop decreases-loop
+cast-digit : tie.Need-overflow_cast-digit invariant-loop decreases-loop
 cast-digit c = omega arith
 
-add-put-byte : tie.Need-overflow-add-put-byte invariant-loop decreases-loop
+add-put-byte : tie.Need-overflow_add-digit invariant-loop decreases-loop
 add-put-byte c = omega arith
 
-put-byte-requires : tie.Need-put-byte-requires invariant-loop decreases-loop
+put-byte-requires : tie.Need-put_byte-at-requires invariant-loop decreases-loop
 put-byte-requires c κs = omega arith
 
-loop-less : tie.Need-loop-smaller invariant-loop decreases-loop
-loop-less c = div-less _ c.before.before.before.before.loop-test.true
+loop-less : tie.Need-loop-place-smaller invariant-loop decreases-loop
+loop-less c = div-less _ c.loop-place-test.true
 
-loop-again : tie.Need-loop-preserved invariant-loop decreases-loop
-loop-again c = omega (arith, c.before.before.put_byte.auto.0)
+loop-again : tie.Need-loop-place-preserved invariant-loop decreases-loop
+loop-again c = omega (arith, c.put_byte-at.auto.line)
 
-same_length : tie.Need-same-length invariant-loop decreases-loop
+same_length : tie.Need-shape_of-line invariant-loop decreases-loop
 same_length c = omega arith
 
 returns : tie.Need-returns invariant-loop decreases-loop
 returns c = omega arith
 
-pub put-digits-spec : {M : Type 1} → statement M
-put-digits-spec =
+pub put_digits_spec : {M : Type 1} → statement M
+put_digits_spec =
     tie.close
     (tie.spec
     invariant-loop

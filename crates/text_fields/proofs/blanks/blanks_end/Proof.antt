@@ -6,41 +6,38 @@ use Rattle.text_fields.proofs.Leading.{blank_none, blank_more, blanks_stop, blan
 use Rattle.text_fields.proofs.blanks.blanks_end.Statement.{statement}
 use Rattle.text_fields.proofs.blanks.blanks_end.Tie as tie
 
-abbrev invariant-loop : tie.invariant-loop
+abbrev invariant-loop : tie.invariant-loop-i
 invariant-loop text from end i₀ i = (from ≤ i) × (i ≤ end) × Blank text from i
 
-abbrev decreases-loop : tie.decreases-loop
+abbrev decreases-loop : tie.decreases-loop-i
 decreases-loop text from end i₀ i = end - i
 
-loop-holds : tie.Need-loop-init invariant-loop decreases-loop
+loop-holds : tie.Need-loop-i-init invariant-loop decreases-loop
 loop-holds c = (omega arith, c.requires.0, blank_none c.args.text.now c.args.from)
 
-shared-slice-read-if1 : tie.Need-shared-slice-read-if1 invariant-loop decreases-loop
+shared-slice-read-if1 : tie.Need-bounds-text-i invariant-loop decreases-loop
 shared-slice-read-if1 c = omega arith
 
-returns : tie.Need-returns invariant-loop decreases-loop
+returns : tie.Need-returns-then-text-i-ne32 invariant-loop decreases-loop
 returns c =
-    let l = c.before.before.before in
-    blanks_stop l.before.args.text.now l.loop.invariant.0 c.before.before.loop-test.true l.loop.invariant.2 c.if1.true
+    blanks_stop c.args.text.now c.loop-i.invariant.0 c.loop-i-test.true c.loop-i.invariant.2 c.if-text-i-ne32.true
 
-add-i : tie.Need-overflow-add-i invariant-loop decreases-loop
+add-i : tie.Need-overflow_add-i invariant-loop decreases-loop
 add-i c = omega arith
 
-loop-less : tie.Need-loop-smaller invariant-loop decreases-loop
+loop-less : tie.Need-loop-i-smaller invariant-loop decreases-loop
 loop-less c = omega arith
 
-loop-again : tie.Need-loop-preserved invariant-loop decreases-loop
+loop-again : tie.Need-loop-i-preserved invariant-loop decreases-loop
 loop-again c =
-    let l = c.before.before.before in
-    (omega arith, omega arith, blank_more l.before.args.text.now l.loop.invariant.2 c.if1.false)
+    (omega arith, omega arith, blank_more c.args.text.now c.loop-i.invariant.2 c.if-text-i-ne32.false)
 
-returns-2 : tie.Need-returns-2 invariant-loop decreases-loop
+returns-2 : tie.Need-returns invariant-loop decreases-loop
 returns-2 c =
-    let l = c.before in
-    blanks_all l.before.args.text.now l.loop.invariant.0 l.loop.invariant.1 c.loop-test.false l.loop.invariant.2
+    blanks_all c.args.text.now c.loop-i.invariant.0 c.loop-i.invariant.1 c.loop-i-test.false c.loop-i.invariant.2
 
-pub blanks-end-spec : {M : Type 1} → statement M
-blanks-end-spec =
+pub blanks_end_spec : {M : Type 1} → statement M
+blanks_end_spec =
     tie.close
     (tie.spec
     invariant-loop

@@ -10,26 +10,31 @@ use Rattle.text_fields.proofs.blanks.eight_blanks.Tie as tie
 four-requires : tie.Need-four-requires
 four-requires c κs = search rules
 
-add-four : tie.Need-overflow-add-four
+add-four : tie.Need-overflow_add-at
 add-four c = search rules
 
 four-requires-2 : tie.Need-four-requires-2
 four-requires-2 c κs = search rules
 
-mul-result : tie.Need-overflow-mul-result
+mul-result : tie.Need-overflow_mul-result
 mul-result c = search rules
 
-add-result : tie.Need-overflow-add-result
+add-result : tie.Need-overflow_add-result
 add-result c = search rules
 
 returns : tie.Need-returns
 returns c t =
-    let a = c.before.before.before.args in
-    let x = c.before.four in
-    let y = c.four2 in
-    let e = eqb-true (x.result + y.result * 4294967296) 2314885530818453536 t in
-    blank_twice a.text.now a.at 4 _ (omega arith) (x.ensures.all (omega (arith, e))) (y.ensures.all (omega (arith, e)))
+    let a = c.args in
+    let e = eqb-true (c.four.result + c.four-2.result * 4294967296) 2314885530818453536 t in
+    blank_twice a.text.now a.at 4 _ (omega arith) (c.four.ensures.all (omega (arith, e))) (c.four-2.ensures.all (omega (arith, e)))
 
-pub eight-blanks-spec : {M : Type 1} → statement M
-eight-blanks-spec =
-    tie.close (tie.spec four-requires add-four four-requires-2 mul-result add-result returns)
+pub eight_blanks_spec : {M : Type 1} → statement M
+eight_blanks_spec =
+    tie.close
+    (tie.spec
+    four-requires
+    add-four
+    four-requires-2
+    mul-result
+    add-result
+    returns)

@@ -4,42 +4,38 @@ use Rattle.text_fields.proofs.Decimals.{with_zero, with_beyond, with_is}
 use Rattle.text_fields.proofs.numbers.with_sign.Statement.{statement}
 use Rattle.text_fields.proofs.numbers.with_sign.Tie as tie
 
-enum-known-digits : tie.Need-enum-known-digits
+enum-known-digits : tie.Need-enum_known-digits
 enum-known-digits c = search rules
 
-enum_told : tie.Need-enum-told
+enum_told : tie.Need-enum_told-1
 enum_told c = search rules
 
-returns : tie.Need-returns
+returns : tie.Need-returns-in_default
 returns c = search rules
 
-returns-2 : tie.Need-returns-2
+returns-2 : tie.Need-returns-then-n-eq0
 returns-2 c =
-    let d = c.before.before in
-    with_zero d.before.before.args.digits _ d.digits.given.1 c.if1.true
+    with_zero c.args.digits _ c.in-Value.is c.if-n-eq0.true
 
-returns-3 : tie.Need-returns-3
+returns-3 : tie.Need-returns-then-n-gt2147483648
 returns-3 c =
-    let d = c.before.before.before in
-    with_beyond d.before.before.args.digits _ d.digits.given.1 c.if2.true
+    with_beyond c.args.digits _ c.in-Value.is c.if-n-gt2147483648.true
 
-sub-number-of : tie.Need-overflow-sub-number-of
+sub-number-of : tie.Need-overflow_sub-n
 sub-number-of c = search rules
 
-cast-number-of : tie.Need-overflow-cast-number-of
+cast-number-of : tie.Need-overflow_cast-n
 cast-number-of c = search rules
 
-number-of-requires : tie.Need-number-of-requires
+number-of-requires : tie.Need-number_of-requires
 number-of-requires c κs = search rules
 
-returns-4 : tie.Need-returns-4
+returns-4 : tie.Need-returns
 returns-4 c =
-    let i = c.before in
-    let d = i.before.before.before in
-    with_is d.before.before.args.digits _ d.digits.given.1 i.before.if1.false i.if2.false c.number_of_lem.result c.number_of_lem.ensures
+    with_is c.args.digits _ c.in-Value.is c.if-n-eq0.false c.if-n-gt2147483648.false c.number_of.result c.number_of.ensures
 
-pub with-sign-spec : {M : Type 1} → statement M
-with-sign-spec =
+pub with_sign_spec : {M : Type 1} → statement M
+with_sign_spec =
     tie.close
     (tie.spec
     enum-known-digits

@@ -5,11 +5,15 @@ use borrow.Author.Rules.{rules}
 use Rattle.text_fields.proofs.short.digit_from.Statement.{statement}
 use Rattle.text_fields.proofs.short.digit_from.Tie as tie
 
-returns : tie.Need-returns
+returns : tie.Need-returns-then-least-b
 returns c = search rules
 
-returns-2 : tie.Need-returns-2
-returns-2 c t = let a = c.before.args in absurd (omega (arith, leb-true a.least a.b t, c.if1.false))
+returns-2 : tie.Need-returns-else-least-b
+returns-2 c t = let a = c.args in absurd (omega (arith, leb-true a.least a.b t, c.if-least-b.false))
 
-pub digit-from-spec : {M : Type 1} → statement M
-digit-from-spec = tie.close (tie.spec returns returns-2)
+pub digit_from_spec : {M : Type 1} → statement M
+digit_from_spec =
+    tie.close
+    (tie.spec
+    returns
+    returns-2)

@@ -11,58 +11,50 @@ use borrow.Author.Rules.{rules}
 use Rattle.text_fields.proofs.short.two_digits.Statement.{statement}
 use Rattle.text_fields.proofs.short.two_digits.Tie as tie
 
-shared-slice-read-a : tie.Need-shared-slice-read-a
+shared-slice-read-a : tie.Need-bounds-text-from
 shared-slice-read-a c = search rules
 
-add-b : tie.Need-overflow-add-b
+add-b : tie.Need-overflow_add-b
 add-b c = search rules
 
-shared-slice-read-b : tie.Need-shared-slice-read-b
+shared-slice-read-b : tie.Need-bounds-text-from-2
 shared-slice-read-b c = search rules
 
-digit-from-requires : tie.Need-digit-from-requires
+digit-from-requires : tie.Need-digit_from-requires
 digit-from-requires c κs = search rules
 
-digit-from-requires-2 : tie.Need-digit-from-requires-2
+digit-from-requires-2 : tie.Need-digit_from-requires-then-digit_from
 digit-from-requires-2 c κs = search rules
 
-with-digit-requires : tie.Need-with-digit-requires
+with-digit-requires : tie.Need-with_digit-requires
 with-digit-requires c κs =
-    let i = c.before.before in
-    (omega arith, omega (arith, i.before.digit-from.ensures i.if1.true))
+    (omega arith, omega (arith, c.digit_from.ensures c.if-digit_from.true))
 
-with-digit-requires-2 : tie.Need-with-digit-requires-2
+with-digit-requires-2 : tie.Need-with_digit-requires-then-digit_from-2
 with-digit-requires-2 c κs =
-    let i = c.before in
-    let j = i.before.before in
-    (omega (arith, c.with-digit.ensures, j.before.digit-from.ensures j.if1.true), (i.before.digit-from2.ensures i.if2.true).0)
+    (omega (arith, c.with_digit.ensures, c.digit_from.ensures c.if-digit_from.true), (c.digit_from-then-digit_from.ensures c.if-digit_from-2.true).0)
 
-without-sign-requires : tie.Need-without-sign-requires
+without-sign-requires : tie.Need-without_sign-requires
 without-sign-requires c κs = search rules
 
-returns : tie.Need-returns
+returns : tie.Need-returns-then-digit_from-2
 returns c =
-    let y = c.before in
-    let x = y.before in
-    let i = x.before in
-    let j = i.before.before in
-    let a = j.before.digit-from.ensures j.if1.true in
-    let b = i.before.digit-from2.ensures i.if2.true in
-    let s = j.before.before.before.before.before in
-    let second = get_or s.args.text.now (s.args.from + 1) 0 in
+    let a = c.digit_from.ensures c.if-digit_from.true in
+    let b = c.digit_from-then-digit_from.ensures c.if-digit_from-2.true in
+    let second = get_or c.args.text.now (c.args.from + 1) 0 in
     c.without_sign.ensures
-    ∙ ap (λ (n : ℕ). number_reply (without_sign (some n))) (y.with-digit2.ensures ∙ ap (λ (n : ℕ). 10 * n + (second - 48)) x.with-digit.ensures)
+    ∙ ap (λ (n : ℕ). number_reply (without_sign (some n))) (c.with_digit-then-digit_from-2.ensures ∙ ap (λ (n : ℕ). 10 * n + (second - 48)) c.with_digit.ensures)
     ∙ sym (ap number_reply
-    (read_two s.args.text.now s.args.from s.args.end s.requires.1 (omega (arith, s.requires.0)) a.0 a.1 s.requires.0 b.0 b.1))
+    (read_two c.args.text.now c.args.from c.args.end c.requires.1 (omega (arith, c.requires.0)) a.0 a.1 c.requires.0 b.0 b.1))
 
-read-part-requires : tie.Need-read-part-requires
+read-part-requires : tie.Need-read_part-requires
 read-part-requires c κs = search rules
 
-returns-2 : tie.Need-returns-2
+returns-2 : tie.Need-returns
 returns-2 c = search rules
 
-pub two-digits-spec : {M : Type 1} → statement M
-two-digits-spec =
+pub two_digits_spec : {M : Type 1} → statement M
+two_digits_spec =
     tie.close
     (tie.spec
     shared-slice-read-a

@@ -9,72 +9,63 @@ use borrow.Author.Rules.{rules}
 use Rattle.text_justify.proofs.number.put_character.Statement.{statement}
 use Rattle.text_justify.proofs.number.put_character.Tie as tie
 
-put-number-requires : tie.Need-put-number-requires
+put-number-requires : tie.Need-put_number-requires
 put-number-requires c κs = search rules
 
-same_length : tie.Need-same-length
+same_length : tie.Need-shape_of-out-then-w-lt100
 same_length c = search rules
 
-returns : tie.Need-returns
+returns : tie.Need-returns-then-w-lt100
 returns c = search rules
 
-mul-hundreds : tie.Need-overflow-mul-hundreds
+mul-hundreds : tie.Need-overflow_mul-hundreds
 mul-hundreds c = search rules
 
-add-out : tie.Need-overflow-add-out
+add-out : tie.Need-overflow_add-out
 add-out c = search rules
 
-cast-out : tie.Need-overflow-cast-out
+cast-out : tie.Need-overflow_cast-out
 cast-out c = search rules
 
-add-out-2 : tie.Need-overflow-add-out-2
+add-out-2 : tie.Need-overflow_add-out-then-w-lt1000
 add-out-2 c = search rules
 
-slice-write-out : tie.Need-slice-write-out
+slice-write-out : tie.Need-bounds-out-at
 slice-write-out c = search rules
 
-add-put-two : tie.Need-overflow-add-put-two
+add-put-two : tie.Need-overflow_add-at
 add-put-two c = search rules
 
-mul-put-two : tie.Need-overflow-mul-put-two
+mul-put-two : tie.Need-overflow_mul-hundreds-then-w-lt1000
 mul-put-two c = search rules
 
-sub-put-two : tie.Need-overflow-sub-put-two
+sub-put-two : tie.Need-overflow_sub-w
 sub-put-two c = search rules
 
-put-two-requires : tie.Need-put-two-requires
+put-two-requires : tie.Need-put_two-requires
 put-two-requires c κs =
-    let i = c.before in
-    let s = i.before.before.before in
-    (omega (arith, i.if2.true), omega (arith, s.requires, length-set s.args.out.now (s.args.at + 9) (48 + s.args.w * 41 / 4096)))
+    (omega (arith, c.if-w-lt1000.true), omega (arith, c.requires, length-set c.args.out.now (c.args.at + 9) (48 + c.args.w * 41 / 4096)))
 
-same-length-2 : tie.Need-same-length-2
+same-length-2 : tie.Need-shape_of-out-then-w-lt1000
 same-length-2 c =
-    let x = c.before.before in
-    let s = x.before.before.before.before.before in
-    x.put_two.auto.0 ∙ length-set s.args.out.now (s.args.at + 9) (48 + s.args.w * 41 / 4096)
+    c.put_two.auto.out ∙ length-set c.args.out.now (c.args.at + 9) (48 + c.args.w * 41 / 4096)
 
-returns-2 : tie.Need-returns-2
+returns-2 : tie.Need-returns-then-w-lt1000
 returns-2 c =
-    let x = c.before.before in
-    let i = x.before.before in
-    let s = i.before.before.before in
-    spells_three s.args.out.now s.args.at s.args.w _ _ i.before.if1.false i.if2.true refl refl x.put_two.new.0 x.put_two.ensures
+    spells_three c.args.out.now c.args.at c.args.w _ _ c.if-w-lt100.false c.if-w-lt1000.true refl refl c.put_two.new.out c.put_two.ensures
 
-put-long-requires : tie.Need-put-long-requires
+put-long-requires : tie.Need-put_long-requires
 put-long-requires c κs = search rules
 
-same-length-3 : tie.Need-same-length-3
+same-length-3 : tie.Need-shape_of-out
 same-length-3 c = search rules
 
-returns-3 : tie.Need-returns-3
+returns-3 : tie.Need-returns
 returns-3 c =
-    let x = c.before.before in
-    let s = x.before.before.before.before.before in
-    x.put_long.ensures ∙ room_is s.args.out.now s.args.at s.args.w s.requires
+    c.put_long.ensures ∙ room_is c.args.out.now c.args.at c.args.w c.requires
 
-pub put-character-spec : {M : Type 1} → statement M
-put-character-spec =
+pub put_character_spec : {M : Type 1} → statement M
+put_character_spec =
     tie.close
     (tie.spec
     put-number-requires

@@ -6,54 +6,49 @@ use borrow.Author.Rules.{rules}
 use Rattle.text_justify.proofs.number.put_number.Statement.{statement}
 use Rattle.text_justify.proofs.number.put_number.Tie as tie
 
-cast-out : tie.Need-overflow-cast-out
+cast-out : tie.Need-overflow_cast-out
 cast-out c = search rules
 
-add-out : tie.Need-overflow-add-out
+add-out : tie.Need-overflow_add-out
 add-out c = search rules
 
-add-out-2 : tie.Need-overflow-add-out-2
+add-out-2 : tie.Need-overflow_add-out-then-w-lt10
 add-out-2 c = search rules
 
-slice-write-out : tie.Need-slice-write-out
+slice-write-out : tie.Need-bounds-out-at
 slice-write-out c = search rules
 
-same_length : tie.Need-same-length
+same_length : tie.Need-shape_of-out-then-w-lt10
 same_length c = search rules
 
-returns : tie.Need-returns
-returns c = let s = c.before.before in spells_one s.args.out.now s.args.at s.args.w c.if1.true
+returns : tie.Need-returns-then-w-lt10
+returns c = spells_one c.args.out.now c.args.at c.args.w c.if-w-lt10.true
 
-add-put-two : tie.Need-overflow-add-put-two
+add-put-two : tie.Need-overflow_add-at
 add-put-two c = search rules
 
-put-two-requires : tie.Need-put-two-requires
+put-two-requires : tie.Need-put_two-requires
 put-two-requires c κs = search rules
 
-same-length-2 : tie.Need-same-length-2
+same-length-2 : tie.Need-shape_of-out-then-w-lt100
 same-length-2 c = search rules
 
-returns-2 : tie.Need-returns-2
+returns-2 : tie.Need-returns-then-w-lt100
 returns-2 c =
-    let x = c.before.before in
-    let i = x.before.before in
-    let s = i.before.before.before in
-    spells_two s.args.out.now s.args.at s.args.w i.before.if1.false i.if2.true x.put_two.new.0 x.put_two.ensures
+    spells_two c.args.out.now c.args.at c.args.w c.if-w-lt10.false c.if-w-lt100.true c.put_two.new.out c.put_two.ensures
 
-put-long-requires : tie.Need-put-long-requires
+put-long-requires : tie.Need-put_long-requires
 put-long-requires c κs = search rules
 
-same-length-3 : tie.Need-same-length-3
+same-length-3 : tie.Need-shape_of-out
 same-length-3 c = search rules
 
-returns-3 : tie.Need-returns-3
+returns-3 : tie.Need-returns
 returns-3 c =
-    let x = c.before.before in
-    let s = x.before.before.before.before.before in
-    x.put_long.ensures ∙ room_is s.args.out.now s.args.at s.args.w s.requires
+    c.put_long.ensures ∙ room_is c.args.out.now c.args.at c.args.w c.requires
 
-pub put-number-spec : {M : Type 1} → statement M
-put-number-spec =
+pub put_number_spec : {M : Type 1} → statement M
+put_number_spec =
     tie.close
     (tie.spec
     cast-out

@@ -11,46 +11,43 @@ use borrow.Author.Rules.{rules}
 use Rattle.text_reply.proofs.parts.put_reply.Statement.{statement}
 use Rattle.text_reply.proofs.parts.put_reply.Tie as tie
 
-put-table-requires : tie.Need-put-table-requires
+put-table-requires : tie.Need-put_table-ops_end-requires
 put-table-requires c κs =
-    let s = c.before.before in
-    let a = s.args in
-    omega (arith, parts_fit a.pairs.now a.ops.now a.loops.now (number_of a.letters) a.items.now a.out.now s.requires)
+    let a = c.args in
+    omega (arith, parts_fit a.pairs.now a.ops.now a.loops.now (number_of a.letters) a.items.now a.out.now c.requires)
 
 -- the table and the loops after it are written
-front : (c : tie.After-put-lines) → let a = c.before.before.before.before.before.before.before.args in
-    Puts (table_bytes a.pairs.now a.ops.now ++ loop_bytes a.loops.now) a.out.now 0 c.put-lines.result c.put-lines.new.1.1.1.1.1.0
+front : (c : tie.After-put_lines-loops_end) → let a = c.args in
+    Puts (table_bytes a.pairs.now a.ops.now ++ loop_bytes a.loops.now) a.out.now 0 c.put_lines-loops_end.result c.put_lines-loops_end.new.out
 front c =
-    let x = c.before.before.before.before in
-    let s = x.before.before.before in
-    let a = s.args in
-    let f = parts_fit a.pairs.now a.ops.now a.loops.now (number_of a.letters) a.items.now a.out.now s.requires in
-    let p = x.put-table.ensures in
-    let q = loops_put a.loops.now (omega (arith, f, p.next, puts_length p)) c.put-lines.ensures in
+    let a = c.args in
+    let f = parts_fit a.pairs.now a.ops.now a.loops.now (number_of a.letters) a.items.now a.out.now c.requires in
+    let p = c.put_table-ops_end.ensures in
+    let q = loops_put a.loops.now (omega (arith, f, c.put_table-ops_end.ensures.next, puts_length p)) c.put_lines-loops_end.ensures in
     puts_both p q
 
-put-lines-requires : tie.Need-put-lines-requires
+put-lines-requires : tie.Need-put_lines-loops_end-requires
 put-lines-requires c κs = tt
 
-put-set-word-requires : tie.Need-put-set-word-requires
+put-set-word-requires : tie.Need-put_set_word-requires
 put-set-word-requires c κs =
-    let y = c.before.before.before in
-    let s = y.before.before.before.before.before.before.before in
-    let a = s.args in
-    word_fits a.pairs.now a.ops.now a.loops.now (number_of a.letters) a.items.now a.out.now s.requires (front y)
+    let a = c.args in
+    word_fits a.pairs.now a.ops.now a.loops.now (number_of a.letters) a.items.now a.out.now c.requires (front (c.before.before.before))
 
-same_length : tie.Need-same-length
+same_length : tie.Need-shape_of-out
 same_length c = search rules
 
 returns : tie.Need-returns
 returns c =
-    let z = c.before.before in
-    let y = z.before.before.before.before in
-    let s = y.before.before.before.before.before.before.before in
-    let a = s.args in
-    all_put a.pairs.now a.ops.now a.loops.now (number_of a.letters) a.items.now a.out.now s.requires (front y) z.put-set-word.ensures
+    let a = c.args in
+    all_put a.pairs.now a.ops.now a.loops.now (number_of a.letters) a.items.now a.out.now c.requires (front (c.before.before.before.before.before.before)) c.put_set_word.ensures
 
-pub put-reply-spec : {M : Type 1} → statement M
-put-reply-spec =
+pub put_reply_spec : {M : Type 1} → statement M
+put_reply_spec =
     tie.close
-    (tie.spec put-table-requires put-lines-requires put-set-word-requires same_length returns)
+    (tie.spec
+    put-table-requires
+    put-lines-requires
+    put-set-word-requires
+    same_length
+    returns)

@@ -9,39 +9,34 @@ use borrow.Author.Rules.{rules}
 use Rattle.text_reply.proofs.parts.put_set_word.Statement.{statement}
 use Rattle.text_reply.proofs.parts.put_set_word.Tie as tie
 
-number-of-requires : tie.Need-number-of-requires
+number-of-requires : tie.Need-number_of-requires
 number-of-requires c κs = search rules
 
-slice-aggregate-put-lines : tie.Need-slice-aggregate-put-lines
+slice-aggregate-put-lines : tie.Need-slice_bounds-put_lines-end
 slice-aggregate-put-lines c = search rules
 
-put-lines-requires : tie.Need-put-lines-requires
+put-lines-requires : tie.Need-put_lines-next-requires
 put-lines-requires c κs = search rules
 
-put-lines-requires-2 : tie.Need-put-lines-requires-2
+put-lines-requires-2 : tie.Need-put_lines-requires
 put-lines-requires-2 c κs = search rules
 
-same_length : tie.Need-same-length
+same_length : tie.Need-shape_of-out
 same_length c = search rules
 
-returns : tie.Need-returns
+returns : tie.Need-returns-then-letters-lt2147483648
 returns c =
-    let y = c.before.before.put-lines2 in
-    let x = c.before.before.before.before.before.before in
-    let g = x.before.before.before.number_of_lem in
-    let i = x.before.before.before.before in
-    let s = i.before.before in
-    word_put s.args.letters s.args.items.now i.if1.true s.args.out.now s.args.at s.requires (number_of (word_of g.result))
-    (number_stored s.args.letters g.result g.ensures s.ranges.letters.fits) x.put-lines.new.1.1.1.1.1.0 x.put-lines.result
-    x.put-lines.ensures y.new.1.1.1.1.1.0 y.result y.ensures
+    word_put c.args.letters c.args.items.now c.if-letters-lt2147483648.true c.args.out.now c.args.at c.requires (number_of (word_of c.number_of.result))
+    (number_stored c.args.letters c.number_of.result c.number_of.ensures c.ranges.letters.fits) c.put_lines-next.new.out c.put_lines-next.result
+    c.put_lines-next.ensures c.put_lines.new.out c.put_lines.result c.put_lines.ensures
 
-returns-2 : tie.Need-returns-2
+returns-2 : tie.Need-returns-else-letters-lt2147483648
 returns-2 c =
-    let a = c.before.before.args in
-    sym (ap (sets a.out.now a.at) (no_word a.letters a.items.now c.if1.false))
+    let a = c.args in
+    sym (ap (sets a.out.now a.at) (no_word a.letters a.items.now c.if-letters-lt2147483648.false))
 
-pub put-set-word-spec : {M : Type 1} → statement M
-put-set-word-spec =
+pub put_set_word_spec : {M : Type 1} → statement M
+put_set_word_spec =
     tie.close
     (tie.spec
     number-of-requires

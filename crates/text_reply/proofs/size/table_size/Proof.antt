@@ -13,62 +13,56 @@ use Rattle.text_reply.proofs.Counts.{none_counted, table_counted, count_more, co
 use Rattle.text_reply.proofs.size.table_size.Statement.{statement}
 use Rattle.text_reply.proofs.size.table_size.Tie as tie
 
-abbrev invariant-loop : tie.invariant-loop
+abbrev invariant-loop : tie.invariant-loop-k
 invariant-loop pairs size₀ k₀ size k = (k ≤ pair_count pairs) × (size ≤ 65536) × ((ops : List ℤ) → size ≡ length (bytes_of (table_lines pairs ops k)))
 
-abbrev decreases-loop : tie.decreases-loop
+abbrev decreases-loop : tie.decreases-loop-k
 decreases-loop pairs size₀ k₀ size k = pair_count pairs - k
 
-loop-holds : tie.Need-loop-init invariant-loop decreases-loop
+loop-holds : tie.Need-loop-k-init invariant-loop decreases-loop
 loop-holds c = (omega arith, omega arith, none_counted c.args.pairs.now)
 
-mul-word-at : tie.Need-overflow-mul-word-at invariant-loop decreases-loop
+mul-word-at : tie.Need-overflow_mul-k invariant-loop decreases-loop
 mul-word-at c = omega arith
 
-add-word-at : tie.Need-overflow-add-word-at invariant-loop decreases-loop
+add-word-at : tie.Need-overflow_add-k invariant-loop decreases-loop
 add-word-at c = omega arith
 
-word-at-requires : tie.Need-word-at-requires invariant-loop decreases-loop
+word-at-requires : tie.Need-word_at-requires invariant-loop decreases-loop
 word-at-requires c κs = tt
 
-cast-size : tie.Need-overflow-cast-size invariant-loop decreases-loop
+cast-size : tie.Need-overflow_cast-size invariant-loop decreases-loop
 cast-size c = omega (arith, read_lt c.word_at.ensures)
 
-mul-size : tie.Need-overflow-mul-size invariant-loop decreases-loop
+mul-size : tie.Need-overflow_mul-size invariant-loop decreases-loop
 mul-size c = omega (arith, read_lt c.word_at.ensures)
 
-add-size : tie.Need-overflow-add-size invariant-loop decreases-loop
+add-size : tie.Need-overflow_add-size invariant-loop decreases-loop
 add-size c = omega (arith, read_lt c.word_at.ensures)
 
-add-size-2 : tie.Need-overflow-add-size-2 invariant-loop decreases-loop
+add-size-2 : tie.Need-overflow_add-size-in-loop-k invariant-loop decreases-loop
 add-size-2 c = omega (arith, read_lt c.word_at.ensures)
 
-returns : tie.Need-returns invariant-loop decreases-loop
+returns : tie.Need-returns-then-size-gt65536 invariant-loop decreases-loop
 returns c =
-    let w = c.before.word_at in
-    let i = c.before.before in
-    let l = i.before in
-    count_over l.before.args.pairs.now l.loop.k l.loop.size l.loop.invariant.2 w.result w.ensures i.loop-test.true c.if1.true
+    count_over c.args.pairs.now c.loop-k.k c.loop-k.size c.loop-k.invariant.2 c.word_at.result c.word_at.ensures c.loop-k-test.true c.if-size-gt65536.true
 
-add-k : tie.Need-overflow-add-k invariant-loop decreases-loop
+add-k : tie.Need-overflow_add-k-in-loop-k invariant-loop decreases-loop
 add-k c = omega arith
 
-loop-less : tie.Need-loop-smaller invariant-loop decreases-loop
+loop-less : tie.Need-loop-k-smaller invariant-loop decreases-loop
 loop-less c = omega arith
 
-loop-again : tie.Need-loop-preserved invariant-loop decreases-loop
+loop-again : tie.Need-loop-k-preserved invariant-loop decreases-loop
 loop-again c =
-    let w = c.before.word_at in
-    let l = c.before.before.before in
-    (omega arith, c.if1.false, count_more l.before.args.pairs.now l.loop.k l.loop.size l.loop.invariant.2 w.result w.ensures)
+    (omega arith, c.if-size-gt65536.false, count_more c.args.pairs.now c.loop-k.k c.loop-k.size c.loop-k.invariant.2 c.word_at.result c.word_at.ensures)
 
-returns-2 : tie.Need-returns-2 invariant-loop decreases-loop
+returns-2 : tie.Need-returns invariant-loop decreases-loop
 returns-2 c =
-    let l = c.before in
-    table_counted l.before.args.pairs.now l.loop.k l.loop.size l.loop.invariant.2 l.loop.invariant.1 (omega arith)
+    table_counted c.args.pairs.now c.loop-k.k c.loop-k.size c.loop-k.invariant.2 c.loop-k.invariant.1 (omega arith)
 
-pub table-size-spec : {M : Type 1} → statement M
-table-size-spec =
+pub table_size_spec : {M : Type 1} → statement M
+table_size_spec =
     tie.close
     (tie.spec
     invariant-loop

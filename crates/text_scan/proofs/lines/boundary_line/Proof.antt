@@ -7,46 +7,41 @@ use borrow.Author.Rules.{rules}
 use Rattle.text_scan.proofs.lines.boundary_line.Statement.{statement}
 use Rattle.text_scan.proofs.lines.boundary_line.Tie as tie
 
-returns : tie.Need-returns
+returns : tie.Need-returns-then-p
 returns c = search rules
 
-add-read-number : tie.Need-overflow-add-read-number
+add-read-number : tie.Need-overflow_add-p
 add-read-number c = search rules
 
-read-number-requires : tie.Need-read-number-requires
+read-number-requires : tie.Need-read_number-requires
 read-number-requires c κs = search rules
 
-enum-known-z : tie.Need-enum-known-z
+enum-known-z : tie.Need-enum_known-z
 enum-known-z c = search rules
 
-enum_told : tie.Need-enum-told
+enum_told : tie.Need-enum_told-1
 enum_told c = search rules
 
-returns-2 : tie.Need-returns-2
+returns-2 : tie.Need-returns-in_default
 returns-2 c =
-    let x = c.before.before in
-    let i = x.before.before in
-    let a = i.before.before.args in
-    head_none a.text.now a.p a.p.bounded (past_boundary a.p) i.if1.false
-    (sym x.read_number.ensures ∙ ap field_reply c.enum_told.given.1)
+    let a = c.args in
+    head_none a.text.now a.p a.p.bounded (past_boundary a.p) c.if-p.false
+    (sym c.read_number.ensures ∙ ap field_reply c.in_default.is)
 
-add-q : tie.Need-overflow-add-q
+add-q : tie.Need-overflow_add-q
 add-q c = search rules
 
-word-of-requires : tie.Need-word-of-requires
+word-of-requires : tie.Need-word_of-requires
 word-of-requires c κs = search rules
 
-returns-3 : tie.Need-returns-3
+returns-3 : tie.Need-returns
 returns-3 c =
-    let v = c.before.before.before in
-    let x = v.before.before in
-    let i = x.before.before in
-    let a = i.before.before.args in
-    head_some a.text.now a.p a.p.bounded (past_boundary a.p) v.z.given.0.0 c.word_of.result i.if1.false
-    (sym x.read_number.ensures ∙ ap field_reply v.z.given.1) c.word_of.ensures
+    let a = c.args in
+    head_some a.text.now a.p a.p.bounded (past_boundary a.p) c.in-Number.z c.word_of.result c.if-p.false
+    (sym c.read_number.ensures ∙ ap field_reply c.in-Number.is) c.word_of.ensures
 
-pub boundary-line-spec : {M : Type 1} → statement M
-boundary-line-spec =
+pub boundary_line_spec : {M : Type 1} → statement M
+boundary_line_spec =
     tie.close
     (tie.spec
     returns

@@ -7,86 +7,68 @@ use borrow.Author.Rules.{rules}
 use Rattle.text_scan.proofs.lines.next_line.Statement.{statement}
 use Rattle.text_scan.proofs.lines.next_line.Tie as tie
 
-shared-slice-read-letter : tie.Need-shared-slice-read-letter
+shared-slice-read-letter : tie.Need-bounds-text-at
 shared-slice-read-letter c = search rules
 
-instruction-line-requires : tie.Need-instruction-line-requires
+instruction-line-requires : tie.Need-instruction_line-requires
 instruction-line-requires c κs =
-    let s = c.before.before.before.before in
-    let a = s.args in
-    (s.requires.0.0, instructions_fit a.text.now a.p a.instructions.now a.kerns.now a.entries.now s.requires.1 s.requires.0.0)
+    let a = c.args in
+    (c.requires.0.0, instructions_fit a.text.now a.p a.instructions.now a.kerns.now a.entries.now c.requires.1 c.requires.0.0)
 
-returns : tie.Need-returns
+returns : tie.Need-returns-then-letter-eq73
 returns c =
-    let i = c.before.before in
-    let s = i.before.before.before in
-    let a = s.args in
-    instruction_goes a.text.now a.p a.instructions.now a.kerns.now a.entries.now s.requires.1 s.requires.0.0 c.instruction-line.result
-    c.instruction-line.new.1.1.0 i.if1.true c.instruction-line.ensures
+    let a = c.args in
+    instruction_goes a.text.now a.p a.instructions.now a.kerns.now a.entries.now c.requires.1 c.requires.0.0 c.instruction_line.result
+    c.instruction_line.new.instructions c.if-letter-eq73.true c.instruction_line.ensures
 
-kern-line-requires : tie.Need-kern-line-requires
+kern-line-requires : tie.Need-kern_line-requires
 kern-line-requires c κs =
-    let s = c.before.before.before.before.before in
-    let a = s.args in
-    (s.requires.0.0, kerns_fit a.text.now a.p a.instructions.now a.kerns.now a.entries.now s.requires.1 s.requires.0.0)
+    let a = c.args in
+    (c.requires.0.0, kerns_fit a.text.now a.p a.instructions.now a.kerns.now a.entries.now c.requires.1 c.requires.0.0)
 
-returns-2 : tie.Need-returns-2
+returns-2 : tie.Need-returns-then-letter-eq75
 returns-2 c =
-    let i = c.before.before in
-    let s = i.before.before.before.before in
-    let a = s.args in
-    kern_goes_lem a.text.now a.p a.instructions.now a.kerns.now a.entries.now s.requires.1 s.requires.0.0 c.kern-line.result
-    c.kern-line.new.1.1.0 i.if2.true c.kern-line.ensures
+    let a = c.args in
+    kern_goes_lem a.text.now a.p a.instructions.now a.kerns.now a.entries.now c.requires.1 c.requires.0.0 c.kern_line.result
+    c.kern_line.new.kerns c.if-letter-eq75.true c.kern_line.ensures
 
-entry-line-requires : tie.Need-entry-line-requires
+entry-line-requires : tie.Need-entry_line-requires
 entry-line-requires c κs =
-    let s = c.before.before.before.before.before.before in
-    let a = s.args in
-    (s.requires.0.0, entries_fit a.text.now a.p a.instructions.now a.kerns.now a.entries.now s.requires.1 s.requires.0.0)
+    let a = c.args in
+    (c.requires.0.0, entries_fit a.text.now a.p a.instructions.now a.kerns.now a.entries.now c.requires.1 c.requires.0.0)
 
-returns-3 : tie.Need-returns-3
+returns-3 : tie.Need-returns-then-letter-eq69
 returns-3 c =
-    let i = c.before.before in
-    let s = i.before.before.before.before.before in
-    let a = s.args in
-    entry_goes a.text.now a.p a.instructions.now a.kerns.now a.entries.now s.requires.1 s.requires.0.0 c.entry-line.result
-    c.entry-line.new.1.1.0 i.if3.true c.entry-line.ensures
+    let a = c.args in
+    entry_goes a.text.now a.p a.instructions.now a.kerns.now a.entries.now c.requires.1 c.requires.0.0 c.entry_line.result
+    c.entry_line.new.entries c.if-letter-eq69.true c.entry_line.ensures
 
-boundary-line-requires : tie.Need-boundary-line-requires
-boundary-line-requires c κs = c.before.before.before.before.before.before.requires.0.0
+boundary-line-requires : tie.Need-boundary_line-requires
+boundary-line-requires c κs = c.requires.0.0
 
-returns-4 : tie.Need-returns-4
+returns-4 : tie.Need-returns-then-letter-eq82
 returns-4 c =
-    let i = c.before in
-    let s = i.before.before.before.before.before.before in
-    let a = s.args in
-    boundary_goes a.text.now a.p a.instructions.now a.kerns.now a.entries.now s.requires.1 s.requires.0.0 c.boundary-line.result
-    i.if4.true c.boundary-line.ensures
+    let a = c.args in
+    boundary_goes a.text.now a.p a.instructions.now a.kerns.now a.entries.now c.requires.1 c.requires.0.0 c.boundary_line.result
+    c.if-letter-eq82.true c.boundary_line.ensures
 
-left-line-requires : tie.Need-left-line-requires
-left-line-requires c κs = c.before.before.before.before.before.before.before.requires.0.0
+left-line-requires : tie.Need-left_line-requires
+left-line-requires c κs = c.requires.0.0
 
-returns-5 : tie.Need-returns-5
+returns-5 : tie.Need-returns-then-letter-eq76
 returns-5 c =
-    let i = c.before in
-    let s = i.before.before.before.before.before.before.before in
-    let a = s.args in
-    left_goes_lem a.text.now a.p a.instructions.now a.kerns.now a.entries.now s.requires.1 s.requires.0.0 c.left-line.result i.if5.true
-    c.left-line.ensures
+    let a = c.args in
+    left_goes_lem a.text.now a.p a.instructions.now a.kerns.now a.entries.now c.requires.1 c.requires.0.0 c.left_line.result c.if-letter-eq76.true
+    c.left_line.ensures
 
-returns-6 : tie.Need-returns-6
+returns-6 : tie.Need-returns
 returns-6 c =
-    let e4 = c.before in
-    let e3 = e4.before in
-    let e2 = e3.before in
-    let e1 = e2.before in
-    let s = e1.before.before.before in
-    let a = s.args in
-    other_goes a.text.now a.p a.instructions.now a.kerns.now a.entries.now s.requires.1 s.requires.0.0 (get_or a.text.now a.p.at 0) refl
-    e1.if1.false e2.if2.false e3.if3.false e4.if4.false c.if5.false s.requires.0.1
+    let a = c.args in
+    other_goes a.text.now a.p a.instructions.now a.kerns.now a.entries.now c.requires.1 c.requires.0.0 (get_or a.text.now a.p.at 0) refl
+    c.if-letter-eq73.false c.if-letter-eq75.false c.if-letter-eq69.false c.if-letter-eq82.false c.if-letter-eq76.false c.requires.0.1
 
-pub next-line-spec : {M : Type 1} → statement M
-next-line-spec =
+pub next_line_spec : {M : Type 1} → statement M
+next_line_spec =
     tie.close
     (tie.spec
     shared-slice-read-letter

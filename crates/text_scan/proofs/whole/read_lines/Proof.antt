@@ -11,79 +11,63 @@ use borrow.Author.Rules.{rules}
 use Rattle.text_scan.proofs.whole.read_lines.Statement.{statement}
 use Rattle.text_scan.proofs.whole.read_lines.Tie as tie
 
-abbrev invariant-loop : tie.invariant-loop
+abbrev invariant-loop : tie.invariant-loop-p
 invariant-loop text instructions₀ kerns₀ entries₀ word₀ p₀ instructions kerns entries word p = (word ≡ zeros 0 64) × Scanning text p instructions kerns entries
 
-abbrev decreases-loop : tie.decreases-loop
+abbrev decreases-loop : tie.decreases-loop-p
 decreases-loop text instructions₀ kerns₀ entries₀ word₀ p₀ instructions kerns entries word p = length text - p.at
 
-loop-holds : tie.Need-loop-init invariant-loop decreases-loop
-loop-holds c = (c.before.requires.0.1, c.before.requires.1)
+loop-holds : tie.Need-loop-p-init invariant-loop decreases-loop
+loop-holds c = (c.requires.0.1, c.requires.1)
 
-shared-slice-read-if2 : tie.Need-shared-slice-read-if2 invariant-loop decreases-loop
-shared-slice-read-if2 c = c.before.if1.true
+shared-slice-read-if2 : tie.Need-bounds-text-at invariant-loop decreases-loop
+shared-slice-read-if2 c = c.loop-p-test.true
 
 -- a line is there
-stands : (n : tie.Then1 invariant-loop decreases-loop) → Before n.before.before.before.before.args.text.now n.before.before.loop.p
-stands n = record { inside = n.if1.true; short = n.before.before.before.before.requires.0.0 }
+stands : (n : tie.In-loop-p invariant-loop decreases-loop) → Before n.args.text.now n.loop-p.p
+stands n = record { inside = n.loop-p-test.true; short = n.requires.0.0 }
 
-word-line-requires : tie.Need-word-line-requires invariant-loop decreases-loop
+word-line-requires : tie.Need-word_line-requires invariant-loop decreases-loop
 word-line-requires c κs = stands c.before.before.before
 
-returns : tie.Need-returns invariant-loop decreases-loop
+returns : tie.Need-returns-then-text-at-eq87 invariant-loop decreases-loop
 returns c =
-    let i = c.before.before in
-    let n = i.before.before in
-    let l = n.before.before in
-    ends_word_lem l.before.before.args.text.now l.loop.p l.loop.instructions l.loop.kerns l.loop.entries l.loop.invariant.1 (stands n)
-    i.if2.true c.word_line.result l.loop.word c.word_line.new.1.1.0 l.loop.invariant.0 c.word_line.ensures
+    ends_word_lem c.args.text.now c.loop-p.p c.loop-p.instructions c.loop-p.kerns c.loop-p.entries c.loop-p.invariant.1 (stands (c.before.before.before.before))
+    c.if-text-at-eq87.true c.word_line.result c.loop-p.word c.word_line.new.word c.loop-p.invariant.0 c.word_line.ensures
 
-next-line-requires : tie.Need-next-line-requires invariant-loop decreases-loop
+next-line-requires : tie.Need-next_line-requires invariant-loop decreases-loop
 next-line-requires c κs =
-    let i = c.before.before.before in
-    let n = i.before.before in
-    ((stands n, i.if2.false), n.before.before.loop.invariant.1)
+    ((stands (c.before.before.before.before.before), c.if-text-at-eq87.false), c.loop-p.invariant.1)
 
-enum-known-q : tie.Need-enum-known-q invariant-loop decreases-loop
+enum-known-q : tie.Need-enum_known-q invariant-loop decreases-loop
 enum-known-q c = search rules
 
-enum_told : tie.Need-enum-told invariant-loop decreases-loop
+enum_told : tie.Need-enum_told-1 invariant-loop decreases-loop
 enum_told c = search rules
 
-returns-2 : tie.Need-returns-2 invariant-loop decreases-loop
+returns-2 : tie.Need-returns-in_default invariant-loop decreases-loop
 returns-2 c =
-    let x = c.before.before in
-    let l = x.before.before.before.before.before.before.before.before in
-    let y = x.next-line in
-    reads_none l.before.before.args.text.now y.new.1.1.0 y.new.1.1.1.0 y.new.1.1.1.1.0 l.loop.word whole.Unreadable
-    (y.ensures.stuck c.enum_told.given.1) refl
+    reads_none c.args.text.now c.next_line.new.instructions c.next_line.new.kerns c.next_line.new.entries c.loop-p.word whole.Unreadable
+    (c.next_line.ensures.stuck c.in_default.is) refl
 
-loop-less : tie.Need-loop-smaller invariant-loop decreases-loop
+loop-less : tie.Need-loop-p-smaller invariant-loop decreases-loop
 loop-less c =
-    let v = c.before in
-    let x = v.before.before in
-    let n = x.before.before.before.before.before.before in
-    omega (arith, n.if1.true, (x.next-line.ensures.on v.q.given.0.0 v.q.given.1).0)
+    omega (arith, c.loop-p-test.true, (c.next_line.ensures.on c.in-At.q c.in-At.is).0)
 
-loop-again : tie.Need-loop-preserved invariant-loop decreases-loop
+loop-again : tie.Need-loop-p-preserved invariant-loop decreases-loop
 loop-again c =
-    let v = c.before in
-    let x = v.before.before in
-    let l = x.before.before.before.before.before.before.before.before in
-    (l.loop.invariant.0, (x.next-line.ensures.on v.q.given.0.0 v.q.given.1).1)
+    (c.loop-p.invariant.0, (c.next_line.ensures.on c.in-At.q c.in-At.is).1)
 
-heads-of-requires : tie.Need-heads-of-requires invariant-loop decreases-loop
+heads-of-requires : tie.Need-heads_of-requires invariant-loop decreases-loop
 heads-of-requires c κs = tt
 
-returns-3 : tie.Need-returns-3 invariant-loop decreases-loop
+returns-3 : tie.Need-returns invariant-loop decreases-loop
 returns-3 c =
-    let e = c.before in
-    let l = e.before.before in
-    ends_plain l.before.before.args.text.now l.loop.p l.loop.instructions l.loop.kerns l.loop.entries l.loop.invariant.1
-    c.heads-of.result l.loop.word e.if1.false c.heads-of.ensures l.loop.invariant.0
+    ends_plain c.args.text.now c.loop-p.p c.loop-p.instructions c.loop-p.kerns c.loop-p.entries c.loop-p.invariant.1
+    c.heads_of.result c.loop-p.word c.loop-p-test.false c.heads_of.ensures c.loop-p.invariant.0
 
-pub read-lines-spec : {M : Type 1} → statement M
-read-lines-spec =
+pub read_lines_spec : {M : Type 1} → statement M
+read_lines_spec =
     tie.close
     (tie.spec
     invariant-loop

@@ -27,41 +27,41 @@ unfolding to_scaled
 scaled kern (pos n) f h = refl
 scaled kern (negsuc n) f h = absurd (omega arith)
 
-word-of-requires : tie.Need-word-of-requires
+word-of-requires : tie.Need-word_of-design-requires
 word-of-requires c κs = search rules
 
-returns : tie.Need-returns
+returns : tie.Need-returns-then-design-ge2147483648
 returns c =
     let s = c.before.before in
-    let a = s.before.args in
-    let f = s.struct_told.given.0.1 in
-    let d = word_is a.design-size.0 c.before.word_of.result f c.before.word_of.ensures in
-    ap scaled_reply (negative a.self.0 a.design-size.0 f (rw d at c.if1.true))
+    let a = s.args in
+    let f = s.struct_told-1.given.0.1 in
+    let d = word_is a.design_size.0 c.word_of-design.result f c.word_of-design.ensures in
+    ap scaled_reply (negative a.self.0 a.design_size.0 f (rw d at c.if-design-ge2147483648.true))
 
-word-of-requires-2 : tie.Need-word-of-requires-2
+word-of-requires-2 : tie.Need-word_of-word-requires
 word-of-requires-2 c κs = search rules
 
-z-of-design-requires : tie.Need-z-of-design-requires
+z-of-design-requires : tie.Need-z_of_design-requires
 z-of-design-requires c κs = search rules
 
-scaled-from-requires : tie.Need-scaled-from-requires
+scaled-from-requires : tie.Need-scaled_from-requires
 scaled-from-requires c κs = search rules
 
-returns-2 : tie.Need-returns-2
+returns-2 : tie.Need-returns
 returns-2 c =
     let k = c.before.before.before in
     let n = k.before in
     let s = n.before.before in
-    let a = s.before.args in
-    let f = s.struct_told.given.0.1 in
-    let d = word_is a.design-size.0 n.before.word_of.result f n.before.word_of.ensures in
-    let w = word_is a.self.0 c.before.before.word-of2.result k.struct-told2.given.0.1 c.before.before.word-of2.ensures in
-    let x : c.scaled-from.result ≡ to_scaled a.self.0 a.design-size.0 =
-    c.scaled-from.ensures ∙ rw (c.before.z-of-design.ensures, d, w) (scaled a.self.0 a.design-size.0 f (rw d at n.if1.false)) in
+    let a = s.args in
+    let f = s.struct_told-1.given.0.1 in
+    let d = word_is a.design_size.0 n.word_of-design.result f n.word_of-design.ensures in
+    let w = word_is a.self.0 c.word_of-word.result k.struct_told-2-1.given.0.1 c.word_of-word.ensures in
+    let x : c.scaled_from.result ≡ to_scaled a.self.0 a.design_size.0 =
+    c.scaled_from.ensures ∙ rw (c.z_of_design.ensures, d, w) (scaled a.self.0 a.design_size.0 f (rw d at n.if-design-ge2147483648.false)) in
     ap scaled_reply x
 
-pub at-design-size-spec : {M : Type 1} → statement M
-at-design-size-spec =
+pub at_design_size_spec : {M : Type 1} → statement M
+at_design_size_spec =
     tie.close
     (tie.spec
     word-of-requires

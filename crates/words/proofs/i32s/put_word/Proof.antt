@@ -17,26 +17,33 @@ use Rattle.words.proofs.i32s.put_word.Tie as tie
 stored : (w : ℕ) (z : ℤ) → z ≡ number_of w → w < 2 ^ 32 → to_z w32 (of_z w32 z) ≡ number_of w
 stored w z e l = rw e (to_z-of_z w32 (number_of w) (number_fits w l))
 
-number-of-requires : tie.Need-number-of-requires
+number-of-requires : tie.Need-number_of-x-requires
 number-of-requires c κs = search rules
 
-mul-x : tie.Need-overflow-mul-x
+mul-x : tie.Need-offset_bounds-s-i
 mul-x c = search rules
 
-slice-set-from-x : tie.Need-slice-set-from-x
+slice-set-from-x : tie.Need-bounds-s-i
 slice-set-from-x c = search rules
 
-same_length : tie.Need-same-length
+same_length : tie.Need-shape_of-s
 same_length c = search rules
 
-returns : tie.Need-returns
+returns : tie.Need-returns-then-i-s
 returns c =
     let a = c.before.before.args in
-    ap (λ (v : ℤ). set a.s.now a.i v) (stored a.w _ c.before.number_of_lem.ensures c.before.before.ranges.w.fits)
+    ap (λ (v : ℤ). set a.s.now a.i v) (stored a.w _ c.before.number_of-x.ensures c.before.before.ranges.w.fits)
 
-returns-2 : tie.Need-returns-2
-returns-2 c = let a = c.before.before.args in sym (set_out a.s.now a.i (number_of a.w) c.if1.false)
+returns-2 : tie.Need-returns-else-i-s
+returns-2 c = let a = c.before.before.args in sym (set_out a.s.now a.i (number_of a.w) c.if-i-s.false)
 
-pub put-word-spec : {M : Type 1} → statement M
-put-word-spec =
-    tie.close (tie.spec number-of-requires mul-x slice-set-from-x same_length returns returns-2)
+pub put_word_spec : {M : Type 1} → statement M
+put_word_spec =
+    tie.close
+    (tie.spec
+    number-of-requires
+    mul-x
+    slice-set-from-x
+    same_length
+    returns
+    returns-2)

@@ -23,23 +23,29 @@ below z r m e =
 past : (s : List ℤ) (i : ℕ) → length s ≤ i → Word (get_or s i (pos 0)) 0
 past s i h = rw (get_or-eq_default s (pos 0) {n = i} h) (record { is = refl; fits = sfits_lit tt })
 
-mul-x : tie.Need-overflow-mul-x
+mul-x : tie.Need-offset_bounds-s-i
 mul-x c = search rules
 
-shared-slice-copy-out-x : tie.Need-shared-slice-copy-out-x
+shared-slice-copy-out-x : tie.Need-bounds-s-i
 shared-slice-copy-out-x c = search rules
 
-word-of-requires : tie.Need-word-of-requires
+word-of-requires : tie.Need-word_of-requires
 word-of-requires c κs = search rules
 
-returns : tie.Need-returns
+returns : tie.Need-returns-then-i-s
 returns c =
     let a = c.before.before.before.args in
-    below (get_or a.s.now a.i (pos 0)) c.word_of.result c.before.x.given c.word_of.ensures
+    below (get_or a.s.now a.i (pos 0)) c.word_of.result c.before.x-1.given c.word_of.ensures
 
-returns-2 : tie.Need-returns-2
-returns-2 c = past c.before.args.s.now c.before.args.i c.if1.false
+returns-2 : tie.Need-returns-else-i-s
+returns-2 c = past c.before.args.s.now c.before.args.i c.if-i-s.false
 
-pub word-at-spec : {M : Type 1} → statement M
-word-at-spec =
-    tie.close (tie.spec mul-x shared-slice-copy-out-x word-of-requires returns returns-2)
+pub word_at_spec : {M : Type 1} → statement M
+word_at_spec =
+    tie.close
+    (tie.spec
+    mul-x
+    shared-slice-copy-out-x
+    word-of-requires
+    returns
+    returns-2)

@@ -10,46 +10,46 @@ use Rattle.words.proofs.Lists.{filling_none, filling_length, filling_more, filli
 use Rattle.words.proofs.i32s.zero_i32.Statement.{statement}
 use Rattle.words.proofs.i32s.zero_i32.Tie as tie
 
-abbrev invariant-loop : tie.invariant-loop
+abbrev invariant-loop : tie.invariant-loop-i
 invariant-loop s₀ i₀ s i = Filling (λ (_ : ℕ). pos 0) s₀ s i
 
-abbrev decreases-loop : tie.decreases-loop
+abbrev decreases-loop : tie.decreases-loop-i
 decreases-loop s₀ i₀ s i = length s₀ - i
 
-loop-holds : tie.Need-loop-init invariant-loop decreases-loop
+loop-holds : tie.Need-loop-i-init invariant-loop decreases-loop
 loop-holds c = filling_none (λ (_ : ℕ). pos 0) c.args.s.now
 
-mul-s : tie.Need-overflow-mul-s invariant-loop decreases-loop
+mul-s : tie.Need-offset_bounds-s-i invariant-loop decreases-loop
 mul-s c =
     omega (
       arith,
-      c.before.before.well-formed.0.1,
-      filling_length (λ (_ : ℕ). pos 0) c.before.before.args.s.now c.before.loop.invariant,
-      c.loop-test.true,
+      c.before.before.well_formed.0.1,
+      filling_length (λ (_ : ℕ). pos 0) c.before.before.args.s.now c.before.loop-i.invariant,
+      c.loop-i-test.true,
     )
 
-slice-set-of-s : tie.Need-slice-set-of-s invariant-loop decreases-loop
+slice-set-of-s : tie.Need-slice_set_of-s invariant-loop decreases-loop
 slice-set-of-s c = omega arith
 
-add-i : tie.Need-overflow-add-i invariant-loop decreases-loop
+add-i : tie.Need-overflow_add-i invariant-loop decreases-loop
 add-i c = omega arith
 
-loop-less : tie.Need-loop-smaller invariant-loop decreases-loop
-loop-less c = omega (arith, filling_length (λ (_ : ℕ). pos 0) c.before.before.args.s.now c.before.loop.invariant)
+loop-less : tie.Need-loop-i-smaller invariant-loop decreases-loop
+loop-less c = omega (arith, filling_length (λ (_ : ℕ). pos 0) c.before.before.args.s.now c.before.loop-i.invariant)
 
-loop-again : tie.Need-loop-preserved invariant-loop decreases-loop
-loop-again c = filling_more (λ (_ : ℕ). pos 0) c.before.before.args.s.now c.before.loop.invariant c.loop-test.true
+loop-again : tie.Need-loop-i-preserved invariant-loop decreases-loop
+loop-again c = filling_more (λ (_ : ℕ). pos 0) c.before.before.args.s.now c.before.loop-i.invariant c.loop-i-test.true
 
-same_length : tie.Need-same-length invariant-loop decreases-loop
-same_length c = filling_length (λ (_ : ℕ). pos 0) c.before.before.args.s.now c.before.loop.invariant
+same_length : tie.Need-shape_of-s invariant-loop decreases-loop
+same_length c = filling_length (λ (_ : ℕ). pos 0) c.before.before.args.s.now c.before.loop-i.invariant
 
 returns : tie.Need-returns invariant-loop decreases-loop
 returns c =
-    filling_all (λ (_ : ℕ). pos 0) c.before.before.args.s.now c.before.loop.invariant c.loop-test.false
+    filling_all (λ (_ : ℕ). pos 0) c.before.before.args.s.now c.before.loop-i.invariant c.loop-i-test.false
     ∙ tabulate_constant (length c.before.before.args.s.now) (pos 0)
 
-pub zero-i32-spec : {M : Type 1} → statement M
-zero-i32-spec =
+pub zero_i32_spec : {M : Type 1} → statement M
+zero_i32_spec =
     tie.close
     (tie.spec
     invariant-loop

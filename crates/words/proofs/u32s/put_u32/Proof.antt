@@ -6,20 +6,27 @@ use borrow.Author.Rules.{rules}
 use Rattle.words.proofs.u32s.put_u32.Statement.{statement}
 use Rattle.words.proofs.u32s.put_u32.Tie as tie
 
-mul-s : tie.Need-overflow-mul-s
+mul-s : tie.Need-offset_bounds-s-i
 mul-s c = search rules
 
-slice-write-s : tie.Need-slice-write-s
+slice-write-s : tie.Need-bounds-s-i
 slice-write-s c = search rules
 
-same_length : tie.Need-same-length
+same_length : tie.Need-shape_of-s
 same_length c = search rules
 
-returns : tie.Need-returns
+returns : tie.Need-returns-then-i-s
 returns c = search rules
 
-returns-2 : tie.Need-returns-2
-returns-2 c = let a = c.before.args in sym (set_out a.s.now a.i a.w c.if1.false)
+returns-2 : tie.Need-returns-else-i-s
+returns-2 c = let a = c.before.args in sym (set_out a.s.now a.i a.w c.if-i-s.false)
 
-pub put-u32-spec : {M : Type 1} → statement M
-put-u32-spec = tie.close (tie.spec mul-s slice-write-s same_length returns returns-2)
+pub put_u32_spec : {M : Type 1} → statement M
+put_u32_spec =
+    tie.close
+    (tie.spec
+    mul-s
+    slice-write-s
+    same_length
+    returns
+    returns-2)

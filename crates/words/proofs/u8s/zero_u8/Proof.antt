@@ -9,37 +9,37 @@ use Rattle.words.proofs.Lists.{filling_none, filling_length, filling_more, filli
 use Rattle.words.proofs.u8s.zero_u8.Statement.{statement}
 use Rattle.words.proofs.u8s.zero_u8.Tie as tie
 
-abbrev invariant-loop : tie.invariant-loop
+abbrev invariant-loop : tie.invariant-loop-i
 invariant-loop s₀ i₀ s i = Filling (λ (_ : ℕ). 0) s₀ s i
 
-abbrev decreases-loop : tie.decreases-loop
+abbrev decreases-loop : tie.decreases-loop-i
 decreases-loop s₀ i₀ s i = length s₀ - i
 
-loop-holds : tie.Need-loop-init invariant-loop decreases-loop
+loop-holds : tie.Need-loop-i-init invariant-loop decreases-loop
 loop-holds c = filling_none (λ (_ : ℕ). 0) c.args.s.now
 
-slice-write-s : tie.Need-slice-write-s invariant-loop decreases-loop
+slice-write-s : tie.Need-bounds-s-i invariant-loop decreases-loop
 slice-write-s c = omega arith
 
-add-i : tie.Need-overflow-add-i invariant-loop decreases-loop
+add-i : tie.Need-overflow_add-i invariant-loop decreases-loop
 add-i c = omega arith
 
-loop-less : tie.Need-loop-smaller invariant-loop decreases-loop
-loop-less c = omega (arith, filling_length (λ (_ : ℕ). 0) c.before.before.args.s.now c.before.loop.invariant)
+loop-less : tie.Need-loop-i-smaller invariant-loop decreases-loop
+loop-less c = omega (arith, filling_length (λ (_ : ℕ). 0) c.before.before.args.s.now c.before.loop-i.invariant)
 
-loop-again : tie.Need-loop-preserved invariant-loop decreases-loop
-loop-again c = filling_more (λ (_ : ℕ). 0) c.before.before.args.s.now c.before.loop.invariant c.loop-test.true
+loop-again : tie.Need-loop-i-preserved invariant-loop decreases-loop
+loop-again c = filling_more (λ (_ : ℕ). 0) c.before.before.args.s.now c.before.loop-i.invariant c.loop-i-test.true
 
-same_length : tie.Need-same-length invariant-loop decreases-loop
-same_length c = filling_length (λ (_ : ℕ). 0) c.before.before.args.s.now c.before.loop.invariant
+same_length : tie.Need-shape_of-s invariant-loop decreases-loop
+same_length c = filling_length (λ (_ : ℕ). 0) c.before.before.args.s.now c.before.loop-i.invariant
 
 returns : tie.Need-returns invariant-loop decreases-loop
 returns c =
-    filling_all (λ (_ : ℕ). 0) c.before.before.args.s.now c.before.loop.invariant c.loop-test.false
+    filling_all (λ (_ : ℕ). 0) c.before.before.args.s.now c.before.loop-i.invariant c.loop-i-test.false
     ∙ tabulate_constant (length c.before.before.args.s.now) 0
 
-pub zero-u8-spec : {M : Type 1} → statement M
-zero-u8-spec =
+pub zero_u8_spec : {M : Type 1} → statement M
+zero_u8_spec =
     tie.close
     (tie.spec
     invariant-loop

@@ -1,0 +1,24 @@
+ghost use Rattle.std.specs.Prelude.{[], ◌∷◌, pos};
+ghost use Rattle.lang.specs.Answers.{reply_of};
+ghost use Rattle.letter_set.specs.LetterSets.{alphabet_size, word_count};
+ghost use Rattle.c_values.specs.Telling.{TellsHost};
+
+// How many letters a set has, and how many words of at most four of them there are, in `values`. 15 where it has no
+// room for both.
+#[unsafe(no_mangle)]
+pub extern "C" fn ligkern_count_words(
+    from_0: u64,
+    from_64: u64,
+    from_128: u64,
+    from_192: u64,
+    values: &mut [u64],
+) -> u32
+    ensures { TellsHost
+        (reply_of 0
+        (pos (alphabet_size (from_0 ∷ from_64 ∷ from_128 ∷ from_192 ∷ []))
+        ∷ pos (word_count (alphabet_size (from_0 ∷ from_64 ∷ from_128 ∷ from_192 ∷ [])))
+        ∷ []))
+        values.old result values.new }
+{
+    c_word_count::ligkern_count_words(from_0, from_64, from_128, from_192, values)
+}

@@ -1,0 +1,6 @@
+-- Each turn begins further on.
+use Rattle.std.proofs.Common.{◌-◌, length}
+use Rattle.test_displays.proofs.answer_all.Given as goal
+
+abbrev pub decreases-loop-at : goal.decreases-loop-at
+decreases-loop-at g l = length l.text - l.at

@@ -1,2 +1,0 @@
--- Zeros: how long an array of zeros is.
-pub mod Zeros
