@@ -2,6 +2,8 @@
 // removal alters the items of a word, or brings a loop, or a number. The tables are cut in crate `blame_cut`; the font
 // as given, and then the removals, is crate `blame_given`; the refusals are crate `blame_numbers`, the removals
 // `blame_search` and, one alone, `blame_removal`.
+#![tactic(auto)]
+
 ghost use Rattle.removals.specs.Removed.{font_at, size_number};
 ghost use Rattle.removals.specs.Search.{Blames};
 

@@ -1,5 +1,7 @@
 // Which instruction did that? for a host in C: slices and integers in, the number of a refusal out (R214; 0 where it is
 // taken), and the answer in a list that is lent for it (R215).
+#![tactic(auto)]
+
 ghost use Rattle.std.specs.Prelude.{◌≡◌};
 ghost use Rattle.removals.specs.Removed.{font_at, size_number};
 ghost use Rattle.c_states.specs.States.{options_of};

@@ -98,6 +98,8 @@ module _ (pairs ops : List ℤ) (boundary : ℤ) (word : List ℕ) (options : Ru
       HostCalls pairs ops boundary word options room n state calls → calls ≡ map (seen room) (answers pairs ops boundary word options n s)
   unfolding answers
   calls_by zero state s [] e done = refl
+  calls_by zero state s (c ∷ calls) e x4 = elim x4 [ ]
+  calls_by (suc n) state s [] e x4 = elim x4 [ ]
   calls_by (suc n) state s (c ∷ calls) e (call {r = r} {state' = state'} {item = item} {item' = item'} l h others) =
       let i = calls_by n state' (after s).state calls (next_by_lem state item r state' item' l h s e r refl) others in
       λ j. record { number = (h.number ∙ number_is state item r state' item' l h s e) j; item = item_is state item r state' item' l h s e j } ∷ i j

@@ -4,5 +4,6 @@
 //   runs   ligkern_begin
 //   whole  ligkern_set_word
 #![tactic(auto)]
+
 pub mod runs;
 pub mod whole;

@@ -3,5 +3,7 @@
 // check is for is word_set_checked/specs/Purpose. Words by an index are crate c_checked_indexed.
 //   form   ligkern_check_table
 //   whole  ligkern_set_checked_word
+#![tactic(auto)]
+
 pub mod form;
 pub mod whole;

@@ -1,6 +1,8 @@
 // A word set whole by an index over a table that was checked once (R414), and how many items it has in a list of one
 // number, for a host in C: slices and integers in, the number of a refusal out (R214; 0 where it is taken). The
 // contract is that of c_captions/specs/Whole; what the check is for is index_set_checked/specs/Purpose.
+#![tactic(auto)]
+
 ghost use Rattle.std.specs.Prelude.{length};
 ghost use Rattle.index_set_checked.specs.Checked.{checked_indexed_reply};
 ghost use Rattle.c_states.specs.States.{options_of};

@@ -1,4 +1,6 @@
 // One command of the caption chip for a host in C (R214): the block in bytes, and the chip in a list of 91 numbers.
+#![tactic(auto)]
+
 ghost use Rattle.c_chip.specs.Chip91.{TellsChip};
 
 use c_chip_begin::begin_in;

@@ -1,6 +1,8 @@
 // A font as a property list, for a host in C, which can lend slices of numbers and pass integers and nothing else. The
 // call answers a number, 0 or that of a refusal (R214). A refusal leaves zeros in every list that is written (R252); 15
 // for too short a list of values comes before 24.
+#![tactic(auto)]
+
 ghost use Rattle.c_display.specs.Display.{HostDisplays};
 
 use c_values::tell;

@@ -1,6 +1,8 @@
 // An index and a word set whole by it, for a host in C: slices and integers in, the number of a refusal out (R214; 0
 // where it is taken). The contracts are those of index/specs/Index and c_captions/specs/Whole; what an index is for is
 // index_set_word/specs/Purpose.
+#![tactic(auto)]
+
 ghost use Rattle.std.specs.Prelude.{length};
 ghost use Rattle.index.specs.Index.{FillsIndex};
 ghost use Rattle.index_set_word.specs.Whole.{indexed_reply};

@@ -1,6 +1,8 @@
 // A property list read, for a host in C, which can lend slices of numbers and pass integers and nothing else. The call
 // answers a number, 0 or that of a refusal (R214). A refusal leaves zeros in every list that is written (R252); 15 for
 // too short a list of edges or counts comes before 23, 15 for instructions, kerns and entries after it.
+#![tactic(auto)]
+
 ghost use Rattle.std.specs.Prelude.{◌≡◌, [], ◌∷◌, ◌≤◌, length};
 ghost use Rattle.std.proofs.lemmas.List.Edits.{sets};
 ghost use Rattle.c_list_read.specs.Source.{list_fixed_refusal, TellsList, HostReadsList};

@@ -4,6 +4,8 @@
 // leaves zeros in every list that is written (R252).
 //   entries        packing of entries
 //   packed_kerns   kerns packed            unpacked_kerns   kerns unpacked
+#![tactic(auto)]
+
 pub mod entries;
 pub mod packed_kerns;
 pub mod unpacked_kerns;

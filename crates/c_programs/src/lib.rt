@@ -4,5 +4,7 @@
 // `c_packing` has the calls that write a program anew, `c_repair` repair, `c_queries` the questions about a table.
 //   answers   answers of other kinds as a count
 //   programs  chains, unpacking, the program's seven-bit test, reach
+#![tactic(auto)]
+
 mod answers;
 pub mod programs;

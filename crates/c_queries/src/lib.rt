@@ -3,5 +3,7 @@
 // (R215). A refusal, 15 for a short `values` among them (R216), leaves zeros in every list that is written (R252).
 //   answers    a yes or a no as a count
 //   questions  the calls
+#![tactic(auto)]
+
 mod answers;
 pub mod questions;

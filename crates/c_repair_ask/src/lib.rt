@@ -1,6 +1,8 @@
 // Asking before a repair, for a host in C, which can lend slices of numbers and pass integers and nothing else: it
 // answers a number, 0 or that of a refusal (R214). A refusal, 15 for a list that is too short among them (R216), leaves
 // zeros in every list that is written (R252).
+#![tactic(auto)]
+
 ghost use Rattle.std.specs.Prelude.{[], ◌∷◌};
 ghost use Rattle.repairs.specs.Repairs.{damaged_of};
 ghost use Rattle.c_repair_ask.specs.Asking.{HostAsks};

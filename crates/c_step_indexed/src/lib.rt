@@ -2,6 +2,8 @@
 // the number of a refusal out (R214; 0 where it is taken). What crate c_steps does, with the steps of crate index_step:
 // a quick step and a last kern whose item has exactly its seven places are told at once, and every other step goes by
 // `any_step`.
+#![tactic(auto)]
+
 ghost use Rattle.c_states.specs.States.{options_of};
 ghost use Rattle.c_steps.specs.Step.{StepsBy};
 ghost use Rattle.c_step_indexed.specs.Indexed.{indexed_step_in};

@@ -1,5 +1,7 @@
 // How many short words there are, for a host in C. A set of characters is 256 bits: those from 0, 64, 128 and 192 on.
 // The number of a refusal comes out (R214; 0 where it is taken), and the values in a list that is lent for them (R215).
+#![tactic(auto)]
+
 ghost use Rattle.std.specs.Prelude.{[], ◌∷◌, pos};
 ghost use Rattle.lang.specs.Answers.{reply_of};
 ghost use Rattle.letter_set.specs.LetterSets.{alphabet_size, word_count};

@@ -1,6 +1,8 @@
 // The next short word for a host in C: slices and integers in, the number of a refusal out (R214; 0 where it is taken),
 // and the values in a list that is lent for them (R215). A set of characters is 256 bits: those from 0, 64, 128 and 192
 // on.
+#![tactic(auto)]
+
 ghost use Rattle.std.specs.Prelude.{[], ◌∷◌, length};
 ghost use Rattle.short_words.specs.NextWords.{next_short_word, next_found};
 ghost use Rattle.short_word_set.specs.SetNext.{set_next_reply};

@@ -22,6 +22,8 @@ use Rattle.caption_run_iter.specs.Reader.{EveryReaderRun}
 pub calls_answer : CallsAnswer
 unfolding nexts
 calls_answer pairs ops boundary options zero r [] none = refl
+calls_answer pairs ops boundary options zero r (a ∷ others) x'' = elim x'' [ ]
+calls_answer pairs ops boundary options (suc n) r [] x3 = elim x3 [ ]
 calls_answer pairs ops boundary options (suc n) r (a ∷ others) (call {r' = r'} m c) =
     let rest = calls_answer pairs ops boundary options n r' others c in
     λ i. m.answer i ∷ (rest ∙ (λ j. nexts pairs ops boundary (m.word j).now options n (m.state j))) i

@@ -1,5 +1,7 @@
 // A reader that keeps the word it is given, after `RunIter` of ligkern/mod.rs: the word, and a run's state between two
 // calls of `next`. Thin functions over `step`, which does the work by value.
+#![tactic(auto)]
+
 ghost use Rattle.std.specs.Prelude.{◌≡◌};
 ghost use Rattle.caption_run_iter.specs.Reader.{MovesOn};
 ghost use Rattle.captions.specs.Steps.{Stepped};

@@ -1,5 +1,7 @@
 // A font file checked (font_checks/specs/Checked.antt): the font that its bytes mean, read and then compiled, with its
 // loops. No size is asked for.
+#![tactic(auto)]
+
 ghost use Rattle.font_checks.specs.Checked.{ChecksFile};
 ghost use Rattle.font_check.specs.Stages.{CountsFit, CompilesRead};
 

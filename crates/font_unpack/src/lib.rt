@@ -1,5 +1,7 @@
 // Packing taken back (font_unpackings/specs/Unpackings.antt): one pass finds the redirects in front, one looks at each
 // of the font's own instructions, and one at each entry; then what is left is written.
+#![tactic(auto)]
+
 ghost use Rattle.std.specs.Prelude.{◌≡◌, not, ◌+◌, ◌-◌, ◌*◌, ◌/◌, ◌<◌, ◌≤◌, leb, ltb, pos, length, get_or, take, drop};
 ghost use Rattle.words.specs.Words.{word_of, number_of};
 ghost use Rattle.words.specs.Lists.{Appending};

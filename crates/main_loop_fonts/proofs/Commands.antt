@@ -119,8 +119,8 @@ module _ (file : List ℕ) (bytes : AreBytes file) (k : ℕ) (h : Inside file k)
   goes_out l n = rw (next_is file k h, le-ltb (skip_byte file k) 128 l) refl
 
   -- a redirect's target
-  pub target_at : 128 < skip_byte file k → word_of (field (file_instructions file) k 3) % 65536 ≡ restart_at file k
-  target_at l =
+  pub target_at_lem : 128 < skip_byte file k → word_of (field (file_instructions file) k 3) % 65536 ≡ restart_at file k
+  target_at_lem l =
       let p = bytes (4 * (command_start (lengths_of file) + k) + 2) in
       let q = bytes (4 * (command_start (lengths_of file) + k) + 3) in
       rw (operand_is file k h, lt-leb (skip_byte file k) 128 l) (mod-eq_of_lt (omega arith))

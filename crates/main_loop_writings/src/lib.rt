@@ -1,1 +1,2 @@
 // This crate holds definitions (specs/) and theorems (proofs/) alone.
+#![tactic(auto)]

@@ -1,6 +1,7 @@
 // Text put into a lent list of bytes from a place on, one after the other (phrases/specs/Phrases.antt). What passes the
 // list's end is left off.
 #![tactic(auto)]
+
 ghost use Rattle.std.specs.Prelude.{◌≡◌, [], ◌∷◌, ◌++◌, take};
 ghost use Rattle.phrases.specs.Phrases.{PutsText, decimal_text, is_printed};
 ghost use Rattle.phrases.specs.Phrases.{paren_text, code_text, char_text};

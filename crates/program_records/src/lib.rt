@@ -1,6 +1,8 @@
 // Chains over a lent slice of instruction records, after `instructions_for_entrypoint` of ligkern/lang.rs (lines 667 to
 // 676 and 1005 to 1026). The four functions that take the slice stand here, and each leaves its work to a function of
 // `steps`, which takes a record or numbers.
+#![tactic(auto)]
+
 ghost use Rattle.std.specs.Prelude.{◌≡◌, length};
 ghost use Rattle.program_chain.specs.Chains.{step_at, rule_index, found};
 ghost use Rattle.program_records.specs.RecordChains.{record_at, WalksRecords};

@@ -1,4 +1,6 @@
 // One step of the one-by-one reading (R64 to R71), on a list of items: kind and value of each, two numbers.
+#![tactic(auto)]
+
 ghost use Rattle.std.specs.Prelude.{◌≡◌, suc, ◌*◌, ◌/◌, ◌<◌, ◌≤◌, leb, ltb, ℤ, pos, length};
 ghost use Rattle.lang.specs.Answers.{padded};
 ghost use Rattle.lang.specs.Every.{both};

@@ -1,1 +1,2 @@
 // What a removal brings: definitions and theorems alone (specs/Purpose).
+#![tactic(auto)]

@@ -1,5 +1,6 @@
 // The next short word with its items, six numbers each as a T line has them (R439).
 #![tactic(auto)]
+
 ghost use Rattle.std.specs.Prelude.{◌≡◌, ◌≤◌, pos, length, replicate};
 ghost use Rattle.short_words.specs.NextWords.{held_word};
 ghost use Rattle.short_word_items.specs.NextItems.{next_word_items};

@@ -1,6 +1,8 @@
 // The answers of the port to requests about font files, with the letters of tools/files: F reads a file, G writes
 // another program into one. Every list of a request or an answer is written as runs.
 //   writing  G; F is crate test_file_reading
+#![tactic(auto)]
+
 ghost use Rattle.std.specs.Prelude.{◌≡◌, length};
 ghost use Rattle.test_requests.specs.Answers.{CountWithin};
 

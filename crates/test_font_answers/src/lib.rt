@@ -1,4 +1,6 @@
 // A font compiled, and the answer of the port to the request C of tools/oracle from what was compiled.
+#![tactic(auto)]
+
 ghost use Rattle.std.specs.Prelude.{◌≡◌, length};
 ghost use Rattle.test_requests.specs.Answers.{CountWithin};
 ghost use Rattle.test_font_answers.specs.Fonts.{Numbered};

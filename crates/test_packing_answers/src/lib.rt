@@ -1,5 +1,7 @@
 // The answers of the port to requests that write a program anew, with the letters of tools/oracle: K, J and P. A
 // request has at most 16,384 numbers, so a program at most 4,096 instructions.
+#![tactic(auto)]
+
 ghost use Rattle.std.specs.Prelude.{◌≡◌, length};
 ghost use Rattle.test_requests.specs.Answers.{CountWithin};
 

@@ -1,5 +1,7 @@
 // The answers of the port to requests about numbers and programs, with the letters of tools/oracle: S, Z, O and V in
 // numbers, I, U, B and R in programs. A request has at most 16,384 numbers, so a program at most 4,096 instructions.
+#![tactic(auto)]
+
 ghost use Rattle.std.specs.Prelude.{length};
 ghost use Rattle.test_requests.specs.Answers.{CountWithin};
 

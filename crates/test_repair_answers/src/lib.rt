@@ -1,6 +1,8 @@
 // A font repaired, and the answers of the port to the requests X and Y of tools/oracle: X asks for the warnings, and
 // commits with them; Y commits with the list that it has. A request has at most 16,384 numbers, so a program at most
 // 4,096 instructions; there is room for 4,096 warnings, and for 1,024 pairs with a rule.
+#![tactic(auto)]
+
 ghost use Rattle.std.specs.Prelude.{◌≡◌, length};
 ghost use Rattle.test_requests.specs.Answers.{CountWithin};
 

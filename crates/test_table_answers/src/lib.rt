@@ -1,4 +1,6 @@
 // The answers of the port to requests about a pair table, with the letters of tools/oracle: W in runs, A in questions.
+#![tactic(auto)]
+
 ghost use Rattle.std.specs.Prelude.{length};
 ghost use Rattle.test_requests.specs.Answers.{CountWithin};
 

@@ -9,7 +9,7 @@ use lang::Written;
 use lang::instruction::Instruction;
 use program_chain::FoundRule;
 
-// The records come by value and are lent as a slice, here and in the next function: their proofs are walks by hand.
+// The records come by value and are lent as a slice, here and in the next function.
 fn chain_of_records(program: [Instruction; 6], entry: i32, out: &mut [u32]) -> Written
     ensures { WalksRecords program entry out.old result out.new }
 {

@@ -1,4 +1,4 @@
-// The two forms that are proved by hand, beside those that they agree with: a small font is walked over its records and
+// The two forms that take structs, beside those that they agree with: a small font is walked over its records and
 // over its numbers, and a word is set by a reader that keeps it and by steps. Two lines each, which are equal but for
 // their first word.
 //   font     the font, as records and as numbers

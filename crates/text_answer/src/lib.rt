@@ -1,5 +1,7 @@
 // The column text for a host: a text in, the reply in bytes out (R211). Crate `text_shared` reads the text and
 // shares its kern values, and `text_font_reply` answers for the font and the word that it says.
+#![tactic(auto)]
+
 ghost use Rattle.std.specs.Prelude.{◌≡◌, length};
 ghost use Rattle.columns.specs.Ligcols.{number_of_text, bytes_of_text, AnswersText};
 ghost use Rattle.columns.specs.Texts.{read_text};

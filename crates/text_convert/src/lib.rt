@@ -1,6 +1,8 @@
 // The converter for a host: a column text in, the same text without kern values out (R464 to R466). Crate `text_scan`
 // reads the text, `text_shared` shares its kern values, `text_convert_refusal` has its number, and `text_convert_lines`
 // writes its lines anew.
+#![tactic(auto)]
+
 ghost use Rattle.std.specs.Prelude.{◌≡◌, length, drop};
 ghost use Rattle.captions.specs.Begin.{letters_refusal};
 ghost use Rattle.columns.specs.Converting.{converted_text, convert_number, ConvertsText};

@@ -1,4 +1,6 @@
 // The number of a text that is written anew (R465, R466), from what it says once its kern values are shared.
+#![tactic(auto)]
+
 ghost use Rattle.std.specs.Prelude.{◌≡◌};
 ghost use Rattle.text_convert_refusal.specs.Judging.{said_refusal, anew_refusal};
 

@@ -1,6 +1,7 @@
 // A font with its word, as a reply: compiled, its word set, the reply written; or the number of a refusal (R200 to
 // R204). What compiling wrote has the form of a table, so nothing checks it again.
 #![tactic(auto)]
+
 ghost use Rattle.std.specs.Prelude.{◌≡◌, [], ◌<◌, length};
 ghost use Rattle.fonts.specs.Fonts.{font_of};
 ghost use Rattle.lang.specs.Checks.{or_else, lower};

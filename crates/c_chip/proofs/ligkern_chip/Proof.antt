@@ -15,59 +15,51 @@ use borrow.Author.Rules.{rules}
 use Rattle.c_chip.proofs.ligkern_chip.Statement.{statement}
 use Rattle.c_chip.proofs.ligkern_chip.Tie as tie
 
-u8-at-requires : tie.Need-u8-at-requires
+u8-at-requires : tie.Need-u8_at-requires
 u8-at-requires c κs = search rules
 
-begin-in-requires : tie.Need-begin-in-requires
+begin-in-requires : tie.Need-begin_in-requires
 begin-in-requires c κs = search rules
 
-same_length : tie.Need-same-length
+same_length : tie.Need-shape_of-block-then-u8_at-eq1
 same_length c = search rules
 
-same-length-2 : tie.Need-same-length-2
+same-length-2 : tie.Need-shape_of-chip-then-u8_at-eq1
 same-length-2 c = search rules
 
-returns : tie.Need-returns
+returns : tie.Need-returns-then-u8_at-eq1
 returns c =
-    let w = c.before.before.before.before in
-    let i = w.before.before.before in
-    let u = i.before in
-    let s = u.before.before.before.before in
-    let a = s.args in
+    let a = c.args in
     let block = a.block.now in
     let ns = a.chip.now in
-    begin_told a.pairs.now a.ops.now a.boundary block ns (sym u.u8-at.ensures ∙ i.if1.true)
+    begin_told a.pairs.now a.ops.now a.boundary block ns (sym c.u8_at.ensures ∙ c.if-u8_at-eq1.true)
     (subst (λ (z : ℤ). MovesChip (after_early z (chip_read ns) (length block)
     (or_else (table_refusal a.pairs.now a.ops.now) (in_turn (may_begin (block_caller block) (chip_read ns)) (caller_refusal (block_caller block)))))
-    (chip_begun (block_caller block) (chip_read ns)) block ns w.begin-in.result w.begin-in.new.1.1.1.0 w.begin-in.new.1.1.1.1.0)
-    (number_word a.boundary s.ranges.boundary) w.begin-in.ensures)
+    (chip_begun (block_caller block) (chip_read ns)) block ns c.begin_in.result c.begin_in.new.block c.begin_in.new.list)
+    (number_word a.boundary c.ranges.boundary) c.begin_in.ensures)
 
-turn-in-requires : tie.Need-turn-in-requires
+turn-in-requires : tie.Need-turn_in-requires
 turn-in-requires c κs = search rules
 
-same-length-3 : tie.Need-same-length-3
+same-length-3 : tie.Need-shape_of-block
 same-length-3 c = search rules
 
-same-length-4 : tie.Need-same-length-4
+same-length-4 : tie.Need-shape_of-chip
 same-length-4 c = search rules
 
-returns-2 : tie.Need-returns-2
+returns-2 : tie.Need-returns
 returns-2 c =
-    let w = c.before.before.before.before in
-    let i = w.before.before.before in
-    let u = i.before in
-    let s = u.before.before.before.before in
-    let a = s.args in
+    let a = c.args in
     let block = a.block.now in
     let ns = a.chip.now in
-    turn_told a.pairs.now a.ops.now a.boundary block ns (λ e. i.if1.false (u.u8-at.ensures ∙ e))
+    turn_told a.pairs.now a.ops.now a.boundary block ns (λ e. c.if-u8_at-eq1.false (c.u8_at.ensures ∙ e))
     (subst (λ (z : ℤ). MovesChip (after_early z (chip_read ns) (length block) (other_refusal a.pairs.now a.ops.now z block (chip_read ns)))
-    (chip_after a.pairs.now a.ops.now z block (chip_read ns)) block ns w.turn_in.result w.turn_in.new.1.1.1.0
-    w.turn_in.new.1.1.1.1.0)
-    (number_word a.boundary s.ranges.boundary) w.turn_in.ensures)
+    (chip_after a.pairs.now a.ops.now z block (chip_read ns)) block ns c.turn_in.result c.turn_in.new.block
+    c.turn_in.new.list)
+    (number_word a.boundary c.ranges.boundary) c.turn_in.ensures)
 
-pub ligkern-chip-spec : {M : Type 1} → statement M
-ligkern-chip-spec =
+pub ligkern_chip_spec : {M : Type 1} → statement M
+ligkern_chip_spec =
     tie.close
     (tie.spec
     u8-at-requires

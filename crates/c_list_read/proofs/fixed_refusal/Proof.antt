@@ -4,20 +4,24 @@ use borrow.Author.Rules.{rules}
 use Rattle.c_list_read.proofs.fixed_refusal.Statement.{statement}
 use Rattle.c_list_read.proofs.fixed_refusal.Tie as tie
 
-room-refusal-requires : tie.Need-room-refusal-requires
+room-refusal-requires : tie.Need-room_refusal-first-requires
 room-refusal-requires c κs = search rules
 
-returns : tie.Need-returns
-returns c = first_refusal _ c.before.room-refusal.ensures c.if1.true
+returns : tie.Need-returns-then-first-ne0
+returns c = first_refusal _ c.room_refusal-first.ensures c.if-first-ne0.true
 
-room-refusal-requires-2 : tie.Need-room-refusal-requires-2
+room-refusal-requires-2 : tie.Need-room_refusal-requires
 room-refusal-requires-2 c κs = search rules
 
-returns-2 : tie.Need-returns-2
+returns-2 : tie.Need-returns
 returns-2 c =
-    let e = c.before in
-    later_refusal_lem e.before.room-refusal.ensures e.if1.false c.room-refusal2.ensures
+    later_refusal_lem c.room_refusal-first.ensures c.if-first-ne0.false c.room_refusal.ensures
 
-pub fixed-refusal-spec : {M : Type 1} → statement M
-fixed-refusal-spec =
-    tie.close (tie.spec room-refusal-requires returns room-refusal-requires-2 returns-2)
+pub fixed_refusal_spec : {M : Type 1} → statement M
+fixed_refusal_spec =
+    tie.close
+    (tie.spec
+    room-refusal-requires
+    returns
+    room-refusal-requires-2
+    returns-2)

@@ -12,55 +12,50 @@ use borrow.Author.Rules.{rules}
 use Rattle.c_repair_commit.proofs.ligkern_commit_repair.Statement.{statement}
 use Rattle.c_repair_commit.proofs.ligkern_commit_repair.Tie as tie
 
-commit-repair-requires : tie.Need-commit-repair-requires
+commit-repair-requires : tie.Need-commit_repair-committed-requires
 commit-repair-requires c κs = search rules
 
-tell-left-requires : tie.Need-tell-left-requires
+tell-left-requires : tie.Need-tell_left-number-requires
 tell-left-requires c κs = search rules
 
-keep-i32-requires : tie.Need-keep-i32-requires
+keep-i32-requires : tie.Need-keep_i32-requires
 keep-i32-requires c κs = search rules
 
-keep-u8-requires : tie.Need-keep-u8-requires
+keep-u8-requires : tie.Need-keep_u8-requires
 keep-u8-requires c κs = search rules
 
-same_length : tie.Need-same-length
+same_length : tie.Need-shape_of-fixed
 same_length c = search rules
 
-same-length-2 : tie.Need-same-length-2
+same-length-2 : tie.Need-shape_of-through
 same-length-2 c = search rules
 
-same-length-3 : tie.Need-same-length-3
+same-length-3 : tie.Need-shape_of-found
 same-length-3 c = search rules
 
-same-length-4 : tie.Need-same-length-4
+same-length-4 : tie.Need-shape_of-work
 same-length-4 c = search rules
 
-same-length-5 : tie.Need-same-length-5
+same-length-5 : tie.Need-shape_of-left
 same-length-5 c = search rules
 
 returns : tie.Need-returns
 returns c =
-    let l = c.before.before in
-    let k = l.before.before.before in
-    let t = k.before.before.before in
-    let v = t.before.before.before.before.before.before.before.before in
-    let s = v.before.before.before.before.before.before.before.before.before in
-    let a = s.args in
-    let e = a.«from-0» ∷ a.«from-64» ∷ a.«from-128» ∷ a.«from-192» ∷ [] in
+    let a = c.args in
+    let e = a.from_0 ∷ a.from_64 ∷ a.from_128 ∷ a.from_192 ∷ [] in
     let font : ℤ → ℤ → ℤ → Damaged = (λ x y z. damaged_of a.instructions.now a.kerns.now a.entries.now x y z e a.passthrough.now) in
     lent_three
     (λ (x y z : ℤ). HostCommits (font x y z) a.warnings.now a.fixed.now a.through.now a.found.now a.work.now a.left.now
-    t.tell-left.result k.keep-i32.new.1.0 l.keep-u8.new.1.0 v.commit-repair.new.1.1.1.1.1.1.1.1.1.1.1.0
-    v.commit-repair.new.1.1.1.1.1.1.1.1.1.1.1.1.0 t.tell-left.new.1.0) (number_word a.boundary s.ranges.boundary)
-    (number_word a.«left_entry_lem» s.ranges.«left_entry_lem») (number_word a.replacement s.ranges.replacement)
-    (host_commits (font (number_of (word_of a.boundary)) (number_of (word_of a.«left_entry_lem»)) (number_of (word_of a.replacement))) a.warnings.now
-    a.fixed.now a.through.now a.found.now a.work.now a.left.now v.commit-repair.ensures
-    v.commit-repair.auto.1.1.1.1.1.1.1.1.1.0 v.commit-repair.auto.1.1.1.1.1.1.1.1.1.1.0 t.tell-left.ensures
-    k.keep-i32.ensures l.keep-u8.ensures)
+    c.tell_left-number.result c.keep_i32.new.out c.keep_u8.new.out c.commit_repair-committed.new.found
+    c.commit_repair-committed.new.work c.tell_left-number.new.left) (number_word a.boundary c.ranges.boundary)
+    (number_word a.left_entry c.ranges.left_entry) (number_word a.replacement c.ranges.replacement)
+    (host_commits (font (number_of (word_of a.boundary)) (number_of (word_of a.left_entry)) (number_of (word_of a.replacement))) a.warnings.now
+    a.fixed.now a.through.now a.found.now a.work.now a.left.now c.commit_repair-committed.ensures
+    c.commit_repair-committed.auto.fixed c.commit_repair-committed.auto.through c.tell_left-number.ensures
+    c.keep_i32.ensures c.keep_u8.ensures)
 
-pub ligkern-commit-repair-spec : {M : Type 1} → statement M
-ligkern-commit-repair-spec =
+pub ligkern_commit_repair_spec : {M : Type 1} → statement M
+ligkern_commit_repair_spec =
     tie.close
     (tie.spec
     commit-repair-requires

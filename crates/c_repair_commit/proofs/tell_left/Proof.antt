@@ -9,66 +9,55 @@ use borrow.Author.Rules.{rules}
 use Rattle.c_repair_commit.proofs.tell_left.Statement.{statement}
 use Rattle.c_repair_commit.proofs.tell_left.Tie as tie
 
-zero-i32-requires : tie.Need-zero-i32-requires
+zero-i32-requires : tie.Need-zero_i32-requires
 zero-i32-requires c κs = search rules
 
-room-refusal-requires : tie.Need-room-refusal-requires
+room-refusal-requires : tie.Need-room_refusal-room-requires
 room-refusal-requires c κs = search rules
 
-enum-known-committed : tie.Need-enum-known-committed
+enum-known-committed : tie.Need-enum_known-committed
 enum-known-committed c = search rules
 
-lower-of-requires : tie.Need-lower-of-requires
+lower-of-requires : tie.Need-lower_of-requires
 lower-of-requires c κs = search rules
 
-enum-known-committed-2 : tie.Need-enum-known-committed-2
+enum-known-committed-2 : tie.Need-enum_known-committed-in-Fixed-1
 enum-known-committed-2 c = search rules
 
-same_length : tie.Need-same-length
+same_length : tie.Need-shape_of-left-then-room-ne0
 same_length c = search rules
 
-returns : tie.Need-returns
+returns : tie.Need-returns-then-room-ne0
 returns c =
-    let w = c.before.before in
-    let k = w.before.before in
-    let z = k.before.before in
-    let a = z.before.before.args in
-    rw w.committed2.given.1 (told_short a.left.now z.zero-i32.ensures k.room-refusal.ensures w.committed2.given.0.0 c.if1.true)
+    let a = c.args in
+    rw c.in-Fixed.is (told_short a.left.now c.zero_i32.ensures c.room_refusal-room.ensures c.in-Fixed.entry c.if-room-ne0.true)
 
-slice-set-from-entry : tie.Need-slice-set-from-entry
+slice-set-from-entry : tie.Need-bounds-left-0
 slice-set-from-entry c =
-    let k = c.before.before.before.before in
-    let z = k.before.before in
-    omega (arith, has_place z.before.before.args.left.now z.zero-i32.ensures k.room-refusal.ensures c.if1.false)
+    omega (arith, has_place c.args.left.now c.zero_i32.ensures c.room_refusal-room.ensures c.if-room-ne0.false)
 
-same-length-2 : tie.Need-same-length-2
+same-length-2 : tie.Need-shape_of-left-in-Refused
 same-length-2 c = search rules
 
-returns-2 : tie.Need-returns-2
+returns-2 : tie.Need-returns-in-Refused
 returns-2 c =
-    let w = c.before.before in
-    let k = w.before.before in
-    let z = k.before.before in
-    let a = z.before.before.args in
-    rw w.committed.given.1
-    (told_number_lem a.left.now z.zero-i32.ensures k.room-refusal.ensures w.committed.given.0.0 c.lower_of.ensures)
+    let a = c.args in
+    rw c.in-Refused.is
+    (told_number_lem a.left.now c.zero_i32.ensures c.room_refusal-room.ensures c.in-Refused.n c.lower_of.ensures)
 
-same-length-3 : tie.Need-same-length-3
+same-length-3 : tie.Need-shape_of-left-else-room-ne0
 same-length-3 c = search rules
 
-returns-3 : tie.Need-returns-3
+returns-3 : tie.Need-returns-else-room-ne0
 returns-3 c =
-    let w = c.before.before in
-    let k = w.before.before in
-    let z = k.before.before in
-    let a = z.before.before.args in
-    let v = w.committed2.given.0.0 in
-    rw w.committed2.given.1
-    (told_entry a.left.now z.zero-i32.ensures k.room-refusal.ensures v c.if1.false
-    (ap (set z.zero-i32.new.0 0) (number_word v (record { sfits = c.before.known-told2.given.0.1 }))))
+    let a = c.args in
+    let v = c.in-Fixed.entry in
+    rw c.in-Fixed.is
+    (told_entry a.left.now c.zero_i32.ensures c.room_refusal-room.ensures v c.if-room-ne0.false
+    (ap (set c.zero_i32.new.s 0) (number_word v (record { sfits = c.in-Fixed.known_told-in-Fixed-1-own.given.0.1 }))))
 
-pub tell-left-spec : {M : Type 1} → statement M
-tell-left-spec =
+pub tell_left_spec : {M : Type 1} → statement M
+tell_left_spec =
     tie.close
     (tie.spec
     zero-i32-requires

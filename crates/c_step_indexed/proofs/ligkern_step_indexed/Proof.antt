@@ -23,178 +23,159 @@ use Rattle.c_step_indexed.proofs.ligkern_step_indexed.Tie as tie
 as_lent : (c : tie.Start) {r : ℕ} {state' : List ℕ} {item' : List ℤ} → let a = c.args in
     StepsBy
     (indexed_step_in a.index.now a.pairs.now a.ops.now (number_of (word_of a.boundary)) a.word.now
-    (options_of a.«disable-left-boundary» (number_of (word_of a.«right-boundary-override»))) a.state.now) a.state.now a.item.now r state' item' →
+    (options_of a.disable_left_boundary (number_of (word_of a.right_boundary_override))) a.state.now) a.state.now a.item.now r state' item' →
     StepsBy
     (indexed_step_in a.index.now a.pairs.now a.ops.now a.boundary a.word.now
-    (options_of a.«disable-left-boundary» a.«right-boundary-override») a.state.now) a.state.now a.item.now r state' item'
+    (options_of a.disable_left_boundary a.right_boundary_override) a.state.now) a.state.now a.item.now r state' item'
 as_lent c {r} {state'} {item'} =
     let a = c.args in
     let b = number_word a.boundary c.ranges.boundary in
-    let o = number_word a.«right-boundary-override» c.ranges.«right-boundary-override» in
+    let o = number_word a.right_boundary_override c.ranges.right_boundary_override in
     subst (λ (t : Step). StepsBy t a.state.now a.item.now r state' item')
-    (λ j. indexed_step_in a.index.now a.pairs.now a.ops.now (b j) a.word.now (options_of a.«disable-left-boundary» (o j)) a.state.now)
+    (λ j. indexed_step_in a.index.now a.pairs.now a.ops.now (b j) a.word.now (options_of a.disable_left_boundary (o j)) a.state.now)
 
-any-step-requires : tie.Need-any-step-requires
+any-step-requires : tie.Need-any_step-requires
 any-step-requires c κs = search rules
 
-same_length : tie.Need-same-length
+same_length : tie.Need-shape_of-state-then-item-ne7
 same_length c = search rules
 
-same-length-2 : tie.Need-same-length-2
+same-length-2 : tie.Need-shape_of-item-then-item-ne7
 same-length-2 c = search rules
 
-returns : tie.Need-returns
-returns c = let g = c.before.before.before in as_lent g.before.before.before.before.before.before.before g.any_step.ensures
+returns : tie.Need-returns-then-item-ne7
+returns c = as_lent c.before.before.before.before.before.before.before.before.before.before c.any_step.ensures
 
-state-in-requires : tie.Need-state-in-requires
+state-in-requires : tie.Need-state_in-from-requires
 state-in-requires c κs = search rules
 
-quick-left-requires : tie.Need-quick-left-requires
+quick-left-requires : tie.Need-quick_left-left-requires
 quick-left-requires c κs = search rules
 
-is-kern-requires : tie.Need-is-kern-requires
+is-kern-requires : tie.Need-is_kern-requires
 is-kern-requires c κs = search rules
 
-any-step-requires-2 : tie.Need-any-step-requires-2
+any-step-requires-2 : tie.Need-any_step-requires-then-not-is_kern
 any-step-requires-2 c κs = search rules
 
-same-length-3 : tie.Need-same-length-3
+same-length-3 : tie.Need-shape_of-state-then-not-is_kern
 same-length-3 c = search rules
 
-same-length-4 : tie.Need-same-length-4
+same-length-4 : tie.Need-shape_of-item-then-not-is_kern
 same-length-4 c = search rules
 
-returns-2 : tie.Need-returns-2
+returns-2 : tie.Need-returns-then-not-is_kern
 returns-2 c =
-    let g = c.before.before.before in
-    as_lent g.before.before.before.before.before.before.before.before.before.before.before.before.before g.any-step2.ensures
+    as_lent c.before.before.before.before.before.before.before.before.before.before.before.before.before.before.before c.any_step-then-not-is_kern.ensures
 
-give-kern-requires : tie.Need-give-kern-requires
+give-kern-requires : tie.Need-give_kern-kerned-requires
 give-kern-requires c κs = search rules
 
 tell-requires : tie.Need-tell-requires
 tell-requires c κs = search rules
 
-put-state-requires : tie.Need-put-state-requires
+put-state-requires : tie.Need-put_state-requires
 put-state-requires c κs = search rules
 
-same-length-5 : tie.Need-same-length-5
+same-length-5 : tie.Need-shape_of-state-then-left-eq0
 same-length-5 c = search rules
 
-same-length-6 : tie.Need-same-length-6
+same-length-6 : tie.Need-shape_of-item-then-left-eq0
 same-length-6 c = search rules
 
-returns-3 : tie.Need-returns-3
+returns-3 : tie.Need-returns-then-left-eq0
 returns-3 c =
-    let m = c.before.before in
-    let i = m.before.before.before.before in
-    let g = i.before.before in
-    let k = g.before.before in
-    let l = k.before.before in
-    let e = l.before in
-    let s = e.before.before.before.before.before.before in
-    let a = s.args in
+    let a = c.args in
     let b = number_of (word_of a.boundary) in
-    let options = options_of a.«disable-left-boundary» (number_of (word_of a.«right-boundary-override»)) in
-    let t : g.give-kern.result ≡ indexed_step_in a.index.now a.pairs.now a.ops.now b a.word.now options a.state.now =
-    kern_told a.index.now a.pairs.now a.ops.now b a.word.now options a.state.now e.state-in.ensures k.is-kern.ensures
-    (not-false _ g.before.if3.false) g.give-kern.ensures in
-    let told = kern_item_lem a.ops.now b a.word.now options e.state-in.result k.is-kern.ensures (not-false _ g.before.if3.false)
-    g.give-kern.ensures in
-    as_lent s
+    let options = options_of a.disable_left_boundary (number_of (word_of a.right_boundary_override)) in
+    let t : c.give_kern-kerned.result ≡ indexed_step_in a.index.now a.pairs.now a.ops.now b a.word.now options a.state.now =
+    kern_told a.index.now a.pairs.now a.ops.now b a.word.now options a.state.now c.state_in-from.ensures c.is_kern.ensures
+    (c.if-not-is_kern.false) c.give_kern-kerned.ensures in
+    let told = kern_item_lem a.ops.now b a.word.now options c.state_in-from.result c.is_kern.ensures (c.if-not-is_kern.false)
+    c.give_kern-kerned.ensures in
+    as_lent (c.before.before.before.before.before.before.before.before.before.before.before.before.before.before.before.before.before.before)
     (told_at_once a.state.now a.item.now (indexed_step_in a.index.now a.pairs.now a.ops.now b a.word.now options a.state.now)
-    g.give-kern.result t told (indexed_long a.index.now a.pairs.now a.ops.now b a.word.now options a.state.now)
-    e.before.before.if1.false i.tell.new.0
-    (told_sets a.item.now i.tell.new.0 g.give-kern.result.answer
-    (indexed_given_small a.index.now a.pairs.now a.ops.now b a.word.now options a.state.now g.give-kern.result t)
-    (omega (arith, e.before.before.if1.false)) i.tell.ensures)
-    m.put-state.result m.put-state.new.0 m.put-state.ensures)
+    c.give_kern-kerned.result t told (indexed_long a.index.now a.pairs.now a.ops.now b a.word.now options a.state.now)
+    c.if-item-ne7.false c.tell.new.item
+    (told_sets a.item.now c.tell.new.item c.give_kern-kerned.result.answer
+    (indexed_given_small a.index.now a.pairs.now a.ops.now b a.word.now options a.state.now c.give_kern-kerned.result t)
+    (omega (arith, c.if-item-ne7.false)) c.tell.ensures)
+    c.put_state.result c.put_state.new.list c.put_state.ensures)
 
-u32-at-requires : tie.Need-u32-at-requires
+u32-at-requires : tie.Need-u32_at-requires
 u32-at-requires c κs = search rules
 
-place-by-requires : tie.Need-place-by-requires
+place-by-requires : tie.Need-place_by-k-requires
 place-by-requires c κs = search rules
 
-any-step-requires-3 : tie.Need-any-step-requires-3
+any-step-requires-3 : tie.Need-any_step-requires-then-pairs-k
 any-step-requires-3 c κs = search rules
 
-same-length-7 : tie.Need-same-length-7
+same-length-7 : tie.Need-shape_of-state-then-pairs-k
 same-length-7 c = search rules
 
-same-length-8 : tie.Need-same-length-8
+same-length-8 : tie.Need-shape_of-item-then-pairs-k
 same-length-8 c = search rules
 
-returns-4 : tie.Need-returns-4
+returns-4 : tie.Need-returns-then-pairs-k
 returns-4 c =
-    let g = c.before.before.before in
-    as_lent g.before.before.before.before.before.before.before.before.before.before.before.before.before.before g.any-step3.ensures
+    as_lent c.before.before.before.before.before.before.before.before.before.before.before.before.before.before.before.before c.any_step-then-pairs-k.ensures
 
-is-ready-requires : tie.Need-is-ready-requires
+is-ready-requires : tie.Need-is_ready-requires
 is-ready-requires c κs = search rules
 
-any-step-requires-4 : tie.Need-any-step-requires-4
+any-step-requires-4 : tie.Need-any_step-requires-then-not-is_ready
 any-step-requires-4 c κs = search rules
 
-same-length-9 : tie.Need-same-length-9
+same-length-9 : tie.Need-shape_of-state-then-not-is_ready
 same-length-9 c = search rules
 
-same-length-10 : tie.Need-same-length-10
+same-length-10 : tie.Need-shape_of-item-then-not-is_ready
 same-length-10 c = search rules
 
-returns-5 : tie.Need-returns-5
+returns-5 : tie.Need-returns-then-not-is_ready
 returns-5 c =
-    let g = c.before.before.before in
-    as_lent g.before.before.before.before.before.before.before.before.before.before.before.before.before.before.before.before
-    g.any-step4.ensures
+    as_lent c.before.before.before.before.before.before.before.before.before.before.before.before.before.before.before.before.before.before
+    c.any_step-then-not-is_ready.ensures
 
-quick-step-requires : tie.Need-quick-step-requires
+quick-step-requires : tie.Need-quick_step-stepped-requires
 quick-step-requires c κs = search rules
 
 tell-requires-2 : tie.Need-tell-requires-2
 tell-requires-2 c κs = search rules
 
-put-state-requires-2 : tie.Need-put-state-requires-2
+put-state-requires-2 : tie.Need-put_state-requires-2
 put-state-requires-2 c κs = search rules
 
-same-length-11 : tie.Need-same-length-11
+same-length-11 : tie.Need-shape_of-state
 same-length-11 c = search rules
 
-same-length-12 : tie.Need-same-length-12
+same-length-12 : tie.Need-shape_of-item
 same-length-12 c = search rules
 
-returns-6 : tie.Need-returns-6
+returns-6 : tie.Need-returns
 returns-6 c =
-    let m = c.before.before in
-    let i = m.before.before.before.before in
-    let q = i.before.before in
-    let d = q.before.before in
-    let p = d.before.before in
-    let u = p.before in
-    let l = u.before.before in
-    let e = l.before in
-    let s = e.before.before.before.before.before.before in
-    let a = s.args in
+    let a = c.args in
     let b = number_of (word_of a.boundary) in
-    let options = options_of a.«disable-left-boundary» (number_of (word_of a.«right-boundary-override»)) in
-    let t : q.quick-step.result ≡ indexed_step_in a.index.now a.pairs.now a.ops.now b a.word.now options a.state.now =
-    quick_told a.index.now a.pairs.now a.ops.now b a.word.now options a.state.now e.state-in.ensures l.quick-left.ensures
-    u.before.if2.false u.u32-at.ensures p.place_by.ensures d.before.if4.false d.is-ready.ensures (not-false _ q.before.if5.false)
-    q.quick-step.ensures in
-    let told = quick_item a.index.now a.pairs.now a.ops.now b a.word.now options a.state.now e.state-in.ensures l.quick-left.ensures
-    u.before.if2.false u.u32-at.ensures p.place_by.ensures d.before.if4.false d.is-ready.ensures (not-false _ q.before.if5.false)
-    q.quick-step.ensures in
-    as_lent s
+    let options = options_of a.disable_left_boundary (number_of (word_of a.right_boundary_override)) in
+    let t : c.quick_step-stepped.result ≡ indexed_step_in a.index.now a.pairs.now a.ops.now b a.word.now options a.state.now =
+    quick_told a.index.now a.pairs.now a.ops.now b a.word.now options a.state.now c.state_in-from.ensures c.quick_left-left.ensures
+    c.if-left-eq0.false c.u32_at.ensures c.place_by-k.ensures c.if-pairs-k.false c.is_ready.ensures (c.if-not-is_ready.false)
+    c.quick_step-stepped.ensures in
+    let told = quick_item a.index.now a.pairs.now a.ops.now b a.word.now options a.state.now c.state_in-from.ensures c.quick_left-left.ensures
+    c.if-left-eq0.false c.u32_at.ensures c.place_by-k.ensures c.if-pairs-k.false c.is_ready.ensures (c.if-not-is_ready.false)
+    c.quick_step-stepped.ensures in
+    as_lent (c.before.before.before.before.before.before.before.before.before.before.before.before.before.before.before.before.before.before.before.before.before)
     (told_at_once a.state.now a.item.now (indexed_step_in a.index.now a.pairs.now a.ops.now b a.word.now options a.state.now)
-    q.quick-step.result t told (indexed_long a.index.now a.pairs.now a.ops.now b a.word.now options a.state.now)
-    e.before.before.if1.false i.tell2.new.0
-    (told_sets a.item.now i.tell2.new.0 q.quick-step.result.answer
-    (indexed_given_small a.index.now a.pairs.now a.ops.now b a.word.now options a.state.now q.quick-step.result t)
-    (omega (arith, e.before.before.if1.false)) i.tell2.ensures)
-    m.put-state2.result m.put-state2.new.0 m.put-state2.ensures)
+    c.quick_step-stepped.result t told (indexed_long a.index.now a.pairs.now a.ops.now b a.word.now options a.state.now)
+    c.if-item-ne7.false c.tell-2.new.item
+    (told_sets a.item.now c.tell-2.new.item c.quick_step-stepped.result.answer
+    (indexed_given_small a.index.now a.pairs.now a.ops.now b a.word.now options a.state.now c.quick_step-stepped.result t)
+    (omega (arith, c.if-item-ne7.false)) c.tell-2.ensures)
+    c.put_state-2.result c.put_state-2.new.list c.put_state-2.ensures)
 
-pub ligkern-step-indexed-spec : {M : Type 1} → statement M
-ligkern-step-indexed-spec =
+pub ligkern_step_indexed_spec : {M : Type 1} → statement M
+ligkern_step_indexed_spec =
     tie.close
     (tie.spec
     any-step-requires

@@ -10,145 +10,136 @@ use Rattle.font_check.proofs.check_file.Statement.{statement}
 use Rattle.font_check.proofs.check_file.Tie as tie
 
 -- from where the font is compiled: where it is read, and from there the start
-abbrev reading : tie.After-compile-read → tie.After-read-font
-reading x = x.before.before.before.before.before.before.before.before.before.before.before.before
+abbrev reading : tie.After-compile_read → tie.After-read_font-font
+reading x = x.before.before.before.before.before.before.before.before.before
 
-abbrev start : tie.After-read-font → tie.Start
+abbrev start : tie.After-read_font-font → tie.Start
 start f = f.before.before.before.before.before.before.before
 
 -- from where it returns: where the font is compiled, and where the lists that were read are zeroed
-abbrev taken : tie.After-checked-font → tie.After-compile-read
-taken c = c.before.before.before.before.before.before.before.before.before
+abbrev taken : tie.After-checked_font → tie.After-compile_read
+taken c = c.before.before.before.before.before.before.before
 
-abbrev entries-zeroed : tie.After-lost2 → tie.After-zero-i323
+abbrev entries-zeroed : tie.After-lost-in-Refused-1 → tie.After-zero_i32-in-Refused-2
 entries-zeroed c = c.before.before.before.before
 
-abbrev kerns-zeroed : tie.After-lost2 → tie.After-zero-i322
+abbrev kerns-zeroed : tie.After-lost-in-Refused-1 → tie.After-zero_i32-in-Refused
 kerns-zeroed c = (entries-zeroed c).before.before.before
 
-abbrev program-zeroed : tie.After-lost2 → tie.After-zero-i32
+abbrev program-zeroed : tie.After-lost-in-Refused-1 → tie.After-zero_i32
 program-zeroed c = (kerns-zeroed c).before.before.before
 
-abbrev refused : tie.After-lost2 → tie.After-compile-read
-refused c = (program-zeroed c).before.before.before.before.before.before.before.before.before.before
+abbrev refused : tie.After-lost-in-Refused-1 → tie.After-compile_read
+refused c = (program-zeroed c).before.before.before.before.before.before.before.before
 
-read-font-requires : tie.Need-read-font-requires
+read-font-requires : tie.Need-read_font-font-requires
 read-font-requires c κs = search rules
 
-compile-read-requires : tie.Need-compile-read-requires
+compile-read-requires : tie.Need-compile_read-requires
 compile-read-requires c κs =
-    let f = c.before.before.before.before.before.before.before.before.before.before.before in
-    let a = (start f).args in
-    let d = f.read-font.new.1 in
-    counts_fit a.file.now a.instructions.now a.kerns.now a.entries.now a.lost.now d.0 d.1.0 d.1.1.0 d.1.1.1.0
-    f.read-font.result f.read-font.ensures
+    let a = (start (c.before.before.before.before.before.before.before.before)).args in
+    counts_fit a.file.now a.instructions.now a.kerns.now a.entries.now a.lost.now c.read_font-font.new.instructions c.read_font-font.new.kerns c.read_font-font.new.entries c.read_font-font.new.lost
+    c.read_font-font.result c.read_font-font.ensures
 
-enum-known-p : tie.Need-enum-known-p
+enum-known-p : tie.Need-enum_known-p
 enum-known-p c = search rules
 
-checked-font-requires : tie.Need-checked-font-requires
+checked-font-requires : tie.Need-checked_font-requires
 checked-font-requires c κs = search rules
 
-enum-known-refusal : tie.Need-enum-known-refusal
+enum-known-refusal : tie.Need-enum_known-refusal
 enum-known-refusal c = search rules
 
-zero-i32-requires : tie.Need-zero-i32-requires
+zero-i32-requires : tie.Need-zero_i32-requires
 zero-i32-requires c κs = search rules
 
-zero-i32-requires-2 : tie.Need-zero-i32-requires-2
+zero-i32-requires-2 : tie.Need-zero_i32-requires-in-Refused
 zero-i32-requires-2 c κs = search rules
 
-zero-i32-requires-3 : tie.Need-zero-i32-requires-3
+zero-i32-requires-3 : tie.Need-zero_i32-requires-in-Refused-2
 zero-i32-requires-3 c κs = search rules
 
-zero-i32-requires-4 : tie.Need-zero-i32-requires-4
+zero-i32-requires-4 : tie.Need-zero_i32-requires-in-Refused-3
 zero-i32-requires-4 c κs = search rules
 
-same_length : tie.Need-same-length
-same_length c = (reading (taken c)).read-font.auto.1.0
+same_length : tie.Need-shape_of-instructions-in-Tables
+same_length c = (reading (taken c)).read_font-font.auto.instructions
 
-same-length-2 : tie.Need-same-length-2
-same-length-2 c = (reading (taken c)).read-font.auto.1.1.0
+same-length-2 : tie.Need-shape_of-kerns-in-Tables
+same-length-2 c = (reading (taken c)).read_font-font.auto.kerns
 
-same-length-3 : tie.Need-same-length-3
-same-length-3 c = (reading (taken c)).read-font.auto.1.1.1.0
+same-length-3 : tie.Need-shape_of-entries-in-Tables
+same-length-3 c = (reading (taken c)).read_font-font.auto.entries
 
-same-length-4 : tie.Need-same-length-4
-same-length-4 c = (reading (taken c)).read-font.auto.1.1.1.1.0
+same-length-4 : tie.Need-shape_of-lost-in-Tables
+same-length-4 c = (reading (taken c)).read_font-font.auto.lost
 
-same-length-5 : tie.Need-same-length-5
-same-length-5 c = (taken c).compile-read.auto.1.1.1.1.0
+same-length-5 : tie.Need-shape_of-pairs-in-Tables
+same-length-5 c = (taken c).compile_read.auto.pairs
 
-same-length-6 : tie.Need-same-length-6
-same-length-6 c = (taken c).compile-read.auto.1.1.1.1.1.0
+same-length-6 : tie.Need-shape_of-ops-in-Tables
+same-length-6 c = (taken c).compile_read.auto.ops
 
-same-length-7 : tie.Need-same-length-7
-same-length-7 c = (taken c).compile-read.auto.1.1.1.1.1.1.0
+same-length-7 : tie.Need-shape_of-loops-in-Tables
+same-length-7 c = (taken c).compile_read.auto.loops
 
-same-length-8 : tie.Need-same-length-8
-same-length-8 c = (taken c).compile-read.auto.1.1.1.1.1.1.1.0
+same-length-8 : tie.Need-shape_of-work-in-Tables
+same-length-8 c = (taken c).compile_read.auto.work
 
-returns : tie.Need-returns
+returns : tie.Need-returns-in-Tables
 returns c =
     let x = taken c in
     let f = reading x in
     let a = (start f).args in
-    let d = f.read-font.last.1 in
-    let o = x.compile-read.last.1.1.1.1 in
-    let v = c.before.before.p.given in
-    check_taken a.file.now a.instructions.now a.kerns.now a.entries.now a.lost.now d.0 d.1.0 d.1.1.0 d.1.1.1.0
-    a.pairs.now a.ops.now a.loops.now a.work.now o.0 o.1.0 o.1.1.0 o.1.1.1.0 f.read-font.result
-    f.read-font.ensures x.compile-read.result x.compile-read.ensures v.0.0 v.0.1.0 v.0.1.1.0 v.1
-    c.checked-font.result c.checked-font.ensures
+    check_taken a.file.now a.instructions.now a.kerns.now a.entries.now a.lost.now f.read_font-font.new.instructions f.read_font-font.new.kerns f.read_font-font.new.entries f.read_font-font.new.lost
+    a.pairs.now a.ops.now a.loops.now a.work.now x.compile_read.new.pairs x.compile_read.new.ops x.compile_read.new.loops x.compile_read.new.work f.read_font-font.result
+    f.read_font-font.ensures x.compile_read.result x.compile_read.ensures c.in-Tables.p c.in-Tables.o c.in-Tables.l c.in-Tables.is
+    c.checked_font.result c.checked_font.ensures
 
-same-length-9 : tie.Need-same-length-9
+same-length-9 : tie.Need-shape_of-instructions-in-Refused
 same-length-9 c = search rules
 
-same-length-10 : tie.Need-same-length-10
+same-length-10 : tie.Need-shape_of-kerns-in-Refused
 same-length-10 c = search rules
 
-same-length-11 : tie.Need-same-length-11
+same-length-11 : tie.Need-shape_of-entries-in-Refused
 same-length-11 c = search rules
 
-same-length-12 : tie.Need-same-length-12
+same-length-12 : tie.Need-shape_of-lost-in-Refused
 same-length-12 c = search rules
 
-same-length-13 : tie.Need-same-length-13
-same-length-13 c = (refused c).compile-read.auto.1.1.1.1.0
+same-length-13 : tie.Need-shape_of-pairs-in-Refused
+same-length-13 c = (refused c).compile_read.auto.pairs
 
-same-length-14 : tie.Need-same-length-14
-same-length-14 c = (refused c).compile-read.auto.1.1.1.1.1.0
+same-length-14 : tie.Need-shape_of-ops-in-Refused
+same-length-14 c = (refused c).compile_read.auto.ops
 
-same-length-15 : tie.Need-same-length-15
-same-length-15 c = (refused c).compile-read.auto.1.1.1.1.1.1.0
+same-length-15 : tie.Need-shape_of-loops-in-Refused
+same-length-15 c = (refused c).compile_read.auto.loops
 
-same-length-16 : tie.Need-same-length-16
-same-length-16 c = (refused c).compile-read.auto.1.1.1.1.1.1.1.0
+same-length-16 : tie.Need-shape_of-work-in-Refused
+same-length-16 c = (refused c).compile_read.auto.work
 
-returns-2 : tie.Need-returns-2
+returns-2 : tie.Need-returns-in-Refused
 returns-2 c =
-    let zl = c.before in
     let ze = entries-zeroed c in
     let zk = kerns-zeroed c in
     let zi = program-zeroed c in
     let x = refused c in
     let f = reading x in
     let a = (start f).args in
-    let d = f.read-font.last.1 in
-    let k = f.read-font.kept.1 in
-    let o = x.compile-read.last.1.1.1.1 in
-    let v = zi.before.before.before.refusal.given in
-    check_refused a.file.now a.instructions.now a.kerns.now a.entries.now a.lost.now d.0 d.1.0 d.1.1.0 d.1.1.1.0
-    a.pairs.now a.ops.now a.loops.now a.work.now o.0 o.1.0 o.1.1.0 o.1.1.1.0
-    zi.zero-i32.last.0 zk.zero-i322.last.0 ze.zero-i323.last.0 zl.zero-i324.new.0
-    (zi.zero-i32.ensures ∙ ap (λ (m : ℕ). replicate m (pos 0)) k.0)
-    (zk.zero-i322.ensures ∙ ap (λ (m : ℕ). replicate m (pos 0)) k.1.0)
-    (ze.zero-i323.ensures ∙ ap (λ (m : ℕ). replicate m (pos 0)) k.1.1.0)
-    (zl.zero-i324.ensures ∙ ap (λ (m : ℕ). replicate m (pos 0)) k.1.1.1.0) f.read-font.result
-    f.read-font.ensures x.compile-read.result x.compile-read.ensures v.0.0 v.1
+    let k = f.read_font-font.auto in
+    check_refused a.file.now a.instructions.now a.kerns.now a.entries.now a.lost.now f.read_font-font.new.instructions f.read_font-font.new.kerns f.read_font-font.new.entries f.read_font-font.new.lost
+    a.pairs.now a.ops.now a.loops.now a.work.now x.compile_read.new.pairs x.compile_read.new.ops x.compile_read.new.loops x.compile_read.new.work
+    zi.zero_i32.new.s zk.zero_i32-in-Refused.new.s ze.zero_i32-in-Refused-2.new.s c.zero_i32-in-Refused-3.new.s
+    (zi.zero_i32.ensures ∙ ap (λ (m : ℕ). replicate m (pos 0)) k.instructions)
+    (zk.zero_i32-in-Refused.ensures ∙ ap (λ (m : ℕ). replicate m (pos 0)) k.kerns)
+    (ze.zero_i32-in-Refused-2.ensures ∙ ap (λ (m : ℕ). replicate m (pos 0)) k.entries)
+    (c.zero_i32-in-Refused-3.ensures ∙ ap (λ (m : ℕ). replicate m (pos 0)) k.lost) f.read_font-font.result
+    f.read_font-font.ensures x.compile_read.result x.compile_read.ensures zi.in-Refused.refusal zi.in-Refused.is
 
-pub check-file-spec : {M : Type 1} → statement M
-check-file-spec =
+pub check_file_spec : {M : Type 1} → statement M
+check_file_spec =
     tie.close
     (tie.spec
     read-font-requires

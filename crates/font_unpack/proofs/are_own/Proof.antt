@@ -21,68 +21,64 @@ use Rattle.font_unpack.proofs.are_own.Tie as tie
 abbrev isOwnAt : List ℤ → ℕ → ℕ → ℕ → Bool
 isOwnAt es start end i = both (leb start (word_of (entry_at es i))) (ltb (word_of (entry_at es i)) end)
 
-abbrev invariant-loop : tie.invariant-loop
+abbrev invariant-loop : tie.invariant-loop-i
 invariant-loop entries start end i₀ i = (i ≤ length entries / 2) × (every i (isOwnAt entries start end) ≡ true)
 
-abbrev decreases-loop : tie.decreases-loop
+abbrev decreases-loop : tie.decreases-loop-i
 decreases-loop entries start end i₀ i = length entries / 2 - i
 
 -- what the call of `is_own` answers is whether the entry does
-answered : (c : tie.After-is-own invariant-loop decreases-loop) → let l = c.before.before.before in
-    let a = l.before.args in
-    c.is-own.result ≡ isOwnAt a.entries.now a.start a.end l.loop.i
+answered : (c : tie.After-is_own invariant-loop decreases-loop) → let a = c.args in
+    c.is_own.result ≡ isOwnAt a.entries.now a.start a.end c.loop-i.i
 answered c =
-    let a = c.before.before.before.before.args in
-    c.is-own.ensures ∙ ap (λ (e : ℕ). both (leb a.start e) (ltb e a.end)) c.before.word_at.ensures.is
+    let a = c.args in
+    c.is_own.ensures ∙ ap (λ (e : ℕ). both (leb a.start e) (ltb e a.end)) c.word_at-entry.ensures.is
 
-loop-holds : tie.Need-loop-init invariant-loop decreases-loop
+loop-holds : tie.Need-loop-i-init invariant-loop decreases-loop
 loop-holds c = let a = c.args in (omega arith, every_none (isOwnAt a.entries.now a.start a.end))
 
-mul-word-at : tie.Need-overflow-mul-word-at invariant-loop decreases-loop
+mul-word-at : tie.Need-overflow_mul-i invariant-loop decreases-loop
 mul-word-at c = search rules
 
-add-word-at : tie.Need-overflow-add-word-at invariant-loop decreases-loop
+add-word-at : tie.Need-overflow_add-i invariant-loop decreases-loop
 add-word-at c = search rules
 
-word-at-requires : tie.Need-word-at-requires invariant-loop decreases-loop
+word-at-requires : tie.Need-word_at-entry-requires invariant-loop decreases-loop
 word-at-requires c κs = search rules
 
-cast-entry : tie.Need-overflow-cast-entry invariant-loop decreases-loop
+cast-entry : tie.Need-overflow_cast-entry invariant-loop decreases-loop
 cast-entry c = search rules
 
-is-own-requires : tie.Need-is-own-requires invariant-loop decreases-loop
+is-own-requires : tie.Need-is_own-requires invariant-loop decreases-loop
 is-own-requires c κs = search rules
 
-returns : tie.Need-returns invariant-loop decreases-loop
+returns : tie.Need-returns-then-not-is_own invariant-loop decreases-loop
 returns c =
-    let l = c.before.before.before.before in
-    let a = l.before.args in
-    sym (every_fails (length a.entries.now / 2) l.loop.i (isOwnAt a.entries.now a.start a.end) (omega arith)
-    (sym (answered c.before) ∙ not-true _ c.if1.true))
+    let a = c.args in
+    sym (every_fails (length a.entries.now / 2) c.loop-i.i (isOwnAt a.entries.now a.start a.end) (omega arith)
+    (sym (answered c.before) ∙ c.if-not-is_own.true))
 
-add-i : tie.Need-overflow-add-i invariant-loop decreases-loop
+add-i : tie.Need-overflow_add-i-in-loop-i invariant-loop decreases-loop
 add-i c = omega arith
 
-loop-less : tie.Need-loop-smaller invariant-loop decreases-loop
+loop-less : tie.Need-loop-i-smaller invariant-loop decreases-loop
 loop-less c = omega arith
 
-loop-again : tie.Need-loop-preserved invariant-loop decreases-loop
+loop-again : tie.Need-loop-i-preserved invariant-loop decreases-loop
 loop-again c =
-    let l = c.before.before.before.before in
-    let a = l.before.args in (
+    let a = c.args in (
       omega arith,
-      every_more l.loop.i (isOwnAt a.entries.now a.start a.end) l.loop.invariant.1 (sym (answered c.before) ∙ not-false _ c.if1.false),
+      every_more c.loop-i.i (isOwnAt a.entries.now a.start a.end) c.loop-i.invariant.1 (sym (answered c.before) ∙ c.if-not-is_own.false),
     )
 
-returns-2 : tie.Need-returns-2 invariant-loop decreases-loop
+returns-2 : tie.Need-returns invariant-loop decreases-loop
 returns-2 c =
-    let l = c.before in
-    let a = l.before.args in
-    sym (every_to (length a.entries.now / 2) l.loop.i (isOwnAt a.entries.now a.start a.end) l.loop.invariant.1 l.loop.invariant.0
-    c.loop-test.false)
+    let a = c.args in
+    sym (every_to (length a.entries.now / 2) c.loop-i.i (isOwnAt a.entries.now a.start a.end) c.loop-i.invariant.1 c.loop-i.invariant.0
+    c.loop-i-test.false)
 
-pub are-own-spec : {M : Type 1} → statement M
-are-own-spec =
+pub are_own_spec : {M : Type 1} → statement M
+are_own_spec =
     tie.close
     (tie.spec
     invariant-loop

@@ -17,53 +17,50 @@ use Rattle.font_unpack.proofs.are_plain.Tie as tie
 abbrev is_plain : List ℤ → ℕ → ℕ → Bool
 is_plain s start i = not (is_kind 3 s (start + i))
 
-abbrev invariant-loop : tie.invariant-loop
+abbrev invariant-loop : tie.invariant-loop-i
 invariant-loop instructions start end i₀ i = (i ≤ end - start) × (every i (is_plain instructions start) ≡ true)
 
-abbrev decreases-loop : tie.decreases-loop
+abbrev decreases-loop : tie.decreases-loop-i
 decreases-loop instructions start end i₀ i = end - start - i
 
-loop-holds : tie.Need-loop-init invariant-loop decreases-loop
+loop-holds : tie.Need-loop-i-init invariant-loop decreases-loop
 loop-holds c = let a = c.args in (omega arith, every_none (is_plain a.instructions.now a.start))
 
-sub-loop : tie.Need-overflow-sub-loop invariant-loop decreases-loop
+sub-loop : tie.Need-overflow_sub-end invariant-loop decreases-loop
 sub-loop c = omega arith
 
-add-is-redirect : tie.Need-overflow-add-is-redirect invariant-loop decreases-loop
+add-is-redirect : tie.Need-overflow_add-start invariant-loop decreases-loop
 add-is-redirect c = omega arith
 
-is-redirect-requires : tie.Need-is-redirect-requires invariant-loop decreases-loop
+is-redirect-requires : tie.Need-is_redirect-requires invariant-loop decreases-loop
 is-redirect-requires c κs = search rules
 
-returns : tie.Need-returns invariant-loop decreases-loop
+returns : tie.Need-returns-then-is_redirect invariant-loop decreases-loop
 returns c =
-    let l = c.before.before.before in
-    let a = l.before.args in
-    sym (every_fails (a.end - a.start) l.loop.i (is_plain a.instructions.now a.start) c.before.before.loop-test.true
-    (ap not (sym c.before.is-redirect.ensures ∙ c.if1.true)))
+    let a = c.args in
+    sym (every_fails (a.end - a.start) c.loop-i.i (is_plain a.instructions.now a.start) c.loop-i-test.true
+    (ap not (sym c.is_redirect.ensures ∙ c.if-is_redirect.true)))
 
-add-i : tie.Need-overflow-add-i invariant-loop decreases-loop
+add-i : tie.Need-overflow_add-i invariant-loop decreases-loop
 add-i c = omega arith
 
-loop-less : tie.Need-loop-smaller invariant-loop decreases-loop
+loop-less : tie.Need-loop-i-smaller invariant-loop decreases-loop
 loop-less c = omega arith
 
-loop-again : tie.Need-loop-preserved invariant-loop decreases-loop
+loop-again : tie.Need-loop-i-preserved invariant-loop decreases-loop
 loop-again c =
-    let l = c.before.before.before in
-    let a = l.before.args in (
+    let a = c.args in (
       omega arith,
-      every_more l.loop.i (is_plain a.instructions.now a.start) l.loop.invariant.1 (ap not (sym c.before.is-redirect.ensures ∙ c.if1.false)),
+      every_more c.loop-i.i (is_plain a.instructions.now a.start) c.loop-i.invariant.1 (ap not (sym c.is_redirect.ensures ∙ c.if-is_redirect.false)),
     )
 
-returns-2 : tie.Need-returns-2 invariant-loop decreases-loop
+returns-2 : tie.Need-returns invariant-loop decreases-loop
 returns-2 c =
-    let l = c.before in
-    let a = l.before.args in
-    sym (every_to (a.end - a.start) l.loop.i (is_plain a.instructions.now a.start) l.loop.invariant.1 l.loop.invariant.0 c.loop-test.false)
+    let a = c.args in
+    sym (every_to (a.end - a.start) c.loop-i.i (is_plain a.instructions.now a.start) c.loop-i.invariant.1 c.loop-i.invariant.0 c.loop-i-test.false)
 
-pub are-plain-spec : {M : Type 1} → statement M
-are-plain-spec =
+pub are_plain_spec : {M : Type 1} → statement M
+are_plain_spec =
     tie.close
     (tie.spec
     invariant-loop

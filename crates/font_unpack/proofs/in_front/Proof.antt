@@ -13,49 +13,46 @@ use Rattle.font_unpackings.proofs.Ends.{front_all, front_to}
 use Rattle.font_unpack.proofs.in_front.Statement.{statement}
 use Rattle.font_unpack.proofs.in_front.Tie as tie
 
-abbrev invariant-loop : tie.invariant-loop
+abbrev invariant-loop : tie.invariant-loop-i
 invariant-loop instructions end i₀ i = (i ≤ end) × (every i (is_kind 3 instructions) ≡ true)
 
-abbrev decreases-loop : tie.decreases-loop
+abbrev decreases-loop : tie.decreases-loop-i
 decreases-loop instructions end i₀ i = end - i
 
-loop-holds : tie.Need-loop-init invariant-loop decreases-loop
+loop-holds : tie.Need-loop-i-init invariant-loop decreases-loop
 loop-holds c = (omega arith, every_none (is_kind 3 c.args.instructions.now))
 
-is-redirect-requires : tie.Need-is-redirect-requires invariant-loop decreases-loop
+is-redirect-requires : tie.Need-is_redirect-requires invariant-loop decreases-loop
 is-redirect-requires c κs = search rules
 
-returns : tie.Need-returns invariant-loop decreases-loop
+returns : tie.Need-returns-then-not-is_redirect invariant-loop decreases-loop
 returns c =
-    let l = c.before.before.before in
-    let a = l.before.args in
-    sym (front_to a.instructions.now a.end l.loop.i l.loop.invariant.1 (sym c.before.is-redirect.ensures ∙ not-true _ c.if1.true)
-    c.before.before.loop-test.true)
+    let a = c.args in
+    sym (front_to a.instructions.now a.end c.loop-i.i c.loop-i.invariant.1 (sym c.is_redirect.ensures ∙ c.if-not-is_redirect.true)
+    c.loop-i-test.true)
 
-add-i : tie.Need-overflow-add-i invariant-loop decreases-loop
+add-i : tie.Need-overflow_add-i invariant-loop decreases-loop
 add-i c = omega arith
 
-loop-less : tie.Need-loop-smaller invariant-loop decreases-loop
+loop-less : tie.Need-loop-i-smaller invariant-loop decreases-loop
 loop-less c = omega arith
 
-loop-again : tie.Need-loop-preserved invariant-loop decreases-loop
+loop-again : tie.Need-loop-i-preserved invariant-loop decreases-loop
 loop-again c =
-    let l = c.before.before.before in
-    let s = l.before.args.instructions.now in (
+    let s = c.args.instructions.now in (
       omega arith,
-      every_more l.loop.i (is_kind 3 s) l.loop.invariant.1 (sym c.before.is-redirect.ensures ∙ not-false _ c.if1.false),
+      every_more c.loop-i.i (is_kind 3 s) c.loop-i.invariant.1 (sym c.is_redirect.ensures ∙ c.if-not-is_redirect.false),
     )
 
-returns-2 : tie.Need-returns-2 invariant-loop decreases-loop
+returns-2 : tie.Need-returns invariant-loop decreases-loop
 returns-2 c =
-    let l = c.before in
-    let a = l.before.args in
-    let e : l.loop.i ≡ a.end = omega arith in
-    e ∙ sym (front_all a.instructions.now a.end (every_to a.end l.loop.i (is_kind 3 a.instructions.now) l.loop.invariant.1 l.loop.invariant.0
-    c.loop-test.false))
+    let a = c.args in
+    let e : c.loop-i.i ≡ a.end = omega arith in
+    e ∙ sym (front_all a.instructions.now a.end (every_to a.end c.loop-i.i (is_kind 3 a.instructions.now) c.loop-i.invariant.1 c.loop-i.invariant.0
+    c.loop-i-test.false))
 
-pub in-front-spec : {M : Type 1} → statement M
-in-front-spec =
+pub in_front_spec : {M : Type 1} → statement M
+in_front_spec =
     tie.close
     (tie.spec
     invariant-loop

@@ -13,30 +13,34 @@ use Rattle.font_unpack.proofs.left_stands.Statement.{statement}
 use Rattle.font_unpack.proofs.left_stands.Tie as tie
 
 -- by the test of the left entry, and of the instruction behind
-present : (c : tie.After-is-own) → let s = c.before.before in
-    let a = s.args in
-    left_stands a.instructions.now (number_of a.left) ≡ both c.is-own.result (is_kind 3 a.instructions.now a.end)
+present : (c : tie.After-is_own) → let a = c.args in
+    left_stands a.instructions.now (number_of a.left) ≡ both c.is_own.result (is_kind 3 a.instructions.now a.end)
 present c =
-    let s = c.before.before in
-    let a = s.args in
-    left_present a.instructions.now a.left a.start a.end c.before.if1.false s.requires.0 s.requires.1
-    ∙ ap (λ (t : Bool). both t (is_kind 3 a.instructions.now a.end)) (sym c.is-own.ensures)
+    let a = c.args in
+    left_present a.instructions.now a.left a.start a.end c.if-left-ge2147483648.false c.requires.0 c.requires.1
+    ∙ ap (λ (t : Bool). both t (is_kind 3 a.instructions.now a.end)) (sym c.is_own.ensures)
 
-returns : tie.Need-returns
-returns c = let a = c.before.args in sym (left_absent a.instructions.now a.left c.if1.true)
+returns : tie.Need-returns-then-left-ge2147483648
+returns c = let a = c.args in sym (left_absent a.instructions.now a.left c.if-left-ge2147483648.true)
 
-is-own-requires : tie.Need-is-own-requires
+is-own-requires : tie.Need-is_own-requires
 is-own-requires c κs = search rules
 
-returns-2 : tie.Need-returns-2
-returns-2 c = sym (present c.before ∙ rw (not-true c.before.is-own.result c.if2.true))
+returns-2 : tie.Need-returns-then-not-is_own
+returns-2 c = sym (present c.before ∙ rw (c.if-not-is_own.true))
 
-is-redirect-requires : tie.Need-is-redirect-requires
+is-redirect-requires : tie.Need-is_redirect-requires
 is-redirect-requires c κs = search rules
 
-returns-3 : tie.Need-returns-3
-returns-3 c = c.is-redirect.ensures ∙ sym (present c.before.before ∙ rw (not-false c.before.before.is-own.result c.before.if2.false))
+returns-3 : tie.Need-returns
+returns-3 c = c.is_redirect.ensures ∙ sym (present c.before.before ∙ rw (c.if-not-is_own.false))
 
-pub left-stands-spec : {M : Type 1} → statement M
-left-stands-spec =
-    tie.close (tie.spec returns is-own-requires returns-2 is-redirect-requires returns-3)
+pub left_stands_spec : {M : Type 1} → statement M
+left_stands_spec =
+    tie.close
+    (tie.spec
+    returns
+    is-own-requires
+    returns-2
+    is-redirect-requires
+    returns-3)

@@ -8,14 +8,20 @@ use Rattle.font_unpack.proofs.moved_back.Tie as tie
 minus-requires : tie.Need-minus-requires
 minus-requires c κs = search rules
 
-cast-result : tie.Need-overflow-cast-result
+cast-result : tie.Need-overflow_cast-result
 cast-result c = search rules
 
-returns : tie.Need-returns
-returns c = let a = c.before.before.args in back_present a.word a.front c.before.if1.true c.minus.ensures
+returns : tie.Need-returns-then-word-lt2147483648
+returns c = let a = c.args in back_present a.word a.front c.if-word-lt2147483648.true c.minus.ensures
 
-returns-2 : tie.Need-returns-2
-returns-2 c = let a = c.before.args in back_absent a.word a.front c.if1.false
+returns-2 : tie.Need-returns-else-word-lt2147483648
+returns-2 c = let a = c.args in back_absent a.word a.front c.if-word-lt2147483648.false
 
-pub moved-back-spec : {M : Type 1} → statement M
-moved-back-spec = tie.close (tie.spec minus-requires cast-result returns returns-2)
+pub moved_back_spec : {M : Type 1} → statement M
+moved_back_spec =
+    tie.close
+    (tie.spec
+    minus-requires
+    cast-result
+    returns
+    returns-2)

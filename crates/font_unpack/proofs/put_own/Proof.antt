@@ -18,56 +18,52 @@ use Rattle.font_unpack.proofs.put_own.Tie as tie
 abbrev part_number : List ℤ → ℕ → ℕ → ℤ
 part_number s front j = get_or s (4 * front + j) (pos 0)
 
-abbrev invariant-loop : tie.invariant-loop
+abbrev invariant-loop : tie.invariant-loop-j
 invariant-loop instructions front count out₀ j₀ out j = Filling (part_number instructions front) out₀ out j × (j ≤ 4 * count)
 
-abbrev decreases-loop : tie.decreases-loop
+abbrev decreases-loop : tie.decreases-loop-j
 decreases-loop instructions front count out₀ j₀ out j = 4 * count - j
 
-loop-holds : tie.Need-loop-init invariant-loop decreases-loop
+loop-holds : tie.Need-loop-j-init invariant-loop decreases-loop
 loop-holds c = let a = c.args in (filling_none (part_number a.instructions.now a.front) a.out.now, omega arith)
 
-mul-loop : tie.Need-overflow-mul-loop invariant-loop decreases-loop
+mul-loop : tie.Need-overflow_mul-count invariant-loop decreases-loop
 mul-loop c = omega arith
 
-mul-word-at : tie.Need-overflow-mul-word-at invariant-loop decreases-loop
+mul-word-at : tie.Need-overflow_mul-front invariant-loop decreases-loop
 mul-word-at c = omega arith
 
-add-word-at : tie.Need-overflow-add-word-at invariant-loop decreases-loop
+add-word-at : tie.Need-overflow_add-front invariant-loop decreases-loop
 add-word-at c = omega arith
 
-word-at-requires : tie.Need-word-at-requires invariant-loop decreases-loop
+word-at-requires : tie.Need-word_at-requires invariant-loop decreases-loop
 word-at-requires c κs = search rules
 
-put-word-requires : tie.Need-put-word-requires invariant-loop decreases-loop
+put-word-requires : tie.Need-put_word-requires invariant-loop decreases-loop
 put-word-requires c κs = search rules
 
-add-j : tie.Need-overflow-add-j invariant-loop decreases-loop
+add-j : tie.Need-overflow_add-j invariant-loop decreases-loop
 add-j c = omega arith
 
-loop-less : tie.Need-loop-smaller invariant-loop decreases-loop
+loop-less : tie.Need-loop-j-smaller invariant-loop decreases-loop
 loop-less c = omega arith
 
-loop-again : tie.Need-loop-preserved invariant-loop decreases-loop
+loop-again : tie.Need-loop-j-preserved invariant-loop decreases-loop
 loop-again c =
-    let w = c.before.before in
-    let l = w.before.before.before in
-    (filling_put l.loop.invariant.0 (omega arith) c.before.put_word.ensures (number_is w.word_at.ensures), omega arith)
+    (filling_put c.loop-j.invariant.0 (omega arith) c.put_word.ensures (number_is c.word_at.ensures), omega arith)
 
-same_length : tie.Need-same-length invariant-loop decreases-loop
+same_length : tie.Need-shape_of-out invariant-loop decreases-loop
 same_length c =
-    let a = c.before.before.args in
-    filling_length (part_number a.instructions.now a.front) a.out.now c.before.loop.invariant.0
+    let a = c.args in
+    filling_length (part_number a.instructions.now a.front) a.out.now c.loop-j.invariant.0
 
 returns : tie.Need-returns invariant-loop decreases-loop
 returns c =
-    let l = c.before in
-    let s = l.before in
-    let a = s.args in
-    filling_part a.instructions.now a.front a.count s.requires.0 (omega arith) l.loop.invariant.0
+    let a = c.args in
+    filling_part a.instructions.now a.front a.count c.requires.0 (omega arith) c.loop-j.invariant.0
 
-pub put-own-spec : {M : Type 1} → statement M
-put-own-spec =
+pub put_own_spec : {M : Type 1} → statement M
+put_own_spec =
     tie.close
     (tie.spec
     invariant-loop

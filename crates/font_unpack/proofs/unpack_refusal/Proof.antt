@@ -14,80 +14,66 @@ use Rattle.font_unpack.proofs.Standing.{part_within, part_length}
 use Rattle.font_unpack.proofs.unpack_refusal.Statement.{statement}
 use Rattle.font_unpack.proofs.unpack_refusal.Tie as tie
 
-absent : (c : tie.After-absent-refusal) → c.absent-refusal.result ≡ absent_refusal 65535 c.before.before.before.before.before.args.left_entry_lem
+absent : (c : tie.After-absent_refusal-absent) → c.absent_refusal-absent.result ≡ absent_refusal 65535 c.args.left_entry
 absent c =
-    let s = c.before.before.before.before.before in
-    c.absent-refusal.ensures ∙ ap (absent_refusal 65535) (number_word s.args.left_entry_lem s.ranges.left_entry_lem)
+    c.absent_refusal-absent.ensures ∙ ap (absent_refusal 65535) (number_word c.args.left_entry c.ranges.left_entry)
 
 -- a program that is taken so far has four numbers an instruction
-size : (c : tie.After-room-refusal) → let a = c.before.before.before.before.before.before.before.args in
-    c.room-refusal.result ≡ room_refusal (length (unpacked_program a.instructions.now a.entries.now a.left_entry_lem)) a.room
+size : (c : tie.After-room_refusal-size) → let a = c.args in
+    c.room_refusal-size.result ≡ room_refusal (length (unpacked_program a.instructions.now a.entries.now a.left_entry)) a.room
 size c =
-    let p = c.before.before.before.before.before.before in
-    let s = p.before in
-    let a = s.args in
-    let ok = sym p.program-refusal.ensures ∙ c.before.before.before.before.before.if1.false in
-    c.room-refusal.ensures
+    let a = c.args in
+    let ok = sym c.program_refusal-program.ensures ∙ c.if-program-ne0.false in
+    c.room_refusal-size.ensures
     ∙ ap (λ (n : ℕ). room_refusal n a.room)
-    (ap (λ (n : ℕ). 4 * n) s.requires ∙ part_length a.instructions.now a.entries.now a.left_entry_lem ok)
+    (ap (λ (n : ℕ). 4 * n) c.requires ∙ part_length a.instructions.now a.entries.now a.left_entry ok)
 
-program-refusal-requires : tie.Need-program-refusal-requires
+program-refusal-requires : tie.Need-program_refusal-program-requires
 program-refusal-requires c κs = search rules
 
-returns : tie.Need-returns
-returns c = first_refusal _ c.before.program-refusal.ensures c.if1.true
+returns : tie.Need-returns-then-program-ne0
+returns c = first_refusal _ c.program_refusal-program.ensures c.if-program-ne0.true
 
-entries-refusal-requires : tie.Need-entries-refusal-requires
+entries-refusal-requires : tie.Need-entries_refusal-entered-requires
 entries-refusal-requires c κs = search rules
 
-returns-2 : tie.Need-returns-2
+returns-2 : tie.Need-returns-then-entered-ne0
 returns-2 c =
-    let p = c.before.before in
-    later_refusal_lem p.before.program-refusal.ensures p.if1.false (first_refusal _ c.before.entries-refusal.ensures c.if2.true)
+    later_refusal_lem c.program_refusal-program.ensures c.if-program-ne0.false (first_refusal _ c.entries_refusal-entered.ensures c.if-entered-ne0.true)
 
-absent-refusal-requires : tie.Need-absent-refusal-requires
+absent-refusal-requires : tie.Need-absent_refusal-absent-requires
 absent-refusal-requires c κs = search rules
 
-returns-3 : tie.Need-returns-3
+returns-3 : tie.Need-returns-then-absent-ne0
 returns-3 c =
-    let e = c.before.before in
-    let p = e.before.before in
-    later_refusal_lem p.before.program-refusal.ensures p.if1.false
-    (later_refusal_lem e.before.entries-refusal.ensures e.if2.false (first_refusal _ (absent c.before) c.if3.true))
+    later_refusal_lem c.program_refusal-program.ensures c.if-program-ne0.false
+    (later_refusal_lem c.entries_refusal-entered.ensures c.if-entered-ne0.false (first_refusal _ (absent c.before) c.if-absent-ne0.true))
 
-mul-room-refusal : tie.Need-overflow-mul-room-refusal
+mul-room-refusal : tie.Need-overflow_mul-count
 mul-room-refusal c =
-    let s = c.before.before.before.before.before.before in
-    let a = s.args in
-    omega (arith, s.requires, part_within a.instructions.now a.entries.now a.left_entry_lem)
+    let a = c.args in
+    omega (arith, c.requires, part_within a.instructions.now a.entries.now a.left_entry)
 
-room-refusal-requires : tie.Need-room-refusal-requires
+room-refusal-requires : tie.Need-room_refusal-size-requires
 room-refusal-requires c κs = search rules
 
-returns-4 : tie.Need-returns-4
+returns-4 : tie.Need-returns-then-size-ne0
 returns-4 c =
-    let b = c.before.before in
-    let e = b.before.before in
-    let p = e.before.before in
-    later_refusal_lem p.before.program-refusal.ensures p.if1.false
-    (later_refusal_lem e.before.entries-refusal.ensures e.if2.false
-    (later_refusal_lem (absent b.before) b.if3.false (first_refusal _ (size c.before) c.if4.true)))
+    later_refusal_lem c.program_refusal-program.ensures c.if-program-ne0.false
+    (later_refusal_lem c.entries_refusal-entered.ensures c.if-entered-ne0.false
+    (later_refusal_lem (absent c.before.before.before) c.if-absent-ne0.false (first_refusal _ (size c.before) c.if-size-ne0.true)))
 
-room-refusal-requires-2 : tie.Need-room-refusal-requires-2
+room-refusal-requires-2 : tie.Need-room_refusal-requires
 room-refusal-requires-2 c κs = search rules
 
-returns-5 : tie.Need-returns-5
+returns-5 : tie.Need-returns
 returns-5 c =
-    let r = c.before in
-    let b = r.before.before in
-    let e = b.before.before in
-    let p = e.before.before in
-    later_refusal_lem p.before.program-refusal.ensures p.if1.false
-    (later_refusal_lem e.before.entries-refusal.ensures e.if2.false
-    (later_refusal_lem (absent b.before) b.if3.false (later_refusal_lem (size r.before) r.if4.false c.room-refusal2.ensures)))
+    later_refusal_lem c.program_refusal-program.ensures c.if-program-ne0.false
+    (later_refusal_lem c.entries_refusal-entered.ensures c.if-entered-ne0.false
+    (later_refusal_lem (absent c.before.before.before.before) c.if-absent-ne0.false (later_refusal_lem (size c.before.before) c.if-size-ne0.false c.room_refusal.ensures)))
 
-pub unpack-refusal-spec : {M : Type 1} → statement M
-unpack-refusal-spec =
+pub unpack_refusal_spec : {M : Type 1} → statement M
+unpack_refusal_spec =
     tie.close
     (tie.spec
     program-refusal-requires

@@ -19,153 +19,138 @@ use Rattle.font_unpack.proofs.Written.{Taken, taken, refusal_as, kept_answer, ow
 use Rattle.font_unpack.proofs.unpacked_font.Statement.{statement}
 use Rattle.font_unpack.proofs.unpacked_font.Tie as tie
 
-abbrev start : tie.After-find-part → tie.Start
+abbrev start : tie.After-find_part-own → tie.Start
 start f = f.before.before.before.before.before.before.before.before
 
 -- the outputs once they are zeroed
-abbrev zeros : tie.After-find-part → List ℤ
-zeros f = f.before.before.before.before.before.before.zero-i32.new.0
+abbrev zeros : tie.After-find_part-own → List ℤ
+zeros f = f.zero_i32.new.s
 
-abbrev zerosOut : tie.After-find-part → List ℤ
-zerosOut f = f.before.before.before.zero-i322.new.0
+abbrev zerosOut : tie.After-find_part-own → List ℤ
+zerosOut f = f.zero_i32-2.new.s
 
-zeroed : (f : tie.After-find-part) → zeros f ≡ replicate (length (start f).args.out.now) (pos 0)
-zeroed f = f.before.before.before.before.before.before.zero-i32.ensures
+zeroed : (f : tie.After-find_part-own) → zeros f ≡ replicate (length (start f).args.out.now) (pos 0)
+zeroed f = f.zero_i32.ensures
 
-zeroedOut : (f : tie.After-find-part) → zerosOut f ≡ replicate (length (start f).args.entries-out.now) (pos 0)
-zeroedOut f = f.before.before.before.zero-i322.ensures
+zeroedOut : (f : tie.After-find_part-own) → zerosOut f ≡ replicate (length (start f).args.entries_out.now) (pos 0)
+zeroedOut f = f.zero_i32-2.ensures
 
 -- the left entry, by its word
-lent : (f : tie.After-find-part) → number_of f.before.word_of.result ≡ (start f).args.left_entry_lem
-lent f = lent_number (start f).args.left_entry_lem (start f).ranges.left_entry_lem f.before.word_of.ensures
+lent : (f : tie.After-find_part-own) → number_of f.word_of-left.result ≡ (start f).args.left_entry
+lent f = lent_number (start f).args.left_entry (start f).ranges.left_entry f.word_of-left.ensures
 
-part : (f : tie.After-find-part) → let a = (start f).args in FindsPart a.instructions.now a.entries.now a.left_entry_lem f.find-part.result
+part : (f : tie.After-find_part-own) → let a = (start f).args in FindsPart a.instructions.now a.entries.now a.left_entry f.find_part-own.result
 part f =
     let a = (start f).args in
-    subst (λ (z : ℤ). FindsPart a.instructions.now a.entries.now z f.find-part.result) (lent f) f.find-part.ensures
+    subst (λ (z : ℤ). FindsPart a.instructions.now a.entries.now z f.find_part-own.result) (lent f) f.find_part-own.ensures
 
 -- what is refused
-asked : (r : tie.After-unpack-refusal) → let a = (start r.before).args in
-    r.unpack-refusal.result ≡ unpack_font_refusal a.instructions.now a.entries.now a.left_entry_lem (length a.out.now) (length a.entries-out.now)
+asked : (r : tie.After-unpack_refusal-refusal) → let a = (start r.before).args in
+    r.unpack_refusal-refusal.result ≡ unpack_font_refusal a.instructions.now a.entries.now a.left_entry (length a.out.now) (length a.entries_out.now)
 asked r =
     let s = start r.before in
     let a = s.args in
-    refusal_as a.instructions.now a.entries.now r.unpack-refusal.ensures (number_word a.left_entry_lem s.fits.left_entry_lem)
-    (zeroed_length a.out.now (zeroed r.before)) (zeroed_length a.entries-out.now (zeroedOut r.before))
+    refusal_as a.instructions.now a.entries.now r.unpack_refusal-refusal.ensures (number_word a.left_entry s.ranges.left_entry)
+    (zeroed_length a.out.now (zeroed r.before)) (zeroed_length a.entries_out.now (zeroedOut r.before))
 
 -- nothing is
-none : (e : tie.Else1) → let a = (start e.before.before).args in
-    unpack_font_refusal a.instructions.now a.entries.now a.left_entry_lem (length a.out.now) (length a.entries-out.now) ≡ 0
-none e = sym (asked e.before) ∙ e.if1.false
+none : (e : tie.Else-refusal-ne0) → let a = (start e.before.before).args in
+    unpack_font_refusal a.instructions.now a.entries.now a.left_entry (length a.out.now) (length a.entries_out.now) ≡ 0
+none e = sym (asked e.before) ∙ e.if-refusal-ne0.false
 
-known : (e : tie.Else1) → let a = (start e.before.before).args in
-    Taken a.instructions.now a.entries.now a.left_entry_lem (length a.out.now) (length a.entries-out.now)
+known : (e : tie.Else-refusal-ne0) → let a = (start e.before.before).args in
+    Taken a.instructions.now a.entries.now a.left_entry (length a.out.now) (length a.entries_out.now)
 known e =
     let a = (start e.before.before).args in
-    taken a.instructions.now a.entries.now a.left_entry_lem (length a.out.now) (length a.entries-out.now) (none e)
+    taken a.instructions.now a.entries.now a.left_entry (length a.out.now) (length a.entries_out.now) (none e)
 
 -- what is written, whatever is answered
-written : (w : tie.After-put-entries) (t : UnpackedFont) → let u = w.before.before.before in
-    let a = (start u.before.before.before.before).args in
-    unpacked_font_reply t ≡ reply_of 0 (unpacked_font_values a.instructions.now a.entries.now a.left_entry_lem) →
-    UnpacksFont a.instructions.now a.entries.now a.left_entry_lem a.out.now a.entries-out.now t u.put-own.new.1.1.1.0
-    w.put_entries.new.1.1.0
+written : (w : tie.After-put_entries) (t : UnpackedFont) → let a = (start w.before.before.before.before.before.before.before).args in
+    unpacked_font_reply t ≡ reply_of 0 (unpacked_font_values a.instructions.now a.entries.now a.left_entry) →
+    UnpacksFont a.instructions.now a.entries.now a.left_entry a.out.now a.entries_out.now t w.put_own.new.out
+    w.put_entries.new.out
 written w t h =
-    let u = w.before.before.before in
-    let e = u.before.before in
-    let f = e.before.before in
-    let a = (start f).args in
-    let r = f.find-part.result in
-    unpacks_taken a.instructions.now a.entries.now a.left_entry_lem a.out.now a.entries-out.now (zeros f) (zerosOut f) (zeroed f) (zeroedOut f) t
-    r.front r.count u.put-own.new.1.1.1.0 w.put_entries.new.1.1.0 (none e) (part f).front (part f).own u.put-own.ensures
+    let a = (start (w.before.before.before.before.before.before.before)).args in
+    let r = w.find_part-own.result in
+    unpacks_taken a.instructions.now a.entries.now a.left_entry a.out.now a.entries_out.now (zeros (w.before.before.before.before.before.before.before)) (zerosOut (w.before.before.before.before.before.before.before)) (zeroed (w.before.before.before.before.before.before.before)) (zeroedOut (w.before.before.before.before.before.before.before)) t
+    r.front r.count w.put_own.new.out w.put_entries.new.out (none (w.before.before.before.before.before)) (part (w.before.before.before.before.before.before.before)).front (part (w.before.before.before.before.before.before.before)).own w.put_own.ensures
     w.put_entries.ensures h
 
-zero-i32-requires : tie.Need-zero-i32-requires
+zero-i32-requires : tie.Need-zero_i32-requires
 zero-i32-requires c κs = search rules
 
-zero-i32-requires-2 : tie.Need-zero-i32-requires-2
+zero-i32-requires-2 : tie.Need-zero_i32-requires-2
 zero-i32-requires-2 c κs = search rules
 
-word-of-requires : tie.Need-word-of-requires
+word-of-requires : tie.Need-word_of-left-requires
 word-of-requires c κs = search rules
 
-find-part-requires : tie.Need-find-part-requires
+find-part-requires : tie.Need-find_part-own-requires
 find-part-requires c κs = search rules
 
-unpack-refusal-requires : tie.Need-unpack-refusal-requires
+unpack-refusal-requires : tie.Need-unpack_refusal-refusal-requires
 unpack-refusal-requires c κs =
     let s = start c in
     let a = s.args in
-    (part c).own ∙ ap (λ (z : ℤ). own_part_count a.instructions.now a.entries.now z) (sym (number_word a.left_entry_lem s.fits.left_entry_lem))
+    (part c).own ∙ ap (λ (z : ℤ). own_part_count a.instructions.now a.entries.now z) (sym (number_word a.left_entry s.ranges.left_entry))
 
-same_length : tie.Need-same-length
+same_length : tie.Need-shape_of-out-then-refusal-ne0
 same_length c = search rules
 
-same-length-2 : tie.Need-same-length-2
+same-length-2 : tie.Need-shape_of-entries_out-then-refusal-ne0
 same-length-2 c = search rules
 
-returns : tie.Need-returns
+returns : tie.Need-returns-then-refusal-ne0
 returns c =
-    let r = c.before in
-    let f = r.before in
-    let a = (start f).args in
-    unpacks_refused a.instructions.now a.entries.now a.left_entry_lem a.out.now a.entries-out.now (zeros f) (zerosOut f) (zeroed f) (zeroedOut f)
-    r.unpack-refusal.result (asked r) c.if1.true
+    let a = (start (c.before.before)).args in
+    unpacks_refused a.instructions.now a.entries.now a.left_entry a.out.now a.entries_out.now (zeros (c.before.before)) (zerosOut (c.before.before)) (zeroed (c.before.before)) (zeroedOut (c.before.before))
+    c.unpack_refusal-refusal.result (asked (c.before)) c.if-refusal-ne0.true
 
-put-own-requires : tie.Need-put-own-requires
+put-own-requires : tie.Need-put_own-requires
 put-own-requires c κs =
-    let e = c.before in
-    let f = e.before.before in
-    let a = (start f).args in
-    let w = part_within a.instructions.now a.entries.now a.left_entry_lem in
-    (omega (arith, (part f).front, (part f).own, w), omega (arith, (part f).own, (known e).size, zeroed_length a.out.now (zeroed f)))
+    let a = (start (c.before.before.before)).args in
+    let w = part_within a.instructions.now a.entries.now a.left_entry in
+    (omega (arith, (part (c.before.before.before)).front, (part (c.before.before.before)).own, w), omega (arith, (part (c.before.before.before)).own, (known (c.before)).size, zeroed_length a.out.now (zeroed (c.before.before.before))))
 
-put-entries-requires : tie.Need-put-entries-requires
+put-entries-requires : tie.Need-put_entries-requires
 put-entries-requires c κs =
-    let e = c.before.before.before.before in
-    let f = e.before.before in
-    ((known e).entered, omega (arith, (known e).entry_size, zeroed_length (start f).args.entries-out.now (zeroedOut f)))
+    ((known (c.before.before.before.before)).entered, omega (arith, (known (c.before.before.before.before)).entry_size, zeroed_length (start (c.before.before.before.before.before.before)).args.entries_out.now (zeroedOut (c.before.before.before.before.before.before))))
 
-moved-back-requires : tie.Need-moved-back-requires
+moved-back-requires : tie.Need-moved_back-requires
 moved-back-requires c κs = search rules
 
-number-of-requires : tie.Need-number-of-requires
+number-of-requires : tie.Need-number_of-requires
 number-of-requires c κs = search rules
 
-same-length-3 : tie.Need-same-length-3
+same-length-3 : tie.Need-shape_of-out-then-own
 same-length-3 c = search rules
 
-same-length-4 : tie.Need-same-length-4
+same-length-4 : tie.Need-shape_of-entries_out-then-own
 same-length-4 c = search rules
 
-returns-2 : tie.Need-returns-2
+returns-2 : tie.Need-returns-then-own
 returns-2 c =
-    let m = c.before in
-    let w = m.before.before.before in
-    let f = w.before.before.before.before.before.before.before in
-    let a = (start f).args in
-    let r = f.find-part.result in
-    let l : c.number_of_lem.result ≡ left_moved_back a.left_entry_lem r.front =
-    c.number_of_lem.ensures ∙ m.moved_back.ensures ∙ ap (λ (z : ℤ). left_moved_back z r.front) (lent f) in
-    written w (Own r.front r.count _)
-    (own_answer a.instructions.now a.entries.now a.left_entry_lem (sym (part f).packed ∙ m.before.if2.true) (part f).front (part f).own
-    (number_word c.number_of_lem.result (record { sfits = c.number_of_lem.type-inv }) ∙ l))
+    let a = (start (c.before.before.before.before.before.before.before.before.before.before.before)).args in
+    let r = c.find_part-own.result in
+    let l : c.number_of.result ≡ left_moved_back a.left_entry r.front =
+    c.number_of.ensures ∙ c.moved_back.ensures ∙ ap (λ (z : ℤ). left_moved_back z r.front) (lent (c.before.before.before.before.before.before.before.before.before.before.before)) in
+    written (c.before.before.before.before) (Own r.front r.count _)
+    (own_answer a.instructions.now a.entries.now a.left_entry (sym (part (c.before.before.before.before.before.before.before.before.before.before.before)).packed ∙ c.if-own.true) (part (c.before.before.before.before.before.before.before.before.before.before.before)).front (part (c.before.before.before.before.before.before.before.before.before.before.before)).own
+    (number_word c.number_of.result (record { sfits = c.number_of.type_inv }) ∙ l))
 
-same-length-5 : tie.Need-same-length-5
+same-length-5 : tie.Need-shape_of-out-else-own
 same-length-5 c = search rules
 
-same-length-6 : tie.Need-same-length-6
+same-length-6 : tie.Need-shape_of-entries_out-else-own
 same-length-6 c = search rules
 
-returns-3 : tie.Need-returns-3
+returns-3 : tie.Need-returns-else-own
 returns-3 c =
-    let w = c.before.before in
-    let f = w.before.before.before.before.before.before.before in
-    let a = (start f).args in
-    written w Kept (kept_answer a.instructions.now a.entries.now a.left_entry_lem (sym (part f).packed ∙ c.if2.false))
+    let a = (start (c.before.before.before.before.before.before.before.before.before)).args in
+    written (c.before.before) Kept (kept_answer a.instructions.now a.entries.now a.left_entry (sym (part (c.before.before.before.before.before.before.before.before.before)).packed ∙ c.if-own.false))
 
-pub unpacked-font-spec : {M : Type 1} → statement M
-unpacked-font-spec =
+pub unpacked_font_spec : {M : Type 1} → statement M
+unpacked_font_spec =
     tie.close
     (tie.spec
     zero-i32-requires

@@ -53,8 +53,7 @@ part-put-text-start c = omega arith
 
 part-put-text-end : tie.Need-slice_bounds-put_text-end invariant-loop decreases-loop
 part-put-text-end c =
-    let l = c.before.before.before.loop in
-    omega (arith, written_long c.before.before.before.before.before.args.n l.digits l.first l.rest l.invariant)
+    omega (arith, written_long c.args.n c.loop-rest.digits c.loop-rest.first c.loop-rest.rest c.loop-rest.invariant)
 
 put-text-requires : tie.Need-put_text-requires invariant-loop decreases-loop
 put-text-requires c κs = tt
@@ -65,12 +64,6 @@ same_length c = search rules
 returns : tie.Need-returns invariant-loop decreases-loop
 returns c =
     puts_written c.args.n c.loop-rest.digits c.loop-rest.first c.loop-rest.rest (omega arith) c.loop-rest.invariant c.put_text.ensures
-
-asked-slice_bounds-put_text-start : tie.Need-slice_bounds-put_text-start invariant-loop decreases-loop
-asked-slice_bounds-put_text-start = search rules
-
-asked-slice_bounds-put_text-end : tie.Need-slice_bounds-put_text-end invariant-loop decreases-loop
-asked-slice_bounds-put_text-end = search rules
 
 pub put_decimal_spec : {M : Type 1} → statement M
 put_decimal_spec =
@@ -89,8 +82,8 @@ put_decimal_spec =
     add-digits-2
     array-write-digits-2
     sub-put-text
-    asked-slice_bounds-put_text-start
-    asked-slice_bounds-put_text-end
+    part-put-text-start
+    part-put-text-end
     put-text-requires
     same_length
     returns)

@@ -5,88 +5,78 @@ use borrow.Author.Rules.{rules}
 use Rattle.read_step.proofs.change_items.Statement.{statement}
 use Rattle.read_step.proofs.change_items.Tie as tie
 
-mul-remove : tie.Need-overflow-mul-remove
+mul-remove : tie.Need-overflow_mul-count
 mul-remove c = search rules
 
-mul-remove-2 : tie.Need-overflow-mul-remove-2
+mul-remove-2 : tie.Need-overflow_mul-count-2
 mul-remove-2 c = search rules
 
-sub-remove : tie.Need-overflow-sub-remove
+sub-remove : tie.Need-overflow_sub-room
 sub-remove c = search rules
 
 remove-requires : tie.Need-remove-requires
 remove-requires c κs = search rules
 
-mul-remove-3 : tie.Need-overflow-mul-remove-3
+mul-remove-3 : tie.Need-overflow_mul-cursor
 mul-remove-3 c = search rules
 
-add-remove : tie.Need-overflow-add-remove
+add-remove : tie.Need-overflow_add-cursor
 add-remove c = search rules
 
-mul-remove-4 : tie.Need-overflow-mul-remove-4
+mul-remove-4 : tie.Need-overflow_mul-change
 mul-remove-4 c = search rules
 
-sub-remove-2 : tie.Need-overflow-sub-remove-2
+sub-remove-2 : tie.Need-overflow_sub-change
 sub-remove-2 c = search rules
 
 remove-requires-2 : tie.Need-remove-requires-2
 remove-requires-2 c κs = search rules
 
-mul-remove-5 : tie.Need-overflow-mul-remove-5
+mul-remove-5 : tie.Need-overflow_mul-cursor-2
 mul-remove-5 c = search rules
 
-mul-remove-6 : tie.Need-overflow-mul-remove-6
+mul-remove-6 : tie.Need-overflow_mul-change-2
 mul-remove-6 c = search rules
 
-sub-remove-3 : tie.Need-overflow-sub-remove-3
+sub-remove-3 : tie.Need-overflow_sub-change-2
 sub-remove-3 c = search rules
 
 remove-requires-3 : tie.Need-remove-requires-3
 remove-requires-3 c κs = search rules
 
-same_length : tie.Need-same-length
+same_length : tie.Need-shape_of-items-then-change-eq0
 same_length c = search rules
 
-returns : tie.Need-returns
+returns : tie.Need-returns-then-change-eq0
 returns c =
-    let o = c.before.before.before in
-    let p = o.before.before.before.before in
-    let q = p.before.before.before.before in
-    let s = q.before.before in
-    let a = s.args in
-    changed_less a.change a.items.now a.count a.cursor s.requires.there s.requires.within s.requires.left s.requires.right q.remove.new.0
-    p.remove2.new.0 o.remove3.new.0 q.remove.ensures p.remove2.ensures o.remove3.ensures c.if1.true
+    let a = c.args in
+    changed_less a.change a.items.now a.count a.cursor c.requires.there c.requires.within c.requires.left c.requires.right c.remove.new.s
+    c.remove-2.new.s c.remove-3.new.s c.remove.ensures c.remove-2.ensures c.remove-3.ensures c.if-change-eq0.true
 
-mul-insert : tie.Need-overflow-mul-insert
+mul-insert : tie.Need-overflow_mul-cursor-3
 mul-insert c = search rules
 
-mul-insert-2 : tie.Need-overflow-mul-insert-2
+mul-insert-2 : tie.Need-overflow_mul-change-3
 mul-insert-2 c = search rules
 
-add-insert : tie.Need-overflow-add-insert
+add-insert : tie.Need-overflow_add-cursor-2
 add-insert c = search rules
 
 insert-requires : tie.Need-insert-requires
 insert-requires c κs = search rules
 
-same-length-2 : tie.Need-same-length-2
+same-length-2 : tie.Need-shape_of-items
 same-length-2 c = search rules
 
-returns-2 : tie.Need-returns-2
+returns-2 : tie.Need-returns
 returns-2 c =
-    let i = c.before in
-    let e = i.before.before.before in
-    let o = e.before.before.before in
-    let p = o.before.before.before.before in
-    let q = p.before.before.before.before in
-    let s = q.before.before in
-    let a = s.args in
-    changed_more a.change a.items.now a.count a.cursor s.requires.there s.requires.within s.requires.left s.requires.right q.remove.new.0
-    p.remove2.new.0 o.remove3.new.0 q.remove.ensures p.remove2.ensures o.remove3.ensures i.insert.new.0
-    e.if1.false s.requires.kind s.requires.room i.insert.ensures
+    let a = c.args in
+    changed_more a.change a.items.now a.count a.cursor c.requires.there c.requires.within c.requires.left c.requires.right c.remove.new.s
+    c.remove-2.new.s c.remove-3.new.s c.remove.ensures c.remove-2.ensures c.remove-3.ensures c.insert.new.s
+    c.if-change-eq0.false c.requires.kind c.requires.room c.insert.ensures
 
-pub change-items-spec : {M : Type 1} → statement M
-change-items-spec =
+pub change_items_spec : {M : Type 1} → statement M
+change_items_spec =
     tie.close
     (tie.spec
     mul-remove

@@ -14,43 +14,35 @@ use Rattle.read_step.proofs.one_step.Tie as tie
 stands-requires : tie.Need-stands-requires
 stands-requires c κs = search rules
 
-step-standing-requires : tie.Need-step-standing-requires
+step-standing-requires : tie.Need-step_standing-requires
 step-standing-requires c κs =
-    let t = c.before in
-    let k = t.before in
-    let a = k.before.args in
-    standing_known k.stands.result a.items.now a.count a.cursor k.stands.ensures t.if1.true
+    let a = c.args in
+    standing_known c.stands.result a.items.now a.count a.cursor c.stands.ensures c.if-stands.true
 
-same_length : tie.Need-same-length
+same_length : tie.Need-shape_of-items-then-stands
 same_length c = search rules
 
-returns : tie.Need-returns
+returns : tie.Need-returns-then-stands
 returns c = λ b.
-    let p = c.before in
-    let s = p.before.before.before.before in
-    let a = s.args in
-    lent_as (λ (f : Font) (r : OneStep). StepsOnce (rules_of f) a.items.now a.count a.cursor r p.step-standing.new.1.1.1.1.1.0)
-    a.instructions.now a.kerns.now a.entries.now b _ a.left_entry_lem _ a.design-size p.step-standing.result p.step-standing.result
-    (p.step-standing.ensures b) refl (number_word a.left_entry_lem s.ranges.left_entry_lem) (number_word a.design-size s.ranges.design-size)
+    let a = c.args in
+    lent_as (λ (f : Font) (r : OneStep). StepsOnce (rules_of f) a.items.now a.count a.cursor r c.step_standing.new.items)
+    a.instructions.now a.kerns.now a.entries.now b _ a.left_entry _ a.design_size c.step_standing.result c.step_standing.result
+    (c.step_standing.ensures b) refl (number_word a.left_entry c.ranges.left_entry) (number_word a.design_size c.ranges.design_size)
 
-zero-i32-requires : tie.Need-zero-i32-requires
+zero-i32-requires : tie.Need-zero_i32-requires
 zero-i32-requires c κs = search rules
 
-same-length-2 : tie.Need-same-length-2
+same-length-2 : tie.Need-shape_of-items
 same-length-2 c = search rules
 
-returns-2 : tie.Need-returns-2
+returns-2 : tie.Need-returns
 returns-2 c = λ b.
-    let z = c.before in
-    let t = z.before.before in
-    let k = t.before in
-    let s = k.before in
-    let a = s.args in
-    not_standing (rules_of (font_of a.instructions.now a.kerns.now a.entries.now b a.left_entry_lem a.design-size)) a.items.now a.count
-    a.cursor z.zero-i32.new.0 k.stands.result k.stands.ensures t.if1.false z.zero-i32.ensures
+    let a = c.args in
+    not_standing (rules_of (font_of a.instructions.now a.kerns.now a.entries.now b a.left_entry a.design_size)) a.items.now a.count
+    a.cursor c.zero_i32.new.s c.stands.result c.stands.ensures c.if-stands.false c.zero_i32.ensures
 
-pub one-step-spec : {M : Type 1} → statement M
-one-step-spec =
+pub one_step_spec : {M : Type 1} → statement M
+one_step_spec =
     tie.close
     (tie.spec
     stands-requires

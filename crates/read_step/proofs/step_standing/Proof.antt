@@ -17,117 +17,94 @@ use Rattle.read_step.proofs.step_standing.Statement.{statement}
 use Rattle.read_step.proofs.step_standing.Tie as tie
 
 -- the rules of the font as it was lent
-abbrev rules : tie.Start → ℤ → Rules
-rules s b =
-    rules_of (font_of s.args.instructions.now s.args.kerns.now s.args.entries.now b s.args.left_entry_lem s.args.design-size)
+abbrev font_rules : tie.Start → ℤ → Rules
+font_rules s b =
+    rules_of (font_of s.args.instructions.now s.args.kerns.now s.args.entries.now b s.args.left_entry s.args.design_size)
 
 -- the change at the cursor, of the font as it was lent
-change : (c : tie.After-change-at) (b : ℤ) →
-    let a = c.before.before.before.args in
-    ChangesAs (replaced_at (rules c.before.before.before b) a.items.now a.cursor) (stand_item a.items.now a.cursor)
-    (stand_item a.items.now (suc a.cursor)) c.change-at.result
+change : (c : tie.After-change_at-change) (b : ℤ) →
+    let a = c.args in
+    ChangesAs (replaced_at (font_rules c.before.before b) a.items.now a.cursor) (stand_item a.items.now a.cursor)
+    (stand_item a.items.now (suc a.cursor)) c.change_at-change.result
 change c b =
-    let s = c.before.before.before in
-    let a = s.args in
+    let a = c.args in
     lent_as
     (λ (f : Font) (r : Change).
     ChangesAs (replaced_at (rules_of f) a.items.now a.cursor) (stand_item a.items.now a.cursor) (stand_item a.items.now (suc a.cursor)) r)
-    a.instructions.now a.kerns.now a.entries.now b _ a.left_entry_lem _ a.design-size c.change-at.result c.change-at.result
-    (c.change-at.ensures b) refl (number_word a.left_entry_lem s.ranges.left_entry_lem) (number_word a.design-size s.ranges.design-size)
+    a.instructions.now a.kerns.now a.entries.now b _ a.left_entry _ a.design_size c.change_at-change.result c.change_at-change.result
+    (c.change_at-change.ensures b) refl (number_word a.left_entry c.ranges.left_entry) (number_word a.design_size c.ranges.design_size)
 
-add-if1 : tie.Need-overflow-add-if1
+add-if1 : tie.Need-overflow_add-cursor
 add-if1 c = search rules
 
-mul-remove : tie.Need-overflow-mul-remove
+mul-remove : tie.Need-overflow_mul-count
 mul-remove c = search rules
 
-mul-remove-2 : tie.Need-overflow-mul-remove-2
+mul-remove-2 : tie.Need-overflow_mul-count-then-count-cursor
 mul-remove-2 c = search rules
 
-sub-remove : tie.Need-overflow-sub-remove
+sub-remove : tie.Need-overflow_sub-room
 sub-remove c = search rules
 
 remove-requires : tie.Need-remove-requires
 remove-requires c κs = search rules
 
-same_length : tie.Need-same-length
+same_length : tie.Need-shape_of-items-then-count-cursor
 same_length c = search rules
 
-returns : tie.Need-returns
+returns : tie.Need-returns-then-count-cursor
 returns c = λ b.
-    let r = c.before in
-    let t = r.before.before in
-    let s = t.before in
-    let a = s.args in
-    ended (rules s b) a.items.now a.count a.cursor r.remove.new.0 s.requires.0 s.requires.1 t.if1.true r.remove.ensures
+    let a = c.args in
+    ended (font_rules (c.before.before.before.before) b) a.items.now a.count a.cursor c.remove.new.s c.requires.0 c.requires.1 c.if-count-cursor.true c.remove.ensures
 
-change-at-requires : tie.Need-change-at-requires
+change-at-requires : tie.Need-change_at-change-requires
 change-at-requires c κs = search rules
 
-count-after-requires : tie.Need-count-after-requires
+count-after-requires : tie.Need-count_after-n-requires
 count-after-requires c κs =
     let q = change c (pos 0) in
-    let s = c.before.before.before in
-    omega (arith, q.left, q.right, s.requires, s.well-formed.1.1.1.1.1.0, c.before.before.if1.false)
+    omega (arith, q.left, q.right, c.requires, c.well_formed.1.1.1.1.1.0, c.if-count-cursor.false)
 
-zero-i32-requires : tie.Need-zero-i32-requires
+zero-i32-requires : tie.Need-zero_i32-requires
 zero-i32-requires c κs = search rules
 
-same-length-2 : tie.Need-same-length-2
+same-length-2 : tie.Need-shape_of-items-then-room-n
 same-length-2 c = search rules
 
-returns-2 : tie.Need-returns-2
+returns-2 : tie.Need-returns-then-room-n
 returns-2 c = λ b.
-    let z = c.before in
-    let t = z.before.before in
-    let n = t.before in
-    let g = n.before in
-    let e = g.before.before in
-    let s = e.before in
-    let a = s.args in
-    too_long (rules s b) a.items.now a.count a.cursor z.zero-i32.new.0 s.requires.0 s.requires.1 e.if1.false g.change-at.result
-    (change g b) n.count-after.result n.count-after.ensures t.if2.true z.zero-i32.ensures
+    let a = c.args in
+    too_long (font_rules (c.before.before.before.before.before.before.before) b) a.items.now a.count a.cursor c.zero_i32.new.s c.requires.0 c.requires.1 c.if-count-cursor.false c.change_at-change.result
+    (change (c.before.before.before.before.before) b) c.count_after-n.result c.count_after-n.ensures c.if-room-n.true c.zero_i32.ensures
 
-change-items-requires : tie.Need-change-items-requires
+change-items-requires : tie.Need-change_items-requires
 change-items-requires c κs =
-    let n = c.before.before in
-    let g = n.before in
-    let e = g.before.before in
-    let q = change g (pos 0) in
-    let s = e.before in
+    let q = change (c.before.before.before) (pos 0) in
     record {
-      there = omega (arith, e.if1.false);
-      within = omega (arith, s.requires);
+      there = omega (arith, c.if-count-cursor.false);
+      within = omega (arith, c.requires);
       left = q.left;
       right = q.right;
       kind = q.kind;
-      room = omega (arith, n.count-after.ensures, c.before.if2.false);
+      room = omega (arith, c.count_after-n.ensures, c.if-room-n.false);
     }
 
-add-moved : tie.Need-overflow-add-moved
+add-moved : tie.Need-overflow_add-moved
 add-moved c =
-    let g = c.before.before.before.before.before.before in
-    let q = change g (pos 0) in
-    let s = g.before.before.before in
-    omega (arith, q.advance, s.requires, s.well-formed.1.1.1.1.1.0)
+    let q = change (c.before.before.before.before.before.before) (pos 0) in
+    omega (arith, q.advance, c.requires, c.well_formed.1.1.1.1.1.0)
 
-same-length-3 : tie.Need-same-length-3
+same-length-3 : tie.Need-shape_of-items
 same-length-3 c = search rules
 
-returns-3 : tie.Need-returns-3
+returns-3 : tie.Need-returns
 returns-3 c = λ b.
-    let i = c.before.before in
-    let t = i.before.before in
-    let n = t.before in
-    let g = n.before in
-    let e = g.before.before in
-    let s = e.before in
-    let a = s.args in
-    stepped (rules s b) a.items.now a.count a.cursor i.change-items.new.0 s.requires.0 s.requires.1 e.if1.false g.change-at.result
-    (change g b) n.count-after.result n.count-after.ensures t.if2.false i.change-items.ensures
+    let a = c.args in
+    stepped (font_rules (c.before.before.before.before.before.before.before.before) b) a.items.now a.count a.cursor c.change_items.new.items c.requires.0 c.requires.1 c.if-count-cursor.false c.change_at-change.result
+    (change (c.before.before.before.before.before.before) b) c.count_after-n.result c.count_after-n.ensures c.if-room-n.false c.change_items.ensures
 
-pub step-standing-spec : {M : Type 1} → statement M
-step-standing-spec =
+pub step_standing_spec : {M : Type 1} → statement M
+step_standing_spec =
     tie.close
     (tie.spec
     add-if1

@@ -60,9 +60,9 @@ returns-2 c =
     let a = c.args in
     subst (λ (y : ℤ). SetsFound (next_word_items a.first a.pairs.now a.ops.now y (held_word a.word) (length a.items.now))
     (word_found a.word) a.items.now
-    (record { answer = Word; word = a.word; count = c.k-1.given.0.0 }) c.set_items.new.items) (number_word a.boundary c.ranges.boundary)
+    (record { answer = Word; word = a.word; count = c.in-Count.k }) c.set_items.new.items) (number_word a.boundary c.ranges.boundary)
     (found_counted (next_word_items a.first a.pairs.now a.ops.now (number_of (word_of a.boundary)) (held_word a.word) (length a.items.now))
-    (word_found a.word) a.items.now c.k-1.given.0.0 (tells_as c.k-1.given.1 c.set_items.ensures))
+    (word_found a.word) a.items.now c.in-Count.k (tells_as c.in-Count.is c.set_items.ensures))
 
 pub set_found_spec : {M : Type 1} → statement M
 set_found_spec =

@@ -19,10 +19,14 @@ rest-requires c κs = search rules
 
 returns : tie.Need-returns
 returns c =
-    let j = c.before in
-    let i = j.before in
-    let numbers = i.before.args.numbers.now in
-    c.rest.ensures ∙ ap (λ (n : ℕ). part_of numbers n (length numbers)) (j.after2.ensures ∙ ap (after_of 2 numbers) i.after.ensures)
+    let numbers = c.args.numbers.now in
+    c.rest.ensures ∙ ap (λ (n : ℕ). part_of numbers n (length numbers)) (c.after-2.ensures ∙ ap (after_of 2 numbers) c.after.ensures)
 
-pub past-spec : {M : Type 1} → statement M
-past-spec = tie.close (tie.spec after-requires after-requires-2 rest-requires returns)
+pub past_spec : {M : Type 1} → statement M
+past_spec =
+    tie.close
+    (tie.spec
+    after-requires
+    after-requires-2
+    rest-requires
+    returns)

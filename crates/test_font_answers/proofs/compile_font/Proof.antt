@@ -5,56 +5,56 @@ use borrow.Author.Rules.{rules}
 use Rattle.test_font_answers.proofs.compile_font.Statement.{statement}
 use Rattle.test_font_answers.proofs.compile_font.Tie as tie
 
-rest-requires : tie.Need-rest-requires
+rest-requires : tie.Need-rest-font-requires
 rest-requires c κs = search rules
 
-rows-requires : tie.Need-rows-requires
+rows-requires : tie.Need-rows-work-requires
 rows-requires c κs = search rules
 
-instructions-of-requires : tie.Need-instructions-of-requires
+instructions-of-requires : tie.Need-instructions_of-requires
 instructions-of-requires c κs = search rules
 
-kerns-of-requires : tie.Need-kerns-of-requires
+kerns-of-requires : tie.Need-kerns_of-requires
 kerns-of-requires c κs = search rules
 
-entries-of-requires : tie.Need-entries-of-requires
+entries-of-requires : tie.Need-entries_of-requires
 entries-of-requires c κs = search rules
 
-from-end-requires : tie.Need-from-end-requires
+from-end-requires : tie.Need-from_end-requires
 from-end-requires c κs = search rules
 
-number-at-requires : tie.Need-number-at-requires
+number-at-requires : tie.Need-number_at-requires
 number-at-requires c κs = search rules
 
-from-end-requires-2 : tie.Need-from-end-requires-2
+from-end-requires-2 : tie.Need-from_end-requires-2
 from-end-requires-2 c κs = search rules
 
-number-at-requires-2 : tie.Need-number-at-requires-2
+number-at-requires-2 : tie.Need-number_at-requires-2
 number-at-requires-2 c κs = search rules
 
-number-at-requires-3 : tie.Need-number-at-requires-3
+number-at-requires-3 : tie.Need-number_at-requires-3
 number-at-requires-3 c κs = search rules
 
-slice-aggregate-compile : tie.Need-slice-aggregate-compile
+slice-aggregate-compile : tie.Need-slice_bounds-compile-end
 slice-aggregate-compile c = search rules
 
 compile-requires : tie.Need-compile-requires
 compile-requires c κs = search rules
 
-same_length : tie.Need-same-length
+same_length : tie.Need-shape_of-pairs
 same_length c = search rules
 
-same-length-2 : tie.Need-same-length-2
+same-length-2 : tie.Need-shape_of-ops
 same-length-2 c = search rules
 
-same-length-3 : tie.Need-same-length-3
+same-length-3 : tie.Need-shape_of-loops
 same-length-3 c = search rules
 
 returns : tie.Need-returns
-returns c = numbered c.before.before.before.before.compile.ensures
+returns c = numbered c.compile.ensures
 
-pub compile-font-spec : {M : Type 1} → statement M
-compile-font-spec =
+pub compile_font_spec : {M : Type 1} → statement M
+compile_font_spec =
     tie.close
     (tie.spec
     rest-requires

@@ -20,75 +20,65 @@ use Rattle.text_convert.proofs.ligcols_convert.Statement.{statement}
 use Rattle.text_convert.proofs.ligcols_convert.Tie as tie
 
 -- what was answered
-told : (a : tie.After-convert) (r : Written) → r ≡ a.convert.result → let s = a.before.before.before.before in
-    AnswersBytes (convert_number (read_text s.args.text.now) (converted_text s.args.text.now) (length s.args.out.now)) (converted_text s.args.text.now)
-    s.args.out.now r a.convert.new.1.0
+told : (a : tie.After-convert) (r : Written) → r ≡ a.convert.result → AnswersBytes (convert_number (read_text a.args.text.now) (converted_text a.args.text.now) (length a.args.out.now)) (converted_text a.args.text.now)
+    a.args.out.now r a.convert.new.out
 told a r e =
-    let s = a.before.before.before.before in
-    subst (λ (x : Written). AnswersBytes (convert_number (read_text s.args.text.now) (converted_text s.args.text.now) (length s.args.out.now))
-    (converted_text s.args.text.now) s.args.out.now x a.convert.new.1.0) (sym e) a.convert.ensures
+    subst (λ (x : Written). AnswersBytes (convert_number (read_text a.args.text.now) (converted_text a.args.text.now) (length a.args.out.now))
+    (converted_text a.args.text.now) a.args.out.now x a.convert.new.out) (sym e) a.convert.ensures
 
-counted : (v : tie.After-n) → let a = v.before.before.before.before in let s = a.before.before.before.before in
-    (v.n.given.0.0 ≤ 65536) × ConvertsText s.args.text.now s.args.out.now (pos v.n.given.0.0) a.convert.new.1.0
-counted v = length_converted v.n.given.0.0 (told v.before.before.before.before (written.Count v.n.given.0.0) (sym v.n.given.1))
+counted : (v : tie.In-Count) → (v.in-Count.n ≤ 65536) × ConvertsText v.args.text.now v.args.out.now (pos v.in-Count.n) v.convert.new.out
+counted v = length_converted v.in-Count.n (told v.before.before.before (written.Count v.in-Count.n) (sym v.in-Count.is))
 
-refused : (v : tie.After-n2) → let a = v.before.before.before.before in let s = a.before.before.before.before in
-    (0 < v.n2.given.0.0) × (v.n2.given.0.0 ≤ 20)
-    × ConvertsText s.args.text.now s.args.out.now (number_of (4294967295 - (v.n2.given.0.0 - 1))) a.convert.new.1.0
-refused v = number_converted v.n2.given.0.0 (told v.before.before.before.before (written.Refused v.n2.given.0.0) (sym v.n2.given.1))
+refused : (v : tie.In-Refused) → (0 < v.in-Refused.n) × (v.in-Refused.n ≤ 20)
+    × ConvertsText v.args.text.now v.args.out.now (number_of (4294967295 - (v.in-Refused.n - 1))) v.convert.new.out
+refused v = number_converted v.in-Refused.n (told v.before.before.before (written.Refused v.in-Refused.n) (sym v.in-Refused.is))
 
 convert-requires : tie.Need-convert-requires
 convert-requires c κs = search rules
 
-enum-known-n : tie.Need-enum-known-n
+enum-known-n : tie.Need-enum_known-n
 enum-known-n c = search rules
 
-cast-result : tie.Need-overflow-cast-result
+cast-result : tie.Need-overflow_cast-result
 cast-result c =
-    let n = c.before.n.given.0.0 in
-    let l : n < 2147483648 = omega (arith, (counted c.before).0) in
+    let n = c.in-Count.n in
+    let l : n < 2147483648 = omega (arith, (counted c).0) in
     subst (SFits w32) (number_pos n l) (number_fits n (omega (arith, l)))
 
-enum-known-n-2 : tie.Need-enum-known-n-2
+enum-known-n-2 : tie.Need-enum_known-n-in-Refused-1
 enum-known-n-2 c = search rules
 
-sub-number-of : tie.Need-overflow-sub-number-of
-sub-number-of c = omega (arith, (refused c.before).0)
+sub-number-of : tie.Need-overflow_sub-n
+sub-number-of c = omega (arith, (refused c).0)
 
-sub-number-of-2 : tie.Need-overflow-sub-number-of-2
+sub-number-of-2 : tie.Need-overflow_sub-n-in-Refused
 sub-number-of-2 c = search rules
 
-number-of-requires : tie.Need-number-of-requires
+number-of-requires : tie.Need-number_of-requires
 number-of-requires c κs = search rules
 
-same_length : tie.Need-same-length
+same_length : tie.Need-shape_of-out-in-Count
 same_length c = search rules
 
-returns : tie.Need-returns
+returns : tie.Need-returns-in-Count
 returns c =
-    let v = c.before in
-    let n = v.n.given.0.0 in
-    let a = v.before.before.before.before in
-    let s = a.before.before.before.before in
-    let l : n < 2147483648 = omega (arith, (counted v).0) in
-    subst (λ (z : ℤ). ConvertsText s.args.text.now s.args.out.now z a.convert.new.1.0) (sym (number_pos n l)) (counted v).1
+    let n = c.in-Count.n in
+    let l : n < 2147483648 = omega (arith, (counted c).0) in
+    subst (λ (z : ℤ). ConvertsText c.args.text.now c.args.out.now z c.convert.new.out) (sym (number_pos n l)) (counted c).1
 
-same-length-2 : tie.Need-same-length-2
+same-length-2 : tie.Need-shape_of-out-in-Refused
 same-length-2 c = search rules
 
-returns-2 : tie.Need-returns-2
+returns-2 : tie.Need-returns-in-Refused
 returns-2 c =
-    let v = c.before.before in
-    let n = v.n2.given.0.0 in
-    let a = v.before.before.before.before in
-    let s = a.before.before.before.before in
+    let n = c.in-Refused.n in
     let w = 4294967295 - (n - 1) in
-    let z : number_of (of_z w32 c.number_of_lem.result)
-    ≡ number_of w = ap (λ (y : ℤ). number_of (of_z w32 y)) c.number_of_lem.ensures ∙ number_word (number_of w) (number_fits w (omega arith)) in
-    subst (λ (y : ℤ). ConvertsText s.args.text.now s.args.out.now y a.convert.new.1.0) (sym z) (refused v).2
+    let z : number_of (of_z w32 c.number_of.result)
+    ≡ number_of w = ap (λ (y : ℤ). number_of (of_z w32 y)) c.number_of.ensures ∙ number_word (number_of w) (number_fits w (omega arith)) in
+    subst (λ (y : ℤ). ConvertsText c.args.text.now c.args.out.now y c.convert.new.out) (sym z) (refused (c.before)).2
 
-pub ligcols-convert-spec : {M : Type 1} → statement M
-ligcols-convert-spec =
+pub ligcols_convert_spec : {M : Type 1} → statement M
+ligcols_convert_spec =
     tie.close
     (tie.spec
     convert-requires

@@ -8,30 +8,32 @@ use Rattle.fonts.specs.Compiled.{font_refusal}
 use Rattle.text_convert_refusal.proofs.said_refusal.Statement.{statement}
 use Rattle.text_convert_refusal.proofs.said_refusal.Tie as tie
 
-font-refusal-requires : tie.Need-font-refusal-requires
+font-refusal-requires : tie.Need-font_refusal-of_font-requires
 font-refusal-requires c κs = search rules
 
-signs-refusal-requires : tie.Need-signs-refusal-requires
+signs-refusal-requires : tie.Need-signs_refusal-requires
 signs-refusal-requires c κs = search rules
 
-lower-of-requires : tie.Need-lower-of-requires
+lower-of-requires : tie.Need-lower_of-requires
 lower-of-requires c κs = search rules
 
 returns : tie.Need-returns
 returns c =
-    let g = c.before in
-    let f = g.before in
-    let t = f.before.before.before in
-    let a = t.before.before.args in
+    let a = c.args in
     let h = a.heads in
-    let k = t.struct_told.given in
-    let b = number_word h.boundary (record { sfits = k.1.0.1 }) in
-    let e = number_word h.left (record { sfits = k.1.1.0.1 }) in
-    let d = number_word h.design (record { sfits = k.0.1 }) in
-    let font = f.font-refusal.ensures
+    let b = number_word h.boundary (record { sfits = c.struct_told-1.given.1.0.1 }) in
+    let e = number_word h.left (record { sfits = c.struct_told-1.given.1.1.0.1 }) in
+    let d = number_word h.design (record { sfits = c.struct_told-1.given.0.1 }) in
+    let font = c.font_refusal-of_font.ensures
     ∙ (λ i. font_refusal (font_of a.instructions.now a.kerns.now a.entries.now (b i) (e i) (d i))) in
-    let signs = g.signs-refusal.ensures in
+    let signs = c.signs_refusal.ensures in
     c.lower_of.ensures ∙ (λ i. lower (font i) (signs i))
 
-pub said-refusal-spec : {M : Type 1} → statement M
-said-refusal-spec = tie.close (tie.spec font-refusal-requires signs-refusal-requires lower-of-requires returns)
+pub said_refusal_spec : {M : Type 1} → statement M
+said_refusal_spec =
+    tie.close
+    (tie.spec
+    font-refusal-requires
+    signs-refusal-requires
+    lower-of-requires
+    returns)

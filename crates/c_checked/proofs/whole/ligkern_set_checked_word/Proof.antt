@@ -12,45 +12,38 @@ use borrow.Author.Rules.{rules}
 use Rattle.c_checked.proofs.whole.ligkern_set_checked_word.Statement.{statement}
 use Rattle.c_checked.proofs.whole.ligkern_set_checked_word.Tie as tie
 
-room-refusal-requires : tie.Need-room-refusal-requires
+room-refusal-requires : tie.Need-room_refusal-room-requires
 room-refusal-requires c κs = search rules
 
-set-checked-word-requires : tie.Need-set-checked-word-requires
+set-checked-word-requires : tie.Need-set_checked_word-written-requires
 set-checked-word-requires c κs = search rules
 
 tell-requires : tie.Need-tell-requires
 tell-requires c κs = search rules
 
-lower-of-requires : tie.Need-lower-of-requires
+lower-of-requires : tie.Need-lower_of-number-requires
 lower-of-requires c κs = search rules
 
-keep-i32-requires : tie.Need-keep-i32-requires
+keep-i32-requires : tie.Need-keep_i32-requires
 keep-i32-requires c κs = search rules
 
-same_length : tie.Need-same-length
+same_length : tie.Need-shape_of-items
 same_length c = search rules
 
-same-length-2 : tie.Need-same-length-2
+same-length-2 : tie.Need-shape_of-count
 same-length-2 c = search rules
 
 returns : tie.Need-returns
 returns c =
-    let k = c.before in
-    let l = k.before.before in
-    let t = l.before.before.before in
-    let g = t.before.before.before in
-    let m = g.before.before in
-    let s = m.before.before.before in
-    let a = s.args in
-    let h = g.set-checked-word.ensures in
-    caption_set a.items.now a.count.now g.set-checked-word.result
-    (λ (b o : ℤ). checked_word_reply a.pairs.now a.ops.now b a.word.now (options_of a.«disable-left-boundary» o) (length a.items.now))
-    (number_word a.boundary s.ranges.boundary) (number_word a.«right-boundary-override» s.ranges.«right-boundary-override»)
-    (record { answer = h.answer; list = h.list }) t.tell.ensures
-    (l.lower_of.ensures ∙ ap (lower t.tell.result) m.room-refusal.ensures) g.set-checked-word.auto.1.1.1.1.1.0 k.keep-i32.ensures
+    let a = c.args in
+    caption_set a.items.now a.count.now c.set_checked_word-written.result
+    (λ (b o : ℤ). checked_word_reply a.pairs.now a.ops.now b a.word.now (options_of a.disable_left_boundary o) (length a.items.now))
+    (number_word a.boundary c.ranges.boundary) (number_word a.right_boundary_override c.ranges.right_boundary_override)
+    (record { answer = c.set_checked_word-written.ensures.answer; list = c.set_checked_word-written.ensures.list }) c.tell.ensures
+    (c.lower_of-number.ensures ∙ ap (lower c.tell.result) c.room_refusal-room.ensures) c.set_checked_word-written.auto.items c.keep_i32.ensures
 
-pub ligkern-set-checked-word-spec : {M : Type 1} → statement M
-ligkern-set-checked-word-spec =
+pub ligkern_set_checked_word_spec : {M : Type 1} → statement M
+ligkern_set_checked_word_spec =
     tie.close
     (tie.spec
     room-refusal-requires

@@ -10,58 +10,52 @@ use borrow.Author.Rules.{rules}
 use Rattle.c_packing.proofs.entries.tell_sizes.Statement.{statement}
 use Rattle.c_packing.proofs.entries.tell_sizes.Tie as tie
 
-zero-u64-requires : tie.Need-zero-u64-requires
+zero-u64-requires : tie.Need-zero_u64-requires
 zero-u64-requires c κs = search rules
 
-enum-known-packed : tie.Need-enum-known-packed
+enum-known-packed : tie.Need-enum_known-packed
 enum-known-packed c = search rules
 
-enum-known-packed-2 : tie.Need-enum-known-packed-2
+enum-known-packed-2 : tie.Need-enum_known-packed-in-Sizes-1
 enum-known-packed-2 c = search rules
 
-same_length : tie.Need-same-length
+same_length : tie.Need-shape_of-values-then-values-lt3
 same_length c = search rules
 
-returns : tie.Need-returns
+returns : tie.Need-returns-then-values-lt3
 returns c =
-    let w = c.before.before in
-    let z = w.before.before.before.before in
-    rw w.packed2.given.1
-    (tells_short (pos w.packed2.given.0.0 ∷ pos w.packed2.given.0.1.0 ∷ pos w.packed2.given.0.1.1.0 ∷ [])
-    z.before.before.before.args.values.now (omega (arith, c.if1.true, z.zero-u64.auto.0)) z.zero-u64.ensures)
+    rw c.in-Sizes.is
+    (tells_short (pos c.in-Sizes.n ∷ pos c.in-Sizes.offset ∷ pos c.in-Sizes.redirects ∷ [])
+    c.args.values.now (omega (arith, c.if-values-lt3.true, c.zero_u64.auto.s)) c.zero_u64.ensures)
 
-slice-write-values : tie.Need-slice-write-values
+slice-write-values : tie.Need-bounds-values-0
 slice-write-values c = search rules
 
-slice-write-values-2 : tie.Need-slice-write-values-2
+slice-write-values-2 : tie.Need-bounds-values-1
 slice-write-values-2 c =
-    simp length-set (omega (arith, c.if1.false))
+    simp length-set (omega (arith, c.if-values-lt3.false))
 
-slice-write-values-3 : tie.Need-slice-write-values-3
+slice-write-values-3 : tie.Need-bounds-values-2
 slice-write-values-3 c = search rules
 
-same-length-2 : tie.Need-same-length-2
+same-length-2 : tie.Need-shape_of-values-in-Refused
 same-length-2 c = search rules
 
-returns-2 : tie.Need-returns-2
+returns-2 : tie.Need-returns-in-Refused
 returns-2 c =
-    let w = c.before in
-    let z = w.before.before.before.before in
-    rw w.packed.given.1 (tells_refused w.packed.given.0.0 z.before.before.before.args.values.now z.zero-u64.ensures)
+    rw c.in-Refused.is (tells_refused c.in-Refused.n c.args.values.now c.zero_u64.ensures)
 
-same-length-3 : tie.Need-same-length-3
+same-length-3 : tie.Need-shape_of-values-else-values-lt3
 same-length-3 c = search rules
 
-returns-3 : tie.Need-returns-3
+returns-3 : tie.Need-returns-else-values-lt3
 returns-3 c =
-    let w = c.before.before in
-    let z = w.before.before.before.before in
-    rw w.packed2.given.1
-    (tells_taken (pos w.packed2.given.0.0 ∷ pos w.packed2.given.0.1.0 ∷ pos w.packed2.given.0.1.1.0 ∷ [])
-    z.before.before.before.args.values.now (omega (arith, c.if1.false, z.zero-u64.auto.0)) z.zero-u64.ensures refl)
+    rw c.in-Sizes.is
+    (tells_taken (pos c.in-Sizes.n ∷ pos c.in-Sizes.offset ∷ pos c.in-Sizes.redirects ∷ [])
+    c.args.values.now (omega (arith, c.if-values-lt3.false, c.zero_u64.auto.s)) c.zero_u64.ensures refl)
 
-pub tell-sizes-spec : {M : Type 1} → statement M
-tell-sizes-spec =
+pub tell_sizes_spec : {M : Type 1} → statement M
+tell_sizes_spec =
     tie.close
     (tie.spec
     zero-u64-requires

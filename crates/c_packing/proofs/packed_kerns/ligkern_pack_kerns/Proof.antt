@@ -9,33 +9,30 @@ use borrow.Author.Rules.{rules}
 use Rattle.c_packing.proofs.packed_kerns.ligkern_pack_kerns.Statement.{statement}
 use Rattle.c_packing.proofs.packed_kerns.ligkern_pack_kerns.Tie as tie
 
-pack-kerns-requires : tie.Need-pack-kerns-requires
+pack-kerns-requires : tie.Need-pack_kerns-written-requires
 pack-kerns-requires c κs = search rules
 
-tell-requires : tie.Need-tell-requires
+tell-requires : tie.Need-tell-number-requires
 tell-requires c κs = search rules
 
-keep-i32-requires : tie.Need-keep-i32-requires
+keep-i32-requires : tie.Need-keep_i32-requires
 keep-i32-requires c κs = search rules
 
-same_length : tie.Need-same-length
+same_length : tie.Need-shape_of-out
 same_length c = search rules
 
-same-length-2 : tie.Need-same-length-2
+same-length-2 : tie.Need-shape_of-values
 same-length-2 c = search rules
 
 returns : tie.Need-returns
 returns c =
-    let k = c.before in
-    let t = k.before.before.before.before in
-    let w = t.before.before.before in
-    let a = w.before.before.before.args in
+    let a = c.args in
     gives (pos 0) (pack_refusal a.instructions.now a.kerns.now (length a.out.now)) (pos (count a.instructions.now) ∷ [])
-    (packed a.instructions.now a.kerns.now) a.out.now a.values.now w.pack-kerns.ensures.answer t.tell.ensures
-    w.pack-kerns.ensures.list w.pack-kerns.auto.1.1.0 k.keep-i32.ensures
+    (packed a.instructions.now a.kerns.now) a.out.now a.values.now c.pack_kerns-written.ensures.answer c.tell-number.ensures
+    c.pack_kerns-written.ensures.list c.pack_kerns-written.auto.out c.keep_i32.ensures
 
-pub ligkern-pack-kerns-spec : {M : Type 1} → statement M
-ligkern-pack-kerns-spec =
+pub ligkern_pack_kerns_spec : {M : Type 1} → statement M
+ligkern_pack_kerns_spec =
     tie.close
     (tie.spec
     pack-kerns-requires

@@ -5,26 +5,28 @@ use borrow.Author.Rules.{rules}
 use Rattle.c_programs.proofs.programs.ligkern_program_is_seven_bit_safe.Statement.{statement}
 use Rattle.c_programs.proofs.programs.ligkern_program_is_seven_bit_safe.Tie as tie
 
-is-seven-bit-safe-requires : tie.Need-is-seven-bit-safe-requires
+is-seven-bit-safe-requires : tie.Need-is_seven_bit_safe-tested-requires
 is-seven-bit-safe-requires c κs = search rules
 
-safety-of-requires : tie.Need-safety-of-requires
+safety-of-requires : tie.Need-safety_of-requires
 safety-of-requires c κs = search rules
 
 tell-requires : tie.Need-tell-requires
 tell-requires c κs = search rules
 
-same_length : tie.Need-same-length
+same_length : tie.Need-shape_of-values
 same_length c = search rules
 
 returns : tie.Need-returns
 returns c =
-    let t = c.before.before in
-    let o = t.before.before in
-    let q = o.before in
-    tells_as (o.safety-of.ensures ∙ q.is-seven-bit-safe.ensures) t.tell.ensures
+    tells_as (c.safety_of.ensures ∙ c.is_seven_bit_safe-tested.ensures) c.tell.ensures
 
-pub ligkern-program-is-seven-bit-safe-spec : {M : Type 1} → statement M
-ligkern-program-is-seven-bit-safe-spec =
+pub ligkern_program_is_seven_bit_safe_spec : {M : Type 1} → statement M
+ligkern_program_is_seven_bit_safe_spec =
     tie.close
-    (tie.spec is-seven-bit-safe-requires safety-of-requires tell-requires same_length returns)
+    (tie.spec
+    is-seven-bit-safe-requires
+    safety-of-requires
+    tell-requires
+    same_length
+    returns)

@@ -14,39 +14,35 @@ use borrow.Author.Rules.{rules}
 use Rattle.c_programs.proofs.programs.ligkern_reachable_iter.Statement.{statement}
 use Rattle.c_programs.proofs.programs.ligkern_reachable_iter.Tie as tie
 
-reachable-iter-requires : tie.Need-reachable-iter-requires
+reachable-iter-requires : tie.Need-reachable_iter-written-requires
 reachable-iter-requires c κs = search rules
 
-tell-requires : tie.Need-tell-requires
+tell-requires : tie.Need-tell-number-requires
 tell-requires c κs = search rules
 
-keep-i32-requires : tie.Need-keep-i32-requires
+keep-i32-requires : tie.Need-keep_i32-requires
 keep-i32-requires c κs = search rules
 
-same_length : tie.Need-same-length
+same_length : tie.Need-shape_of-out
 same_length c = search rules
 
-same-length-2 : tie.Need-same-length-2
+same-length-2 : tie.Need-shape_of-values
 same-length-2 c = search rules
 
 returns : tie.Need-returns
 returns c =
-    let k = c.before in
-    let t = k.before.before.before.before in
-    let w = t.before.before.before in
-    let s = w.before.before.before.before in
-    let a = s.args in
-    let y = number_of (word_of a.«left_entry_lem») in
+    let a = c.args in
+    let y = number_of (word_of a.left_entry) in
     subst (λ (e : ℤ). Gives (pos 0) (reach_reply a.instructions.now a.entries.now e a.passthrough.now (length a.out.now))
-    (reach_list a.instructions.now a.entries.now e a.passthrough.now) a.out.now a.values.now t.tell.result k.keep-i32.new.1.0
-    t.tell.new.1.0) (number_word a.«left_entry_lem» s.ranges.«left_entry_lem»)
+    (reach_list a.instructions.now a.entries.now e a.passthrough.now) a.out.now a.values.now c.tell-number.result c.keep_i32.new.out
+    c.tell-number.new.values) (number_word a.left_entry c.ranges.left_entry)
     (gives (pos 0) (reach_refusal a.instructions.now a.entries.now y a.passthrough.now (length a.out.now))
     (pos (count a.instructions.now) ∷ []) (reach_list a.instructions.now a.entries.now y a.passthrough.now) a.out.now a.values.now
-    w.reachable-iter.ensures.answer t.tell.ensures w.reachable-iter.ensures.list w.reachable-iter.auto.1.1.1.1.0
-    k.keep-i32.ensures)
+    c.reachable_iter-written.ensures.answer c.tell-number.ensures c.reachable_iter-written.ensures.list c.reachable_iter-written.auto.out
+    c.keep_i32.ensures)
 
-pub ligkern-reachable-iter-spec : {M : Type 1} → statement M
-ligkern-reachable-iter-spec =
+pub ligkern_reachable_iter_spec : {M : Type 1} → statement M
+ligkern_reachable_iter_spec =
     tie.close
     (tie.spec
     reachable-iter-requires

@@ -9,33 +9,30 @@ use borrow.Author.Rules.{rules}
 use Rattle.c_queries.proofs.questions.ligkern_all_pairs_with_replacements.Statement.{statement}
 use Rattle.c_queries.proofs.questions.ligkern_all_pairs_with_replacements.Tie as tie
 
-all-pairs-with-replacements-requires : tie.Need-all-pairs-with-replacements-requires
+all-pairs-with-replacements-requires : tie.Need-all_pairs_with_replacements-written-requires
 all-pairs-with-replacements-requires c κs = search rules
 
-tell-requires : tie.Need-tell-requires
+tell-requires : tie.Need-tell-number-requires
 tell-requires c κs = search rules
 
-keep-i32-requires : tie.Need-keep-i32-requires
+keep-i32-requires : tie.Need-keep_i32-requires
 keep-i32-requires c κs = search rules
 
-same_length : tie.Need-same-length
+same_length : tie.Need-shape_of-out
 same_length c = search rules
 
-same-length-2 : tie.Need-same-length-2
+same-length-2 : tie.Need-shape_of-values
 same-length-2 c = search rules
 
 returns : tie.Need-returns
 returns c =
-    let k = c.before in
-    let t = k.before.before.before.before in
-    let w = t.before.before.before in
-    let a = w.before.before.before.args in
+    let a = c.args in
     gives (pos 0) (keys_refusal a.pairs.now (length a.out.now)) (pos (pair_count a.pairs.now) ∷ []) (keys_of a.pairs.now) a.out.now
-    a.values.now w.all-pairs-with-replacements.ensures.answer t.tell.ensures w.all-pairs-with-replacements.ensures.list
-    w.all-pairs-with-replacements.auto.1.0 k.keep-i32.ensures
+    a.values.now c.all_pairs_with_replacements-written.ensures.answer c.tell-number.ensures c.all_pairs_with_replacements-written.ensures.list
+    c.all_pairs_with_replacements-written.auto.out c.keep_i32.ensures
 
-pub ligkern-all-pairs-with-replacements-spec : {M : Type 1} → statement M
-ligkern-all-pairs-with-replacements-spec =
+pub ligkern_all_pairs_with_replacements_spec : {M : Type 1} → statement M
+ligkern_all_pairs_with_replacements_spec =
     tie.close
     (tie.spec
     all-pairs-with-replacements-requires

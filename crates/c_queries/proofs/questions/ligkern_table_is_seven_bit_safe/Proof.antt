@@ -5,26 +5,28 @@ use borrow.Author.Rules.{rules}
 use Rattle.c_queries.proofs.questions.ligkern_table_is_seven_bit_safe.Statement.{statement}
 use Rattle.c_queries.proofs.questions.ligkern_table_is_seven_bit_safe.Tie as tie
 
-is-seven-bit-safe-requires : tie.Need-is-seven-bit-safe-requires
+is-seven-bit-safe-requires : tie.Need-is_seven_bit_safe-tested-requires
 is-seven-bit-safe-requires c κs = search rules
 
-reply-of-requires : tie.Need-reply-of-requires
+reply-of-requires : tie.Need-reply_of-requires
 reply-of-requires c κs = search rules
 
 tell-requires : tie.Need-tell-requires
 tell-requires c κs = search rules
 
-same_length : tie.Need-same-length
+same_length : tie.Need-shape_of-values
 same_length c = search rules
 
 returns : tie.Need-returns
 returns c =
-    let t = c.before.before in
-    let o = t.before.before in
-    let q = o.before in
-    tells_as (o.reply-of.ensures ∙ q.is-seven-bit-safe.ensures) t.tell.ensures
+    tells_as (c.reply_of.ensures ∙ c.is_seven_bit_safe-tested.ensures) c.tell.ensures
 
-pub ligkern-table-is-seven-bit-safe-spec : {M : Type 1} → statement M
-ligkern-table-is-seven-bit-safe-spec =
+pub ligkern_table_is_seven_bit_safe_spec : {M : Type 1} → statement M
+ligkern_table_is_seven_bit_safe_spec =
     tie.close
-    (tie.spec is-seven-bit-safe-requires reply-of-requires tell-requires same_length returns)
+    (tie.spec
+    is-seven-bit-safe-requires
+    reply-of-requires
+    tell-requires
+    same_length
+    returns)

@@ -28,28 +28,31 @@ module _ (n : ℕ) (entry : ℤ) (r : ℕ) (f : SFits w32 entry) (asked : r ≡ 
   taken : r ≡ 0 → (w : ℕ) → w ≡ word_of (to_z w32 (of_z w32 entry)) → w ≡ start_of n entry
   taken h w e = e ∙ ap word_of (to_z-of_z w32 entry f) ∙ sym (start_taken n entry (sym early-is ∙ h))
 
-early-refusal-requires : tie.Need-early-refusal-requires
+early-refusal-requires : tie.Need-early_refusal-requires
 early-refusal-requires c κs = search rules
 
-returns : tie.Need-returns
+returns : tie.Need-returns-then-early_refusal-ne0
 returns c =
-    let e = c.before in
-    let a = e.before in
-    ap begun (refused a.args.n a.args.entry e.early-refusal.result a.ranges.entry e.early-refusal.ensures c.if1.true)
+    ap begun (refused c.args.n c.args.entry c.early_refusal.result c.ranges.entry c.early_refusal.ensures c.if-early_refusal-ne0.true)
 
-word-of-requires : tie.Need-word-of-requires
+word-of-requires : tie.Need-word_of-requires
 word-of-requires c κs = search rules
 
-cast-t5 : tie.Need-overflow-cast-t5
+cast-t5 : tie.Need-overflow_cast-result
 cast-t5 c = search rules
 
-returns-2 : tie.Need-returns-2
+returns-2 : tie.Need-returns
 returns-2 c =
-    let e = c.before.before in
-    let a = e.before in
     ap begun
-    (taken a.args.n a.args.entry e.early-refusal.result a.ranges.entry e.early-refusal.ensures c.before.if1.false
+    (taken c.args.n c.args.entry c.early_refusal.result c.ranges.entry c.early_refusal.ensures c.if-early_refusal-ne0.false
     c.word_of.result c.word_of.ensures)
 
-pub begin-spec : {M : Type 1} → statement M
-begin-spec = tie.close (tie.spec early-refusal-requires returns word-of-requires cast-t5 returns-2)
+pub begin_spec : {M : Type 1} → statement M
+begin_spec =
+    tie.close
+    (tie.spec
+    early-refusal-requires
+    returns
+    word-of-requires
+    cast-t5
+    returns-2)

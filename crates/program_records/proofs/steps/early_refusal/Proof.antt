@@ -19,16 +19,20 @@ many n entry h = rw (lt-leb n 32767 h)
 few : (n : ℕ) (entry : ℤ) (r : ℕ) → n ≤ 32767 → SFits w32 entry → r ≡ range_refusal 65535 (to_z w32 (of_z w32 entry)) → r ≡ early_refusal n entry
 few n entry r h f e = e ∙ rw (to_z-of_z w32 entry f, le-leb n 32767 h)
 
-returns : tie.Need-returns
-returns c = many c.before.args.n c.before.args.entry c.if1.true
+returns : tie.Need-returns-then-n-gt32767
+returns c = many c.args.n c.args.entry c.if-n-gt32767.true
 
-range-refusal-requires : tie.Need-range-refusal-requires
+range-refusal-requires : tie.Need-range_refusal-requires
 range-refusal-requires c κs = search rules
 
-returns-2 : tie.Need-returns-2
+returns-2 : tie.Need-returns
 returns-2 c =
-    let a = c.before.before in
-    few a.args.n a.args.entry c.range-refusal.result c.before.if1.false a.ranges.entry c.range-refusal.ensures
+    few c.args.n c.args.entry c.range_refusal.result c.if-n-gt32767.false c.ranges.entry c.range_refusal.ensures
 
-pub early-refusal-spec : {M : Type 1} → statement M
-early-refusal-spec = tie.close (tie.spec returns range-refusal-requires returns-2)
+pub early_refusal_spec : {M : Type 1} → statement M
+early_refusal_spec =
+    tie.close
+    (tie.spec
+    returns
+    range-refusal-requires
+    returns-2)

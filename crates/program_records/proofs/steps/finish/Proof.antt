@@ -56,56 +56,46 @@ module _ (n : ℕ) (entry : ℤ) (count : ℕ) (out : List ℕ) (f : SFits w32 e
             list = rw nothing-refused (zeroed z e);
           }
 
-refusal-requires : tie.Need-refusal-requires
+refusal-requires : tie.Need-refusal-refused-requires
 refusal-requires c κs = search rules
 
-zero-u32-requires : tie.Need-zero-u32-requires
+zero-u32-requires : tie.Need-zero_u32-requires
 zero-u32-requires c κs = search rules
 
-same_length : tie.Need-same-length
+same_length : tie.Need-shape_of-out-then-refused-ne0
 same_length c = search rules
 
-returns : tie.Need-returns
+returns : tie.Need-returns-then-refused-ne0
 returns c =
-    let z = c.before.before in
-    let t = z.before.before in
-    let e = t.before in
-    let a = e.before.before in
-    refused a.args.n a.args.entry a.args.count a.args.out.now a.ranges.entry e.refusal.result e.refusal.ensures t.if1.true
-    z.zero-u32.new.0 z.zero-u32.ensures
+    refused c.args.n c.args.entry c.args.count c.args.out.now c.ranges.entry c.refusal-refused.result c.refusal-refused.ensures c.if-refused-ne0.true
+    c.zero_u32.new.s c.zero_u32.ensures
 
-within : (c : tie.Else1) → c.before.before.before.args.count ≤ length c.before.before.before.args.out.now
+within : (c : tie.Else-refused-ne0) → c.args.count ≤ length c.args.out.now
 within c =
-    let e = c.before in
-    let a = e.before.before in
-    room a.args.n a.args.entry a.args.count a.args.out.now a.ranges.entry e.refusal.result e.refusal.ensures c.if1.false
+    room c.args.n c.args.entry c.args.count c.args.out.now c.ranges.entry c.refusal-refused.result c.refusal-refused.ensures c.if-refused-ne0.false
 
-mul-zero-u32 : tie.Need-overflow-mul-zero-u32
-mul-zero-u32 c = omega (arith, within c, c.before.before.before.well-formed.1.1.1.0.1)
+mul-zero-u32 : tie.Need-offset_bounds-out-count
+mul-zero-u32 c = omega (arith, within c, c.well_formed.1.1.1.0.1)
 
-sub-zero-u32 : tie.Need-overflow-sub-zero-u32
+sub-zero-u32 : tie.Need-slice_bounds-zero_u32-count
 sub-zero-u32 c = within c
 
-part-zero-u32-start : tie.Need-slice-bounds-zero-u32-start
+part-zero-u32-start : tie.Need-slice_bounds-zero_u32-start
 part-zero-u32-start c = within c
 
-part-zero-u32-end : tie.Need-slice-bounds-zero-u32-end
+part-zero-u32-end : tie.Need-slice_bounds-zero_u32-end
 part-zero-u32-end c = search rules
 
-zero-u32-requires-2 : tie.Need-zero-u32-requires-2
+zero-u32-requires-2 : tie.Need-zero_u32-requires-2
 zero-u32-requires-2 c κs = search rules
 
-same-length-2 : tie.Need-same-length-2
+same-length-2 : tie.Need-shape_of-out
 same-length-2 c = search rules
 
-returns-2 : tie.Need-returns-2
+returns-2 : tie.Need-returns
 returns-2 c =
-    let z = c.before.before in
-    let t = z.before.before in
-    let e = t.before in
-    let a = e.before.before in
-    written a.args.n a.args.entry a.args.count a.args.out.now a.ranges.entry e.refusal.result e.refusal.ensures t.if1.false
-    z.zero-u322.new.0 z.zero-u322.ensures
+    written c.args.n c.args.entry c.args.count c.args.out.now c.ranges.entry c.refusal-refused.result c.refusal-refused.ensures c.if-refused-ne0.false
+    c.zero_u32-2.new.s c.zero_u32-2.ensures
 
 pub finish_spec : {M : Type 1} → statement M
 finish_spec =

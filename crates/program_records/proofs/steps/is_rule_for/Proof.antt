@@ -18,14 +18,19 @@ plain (KernAtIndex i) h = refl
 plain (Ligature c p t) h = refl
 plain (EntrypointRedirect t f) h = absurd (miss (0 ∷ 1 ∷ 2 ∷ []) 3 tt h)
 
-enum_told : tie.Need-enum-told
+enum_told : tie.Need-enum_told-1
 enum_told c = search rules
 
-returns : tie.Need-returns
+returns : tie.Need-returns-in-EntrypointRedirect
 returns c = search rules
 
-returns-2 : tie.Need-returns-2
-returns-2 c = rw (plain c.before.before.before.args.x.operation c.before.before.match.keys2)
+returns-2 : tie.Need-returns-in_default
+returns-2 c = rw (plain c.args.x.operation c.in_default.in_default-own.keys2)
 
-pub is-rule-for-spec : {M : Type 1} → statement M
-is-rule-for-spec = tie.close (tie.spec enum_told returns returns-2)
+pub is_rule_for_spec : {M : Type 1} → statement M
+is_rule_for_spec =
+    tie.close
+    (tie.spec
+    enum_told
+    returns
+    returns-2)

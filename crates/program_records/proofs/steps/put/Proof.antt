@@ -20,36 +20,31 @@ module _ (walk : ChainWalk) (next : Next) (i on : ℕ) (e : next ≡ At i on) wh
       (◌≡◌ {A = ChainWalk} (record { at = on; count = walk.count + 1 }) (moved_by walk next)) × (out' ≡ put_by walk next out)
   written out out' h = (rw e, rw e h)
 
-enum-known-next : tie.Need-enum-known-next
+enum-known-next : tie.Need-enum_known-next
 enum-known-next c = search rules
 
-cast-put-u32 : tie.Need-overflow-cast-put-u32
+cast-put-u32 : tie.Need-overflow_cast-i
 cast-put-u32 c =
-    let k = c.before.before in
-    let a = k.before.before.before in
-    record { fits = fits a.args.walk a.args.next k.next.given.0.0 k.next.given.0.1.0 k.next.given.1 a.requires.0 }
+    record { fits = fits c.args.walk c.args.next c.in-At.i c.in-At.on c.in-At.is c.requires.0 }
 
-put-u32-requires : tie.Need-put-u32-requires
+put-u32-requires : tie.Need-put_u32-requires
 put-u32-requires c κs = search rules
 
-add-t12 : tie.Need-overflow-add-t12
+add-t12 : tie.Need-overflow_add-result
 add-t12 c = search rules
 
-enum_told : tie.Need-enum-told
+enum_told : tie.Need-enum_told-1
 enum_told c = search rules
 
-same_length : tie.Need-same-length
+same_length : tie.Need-shape_of-out
 same_length c = search rules
 
-returns : tie.Need-returns
+returns : tie.Need-returns-in-At
 returns c =
-    let p = c.before.before in
-    let k = p.before.before.before in
-    let a = k.before.before.before in
-    written a.args.walk a.args.next k.next.given.0.0 k.next.given.0.1.0 k.next.given.1 a.args.out.now p.put-u32.new.0
-    p.put-u32.ensures
+    written c.args.walk c.args.next c.in-At.i c.in-At.on c.in-At.is c.args.out.now c.put_u32.new.s
+    c.put_u32.ensures
 
-returns-2 : tie.Need-returns-2
+returns-2 : tie.Need-returns-in-End
 returns-2 c = search rules
 
 pub put_spec : {M : Type 1} → statement M

@@ -9,28 +9,29 @@ use Rattle.program_records.proofs.RecordTurns.{early_passed}
 use Rattle.program_records.proofs.steps.refusal.Statement.{statement}
 use Rattle.program_records.proofs.steps.refusal.Tie as tie
 
-early-refusal-requires : tie.Need-early-refusal-requires
+early-refusal-requires : tie.Need-early_refusal-early-requires
 early-refusal-requires c κs = search rules
 
-returns : tie.Need-returns
+returns : tie.Need-returns-then-early-ne0
 returns c =
-    let a = c.before.before in
-    first_refusal (room_refusal a.args.count a.args.room)
-    (early_passed a.args.n a.args.entry c.before.early-refusal.result a.ranges.entry c.before.early-refusal.ensures) c.if1.true
+    first_refusal (room_refusal c.args.count c.args.room)
+    (early_passed c.args.n c.args.entry c.early_refusal-early.result c.ranges.entry c.early_refusal-early.ensures) c.if-early-ne0.true
 
-returns-2 : tie.Need-returns-2
+returns-2 : tie.Need-returns-then-room-count
 returns-2 c =
-    let e = c.before.before in
-    let a = e.before in
-    later_refusal_lem (early_passed a.args.n a.args.entry e.early-refusal.result a.ranges.entry e.early-refusal.ensures) c.before.if1.false
-    (sym (room_short a.args.count a.args.room (omega arith)))
+    later_refusal_lem (early_passed c.args.n c.args.entry c.early_refusal-early.result c.ranges.entry c.early_refusal-early.ensures) c.if-early-ne0.false
+    (sym (room_short c.args.count c.args.room (omega arith)))
 
-returns-3 : tie.Need-returns-3
+returns-3 : tie.Need-returns
 returns-3 c =
-    let e = c.before.before in
-    let a = e.before in
-    later_refusal_lem (early_passed a.args.n a.args.entry e.early-refusal.result a.ranges.entry e.early-refusal.ensures) c.before.if1.false
-    (sym (room_is a.args.count a.args.room (omega arith)))
+    later_refusal_lem (early_passed c.args.n c.args.entry c.early_refusal-early.result c.ranges.entry c.early_refusal-early.ensures) c.if-early-ne0.false
+    (sym (room_is c.args.count c.args.room (omega arith)))
 
-pub refusal-spec : {M : Type 1} → statement M
-refusal-spec = tie.close (tie.spec early-refusal-requires returns returns-2 returns-3)
+pub refusal_spec : {M : Type 1} → statement M
+refusal_spec =
+    tie.close
+    (tie.spec
+    early-refusal-requires
+    returns
+    returns-2
+    returns-3)

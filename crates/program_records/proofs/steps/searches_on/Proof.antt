@@ -7,16 +7,20 @@ use borrow.Author.Tests.{lt-ltb, le-ltb}
 use Rattle.program_records.proofs.steps.searches_on.Statement.{statement}
 use Rattle.program_records.proofs.steps.searches_on.Tie as tie
 
-returns : tie.Need-returns
-returns c = rw (le-ltb c.before.args.at c.before.args.n (omega arith))
+returns : tie.Need-returns-then-n-at
+returns c = rw (le-ltb c.args.at c.args.n (omega arith))
 
-is-rule-for-requires : tie.Need-is-rule-for-requires
+is-rule-for-requires : tie.Need-is_rule_for-requires
 is-rule-for-requires c κs = search rules
 
-returns-2 : tie.Need-returns-2
+returns-2 : tie.Need-returns
 returns-2 c =
-    let e = c.before in
-    rw (lt-ltb e.before.args.at e.before.args.n e.if1.false) (ap (λ (b : Bool). not b) c.is-rule-for.ensures)
+    rw (lt-ltb c.args.at c.args.n c.if-n-at.false) (ap (λ (b : Bool). not b) c.is_rule_for.ensures)
 
-pub searches-on-spec : {M : Type 1} → statement M
-searches-on-spec = tie.close (tie.spec returns is-rule-for-requires returns-2)
+pub searches_on_spec : {M : Type 1} → statement M
+searches_on_spec =
+    tie.close
+    (tie.spec
+    returns
+    is-rule-for-requires
+    returns-2)

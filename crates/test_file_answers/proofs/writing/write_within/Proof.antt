@@ -6,38 +6,38 @@ use borrow.Author.Rules.{rules}
 use Rattle.test_file_answers.proofs.writing.write_within.Statement.{statement}
 use Rattle.test_file_answers.proofs.writing.write_within.Tie as tie
 
-word-at-requires : tie.Need-word-at-requires
+word-at-requires : tie.Need-word_at-requires
 word-at-requires c κs = search rules
 
-within-requires : tie.Need-within-requires
+within-requires : tie.Need-within-room-requires
 within-requires c κs = search rules
 
-slice-relend-prefix-write-program : tie.Need-slice-relend-prefix-write-program
+slice-relend-prefix-write-program : tie.Need-slice_bounds-write_program-end
 slice-relend-prefix-write-program c = search rules
 
-slice-aggregate-write-program : tie.Need-slice-aggregate-write-program
+slice-aggregate-write-program : tie.Need-slice_bounds-write_program-end-2
 slice-aggregate-write-program c = sym (length-take-le _ _ (search rules))
 
-write-program-requires : tie.Need-write-program-requires
+write-program-requires : tie.Need-write_program-answer-requires
 write-program-requires c κs = search rules
 
 front-requires : tie.Need-front-requires
 front-requires c κs = search rules
 
-put-written-requires : tie.Need-put-written-requires
+put-written-requires : tie.Need-put_written-requires
 put-written-requires c κs = search rules
 
-same_length : tie.Need-same-length
+same_length : tie.Need-shape_of-new
 same_length c = search rules
 
-same-length-2 : tie.Need-same-length-2
+same-length-2 : tie.Need-shape_of-out
 same-length-2 c = search rules
 
 returns : tie.Need-returns
 returns c = search rules
 
-pub write-within-spec : {M : Type 1} → statement M
-write-within-spec =
+pub write_within_spec : {M : Type 1} → statement M
+write_within_spec =
     tie.close
     (tie.spec
     word-at-requires

@@ -6,35 +6,35 @@ use lib.ListN.{length}
 use Rattle.test_table_answers.proofs.letters.after_letters.Statement.{statement}
 use Rattle.test_table_answers.proofs.letters.after_letters.Tie as tie
 
-abbrev invariant-loop : tie.invariant-loop
+abbrev invariant-loop : tie.invariant-loop-i
 invariant-loop word at letters next₀ i₀ next i = Unit {0}
 
-abbrev decreases-loop : tie.decreases-loop
+abbrev decreases-loop : tie.decreases-loop-i
 decreases-loop word at letters next₀ i₀ next i = length letters - i
 
-loop-holds : tie.Need-loop-init invariant-loop decreases-loop
+loop-holds : tie.Need-loop-i-init invariant-loop decreases-loop
 loop-holds c = tt
 
-u32-at-requires : tie.Need-u32-at-requires invariant-loop decreases-loop
+u32-at-requires : tie.Need-u32_at-requires invariant-loop decreases-loop
 u32-at-requires c κs = tt
 
-after-letter-requires : tie.Need-after-letter-requires invariant-loop decreases-loop
+after-letter-requires : tie.Need-after_letter-next-requires invariant-loop decreases-loop
 after-letter-requires c κs = tt
 
-add-i : tie.Need-overflow-add-i invariant-loop decreases-loop
+add-i : tie.Need-overflow_add-i invariant-loop decreases-loop
 add-i c = omega arith
 
-loop-less : tie.Need-loop-smaller invariant-loop decreases-loop
+loop-less : tie.Need-loop-i-smaller invariant-loop decreases-loop
 loop-less c = omega arith
 
-loop-again : tie.Need-loop-preserved invariant-loop decreases-loop
+loop-again : tie.Need-loop-i-preserved invariant-loop decreases-loop
 loop-again c = tt
 
 returns : tie.Need-returns invariant-loop decreases-loop
 returns c = tt
 
-pub after-letters-spec : {M : Type 1} → statement M
-after-letters-spec =
+pub after_letters_spec : {M : Type 1} → statement M
+after_letters_spec =
     tie.close
     (tie.spec
     invariant-loop

@@ -7,53 +7,53 @@ use lib.ListN.{length}
 use Rattle.test_waits.proofs.font.put_shared.Statement.{statement}
 use Rattle.test_waits.proofs.font.put_shared.Tie as tie
 
-abbrev invariant-loop : tie.invariant-loop
+abbrev invariant-loop : tie.invariant-loop-j
 invariant-loop list₀ from right inserted j₀ list j = length list ≡ length list₀
 
-abbrev decreases-loop : tie.decreases-loop
+abbrev decreases-loop : tie.decreases-loop-j
 decreases-loop list₀ from right inserted j₀ list j = 255 - j
 
-loop-holds : tie.Need-loop-init invariant-loop decreases-loop
+loop-holds : tie.Need-loop-j-init invariant-loop decreases-loop
 loop-holds c = omega arith
 
-add-operand : tie.Need-overflow-add-operand invariant-loop decreases-loop
+add-operand : tie.Need-overflow_add-operand invariant-loop decreases-loop
 add-operand c = omega arith
 
-add-operand-2 : tie.Need-overflow-add-operand-2 invariant-loop decreases-loop
+add-operand-2 : tie.Need-overflow_add-operand-in-loop-j invariant-loop decreases-loop
 add-operand-2 c = omega arith
 
-cast-put-ligature : tie.Need-overflow-cast-put-ligature invariant-loop decreases-loop
+cast-put-ligature : tie.Need-overflow_cast-j invariant-loop decreases-loop
 cast-put-ligature c = omega arith
 
-add-put-ligature : tie.Need-overflow-add-put-ligature invariant-loop decreases-loop
+add-put-ligature : tie.Need-overflow_add-from invariant-loop decreases-loop
 add-put-ligature c = omega arith
 
-next-shared-requires : tie.Need-next-shared-requires invariant-loop decreases-loop
+next-shared-requires : tie.Need-next_shared-requires invariant-loop decreases-loop
 next-shared-requires c κs = tt
 
-add-put-ligature-2 : tie.Need-overflow-add-put-ligature-2 invariant-loop decreases-loop
+add-put-ligature-2 : tie.Need-overflow_add-right invariant-loop decreases-loop
 add-put-ligature-2 c = omega arith
 
-put-ligature-requires : tie.Need-put-ligature-requires invariant-loop decreases-loop
+put-ligature-requires : tie.Need-put_ligature-requires invariant-loop decreases-loop
 put-ligature-requires c κs = omega arith
 
-add-j : tie.Need-overflow-add-j invariant-loop decreases-loop
+add-j : tie.Need-overflow_add-j invariant-loop decreases-loop
 add-j c = omega arith
 
-loop-less : tie.Need-loop-smaller invariant-loop decreases-loop
+loop-less : tie.Need-loop-j-smaller invariant-loop decreases-loop
 loop-less c = omega arith
 
-loop-again : tie.Need-loop-preserved invariant-loop decreases-loop
-loop-again c = omega (arith, c.before.put-ligature.auto.0)
+loop-again : tie.Need-loop-j-preserved invariant-loop decreases-loop
+loop-again c = omega (arith, c.put_ligature.auto.list)
 
-same_length : tie.Need-same-length invariant-loop decreases-loop
+same_length : tie.Need-shape_of-list invariant-loop decreases-loop
 same_length c = omega arith
 
 returns : tie.Need-returns invariant-loop decreases-loop
 returns c = tt
 
-pub put-shared-spec : {M : Type 1} → statement M
-put-shared-spec =
+pub put_shared_spec : {M : Type 1} → statement M
+put_shared_spec =
     tie.close
     (tie.spec
     invariant-loop
