@@ -9,7 +9,7 @@ ghost use Rattle.captions.specs.Steps.{Stepped};
 use caption_run::steps::step;
 use captions::{Answer, RunOptions, State, Step};
 
-#[derive(Drop)]
+#[derive(Clone, Copy)]
 pub struct RunIter<'a> {
     pub word: &'a [u32],
     pub state: State,

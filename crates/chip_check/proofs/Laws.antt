@@ -1,16 +1,26 @@
--- Numbers or-ed together.
+-- The letters of a chip's word, and numbers or-ed together.
 -- Assumes nothing.
 use mathlib.Core.Path.{◌≡◌, refl, sym, ap, ◌∙◌}
 use mathlib.Core.Bool.{Bool, true, false}
-use mathlib.Core.List.{List}
+use mathlib.Core.List.{List, [], ◌∷◌, map}
 use Prim.Native.Nat.{ℕ, suc, ◌+◌, ◌^◌, ◌<◌}
 use native.Mathlib.Omega.{arith}
 use lib.Bits.{bit_or, and_le_l, and_le_r, or_lt, or_add_and}
 use lib.Dec.{leb}
-use lib.ListN.{get_or}
+use lib.ListN.{length, get_or}
 use borrow.Author.Tests.{le-leb, lt-leb, leb-true, leb-false}
 use Rattle.lang.specs.Every.{both, every}
 use Rattle.lang.proofs.Every.{every_step}
+
+-- ---- the letters of a chip
+
+-- an array's length, as it is known of a parameter
+pub array_long : (n : ℕ) (l : List ℕ) → length (map (λ (v : ℕ). v) l) ≡ n → length l ≡ n
+array_long n l e = sym (go l) ∙ e
+  where
+    go : (m : List ℕ) → length (map (λ (v : ℕ). v) m) ≡ length m
+    go [] = refl
+    go (x ∷ xs) = ap suc (go xs)
 
 -- ---- numbers or-ed together: m is all of the low k bits
 

@@ -5,7 +5,7 @@ use mathlib.Core.Bool.{Bool, true, false, cond}
 use mathlib.Core.List.{List}
 use Prim.Native.Nat.{ℕ, zero, suc}
 use native.Mathlib.Omega.{arith}
-use lib.Dec.{leb}
+use lib.Dec.{leb, ltb}
 use lib.IntN.{ℤ}
 use lib.ListN.{length}
 use Rattle.lang.specs.Checks.{or_else, absent_refusal}
@@ -13,7 +13,7 @@ use Rattle.lang.specs.Answers.{room_refusal}
 use Rattle.chips.specs.declared.Chip.{Chip}
 use Rattle.chips.specs.declared.Commanded.{Commanded}
 use Rattle.captions.specs.declared.Step.{Step}
-use Rattle.chips.specs.Commands.{chip_refusal, chip_step, chip_stepped, answer_number, in_turn, chip_after, turn_refusal, commanded_by}
+use Rattle.chips.specs.Commands.{chip_refusal, chip_step, chip_stepped, answer_number, may_add, in_turn, chip_after, turn_refusal, commanded_by}
 use Rattle.chip_begin.proofs.Laws.{refused_by}
 use Rattle.chip_turn.specs.Turns.{turned_of, commanded_of}
 
@@ -27,6 +27,13 @@ stepped_by chip counts given = commanded_by (answer_number given.answer) (chip_s
 abbrev pub turn_at : List ℤ → List ℤ → Chip → Bool → List ℕ → ℤ → Commanded
 turn_at pairs ops chip turn counts boundary =
     commanded_by (in_turn turn (answer_number (chip_step pairs ops boundary chip).answer)) (chip_stepped counts (chip_step pairs ops boundary chip) chip) chip
+
+-- add: its word is full, or none is open
+pub word_full : (chip : Chip) → chip.opened ≡ true → ltb chip.length 64 ≡ false → may_add chip ≡ false
+word_full chip e h = rw (e, h)
+
+pub none_open : (chip : Chip) → chip.opened ≡ false → may_add chip ≡ false
+none_open chip e = rw e
 
 -- ---- a command whole
 

@@ -15,7 +15,7 @@ use std::rt::Files;
 
 // What is answered: how many bytes were read; that there is no such file; the error of a call that failed, whose text
 // was told on standard error; or that more than zeros follow what the list holds.
-#[derive(Drop)]
+#[derive(Clone, Copy)]
 pub enum Loaded {
     Bytes(usize),
     Missing,

@@ -25,7 +25,7 @@ pub extern "C" fn ligkern_compile(
         pairs.old ops.old loops.old work.old counts.old result
         pairs.new ops.new loops.new work.new counts.new }
 {
-    c_compile::compiling::ligkern_compile(
+    c_compile::compiled::ligkern_compile(
         instructions,
         kerns,
         entries,

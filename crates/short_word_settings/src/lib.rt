@@ -1,1 +1,2 @@
 // Theorems: what setting the next short word gives. No functions.
+#![tactic(auto)]

@@ -2,6 +2,8 @@
 // or the text anew; or one line with N and the number. Crates `text_answer` and `text_convert` answer. The types of
 // both lists fix their lengths: one byte more is read than a text may have, so that a longer one is seen (R197), and
 // there is room for every reply (R204).
+#![tactic(auto)]
+
 ghost use Rattle.std.specs.Prelude.{◌≡◌, ◌≤◌, length, take};
 ghost use Rattle.text_print.specs.Printing.{IsAnswer, PrintsNumber, Prints, PrintsConverted};
 

@@ -16,47 +16,51 @@ use Rattle.text_print.proofs.Laws.{is_answer, answer_printed}
 use Rattle.text_print.proofs.print_answer.Statement.{statement}
 use Rattle.text_print.proofs.print_answer.Tie as tie
 
-abbrev start : tie.After-ligcols → tie.Start
+abbrev start : tie.After-ligcols-answer → tie.Start
 start l = l.before.before.before.before
 
 -- what `ligcols` answered for the bytes that were read
-answered : (l : tie.After-ligcols) →
-    AnswersText (take (start l).args.got (start l).args.read.now) (start l).args.out.now l.ligcols.result l.ligcols.new.1.0
+answered : (l : tie.After-ligcols-answer) →
+    AnswersText (take (start l).args.got (start l).args.read.now) (start l).args.out.now l.ligcols-answer.result l.ligcols-answer.new.reply
 answered l =
-    subst (λ (t : List ℕ). AnswersText t (start l).args.out.now l.ligcols.result l.ligcols.new.1.0) l.before.before.front.ensures
-    l.ligcols.ensures
+    subst (λ (t : List ℕ). AnswersText t (start l).args.out.now l.ligcols-answer.result l.ligcols-answer.new.reply) l.front.ensures
+    l.ligcols-answer.ensures
 
 -- .. which is passed on by its bits
-passed : (l : tie.After-ligcols) → number_of (word_of l.ligcols.result) ≡ l.ligcols.result
-passed l = number_word l.ligcols.result (record { sfits = l.ligcols.type-inv })
+passed : (l : tie.After-ligcols-answer) → number_of (word_of l.ligcols-answer.result) ≡ l.ligcols-answer.result
+passed l = number_word l.ligcols-answer.result (record { sfits = l.ligcols-answer.type_inv })
 
 -- how long the lists are that were lent
-read-long : (l : tie.After-ligcols) → length (start l).args.read.now ≡ 65537
+read-long : (l : tie.After-ligcols-answer) → length (start l).args.read.now ≡ 65537
 read-long l = search rules
 
-out_long : (l : tie.After-ligcols) → length (start l).args.out.now ≡ 65536
+out_long : (l : tie.After-ligcols-answer) → length (start l).args.out.now ≡ 65536
 out_long l = search rules
 
 front-requires : tie.Need-front-requires
 front-requires c κs = search rules
 
-ligcols-requires : tie.Need-ligcols-requires
+ligcols-requires : tie.Need-ligcols-answer-requires
 ligcols-requires c κs = search rules
 
-print-number-requires : tie.Need-print-number-requires
-print-number-requires c κs =
-    let l = c.before in (
-      search rules,
-      is_answer (number_of_text (read_text (take (start l).args.got (start l).args.read.now)) (length (start l).args.out.now)) (length (bytes_of_text (read_text (take (start l).args.got (start l).args.read.now))))
-          (text_few (read_text (take (start l).args.got (start l).args.read.now)) (length (start l).args.out.now)) (passed l ∙ (answered l).answer),
-    )
+print-number-requires : tie.Need-print_number-requires
+print-number-requires c κs = (
+  search rules,
+  is_answer (number_of_text (read_text (take (start (c.before)).args.got (start (c.before)).args.read.now)) (length (start (c.before)).args.out.now)) (length (bytes_of_text (read_text (take (start (c.before)).args.got (start (c.before)).args.read.now))))
+      (text_few (read_text (take (start (c.before)).args.got (start (c.before)).args.read.now)) (length (start (c.before)).args.out.now)) (passed (c.before) ∙ (answered (c.before)).answer),
+)
 
 returns : tie.Need-returns
 returns c =
-    let l = c.before.before in
-    let o = c.print-number.new.1.0 in
-    answer_printed (start l).args.read.now (start l).args.got (read-long l) (out_long l) (c.print-number.auto.1.0 ∙ l.ligcols.auto.1.0)
-    (subst (λ (z : ℤ). PrintsNumber z l.ligcols.new.1.0 c.print-number.result o) (passed l) c.print-number.ensures) (answered l)
+    let o = c.print_number.new.out in
+    answer_printed (start (c.before.before)).args.read.now (start (c.before.before)).args.got (read-long (c.before.before)) (out_long (c.before.before)) (c.print_number.auto.out ∙ c.ligcols-answer.auto.reply)
+    (subst (λ (z : ℤ). PrintsNumber z c.ligcols-answer.new.reply c.print_number.result o) (passed (c.before.before)) c.print_number.ensures) (answered (c.before.before))
 
-pub print-answer-spec : {M : Type 1} → statement M
-print-answer-spec = tie.close (tie.spec front-requires ligcols-requires print-number-requires returns)
+pub print_answer_spec : {M : Type 1} → statement M
+print_answer_spec =
+    tie.close
+    (tie.spec
+    front-requires
+    ligcols-requires
+    print-number-requires
+    returns)

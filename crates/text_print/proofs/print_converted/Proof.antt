@@ -16,47 +16,51 @@ use Rattle.text_print.proofs.Laws.{is_answer, converted_printed}
 use Rattle.text_print.proofs.print_converted.Statement.{statement}
 use Rattle.text_print.proofs.print_converted.Tie as tie
 
-abbrev start : tie.After-ligcols-convert → tie.Start
+abbrev start : tie.After-ligcols_convert-answer → tie.Start
 start l = l.before.before.before.before
 
 -- what `ligcols_convert` answered for the bytes that were read
-answered : (l : tie.After-ligcols-convert) →
-    ConvertsText (take (start l).args.got (start l).args.read.now) (start l).args.out.now l.ligcols-convert.result l.ligcols-convert.new.1.0
+answered : (l : tie.After-ligcols_convert-answer) →
+    ConvertsText (take (start l).args.got (start l).args.read.now) (start l).args.out.now l.ligcols_convert-answer.result l.ligcols_convert-answer.new.out
 answered l =
-    subst (λ (t : List ℕ). ConvertsText t (start l).args.out.now l.ligcols-convert.result l.ligcols-convert.new.1.0) l.before.before.front.ensures
-    l.ligcols-convert.ensures
+    subst (λ (t : List ℕ). ConvertsText t (start l).args.out.now l.ligcols_convert-answer.result l.ligcols_convert-answer.new.out) l.front.ensures
+    l.ligcols_convert-answer.ensures
 
 -- .. which is passed on by its bits
-passed : (l : tie.After-ligcols-convert) → number_of (word_of l.ligcols-convert.result) ≡ l.ligcols-convert.result
-passed l = number_word l.ligcols-convert.result (record { sfits = l.ligcols-convert.type-inv })
+passed : (l : tie.After-ligcols_convert-answer) → number_of (word_of l.ligcols_convert-answer.result) ≡ l.ligcols_convert-answer.result
+passed l = number_word l.ligcols_convert-answer.result (record { sfits = l.ligcols_convert-answer.type_inv })
 
 -- how long the lists are that were lent
-read-long : (l : tie.After-ligcols-convert) → length (start l).args.read.now ≡ 65537
+read-long : (l : tie.After-ligcols_convert-answer) → length (start l).args.read.now ≡ 65537
 read-long l = search rules
 
-out_long : (l : tie.After-ligcols-convert) → length (start l).args.out.now ≡ 65536
+out_long : (l : tie.After-ligcols_convert-answer) → length (start l).args.out.now ≡ 65536
 out_long l = search rules
 
 front-requires : tie.Need-front-requires
 front-requires c κs = search rules
 
-ligcols-convert-requires : tie.Need-ligcols-convert-requires
+ligcols-convert-requires : tie.Need-ligcols_convert-answer-requires
 ligcols-convert-requires c κs = search rules
 
-print-number-requires : tie.Need-print-number-requires
-print-number-requires c κs =
-    let l = c.before in (
-      search rules,
-      is_answer (convert_number (read_text (take (start l).args.got (start l).args.read.now)) (converted_text (take (start l).args.got (start l).args.read.now)) (length (start l).args.out.now)) (length (converted_text (take (start l).args.got (start l).args.read.now)))
-          (convert_few (read_text (take (start l).args.got (start l).args.read.now)) (converted_text (take (start l).args.got (start l).args.read.now)) (length (start l).args.out.now)) (passed l ∙ (answered l).answer),
-    )
+print-number-requires : tie.Need-print_number-requires
+print-number-requires c κs = (
+  search rules,
+  is_answer (convert_number (read_text (take (start (c.before)).args.got (start (c.before)).args.read.now)) (converted_text (take (start (c.before)).args.got (start (c.before)).args.read.now)) (length (start (c.before)).args.out.now)) (length (converted_text (take (start (c.before)).args.got (start (c.before)).args.read.now)))
+      (convert_few (read_text (take (start (c.before)).args.got (start (c.before)).args.read.now)) (converted_text (take (start (c.before)).args.got (start (c.before)).args.read.now)) (length (start (c.before)).args.out.now)) (passed (c.before) ∙ (answered (c.before)).answer),
+)
 
 returns : tie.Need-returns
 returns c =
-    let l = c.before.before in
-    let o = c.print-number.new.1.0 in
-    converted_printed (start l).args.read.now (start l).args.got (read-long l) (out_long l) (c.print-number.auto.1.0 ∙ l.ligcols-convert.auto.1.0)
-    (subst (λ (z : ℤ). PrintsNumber z l.ligcols-convert.new.1.0 c.print-number.result o) (passed l) c.print-number.ensures) (answered l)
+    let o = c.print_number.new.out in
+    converted_printed (start (c.before.before)).args.read.now (start (c.before.before)).args.got (read-long (c.before.before)) (out_long (c.before.before)) (c.print_number.auto.out ∙ c.ligcols_convert-answer.auto.out)
+    (subst (λ (z : ℤ). PrintsNumber z c.ligcols_convert-answer.new.out c.print_number.result o) (passed (c.before.before)) c.print_number.ensures) (answered (c.before.before))
 
-pub print-converted-spec : {M : Type 1} → statement M
-print-converted-spec = tie.close (tie.spec front-requires ligcols-convert-requires print-number-requires returns)
+pub print_converted_spec : {M : Type 1} → statement M
+print_converted_spec =
+    tie.close
+    (tie.spec
+    front-requires
+    ligcols-convert-requires
+    print-number-requires
+    returns)

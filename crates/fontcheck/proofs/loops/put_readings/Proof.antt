@@ -7,57 +7,55 @@ use lib.ListN.{length}
 use Rattle.fontcheck.proofs.loops.put_readings.Statement.{statement}
 use Rattle.fontcheck.proofs.loops.put_readings.Tie as tie
 
-abbrev invariant-loop : tie.invariant-loop
+abbrev invariant-loop : tie.invariant-loop-steps
 invariant-loop line₀ at instructions kerns entries left_entry_lem design items₀ next₀ count₀ cursor₀ steps₀ line items next count cursor steps =
     (length line ≡ length line₀) × (length items ≡ length items₀)
 
-abbrev decreases-loop : tie.decreases-loop
+abbrev decreases-loop : tie.decreases-loop-steps
 decreases-loop line₀ at instructions kerns entries left_entry_lem design items₀ next₀ count₀ cursor₀ steps₀ line items next count cursor steps = 5 - steps
 
-loop-holds : tie.Need-loop-init invariant-loop decreases-loop
+loop-holds : tie.Need-loop-steps-init invariant-loop decreases-loop
 loop-holds c = (refl, refl)
 
-one-step-requires : tie.Need-one-step-requires invariant-loop decreases-loop
+one-step-requires : tie.Need-one_step-requires invariant-loop decreases-loop
 one-step-requires c κs = tt
 
-enum-known-n : tie.Need-enum-known-n invariant-loop decreases-loop
+enum-known-n : tie.Need-enum_known-n invariant-loop decreases-loop
 enum-known-n c = omega arith
 
-same_length : tie.Need-same-length invariant-loop decreases-loop
-same_length c = c.before.before.before.before.before.loop.invariant.0
+same_length : tie.Need-shape_of-line-in_default invariant-loop decreases-loop
+same_length c = c.loop-steps.invariant.0
 
-same-length-2 : tie.Need-same-length-2 invariant-loop decreases-loop
-same-length-2 c = c.before.before.one_step.auto.1.1.1.1.1.0 ∙ c.before.before.before.before.before.loop.invariant.1
+same-length-2 : tie.Need-shape_of-items-in_default invariant-loop decreases-loop
+same-length-2 c = c.one_step.auto.items ∙ c.loop-steps.invariant.1
 
-returns : tie.Need-returns invariant-loop decreases-loop
+returns : tie.Need-returns-in_default invariant-loop decreases-loop
 returns c = tt
 
-put-reading-requires : tie.Need-put-reading-requires invariant-loop decreases-loop
+put-reading-requires : tie.Need-put_reading-next-requires invariant-loop decreases-loop
 put-reading-requires c κs = tt
 
-add-steps : tie.Need-overflow-add-steps invariant-loop decreases-loop
+add-steps : tie.Need-overflow_add-steps invariant-loop decreases-loop
 add-steps c = omega arith
 
-loop-less : tie.Need-loop-smaller invariant-loop decreases-loop
+loop-less : tie.Need-loop-steps-smaller invariant-loop decreases-loop
 loop-less c = omega arith
 
-loop-again : tie.Need-loop-preserved invariant-loop decreases-loop
+loop-again : tie.Need-loop-steps-preserved invariant-loop decreases-loop
 loop-again c =
-    let o = c.before.before.before.before.before.before.before.before.before in
-    let l = o.before.before.before.loop in
-    (c.before.before.put-reading.auto.0 ∙ l.invariant.0, o.one_step.auto.1.1.1.1.1.0 ∙ l.invariant.1)
+    (c.put_reading-next.auto.line ∙ c.loop-steps.invariant.0, c.one_step.auto.items ∙ c.loop-steps.invariant.1)
 
-same-length-3 : tie.Need-same-length-3 invariant-loop decreases-loop
-same-length-3 c = c.before.loop.invariant.0
+same-length-3 : tie.Need-shape_of-line invariant-loop decreases-loop
+same-length-3 c = c.loop-steps.invariant.0
 
-same-length-4 : tie.Need-same-length-4 invariant-loop decreases-loop
-same-length-4 c = c.before.loop.invariant.1
+same-length-4 : tie.Need-shape_of-items invariant-loop decreases-loop
+same-length-4 c = c.loop-steps.invariant.1
 
-returns-2 : tie.Need-returns-2 invariant-loop decreases-loop
+returns-2 : tie.Need-returns invariant-loop decreases-loop
 returns-2 c = tt
 
-pub put-readings-spec : {M : Type 1} → statement M
-put-readings-spec =
+pub put_readings_spec : {M : Type 1} → statement M
+put_readings_spec =
     tie.close
     (tie.spec
     invariant-loop

@@ -6,17 +6,21 @@ use borrow.Author.Rules.{rules}
 use Rattle.test_blame.proofs.request.letters.Statement.{statement}
 use Rattle.test_blame.proofs.request.letters.Tie as tie
 
-returns : tie.Need-returns
+returns : tie.Need-returns-then-word-n
 returns c = search rules
 
-slice-aggregate-result : tie.Need-slice-aggregate-result
+slice-aggregate-result : tie.Need-slice_bounds-result-end
 slice-aggregate-result c =
-    let i = c.before in
-    let a = i.before.args in
-    sym (length-take-le a.n a.word.now i.if1.false)
+    let a = c.args in
+    sym (length-take-le a.n a.word.now c.if-word-n.false)
 
-returns-2 : tie.Need-returns-2
+returns-2 : tie.Need-returns
 returns-2 c = search rules
 
-pub letters-spec : {M : Type 1} → statement M
-letters-spec = tie.close (tie.spec returns slice-aggregate-result returns-2)
+pub letters_spec : {M : Type 1} → statement M
+letters_spec =
+    tie.close
+    (tie.spec
+    returns
+    slice-aggregate-result
+    returns-2)

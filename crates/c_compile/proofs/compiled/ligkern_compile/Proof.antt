@@ -1,4 +1,4 @@
--- `c_compile::compiling::ligkern_compile` meets its contract: proofs/Counts.
+-- `c_compile::compiled::ligkern_compile` meets its contract: proofs/Counts.
 -- Assumes nothing.
 use mathlib.Core.Path.{◌≡◌, ap, subst, subst₂, ◌∙◌}
 use Prim.Native.Nat.{ℕ}
@@ -10,8 +10,8 @@ use Rattle.fonts.specs.Fonts.{Font, font_of}
 use Rattle.fonts.specs.Compiled.{Compiles}
 use Rattle.c_compile.proofs.Counts.{counts_refused, counts_short, counts_taken}
 use borrow.Author.Rules.{rules}
-use Rattle.c_compile.proofs.compiling.ligkern_compile.Statement.{statement}
-use Rattle.c_compile.proofs.compiling.ligkern_compile.Tie as tie
+use Rattle.c_compile.proofs.compiled.ligkern_compile.Statement.{statement}
+use Rattle.c_compile.proofs.compiled.ligkern_compile.Tie as tie
 
 -- compile is handed the font as it was lent, and the size
 abbrev font : (c : tie.Start) → Font
@@ -23,11 +23,9 @@ abbrev late : (c : tie.Start) → ℕ
 late c = let a = c.args in asked_refusal a.design_size a.size a.magnification
 
 compiled : (c : tie.After-compile) (r : Compiled) → c.compile.result ≡ r →
-    let s = c.before.before.before.before.before.before.before.before.before.before.before in
     Compiles (font (c.before.before.before.before.before.before.before.before.before.before.before)) (late (c.before.before.before.before.before.before.before.before.before.before.before)) c.args.pairs.now c.args.ops.now c.args.loops.now c.args.work.now r c.compile.new.pairs c.compile.new.ops c.compile.new.loops
     c.compile.new.work
 compiled c r e =
-    let s = c.before.before.before.before.before.before.before.before.before.before.before in
     let a = c.args in
     let d = number_word a.design_size c.ranges.design_size in
     let x = number_word a.size c.ranges.size in
