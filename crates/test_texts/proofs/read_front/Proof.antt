@@ -8,46 +8,45 @@ use borrow.Author.Rules.{rules}
 use Rattle.test_texts.proofs.read_front.Statement.{statement}
 use Rattle.test_texts.proofs.read_front.Tie as tie
 
-abbrev invariant-loop : tie.invariant-loop
+abbrev invariant-loop : tie.invariant-loop-i
 invariant-loop text read₀ i₀ read i = length read ≡ length read₀
 
-abbrev decreases-loop : tie.decreases-loop
+abbrev decreases-loop : tie.decreases-loop-i
 decreases-loop text read₀ i₀ read i = length text - i
 
-loop-holds : tie.Need-loop-init invariant-loop decreases-loop
+loop-holds : tie.Need-loop-i-init invariant-loop decreases-loop
 loop-holds c = refl
 
-shared-slice-read-read : tie.Need-shared-slice-read-read invariant-loop decreases-loop
+shared-slice-read-read : tie.Need-bounds-text-i invariant-loop decreases-loop
 shared-slice-read-read c = omega arith
 
-slice-write-read : tie.Need-slice-write-read invariant-loop decreases-loop
+slice-write-read : tie.Need-bounds-read-i invariant-loop decreases-loop
 slice-write-read c = search rules
 
-add-i : tie.Need-overflow-add-i invariant-loop decreases-loop
+add-i : tie.Need-overflow_add-i invariant-loop decreases-loop
 add-i c = omega arith
 
-loop-less : tie.Need-loop-smaller invariant-loop decreases-loop
+loop-less : tie.Need-loop-i-smaller invariant-loop decreases-loop
 loop-less c = omega arith
 
-loop-again : tie.Need-loop-preserved invariant-loop decreases-loop
+loop-again : tie.Need-loop-i-preserved invariant-loop decreases-loop
 loop-again c =
-    let l = c.before.before.before.loop in
-    length-set l.read l.i (get_or c.before.before.before.before.args.text.now l.i 0) ∙ l.invariant
+    length-set c.loop-i.read c.loop-i.i (get_or c.args.text.now c.loop-i.i 0) ∙ c.loop-i.invariant
 
-same_length : tie.Need-same-length invariant-loop decreases-loop
-same_length c = c.before.before.loop.invariant
+same_length : tie.Need-shape_of-read-else-i-read invariant-loop decreases-loop
+same_length c = c.loop-i.invariant
 
-returns : tie.Need-returns invariant-loop decreases-loop
+returns : tie.Need-returns-else-i-read invariant-loop decreases-loop
 returns c = tt
 
-same-length-2 : tie.Need-same-length-2 invariant-loop decreases-loop
-same-length-2 c = c.before.loop.invariant
+same-length-2 : tie.Need-shape_of-read-after-loop-i invariant-loop decreases-loop
+same-length-2 c = c.loop-i.invariant
 
-returns-2 : tie.Need-returns-2 invariant-loop decreases-loop
+returns-2 : tie.Need-returns-after-loop-i invariant-loop decreases-loop
 returns-2 c = tt
 
-pub read-front-spec : {M : Type 1} → statement M
-read-front-spec =
+pub read_front_spec : {M : Type 1} → statement M
+read_front_spec =
     tie.close
     (tie.spec
     invariant-loop
