@@ -8,7 +8,6 @@ ghost use Rattle.removals.specs.Search.{blame_room, blamed_of};
 use blame_given::answer_given;
 use captions::RunOptions;
 use removals::{Blamed, FontNumbers};
-use words::sizes::smaller;
 
 // The answer of the plain search, with whatever is left in the six lists.
 pub fn answer_cut(
@@ -31,8 +30,8 @@ pub fn answer_cut(
         ops_without.old work.old)
         (size_number numbers) word.now options (length edited.old) }
 {
-    let p = smaller(pairs.len(), pairs_without.len());
-    let o = smaller(ops.len(), ops_without.len());
+    let p = pairs.len().min(pairs_without.len());
+    let o = ops.len().min(ops_without.len());
     answer_given(
         instructions,
         kerns,

@@ -12,7 +12,7 @@ use captions::RunOptions;
 use fonts::Compiled;
 use removals::{Blamed, FontNumbers};
 use same_items::same_run;
-use words::i32s::zero_i32;
+use words::slices::zero_all;
 
 // Removal i, by what compile answered of the edited font and left in the second table.
 fn answer_compiled(
@@ -89,7 +89,7 @@ pub fn answer_edited(
         pairs_without,
         ops_without,
     );
-    zero_i32(pairs_without);
-    zero_i32(ops_without);
+    zero_all(pairs_without);
+    zero_all(ops_without);
     answer
 }

@@ -1,14 +1,14 @@
 -- The removals one after the other: the edited instructions, one removal's answer, and the first answer of several.
 -- Assumes nothing.
 use mathlib.Core.Path.{◌≡◌, refl, sym, ap, ◌∙◌}
-use mathlib.Core.Bool.{Bool, true, false}
-use mathlib.Core.List.{List, [], ◌++◌, append-nil}
+use mathlib.Core.Bool.{true, false}
+use mathlib.Core.List.{List, ◌++◌, append-nil}
 use mathlib.Core.Logic.{◌⊎◌, inl, inr}
 use Prim.Native.Nat.{ℕ, zero, suc, ◌≤◌, ◌<◌}
 use native.Mathlib.Nat.{eq-or-lt_of_le}
 use native.Mathlib.Omega.{arith}
 use lib.IntN.{ℤ}
-use lib.ListN.{length, drop, drop_of_length-le}
+use lib.ListN.{length, drop_of_length-le}
 use lib.Seq.{sets}
 use Rattle.words.proofs.Lists.{sets_front}
 use Rattle.lang.specs.Records.{count}
@@ -123,9 +123,3 @@ module _ (s kerns entries : List ℤ) (numbers : FontNumbers) (word : List ℕ) 
               let l : Lent = record { table = t; op_table = o; long = g } in
               sym (first_kept answers_of (count s) (suc i) x n (first_more answers_of i x (h.none l) (removal-is l)) (omega (arith, m)));
         }
-
-  pub standing_all : (pairs₁ ops₁ edited₁ : List ℤ) (work₁ : List ℕ) (i : ℕ) → Standing pairs₁ ops₁ edited₁ work₁ i → count s ≤ i →
-      Searches f (size_number numbers) word options pairs ops pairs₀ ops₀ edited₀ work₀ Nothing
-  standing_all pairs₁ ops₁ edited₁ work₁ i h m =
-      let q : i ≡ count s = omega (arith, m, h.within) in
-      record { answer = λ t o g. sym (ap (first_answer answers_of) (sym q) ∙ h.none (record { table = t; op_table = o; long = g })) }

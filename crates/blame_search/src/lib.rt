@@ -54,8 +54,7 @@ pub fn search(
         word.now options pairs.now ops.now pairs_without.old
         ops_without.old edited.old work.old result }
 {
-    let mut i = 0;
-    while i < instructions.len() / 4 {
+    for i in 0..instructions.len() / 4 {
         write_without(instructions, i, edited);
         let answer = answer_edited(
             i,
@@ -74,7 +73,6 @@ pub fn search(
         if !is_nothing(answer) {
             return answer;
         }
-        i += 1;
     }
     Blamed::Nothing
 }

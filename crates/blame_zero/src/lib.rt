@@ -3,8 +3,7 @@
 
 ghost use Rattle.removals.specs.Search.{WorkZeroed};
 
-use words::i32s::zero_i32;
-use words::u32s::zero_u32;
+use words::slices::zero_all;
 
 // Every number of the six lists is 0.
 pub fn zero_work(
@@ -19,10 +18,10 @@ pub fn zero_work(
         ops_without.old edited.old work.old pairs.new ops.new
         pairs_without.new ops_without.new edited.new work.new }
 {
-    zero_i32(pairs);
-    zero_i32(ops);
-    zero_i32(pairs_without);
-    zero_i32(ops_without);
-    zero_i32(edited);
-    zero_u32(work);
+    zero_all(pairs);
+    zero_all(ops);
+    zero_all(pairs_without);
+    zero_all(ops_without);
+    zero_all(edited);
+    zero_all(work);
 }

@@ -10,14 +10,14 @@ ghost use Rattle.c_blame_write.specs.Told.{TellsBlamed};
 use program_checks::lower_of;
 use program_limits::room_refusal;
 use removals::Blamed;
-use words::u64s::zero_u64;
+use words::slices::zero_all;
 
 // Two values at the front of a list, with zeros after them; 15 where it has no room for two.
 fn tell_two(found: u64, index: usize, values: &mut [u64]) -> u32
     ensures { TellsBlamed (reply_of 0 (pos found ∷ pos index ∷ [])) values.old result
         values.new }
 {
-    zero_u64(values);
+    zero_all(values);
     if values.len() < 2 {
         return 15;
     }
@@ -31,7 +31,7 @@ fn tell_number(number: u32, values: &mut [u64]) -> u32
     ensures { TellsBlamed (blamed_reply (blamed.Refused number)) values.old result
         values.new }
 {
-    zero_u64(values);
+    zero_all(values);
     lower_of(number, room_refusal(2, values.len()))
 }
 

@@ -7,7 +7,7 @@ use caption_run::begin::begin;
 use captions::{Begun, RunOptions};
 use program_checks::lower_of;
 use program_limits::room_refusal;
-use words::u64s::zero_u64;
+use words::slices::zero_all;
 
 // The state of a fresh run, nine numbers with zeros after them. Begin's numbers; 15 where the list has no room for it
 // comes before 20.
@@ -25,7 +25,7 @@ pub extern "C" fn ligkern_begin(
         (options_of disable_left_boundary right_boundary_override) state.old result
         state.new }
 {
-    zero_u64(state);
+    zero_all(state);
     let options = RunOptions {
         disable_left_boundary: disable_left_boundary,
         right_boundary_override: right_boundary_override,

@@ -4,7 +4,7 @@ ghost use Rattle.word_set.specs.Setting.{set_reply};
 ghost use Rattle.c_captions.specs.Whole.{SetsCaption};
 ghost use Rattle.c_states.specs.States.{options_of};
 
-use c_values::i32s::keep_i32;
+use c_values::lists::keep_list;
 use c_values::tell;
 use captions::RunOptions;
 use program_checks::lower_of;
@@ -36,6 +36,6 @@ pub extern "C" fn ligkern_set_word(
     let room = room_refusal(1, count.len());
     let written = set_word(pairs, ops, boundary, word, options, items);
     let number = lower_of(tell(written, count), room);
-    keep_i32(number, items);
+    keep_list(number, items);
     number
 }

@@ -8,7 +8,7 @@ ghost use Rattle.index_set_checked.specs.Checked.{checked_indexed_reply};
 ghost use Rattle.c_states.specs.States.{options_of};
 ghost use Rattle.c_captions.specs.Whole.{SetsCaption};
 
-use c_values::i32s::keep_i32;
+use c_values::lists::keep_list;
 use c_values::tell;
 use captions::RunOptions;
 use index_set_checked::set_checked_word_indexed;
@@ -42,6 +42,6 @@ pub extern "C" fn ligkern_set_checked_word_indexed(
     let room = room_refusal(1, count.len());
     let written = set_checked_word_indexed(index, pairs, ops, boundary, word, options, items);
     let number = lower_of(tell(written, count), room);
-    keep_i32(number, items);
+    keep_list(number, items);
     number
 }

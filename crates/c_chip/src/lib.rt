@@ -5,7 +5,7 @@ ghost use Rattle.c_chip.specs.Chip91.{TellsChip};
 
 use c_chip_begin::begin_in;
 use c_chip_turn::turn_in;
-use words::u8s::u8_at;
+use words::slices::item_at;
 
 // One command: 0, with the block and the chip after it; or the number of its refusal, with both as they were. Numbers
 // that are no chip's are 7.
@@ -20,7 +20,7 @@ pub extern "C" fn ligkern_chip(
     ensures { TellsChip pairs.now ops.now boundary block.old
         chip.old result block.new chip.new }
 {
-    if u8_at(block, 0) == 1 {
+    if item_at(block, 0) == 1 {
         return begin_in(pairs, ops, boundary, block, chip);
     }
     turn_in(pairs, ops, boundary, block, chip)

@@ -10,7 +10,7 @@ use c_chip_read::list_refusal;
 use c_chip_write::show_changes;
 use c_states::states::{flag_of, state_in};
 use captions::Answer;
-use words::u8s::u8_at;
+use words::slices::item_at;
 
 // A letter behind the others; 22 where no word is open, or it is full.
 fn add_letter(block: &mut [u8], list: &mut [u64]) -> u32
@@ -27,7 +27,7 @@ fn add_letter(block: &mut [u8], list: &mut [u64]) -> u32
         return 22;
     }
     let state = state_in(&list[9..]);
-    list[18 + length] = u8_at(block, 1) as u64;
+    list[18 + length] = item_at(block, 1) as u64;
     list[1] = (length + 1) as u64;
     show_changes(block, list, true, Answer::End, state);
     0

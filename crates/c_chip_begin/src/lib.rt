@@ -15,7 +15,7 @@ use c_chip_write::show_changes;
 use c_states::states::flag_of;
 use captions::{Answer, Begun, State};
 use chip_begin::begin_run;
-use words::u8s::u8_at;
+use words::slices::item_at;
 
 // No word is open, every item was taken, and one more word of the caller can be counted.
 fn may_begin(list: &[u64], caller: u8) -> bool
@@ -44,7 +44,7 @@ fn open_word(block: &mut [u8], list: &mut [u64], state: State) -> u32
         (chip_begun (block_caller block.old) (chip_at list.old)) block.old
         list.old result block.new list.new }
 {
-    let caller = u8_at(block, 1);
+    let caller = item_at(block, 1);
     if !may_begin(list, caller) {
         return 22;
     }

@@ -16,10 +16,8 @@ fn are_words(codes: &[u64]) -> bool
     ensures { result ≡ every (length codes.now) (λ i. is_word (get_or codes.now i 0)) }
 {
     let mut all: u64 = 0;
-    let mut i = 0;
-    while i < codes.len() {
-        all = all | codes[i];
-        i += 1;
+    for code in codes {
+        all |= *code;
     }
     all <= 4294967295
 }
@@ -29,10 +27,8 @@ fn are_bytes(codes: &[u64]) -> bool
     ensures { result ≡ every (length codes.now) (λ i. leb (get_or codes.now i 0) 255) }
 {
     let mut all: u64 = 0;
-    let mut i = 0;
-    while i < codes.len() {
-        all = all | codes[i];
-        i += 1;
+    for code in codes {
+        all |= *code;
     }
     all <= 255
 }

@@ -23,10 +23,8 @@ fn letters_of(codes: &[u64]) -> [u32; 64]
     ensures { result ≡ codes.now ++ replicate (64 - length codes.now) 0 }
 {
     let mut letters = [0u32; 64];
-    let mut i = 0;
-    while i < codes.len() {
-        letters[i] = codes[i] as u32;
-        i += 1;
+    for (i, code) in codes.iter().enumerate() {
+        letters[i] = *code as u32;
     }
     letters
 }

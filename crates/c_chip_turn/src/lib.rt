@@ -9,7 +9,7 @@ ghost use Rattle.c_chip_turn.specs.ListTurns.{other_refusal};
 use c_chip_add::add_in;
 use c_chip_read::list_refusal;
 use c_chip_step::step_turn;
-use words::u8s::u8_at;
+use words::slices::item_at;
 
 // Add, end, take, or 21; and before it what is refused before a command is looked at.
 pub fn turn_in(pairs: &[i32], ops: &[i32], boundary: i32, block: &mut [u8], list: &mut [u64]) -> u32
@@ -21,7 +21,7 @@ pub fn turn_in(pairs: &[i32], ops: &[i32], boundary: i32, block: &mut [u8], list
         (chip_read list.old)) block.old list.old result block.new
         list.new }
 {
-    match u8_at(block, 0) {
+    match item_at(block, 0) {
         2 => add_in(boundary, block, list),
         3 => step_turn(pairs, ops, boundary, true, block, list),
         4 => step_turn(pairs, ops, boundary, false, block, list),

@@ -11,7 +11,7 @@ ghost use Rattle.c_chip_write.specs.Changes.{can_show, ShowsChanges};
 use c_states::states::{bit, put_state};
 use captions::{Answer, State};
 use chip_block::show;
-use words::u64s::zero_u64;
+use words::slices::zero_all;
 use words::word_of;
 
 // Seven numbers from place 2 on.
@@ -67,7 +67,7 @@ fn put_zeros(list: &mut [u64], from: usize)
     requires { (91 ≤ length list.old) × (from ≤ 82) }
     ensures { list.new ≡ sets list.old from (replicate (82 - from) 0) }
 {
-    zero_u64(&mut list[from..82]);
+    zero_all(&mut list[from..82]);
 }
 
 // Whether a word is open, the item and the run, in the place of those that stand there; and no letters past the word.

@@ -8,8 +8,7 @@ use compile::compile;
 use fonts::Compiled;
 use program_checks::lower_of;
 use program_limits::room_refusal;
-use words::i32s::zero_i32;
-use words::u64s::zero_u64;
+use words::slices::zero_all;
 
 // The counts: pairs, ops, loops. Compile's numbers; 15 where the counts have no room comes before 19.
 #[unsafe(no_mangle)]
@@ -34,7 +33,7 @@ pub extern "C" fn ligkern_compile(
         pairs.old ops.old loops.old work.old counts.old result
         pairs.new ops.new loops.new work.new counts.new }
 {
-    zero_u64(counts);
+    zero_all(counts);
     match compile(
         instructions,
         kerns,
@@ -52,9 +51,9 @@ pub extern "C" fn ligkern_compile(
         Compiled::Refused(n) => lower_of(n, room_refusal(3, counts.len())),
         Compiled::Tables(p, o, l) => {
             if counts.len() < 3 {
-                zero_i32(pairs);
-                zero_i32(ops);
-                zero_i32(loops);
+                zero_all(pairs);
+                zero_all(ops);
+                zero_all(loops);
                 return 15;
             }
             put_three(counts, p, o, l);

@@ -5,8 +5,8 @@
 
 ghost use Rattle.c_display.specs.Display.{HostDisplays};
 
+use c_values::lists::keep_list;
 use c_values::tell;
-use c_values::u8s::keep_u8;
 use pl_write::display;
 use program_checks::lower_of;
 use program_limits::room_refusal;
@@ -28,6 +28,6 @@ pub extern "C" fn ligkern_display(
     let written = display(instructions, kerns, entries, boundary, left_entry, text);
     let told = tell(written, values);
     let number = lower_of(room_refusal(1, values.len()), told);
-    keep_u8(number, text);
+    keep_list(number, text);
     number
 }

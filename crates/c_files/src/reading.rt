@@ -3,13 +3,12 @@ ghost use Rattle.std.specs.Prelude.{◌≡◌, [], ◌∷◌, ◌≤◌, length}
 ghost use Rattle.std.proofs.lemmas.List.Edits.{sets};
 ghost use Rattle.c_files.specs.Files.{fixed_refusal, TellsFont, HostDeserializes};
 
-use c_values::i32s::keep_i32;
+use c_values::lists::keep_list;
 use file_reading::deserialize;
 use files::Deserialized;
 use program_checks::lower_of;
 use program_limits::room_refusal;
-use words::i32s::zero_i32;
-use words::u64s::zero_u64;
+use words::slices::zero_all;
 
 // 15: fewer than two edges, or fewer than three counts.
 fn fixed_refusal(edges: usize, counts: usize) -> u32
@@ -37,8 +36,8 @@ fn tell_font(font: Deserialized, edges: &mut [i32], counts: &mut [u64]) -> u32
     ensures { TellsFont font edges.old counts.old result edges.new
         counts.new }
 {
-    zero_i32(edges);
-    zero_u64(counts);
+    zero_all(edges);
+    zero_all(counts);
     let fixed = fixed_refusal(edges.len(), counts.len());
     match font {
         Deserialized::Refused(n) => lower_of(fixed, n),
@@ -71,8 +70,8 @@ pub extern "C" fn ligkern_deserialize(
 {
     let font = deserialize(file, instructions, kerns, entries);
     let number = tell_font(font, edges, counts);
-    keep_i32(number, instructions);
-    keep_i32(number, kerns);
-    keep_i32(number, entries);
+    keep_list(number, instructions);
+    keep_list(number, kerns);
+    keep_list(number, entries);
     number
 }

@@ -2,8 +2,8 @@
 ghost use Rattle.files.specs.Writing.{writable};
 ghost use Rattle.c_files.specs.Files.{HostReplaces};
 
+use c_values::lists::keep_list;
 use c_values::tell;
-use c_values::u8s::keep_u8;
 use file_writing::replace_lig_kern_program;
 use program_checks::lower_of;
 use program_limits::room_refusal;
@@ -35,6 +35,6 @@ pub extern "C" fn ligkern_replace_lig_kern_program(
     );
     let told = tell(written, values);
     let number = lower_of(room_refusal(1, values.len()), told);
-    keep_u8(number, out);
+    keep_list(number, out);
     number
 }

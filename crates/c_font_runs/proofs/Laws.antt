@@ -10,6 +10,7 @@ use lib.Dec.{leb}
 use lib.ListN.{length, get_or, set, drop, length-drop}
 use lib.Seq.{drop-drop}
 use borrow.Author.Tests.{leb-true}
+use Rattle.std.specs.Prelude.{Option, Some}
 use Rattle.lang.proofs.Arms.{NoneOf}
 use Rattle.lang.specs.Every.{both}
 use Rattle.lang.specs.Answers.{room_refusal}
@@ -17,8 +18,6 @@ use Rattle.lang.proofs.Every.{both_left, both_right}
 use Rattle.lang.proofs.Refusals.{room_is}
 use Rattle.captions.specs.declared.State.{State}
 use Rattle.c_states.specs.States.{numbers_of, is_state, state_at, state_read, or_outside, moved_to, PutsState}
-use Rattle.font_runs.specs.declared.Asked.{Asked}
-use Rattle.font_runs.specs.declared.Asked.TheVariants as asked
 use Rattle.font_runs.specs.declared.FontRun.{FontRun}
 use Rattle.c_font_runs.specs.RunLists.{asked_flag, asked_number, asked_of, asked_fits, is_run, run_at, outside_run, run_read, run_moved}
 
@@ -28,7 +27,7 @@ pub fits_other : (f n : ℕ) → NoneOf (Unit {0}) f (0 ∷ []) → leb n 429496
 fits_other zero n h = absurd (h.1 refl)
 fits_other (suc f) n h = refl
 
-pub asked_other : (f n : ℕ) → NoneOf (Unit {0}) f (0 ∷ []) → asked.Font n ≡ asked_of f n
+pub asked_other : (f n : ℕ) → NoneOf (Unit {0}) f (0 ∷ []) → Some n ≡ asked_of f n
 asked_other zero n h = absurd (h.1 refl)
 asked_other (suc f) n h = refl
 
@@ -86,6 +85,6 @@ module _ (ns : List ℕ) (h : is_run ns ≡ true) where
   pub state_read_lem : or_outside (state_read ns) ≡ state_at ns
   state_read_lem = ap (λ (b : Bool). or_outside (cond b (some (state_at ns)) none)) (run_state ns h)
 
-  pub run_read_lem : {s : State} {a : Asked} → s ≡ or_outside (state_read ns) → a ≡ asked_of (get_or ns 10 0) (get_or ns 11 0) →
+  pub run_read_lem : {s : State} {a : Option ℕ} → s ≡ or_outside (state_read ns) → a ≡ asked_of (get_or ns 10 0) (get_or ns 11 0) →
       ◌≡◌ {A = FontRun} (record { state = s; font = get_or ns 9 0; asked = a }) (run_read ns)
   run_read_lem e f = (λ j. record { state = (e ∙ state_read_lem) j; font = get_or ns 9 0; asked = f j }) ∙ sym (ap (λ (b : Bool). cond b (run_at ns) outside_run) h)

@@ -1,25 +1,23 @@
 -- A run that knows its font as twelve numbers of a list (R478): the nine of its state (c_states/specs/States), the number of the font in
 -- force, 1 where another is asked for, and that one's number. And back: the numbers that are a run's. All zeros are a run at the left
 -- boundary of font 0.
-use Rattle.std.specs.Prelude.{◌≡◌, Bool, true, cond, List, [], ◌∷◌, ◌++◌, ℕ, zero, suc, leb, length, get_or, drop}
+use Rattle.std.specs.Prelude.{◌≡◌, Bool, true, cond, List, [], ◌∷◌, ◌++◌, ℕ, zero, suc, leb, length, get_or, drop, Option, Some, None}
 use Rattle.lang.specs.Every.{both}
 use Rattle.lang.specs.Answers.{room_refusal}
 use Rattle.c_states.specs.States.{numbers_of, is_state, state_at, outside}
-use Rattle.font_runs.specs.declared.Asked.{Asked}
-use Rattle.font_runs.specs.declared.Asked.TheVariants as asked
 use Rattle.font_runs.specs.declared.FontRun.{FontRun}
 
 -- ---- a run's numbers
 
 -- whether a font is asked for
-abbrev pub asked_flag : Asked → ℕ
-asked_flag asked.Nothing = 0
-asked_flag (asked.Font n) = 1
+abbrev pub asked_flag : Option ℕ → ℕ
+asked_flag None = 0
+asked_flag (Some n) = 1
 
 -- its number, 0 where none is
-abbrev pub asked_number : Asked → ℕ
-asked_number asked.Nothing = 0
-asked_number (asked.Font n) = n
+abbrev pub asked_number : Option ℕ → ℕ
+asked_number None = 0
+asked_number (Some n) = n
 
 abbrev pub run_numbers : FontRun → List ℕ
 run_numbers run = numbers_of run.state ++ (run.font ∷ asked_flag run.asked ∷ asked_number run.asked ∷ [])
@@ -27,9 +25,9 @@ run_numbers run = numbers_of run.state ++ (run.font ∷ asked_flag run.asked ∷
 -- ---- back
 
 -- by the flag: with 0 the number is not read
-abbrev pub asked_of : ℕ → ℕ → Asked
-asked_of zero n = asked.Nothing
-asked_of (suc f) n = asked.Font n
+abbrev pub asked_of : ℕ → ℕ → Option ℕ
+asked_of zero n = None
+asked_of (suc f) n = Some n
 
 -- a number that is read is one of 32 bits
 abbrev pub asked_fits : ℕ → ℕ → Bool
@@ -50,7 +48,7 @@ run_at ns = record { state = state_at ns; font = get_or ns 9 0; asked = asked_of
 
 -- a run outside every word with nothing asked for, which stands for numbers that are no run's: every step from it is refused
 abbrev pub outside_run : FontRun
-outside_run = record { state = outside; font = 0; asked = asked.Nothing }
+outside_run = record { state = outside; font = 0; asked = None }
 
 -- the run at the front of a list
 abbrev pub run_read : List ℕ → FontRun

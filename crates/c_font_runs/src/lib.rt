@@ -8,7 +8,7 @@ ghost use Rattle.c_font_runs.specs.RunLists.{PutsRun};
 
 use c_states::states::{is_state, put_state, state_in};
 use captions::{Consumes, NextLeft, State};
-use font_runs::{Asked, FontRun};
+use font_runs::FontRun;
 
 // A number that is read is one of 32 bits.
 fn asked_fits(flag: u64, number: u64) -> bool
@@ -40,22 +40,22 @@ pub fn is_run(list: &[u64]) -> bool
 }
 
 // What is asked for, by the flag.
-fn asked_of(flag: u64, number: u32) -> Asked
+fn asked_of(flag: u64, number: u32) -> Option<u32>
     ensures { result ≡ asked_of flag number }
 {
     match flag {
-        0 => Asked::Nothing,
-        _ => Asked::Font(number),
+        0 => None,
+        _ => Some(number),
     }
 }
 
 // What a run has asked for, where twelve numbers are one.
-fn asked_in(list: &[u64]) -> Asked
+fn asked_in(list: &[u64]) -> Option<u32>
     requires { is_run list.now ≡ true }
     ensures { result ≡ asked_of (get_or list.now 10 0) (get_or list.now 11 0) }
 {
     if list[10] == 0 {
-        return Asked::Nothing;
+        return None;
     }
     asked_of(list[10], list[11] as u32)
 }
@@ -86,25 +86,25 @@ pub fn run_in(list: &[u64]) -> FontRun
     FontRun {
         state: state,
         font: 0,
-        asked: Asked::Nothing,
+        asked: None,
     }
 }
 
-fn asked_flag(asked: Asked) -> u64
+fn asked_flag(asked: Option<u32>) -> u64
     ensures { result ≡ asked_flag asked }
 {
     match asked {
-        Asked::Nothing => 0,
-        Asked::Font(_) => 1,
+        None => 0,
+        Some(_) => 1,
     }
 }
 
-fn asked_number(asked: Asked) -> u32
+fn asked_number(asked: Option<u32>) -> u32
     ensures { result ≡ asked_number asked }
 {
     match asked {
-        Asked::Nothing => 0,
-        Asked::Font(n) => n,
+        None => 0,
+        Some(n) => n,
     }
 }
 

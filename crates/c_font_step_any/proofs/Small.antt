@@ -8,6 +8,7 @@ use Prim.Native.Nat.{ℕ, zero, suc, ◌<◌, ◌≤◌}
 use native.Mathlib.Omega.{arith}
 use lib.IntN.{ℤ}
 use lib.ListN.{length}
+use Rattle.std.specs.Prelude.{Option as Asked, Some, None}
 use Rattle.lang.specs.Records.{absent_or}
 use Rattle.lang.specs.Checks.{or_else}
 use Rattle.captions.specs.declared.RunOptions.{RunOptions}
@@ -20,8 +21,6 @@ use Rattle.captions.specs.Steps.{step_refusal}
 use Rattle.word_items.specs.ItemLists.{Small}
 use Rattle.word_set.proofs.Bounds.{step_small}
 use Rattle.c_steps.proofs.Stepping.{from_is}
-use Rattle.font_runs.specs.declared.Asked.{Asked}
-use Rattle.font_runs.specs.declared.Asked.TheVariants as asked
 use Rattle.font_runs.specs.declared.FontRun.{FontRun}
 use Rattle.font_runs.specs.declared.FontStep.{FontStep}
 use Rattle.font_runs.specs.Requests.{LentFont}
@@ -51,12 +50,12 @@ module _ (font other : LentFont) (word : List ℕ) (options : RunOptions) where
   changed run n none = step_small font.pairs font.ops font.boundary word options run.state
   changed run n (some s) =
       let t = step_in_font other word options (restarted s) in
-      handed run (record { state = t.state; font = n; asked = asked.Nothing }) t.answer
+      handed run (record { state = t.state; font = n; asked = None }) t.answer
       (step_small other.pairs other.ops other.boundary word options (restarted s))
 
-  pub font_small_by : (run : FontRun) (a : Asked) → Small (font_step_by font other word options run a).answer
-  font_small_by run asked.Nothing = step_small font.pairs font.ops font.boundary word options run.state
-  font_small_by run (asked.Font n) =
+  pub font_small_by : (run : FontRun) (a : Asked ℕ) → Small (font_step_by font other word options run a).answer
+  font_small_by run None = step_small font.pairs font.ops font.boundary word options run.state
+  font_small_by run (Some n) =
       waited (both_edges font other) run (changed_by font other word options run n (first_free font word options run.state))
       (edges_few (absent_or 255 font.boundary) (absent_or 255 other.boundary))
       (changed run n (first_free font word options run.state))

@@ -15,7 +15,7 @@ use font_runs::FontStep;
 use font_steps::font_step;
 use program_checks::lower_of;
 use program_limits::room_refusal;
-use words::i32s::zero_i32;
+use words::slices::zero_all;
 
 // A step whatever is asked for, told into both lists.
 fn tell_step(run: &mut [u64], item: &mut [i32], stepped: FontStep) -> u32
@@ -23,7 +23,7 @@ fn tell_step(run: &mut [u64], item: &mut [i32], stepped: FontStep) -> u32
     ensures { TellsStep stepped run.old item.old result run.new
         item.new }
 {
-    zero_i32(item);
+    zero_all(item);
     let answer = stepped.answer;
     let number = refusal_of(answer);
     let room = room_refusal(7, item.len());

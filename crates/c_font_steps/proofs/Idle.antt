@@ -11,14 +11,13 @@ use lib.Dec.{eqb}
 use lib.ListN.{length, get_or, set, drop}
 use lib.Seq.{drop-cons}
 use borrow.Author.Tests.{eqb-true}
+use Rattle.std.specs.Prelude.{None}
 use Rattle.lang.proofs.Every.{both_left, both_right}
 use Rattle.captions.specs.declared.RunOptions.{RunOptions}
 use Rattle.captions.specs.declared.State.{State}
 use Rattle.captions.specs.declared.Step.{Step}
 use Rattle.c_states.specs.States.{numbers_of, is_state, state_at, moved_to}
 use Rattle.c_steps.specs.Step.{step_run_from, step_in, step_number, StepsRun}
-use Rattle.font_runs.specs.declared.Asked.{Asked}
-use Rattle.font_runs.specs.declared.Asked.TheVariants as asked
 use Rattle.font_runs.specs.declared.FontRun.{FontRun}
 use Rattle.font_runs.specs.declared.FontStep.{FontStep}
 use Rattle.font_runs.specs.Requests.{LentFont}
@@ -36,7 +35,7 @@ module _ (ns : List ℕ) (h : is_idle ns ≡ true) where
   idle_flag = eqb-true (get_or ns 10 0) 0 (both_right (is_run ns) (eqb (get_or ns 10 0) 0) h)
 
   abbrev idle : FontRun
-  idle = record { state = state_at ns; font = get_or ns 9 0; asked = asked.Nothing }
+  idle = record { state = state_at ns; font = get_or ns 9 0; asked = None }
 
   read : run_read ns ≡ idle
   read =
@@ -51,7 +50,7 @@ module _ (ns : List ℕ) (h : is_idle ns ≡ true) where
       ∙ ap (λ (t : List ℕ). get_or ns 9 0 ∷ t) (drop-cons ns 10 0 (omega (arith, l)))
       ∙ (λ j. get_or ns 9 0 ∷ idle_flag j ∷ drop-cons ns 11 0 (omega (arith, l)) j)
 
-  stored : (s : State) → set (numbers_of s ++ drop 9 ns) 11 0 ≡ run_moved 0 ns (record { state = s; font = get_or ns 9 0; asked = asked.Nothing })
+  stored : (s : State) → set (numbers_of s ++ drop 9 ns) 11 0 ≡ run_moved 0 ns (record { state = s; font = get_or ns 9 0; asked = None })
   stored s = ap (λ (t : List ℕ). set (numbers_of s ++ t) 11 0) last_three
 
   module _ (font other : LentFont) (word : List ℕ) (options : RunOptions) where

@@ -12,6 +12,7 @@ use lib.Dec.{leb, eqb}
 use lib.ListN.{length, get_or, drop}
 use lib.Seq.{drop-cons}
 use borrow.Author.Tests.{leb-true, eqb-true, eq-eqb}
+use Rattle.std.specs.Prelude.{Some}
 use Rattle.lang.specs.Every.{both}
 use Rattle.lang.specs.Checks.{or_else, absent_refusal}
 use Rattle.lang.proofs.Every.{both_left, both_right}
@@ -20,7 +21,6 @@ use Rattle.captions.specs.declared.State.{State}
 use Rattle.captions.specs.declared.Step.{Step}
 use Rattle.c_states.specs.States.{numbers_of, is_state, state_at, moved_to}
 use Rattle.c_steps.specs.Step.{step_run_from, step_in, step_number, StepsRun}
-use Rattle.font_runs.specs.declared.Asked.TheVariants as asked
 use Rattle.font_runs.specs.declared.FontRun.{FontRun}
 use Rattle.font_runs.specs.declared.FontStep.{FontStep}
 use Rattle.font_runs.specs.Requests.{LentFont}
@@ -72,7 +72,7 @@ module _ (font other : LentFont) (word : List ℕ) (ns : List ℕ)
       ∙ eqb-true (absent_refusal 255 other.boundary) 0 (both_left (eqb (absent_refusal 255 other.boundary) 0) _ after_edge)
 
   abbrev run : FontRun
-  run = record { state = state_at ns; font = get_or ns 9 0; asked = asked.Font (get_or ns 11 0) }
+  run = record { state = state_at ns; font = get_or ns 9 0; asked = Some (get_or ns 11 0) }
 
   read : run_read ns ≡ run
   read =
@@ -88,7 +88,7 @@ module _ (font other : LentFont) (word : List ℕ) (ns : List ℕ)
       ∙ (λ j. get_or ns 9 0 ∷ flag j ∷ drop-cons ns 11 0 (omega (arith, l)) j)
 
   moved_by : (n : ℕ) (s : State) →
-      moved_to n ns s ≡ run_moved n ns (record { state = s; font = get_or ns 9 0; asked = asked.Font (get_or ns 11 0) })
+      moved_to n ns s ≡ run_moved n ns (record { state = s; font = get_or ns 9 0; asked = Some (get_or ns 11 0) })
   moved_by zero s = ap (λ (t : List ℕ). numbers_of s ++ t) last_three
   moved_by (suc n) s = refl
 

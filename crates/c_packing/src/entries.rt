@@ -4,15 +4,15 @@ ghost use Rattle.pack.specs.Packing.{packable, packed_reply, packed_instructions
 ghost use Rattle.c_values.specs.Telling.{TellsHost, GivesTwo};
 ghost use Rattle.c_packing.specs.Changes.{pack_reply};
 
-use c_values::i32s::keep_i32;
+use c_values::lists::keep_list;
 use pack::Packed;
-use words::u64s::zero_u64;
+use words::slices::zero_all;
 
 // The three sizes of a packed font, or the number of a refusal.
 fn tell_sizes(packed: Packed, values: &mut [u64]) -> u32
     ensures { TellsHost (packed_reply packed) values.old result values.new }
 {
-    zero_u64(values);
+    zero_all(values);
     match packed {
         Packed::Refused(n) => n,
         Packed::Sizes(n, offset, redirects) => {
@@ -56,7 +56,7 @@ pub extern "C" fn ligkern_pack_entrypoints(
         entries_out,
     );
     let number = tell_sizes(packed, values);
-    keep_i32(number, out);
-    keep_i32(number, entries_out);
+    keep_list(number, out);
+    keep_list(number, entries_out);
     number
 }

@@ -4,7 +4,7 @@ ghost use Rattle.program_kerns.specs.Kerns.{packed};
 ghost use Rattle.c_values.specs.Telling.{Gives};
 ghost use Rattle.c_packing.specs.Changes.{pack_kerns_reply};
 
-use c_values::i32s::keep_i32;
+use c_values::lists::keep_list;
 use c_values::tell;
 
 // Each kern index becomes the kern there, or past the list a kern of zero. Tells the count of instructions.
@@ -22,6 +22,6 @@ pub extern "C" fn ligkern_pack_kerns(
 {
     let written = program_kerns::pack_kerns(instructions, kerns, out);
     let number = tell(written, values);
-    keep_i32(number, out);
+    keep_list(number, out);
     number
 }

@@ -4,7 +4,7 @@ ghost use Rattle.program_kerns.specs.Kerns.{unpacked, kerns_of};
 ghost use Rattle.c_values.specs.Telling.{GivesTwo};
 ghost use Rattle.c_packing.specs.Changes.{unpack_kerns_reply};
 
-use c_values::i32s::keep_i32;
+use c_values::lists::keep_list;
 use c_values::tell;
 
 // Each kern value becomes its index in the list of kerns, which holds each value once. Tells the count of kerns.
@@ -22,7 +22,7 @@ pub extern "C" fn ligkern_unpack_kerns(
 {
     let written = program_kerns::unpack_kerns(instructions, out, kerns);
     let number = tell(written, values);
-    keep_i32(number, out);
-    keep_i32(number, kerns);
+    keep_list(number, out);
+    keep_list(number, kerns);
     number
 }

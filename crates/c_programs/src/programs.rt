@@ -8,10 +8,8 @@ ghost use Rattle.c_values.specs.Telling.{TellsHost, Gives};
 ghost use Rattle.c_programs.specs.Programs.{walk_reply, reach_reply};
 
 use crate::answers::{entry_of, safety_of};
-use c_values::i32s::keep_i32;
+use c_values::lists::keep_list;
 use c_values::tell;
-use c_values::u8s::keep_u8;
-use c_values::u32s::keep_u32;
 
 // The indices of the whole chain from an entry, then zeros. Tells how many.
 #[unsafe(no_mangle)]
@@ -27,7 +25,7 @@ pub extern "C" fn ligkern_instructions_for_entrypoint(
 {
     let written = program_chain::instructions_for_entrypoint(instructions, entry, out);
     let number = tell(written, values);
-    keep_u32(number, out);
+    keep_list::<u32>(number, out);
     number
 }
 
@@ -47,7 +45,7 @@ pub extern "C" fn ligkern_unpack_entrypoint(
 {
     let unpacked = entry_unpack::unpack_entrypoint(instructions, entry, passthrough, out);
     let number = tell(entry_of(unpacked), values);
-    keep_u8(number, out);
+    keep_list::<u8>(number, out);
     number
 }
 
@@ -84,6 +82,6 @@ pub extern "C" fn ligkern_reachable_iter(
 {
     let written = reach::reachable_iter(instructions, entries, left_entry, passthrough, out);
     let number = tell(written, values);
-    keep_i32(number, out);
+    keep_list::<i32>(number, out);
     number
 }

@@ -5,7 +5,7 @@ ghost use Rattle.c_values.specs.Telling.{TellsHost, Gives};
 ghost use Rattle.c_queries.specs.Questions.{pairs_reply};
 
 use crate::answers::reply_of;
-use c_values::i32s::keep_i32;
+use c_values::lists::keep_list;
 use c_values::tell;
 
 // Tells 1 where a left (-1 the boundary) and a right (-1 the boundary character) have an entry.
@@ -37,7 +37,7 @@ pub extern "C" fn ligkern_all_pairs_with_replacements(
 {
     let written = table_queries::all_pairs_with_replacements(pairs, out);
     let number = tell(written, values);
-    keep_i32(number, out);
+    keep_list(number, out);
     number
 }
 

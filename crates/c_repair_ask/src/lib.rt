@@ -7,7 +7,7 @@ ghost use Rattle.std.specs.Prelude.{[], ◌∷◌};
 ghost use Rattle.repairs.specs.Repairs.{damaged_of};
 ghost use Rattle.c_repair_ask.specs.Asking.{HostAsks};
 
-use c_values::i32s::keep_i32;
+use c_values::lists::keep_list;
 use c_values::tell;
 use repair_ask::ask_repair;
 
@@ -50,6 +50,6 @@ pub extern "C" fn ligkern_ask_repair(
         work,
     );
     let number = tell(written, values);
-    keep_i32(number, warnings);
+    keep_list(number, warnings);
     number
 }

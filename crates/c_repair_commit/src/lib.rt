@@ -8,19 +8,18 @@ ghost use Rattle.repairs.specs.Repairs.{damaged_of};
 ghost use Rattle.repairs.specs.Committing.{committed_reply};
 ghost use Rattle.c_repair_commit.specs.Committing.{TellsLeft, HostCommits};
 
-use c_values::i32s::keep_i32;
-use c_values::u8s::keep_u8;
+use c_values::lists::keep_list;
 use program_checks::lower_of;
 use program_limits::room_refusal;
 use repair_commit::commit_repair;
 use repairs::Committed;
-use words::i32s::zero_i32;
+use words::slices::zero_all;
 
 // The repaired left entry, or a number: 15 where the list has no place for it comes before 25.
 fn tell_left(committed: Committed, left: &mut [i32]) -> u32
     ensures { TellsLeft (committed_reply committed) left.old result left.new }
 {
-    zero_i32(left);
+    zero_all(left);
     let room = room_refusal(1, left.len());
     match committed {
         Committed::Refused(n) => lower_of(n, room),
@@ -80,7 +79,7 @@ pub extern "C" fn ligkern_commit_repair(
         work,
     );
     let number = tell_left(committed, left);
-    keep_i32(number, fixed);
-    keep_u8(number, through);
+    keep_list(number, fixed);
+    keep_list(number, through);
     number
 }

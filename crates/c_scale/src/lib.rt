@@ -2,25 +2,24 @@
 // scaled kern in a list that is lent for it.
 #![tactic(auto)]
 
-ghost use Rattle.tfm.specs.Scaled.{scaled_at, scaled_at_reply};
+ghost use Rattle.tfm.specs.Scaled.{scaled_at, scaled_reply};
 ghost use Rattle.c_scale.specs.Scaling.{TellsScaled};
 
 use program_checks::lower_of;
 use program_limits::room_refusal;
-use tfm::{FixWord, ScaledAt};
-use words::i32s::zero_i32;
+use tfm::{FixWord, ScalingError};
+use words::slices::zero_all;
 
 // The scaled kern, or a number: 5 and 13 before 15 of the list, and that before 19.
-fn tell_scaled(answer: ScaledAt, scaled: &mut [i32]) -> u32
-    ensures { TellsScaled (scaled_at_reply answer) scaled.old result scaled.new }
+fn tell_scaled(answer: Result<i32, ScalingError>, scaled: &mut [i32]) -> u32
+    ensures { TellsScaled (scaled_reply answer) scaled.old result scaled.new }
 {
-    zero_i32(scaled);
+    zero_all(scaled);
     let room = room_refusal(1, scaled.len());
     match answer {
-        ScaledAt::NegativeDesignSize => 5,
-        ScaledAt::TooLarge => 13,
-        ScaledAt::SizeOutOfRange => lower_of(19, room),
-        ScaledAt::Scaled(v) => {
+        Err(ScalingError::SizeOutOfRange) => lower_of(19, room),
+        Err(error) => error.number(),
+        Ok(v) => {
             if room != 0 {
                 return room;
             }
@@ -39,7 +38,7 @@ pub extern "C" fn ligkern_to_scaled(
     magnification: i32,
     scaled: &mut [i32],
 ) -> u32
-    ensures { TellsScaled (scaled_at_reply (scaled_at kern design_size size magnification))
+    ensures { TellsScaled (scaled_reply (scaled_at kern design_size size magnification))
         scaled.old result scaled.new }
 {
     let answer = FixWord(kern).to_scaled(FixWord(design_size), size, magnification);

@@ -18,8 +18,7 @@ use program_limits::room_refusal;
 use step_quick::kern::{give_kern, is_kern};
 use step_quick::left::quick_left;
 use step_quick_op::{is_ready, quick_step};
-use words::i32s::zero_i32;
-use words::u32s::u32_at;
+use words::slices::{item_at, zero_all};
 
 // One step from whatever state stands in the list, into an item list of any length.
 fn any_step(
@@ -37,7 +36,7 @@ fn any_step(
         word.now options state.old) state.old item.old result
         state.new item.new }
 {
-    zero_i32(item);
+    zero_all(item);
     let from = state_in(state);
     let stepped = step_indexed(index, pairs, ops, boundary, word, options, from);
     let answer = stepped.answer;
@@ -94,7 +93,7 @@ pub extern "C" fn ligkern_step_indexed(
         return put_state(state, after);
     }
     let read = from.read;
-    let k = place_by(index, pairs, left, u32_at(word, read));
+    let k = place_by(index, pairs, left, item_at(word, read));
     if pairs.len() / 6 < k {
         return any_step(index, pairs, ops, boundary, word, options, state, item);
     }

@@ -18,8 +18,7 @@ use step_quick::kern::{give_kern, is_kern};
 use step_quick::left::quick_left;
 use step_quick_find::found_place;
 use step_quick_op::{is_ready, quick_step};
-use words::i32s::zero_i32;
-use words::u32s::u32_at;
+use words::slices::{item_at, zero_all};
 
 pub mod items;
 
@@ -47,7 +46,7 @@ fn any_step(
             return put_state(state, after);
         }
     }
-    zero_i32(item);
+    zero_all(item);
     let stepped = kern_step(pairs, ops, boundary, word, options, from);
     let answer = stepped.answer;
     let number = refusal_of(answer);
@@ -93,7 +92,7 @@ pub extern "C" fn ligkern_step(
         return any_step(pairs, ops, boundary, word, options, state, item);
     }
     let read = from.read;
-    let k = found_place(pairs, left, u32_at(word, read));
+    let k = found_place(pairs, left, item_at(word, read));
     if !is_ready(pairs, ops, k) {
         return any_step(pairs, ops, boundary, word, options, state, item);
     }

@@ -7,17 +7,15 @@ ghost use Rattle.lang.specs.Answers.{written_reply};
 ghost use Rattle.c_values.specs.Telling.{TellsHost};
 
 use lang::Written;
-use words::u64s::zero_u64;
+use words::slices::zero_all;
 
-pub mod i32s;
-pub mod u32s;
-pub mod u8s;
+pub mod lists;
 
 // A count, or the number of a refusal: the count stands in a list that has a place for it.
 pub fn tell(written: Written, values: &mut [u64]) -> u32
     ensures { TellsHost (written_reply written) values.old result values.new }
 {
-    zero_u64(values);
+    zero_all(values);
     match written {
         Written::Refused(n) => n,
         Written::Count(n) => {

@@ -8,7 +8,7 @@ ghost use Rattle.letter_set.specs.LetterSets.{alphabet_size, word_count};
 ghost use Rattle.c_values.specs.Telling.{TellsHost};
 
 use letter_set::{alphabet_size, word_count};
-use words::u64s::zero_u64;
+use words::slices::zero_all;
 
 // How many letters a set has, and how many words of at most four of them there are, in `values`. 15 where it has no
 // room for both.
@@ -27,7 +27,7 @@ pub extern "C" fn ligkern_count_words(
         ∷ []))
         values.old result values.new }
 {
-    zero_u64(values);
+    zero_all(values);
     if values.len() < 2 {
         return 15;
     }

@@ -7,12 +7,11 @@ ghost use Rattle.c_values.specs.Telling.{natural};
 ghost use Rattle.short_words.specs.NextWords.{next_answer_reply};
 ghost use Rattle.c_word_write.specs.NextLists.{letter_numbers, next_values, WritesNext};
 
-use c_values::i32s::keep_i32;
+use c_values::lists::keep_list;
 use program_checks::lower_of;
 use program_limits::room_refusal;
 use short_words::{NextAnswer, SetNext, ShortWord};
-use words::u32s::{put_u32, zero_u32};
-use words::u64s::zero_u64;
+use words::slices::{put_item, zero_all};
 
 // The number of a refusal, else 0.
 fn answer_refusal(answer: NextAnswer) -> u32
@@ -41,10 +40,10 @@ fn put_letters(next: &mut [u32], word: ShortWord)
     ensures { next.new ≡ sets next.old 0 (letter_numbers word) }
 {
     let letters = word.letters;
-    put_u32(next, 0, letters[0]);
-    put_u32(next, 1, letters[1]);
-    put_u32(next, 2, letters[2]);
-    put_u32(next, 3, letters[3]);
+    put_item(next, 0, letters[0]);
+    put_item(next, 1, letters[1]);
+    put_item(next, 2, letters[2]);
+    put_item(next, 3, letters[3]);
 }
 
 // Whether there is a next word, its length and how many items it has, at the front of a list.
@@ -65,12 +64,12 @@ pub fn write_next(told: SetNext, next: &mut [u32], items: &mut [i32], values: &m
     ensures { WritesNext told next.old items.old values.old result
         next.new items.new values.new }
 {
-    zero_u32(next);
-    zero_u64(values);
+    zero_all(next);
+    zero_all(values);
     let room = lower_of(room_refusal(4, next.len()), room_refusal(3, values.len()));
     let answer = told.answer;
     let number = lower_of(answer_refusal(answer), room);
-    keep_i32(number, items);
+    keep_list(number, items);
     if number != 0 {
         return number;
     }

@@ -15,12 +15,10 @@ use table_form::table_refusal;
 fn each_refusal(word: &[u32]) -> u32
     ensures { result ≡ letters_refusal word.now }
 {
-    let mut i = 0;
-    while i < word.len() {
-        if !is_letter(word[i]) {
+    for letter in word {
+        if !is_letter(*letter) {
             return 20;
         }
-        i += 1;
     }
     0
 }
@@ -31,10 +29,8 @@ pub fn letters_refusal(word: &[u32]) -> u32
     ensures { result ≡ letters_refusal word.now }
 {
     let mut all: u32 = 0;
-    let mut i = 0;
-    while i < word.len() {
-        all = all | word[i];
-        i += 1;
+    for letter in word {
+        all |= *letter;
     }
     if 32767 < all { each_refusal(word) } else { 0 }
 }

@@ -8,9 +8,9 @@ use Prim.Native.Nat.{ℕ, ◌/◌, ◌%◌, ◌<◌, ◌≤◌}
 use native.Mathlib.Omega.{arith}
 use lib.IntN.{ℤ}
 use lib.Dec.{ltb, eqb}
+use Rattle.std.specs.Prelude.{Result, Ok, Err}
 use Rattle.words.specs.Words.{word_of}
-use Rattle.tfm.specs.declared.ToScaled.{ToScaled}
-use Rattle.tfm.specs.declared.ToScaled.TheVariants.{Scaled, NegativeDesignSize, TooLarge}
+use Rattle.tfm.specs.declared.ScalingError.{ScalingError}
 use Rattle.tfm.specs.Scaled.{to_scaled}
 use Rattle.lang.specs.declared.operation.Operation.TheVariants.{Kern, KernAtIndex, EntrypointRedirect}
 use Rattle.lang.specs.Operations.{is_standard, from_bytes, ligature}
@@ -25,10 +25,9 @@ use Rattle.captions.specs.Form.{table_form}
 use Rattle.captions.proofs.Codes.{Coded, RuleSmall, SmallRules, small_codes}
 use Rattle.captions.proofs.FontTable.{font_form_by}
 
-kern_small : (x : ToScaled) → RuleSmall (scaled_kern x)
-kern_small (Scaled v) = tt
-kern_small NegativeDesignSize = tt
-kern_small TooLarge = tt
+kern_small : (x : Result ℤ ScalingError) → RuleSmall (scaled_kern x)
+kern_small (Ok v) = tt
+kern_small (Err e) = tt
 
 module _ (design : ℤ) (kerns : List ℤ) where
   -- two bytes act the same whether or not they are read from a redirect

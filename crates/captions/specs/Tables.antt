@@ -2,6 +2,7 @@
 -- flag, 4 first op, 5 op count), two an op (kind and value). A pair is found by bisection (R116), in the definition too, so that what a
 -- step answers is said of any table; on a table in ascending order bisection finds the pair.
 use Rattle.std.specs.Prelude.{Bool, true, cond, List, [], ◌∷◌, ℕ, zero, suc, ◌+◌, ◌-◌, ◌*◌, ◌/◌, ◌%◌, ℤ, pos, ltb, leb, eqb, length, get_or}
+use Rattle.std.specs.Prelude as rust
 use Rattle.std.proofs.Math.Option.{Option, none, some, map}
 use Rattle.words.specs.Words.{word_of}
 use Rattle.lang.specs.Every.{both}
@@ -10,8 +11,6 @@ use Rattle.lang.specs.Records.{within}
 use Rattle.reading.specs.Items.{Left, item, plain, inserted, Out, glyph, kern}
 use Rattle.reading.specs.Depth.{Res, Finished}
 use Rattle.fonts.specs.Fonts.{number_of_left}
-use Rattle.captions.specs.declared.Found.{Found}
-use Rattle.captions.specs.declared.Found.TheVariants.{At, Nothing}
 
 -- how many whole pairs a table holds, six numbers each
 abbrev pub pair_count : List ℤ → ℕ
@@ -61,9 +60,9 @@ abbrev pub find : List ℤ → ℕ → Option ℕ
 find pairs wanted = found_by (key_at pairs) (pair_count pairs) wanted
 
 -- what a search answers: the place of the pair, or nothing
-abbrev pub found_at : Option ℕ → Found
-found_at none = Nothing
-found_at (some k) = At k
+abbrev pub found_at : Option ℕ → rust.Option ℕ
+found_at none = rust.None
+found_at (some k) = rust.Some k
 
 -- ---- what a pair becomes
 

@@ -73,13 +73,6 @@ pub enum Begun {
     Refused(u32),
 }
 
-// The place of a pair in a table, or nothing.
-#[derive(Clone, Copy)]
-pub enum Found {
-    At(usize),
-    Nothing,
-}
-
 // The answer to a question about a table, or the number of its refusal.
 #[derive(Clone, Copy)]
 pub enum Told {

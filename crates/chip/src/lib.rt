@@ -9,7 +9,7 @@ use captions::{Answer, Consumes, NextLeft, State};
 use chip_block::{count_of, show};
 use chip_turn::commanded;
 use chips::{Chip, Commanded};
-use words::u8s::u8_at;
+use words::slices::item_at;
 
 // A chip before its first command.
 pub fn fresh() -> Chip
@@ -41,13 +41,13 @@ pub fn command(pairs: &[i32], ops: &[i32], boundary: i32, block: &mut [u8], chip
     ensures { Commands pairs.now ops.now boundary block.old chip result
         block.new }
 {
-    let letter = u8_at(block, 1);
+    let letter = item_at(block, 1);
     let done = commanded(
         pairs,
         ops,
         boundary,
         block.len(),
-        u8_at(block, 0),
+        item_at(block, 0),
         letter,
         chip,
     );

@@ -10,7 +10,7 @@ ghost use Rattle.chip_block.specs.Showing.{chip_showing, shown_where, interrupt_
 
 use captions::Answer;
 use chips::Chip;
-use words::u32s::u32_at;
+use words::slices::item_at;
 use words::word_of;
 
 // A flag's weight where it is set, else 0.
@@ -25,7 +25,7 @@ pub fn count_of(chip: Chip, caller: usize) -> u32
     ensures { result ≡ caller_count caller chip }
 {
     let counts = chip.counts;
-    u32_at(&counts, caller)
+    item_at(&counts, caller)
 }
 
 // An item is ready.

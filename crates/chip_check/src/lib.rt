@@ -18,10 +18,8 @@ fn letters_stand(word: &[u32]) -> bool
     ensures { result ≡ every (length word.now) (λ i. leb (get_or word.now i 0) 255) }
 {
     let mut all: u32 = 0;
-    let mut i = 0;
-    while i < word.len() {
-        all = all | word[i];
-        i += 1;
+    for letter in word {
+        all |= *letter;
     }
     all <= 255
 }

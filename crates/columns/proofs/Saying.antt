@@ -10,7 +10,7 @@ use lib.Seq.{take_at}
 use Rattle.words.specs.Words.{word_of}
 use Rattle.lang.specs.Answers.{Reply, reply_of, list_of}
 use Rattle.columns.specs.declared.TextHeads.{TextHeads}
-use Rattle.columns.specs.declared.TextRead.TheVariants as text
+use Rattle.std.specs.Prelude as rust
 use Rattle.columns.specs.Texts.{Text, or_absent}
 use Rattle.columns.specs.Scanned.{letters_of, length_of_word, letters_in, head_numbers, text_refusal, said_by, text_heads, ReadsTextAs}
 
@@ -35,7 +35,7 @@ not_read_by : (o : Option Text) → reply_of 16 [] ≡ reply_of (text_refusal o)
 not_read_by none e = refl
 not_read_by (some t) e = absurd (let z : ◌≡◌ {A = ℕ} 16 0 = ap (λ (r : Reply). r.number) e in omega arith)
 
-pub not_read : {o : Option Text} {room : ℕ} {is ks es : List ℤ} {ws : List ℕ} → ReadsTextAs o room text.Unreadable is ks es ws → o ≡ none
+pub not_read : {o : Option Text} {room : ℕ} {is ks es : List ℤ} {ws : List ℕ} → ReadsTextAs o room rust.None is ks es ws → o ≡ none
 not_read {o} h = not_read_by o h.answer
 
 -- ---- a text that is read
@@ -64,7 +64,7 @@ letters_long (some zs) = mapped zs
     mapped [] = refl
     mapped (x ∷ xs) = ap suc (mapped xs)
 
-module _ {o : Option Text} {room : ℕ} {h : TextHeads} {is ks es : List ℤ} {ws : List ℕ} (a : ReadsTextAs o room (text.Text h) is ks es ws) where
+module _ {o : Option Text} {room : ℕ} {h : TextHeads} {is ks es : List ℤ} {ws : List ℕ} (a : ReadsTextAs o room (rust.Some h) is ks es ws) where
   said_by_lem : (p : Option Text) → o ≡ p → Said o room h is ks es ws
   said_by_lem none e =
       absurd

@@ -13,13 +13,13 @@ use lib.IntN.{ℤ, pos, negsuc}
 use lib.Dec.{leb, ltb, eqb}
 use lib.ListN.{length, get_or, get_or-eq_default}
 use borrow.Author.Tests.{eqb-true, eqb-false, eq-eqb, ne_eqb, lt-ltb, le-ltb, ltb-true, leb-true, leb-false, le-leb}
+use Rattle.std.specs.declared.option.Option as rust
 use Rattle.words.specs.Words.{word_of, number_of}
 use Rattle.words.proofs.Bits.{number_word}
 use Rattle.words.proofs.Lists.{get_d_tabulate}
 use Rattle.words.proofs.Tests.{less_or_not}
 use Rattle.lang.specs.declared.operation.Operation.{Operation}
 use Rattle.lang.specs.declared.operation.Operation.TheVariants.{Kern, KernAtIndex}
-use Rattle.lang.specs.declared.instruction.NextInstruction.{NextInstruction}
 use Rattle.lang.specs.Every.{both, every}
 use Rattle.lang.specs.declared.operation.PostLigOperation.TheVariants.{RetainNeitherMoveToInserted}
 use Rattle.lang.specs.Operations.{advance, keeps_left, keeps_right, retains, is_standard, lig, ligature, from_bytes}
@@ -287,7 +287,7 @@ same_chain n p q h zero j = refl
 same_chain n p q h (suc most) j =
     ap (λ (is : List ℕ). cond (ltb j n) (j ∷ is) [])
     (same_chain n p q h most (onward_from n (p j).next_instruction j)
-    ∙ ap (λ (x : NextInstruction). chain_from most n q (onward_from n x j)) (h j))
+    ∙ ap (λ (x : rust.Option ℕ). chain_from most n q (onward_from n x j)) (h j))
 
 -- .. and, where they are rules alike, the same rule on each
 same_first : (p q : Program) (r : ℕ) → ((j : ℕ) → is_rule_for r (p j) ≡ is_rule_for r (q j)) → (is : List ℕ) → first_for p r is ≡ first_for q r is

@@ -4,20 +4,17 @@ use Rattle.std.specs.Prelude.{◌≡◌, List, [], ◌∷◌, map, ℕ, ℤ, pos
 use Rattle.std.proofs.Math.Option.{Option, none, some}
 use Rattle.words.specs.Words.{word_of}
 use Rattle.lang.specs.Answers.{Reply, reply_of, list_of}
-use Rattle.columns.specs.declared.FieldRead.{FieldRead}
-use Rattle.columns.specs.declared.FieldRead.TheVariants as field
 use Rattle.columns.specs.declared.TextHeads.{TextHeads}
-use Rattle.columns.specs.declared.TextRead.{TextRead}
-use Rattle.columns.specs.declared.TextRead.TheVariants as text
+use Rattle.std.specs.Prelude as rust
 use Rattle.columns.specs.Numbers.{read_field}
 use Rattle.columns.specs.Texts.{Text, opened, read_text, or_absent, shared_text}
 
 -- ---- a field
 
 -- what read_field answers: the number, or 16
-abbrev pub field_reply : FieldRead → Reply
-field_reply (field.Number z) = reply_of 0 (z ∷ [])
-field_reply field.Unreadable = reply_of 16 []
+abbrev pub field_reply : rust.Option ℤ → Reply
+field_reply (rust.Some z) = reply_of 0 (z ∷ [])
+field_reply rust.None = reply_of 16 []
 
 -- a number that was read, or 16
 abbrev pub number_reply : Option ℤ → Reply
@@ -51,9 +48,9 @@ head_numbers h =
     h.design ∷ h.boundary ∷ h.left ∷ pos h.instructions ∷ pos h.kerns ∷ pos h.entries ∷ h.letters ∷ []
 
 -- what read_text answers: the heads, or 16
-abbrev pub text_read_reply : TextRead → Reply
-text_read_reply (text.Text h) = reply_of 0 (head_numbers h)
-text_read_reply text.Unreadable = reply_of 16 []
+abbrev pub text_read_reply : rust.Option TextHeads → Reply
+text_read_reply (rust.Some h) = reply_of 0 (head_numbers h)
+text_read_reply rust.None = reply_of 16 []
 
 -- 16 where a text is unreadable
 abbrev pub text_refusal : Option Text → ℕ
@@ -73,7 +70,7 @@ text_heads t =
 
 -- what reading a text answers and leaves, `room` the places for kerns: the heads, or 16; and the lists, as long as they were, with zeros
 -- after them, or zeros
-pub record ReadsTextAs (o : Option Text) (room : ℕ) (r : TextRead) (instructions' kerns' entries' : List ℤ) (word' : List ℕ) : Type 0 where
+pub record ReadsTextAs (o : Option Text) (room : ℕ) (r : rust.Option TextHeads) (instructions' kerns' entries' : List ℤ) (word' : List ℕ) : Type 0 where
   pub answer : text_read_reply r ≡ reply_of (text_refusal o) (text_heads (said_by o))
   pub long : (length instructions' ≡ 2048) × (length kerns' ≡ room) × (length entries' ≡ 5040) × (length word' ≡ 64)
   pub instructions : instructions' ≡ list_of (text_refusal o) (pos 0) 2048 (said_by o).instructions
@@ -82,7 +79,7 @@ pub record ReadsTextAs (o : Option Text) (room : ℕ) (r : TextRead) (instructio
   pub word : word' ≡ list_of (text_refusal o) 0 64 (map word_of (letters_of (said_by o).word))
 
 -- THE contract of read_text: what stands in the text
-abbrev pub ReadsText : List ℕ → TextRead → List ℤ → List ℤ → List ℤ → List ℕ → Type 0
+abbrev pub ReadsText : List ℕ → rust.Option TextHeads → List ℤ → List ℤ → List ℤ → List ℕ → Type 0
 ReadsText bytes r instructions kerns entries word = ReadsTextAs (read_text bytes) 512 r instructions kerns entries word
 
 -- a text that was read, with its kern values shared
@@ -91,5 +88,5 @@ shared_read none = none
 shared_read (some t) = some (shared_text t)
 
 -- THE contract of read_shared: the same with its kern values shared, of which there may be one more for each instruction
-abbrev pub ReadsShared : List ℕ → TextRead → List ℤ → List ℤ → List ℤ → List ℕ → Type 0
+abbrev pub ReadsShared : List ℕ → rust.Option TextHeads → List ℤ → List ℤ → List ℤ → List ℕ → Type 0
 ReadsShared bytes r instructions kerns entries word = ReadsTextAs (shared_read (read_text bytes)) 1024 r instructions kerns entries word

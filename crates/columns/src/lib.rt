@@ -2,14 +2,7 @@
 // to those of its reply; crate `text_fields` reads a field, `text_scan` a text, `text_reply` writes a reply, and
 // `text_answer` does the whole.
 
-// A field of 12 columns: its number, or 16.
 #![tactic(auto)]
-
-#[derive(Clone, Copy)]
-pub enum FieldRead {
-    Number(i32),
-    Unreadable,
-}
 
 // What a text says beside its lists, and how long these are: numbers of instructions, kerns and entries, and the
 // characters of the word (-1 where there is no word).
@@ -22,11 +15,4 @@ pub struct TextHeads {
     pub kerns: usize,
     pub entries: usize,
     pub letters: i32,
-}
-
-// A text: its heads, or 16.
-#[derive(Clone, Copy)]
-pub enum TextRead {
-    Text(TextHeads),
-    Unreadable,
 }

@@ -15,14 +15,13 @@ ghost use Rattle.fonts.specs.Fonts.{font_of};
 ghost use Rattle.fonts.specs.Compiled.{Compiles, font_refusal};
 ghost use Rattle.compile.specs.Late.{late_answer};
 
-use c_values::i32s::keep_i32;
+use c_values::lists::keep_list;
 use compile_lists::write_lists;
 use fonts::Compiled;
 use program_checks::{absent_refusal, program_refusal};
 use program_limits::{design_refusal, entries_refusal, kerns_refusal};
 use tfm::{asked_refusal, design_at};
-use words::i32s::zero_i32;
-use words::u32s::zero_u32;
+use words::slices::zero_all;
 
 // 4 of the boundary or the left entry, else 5.
 fn edge_refusal(boundary: i32, left_entry: i32, design_size: i32) -> u32
@@ -106,10 +105,10 @@ pub fn compile(
     let design = design_at(design_size, size, magnification);
     let number = font_refusal(instructions, kerns, entries, boundary, left_entry, design);
     if number != 0 {
-        zero_i32(pairs);
-        zero_i32(ops);
-        zero_i32(loops);
-        zero_u32(work);
+        zero_all(pairs);
+        zero_all(ops);
+        zero_all(loops);
+        zero_all(work);
         return Compiled::Refused(number);
     }
     let compiled = write_lists(
@@ -124,8 +123,8 @@ pub fn compile(
         work,
     );
     let late = asked_refusal(design_size, size, magnification);
-    keep_i32(late, pairs);
-    keep_i32(late, ops);
-    keep_i32(late, loops);
+    keep_list(late, pairs);
+    keep_list(late, ops);
+    keep_list(late, loops);
     late_answer(late, compiled)
 }

@@ -15,11 +15,10 @@ ghost use Rattle.compiling.specs.PairSteps.{Adding, AddsBy, entry_place};
 
 use compile_chain_rows::add_rows;
 use compile_survey::survey;
-use compiling::{Added, Collected};
+use compiling::Collected;
 use lang::entries::entries_table;
 use words::i32s::word_at;
-use words::sizes::smaller;
-use words::u32s::zero_u32;
+use words::slices::zero_all;
 
 // The place of a left in the table of entries.
 fn place_of(left: usize) -> usize
@@ -36,8 +35,9 @@ fn entry_of(table: &[i32; 257], left: usize) -> u32
     word_at(table, place_of(left))
 }
 
-// The rows of one more left, after n others; none where it has no entry. The two tables are for its chain alone: what
-// they held is not read, and what they hold then is free.
+// The rows of one more left, after n others; none where it has no entry. Answers how many rows there are then, or
+// nothing where they are more than the cap. The two tables are for the left's chain alone: what they held is not read,
+// and what they hold then is free.
 fn add_left(
     instructions: &[i32],
     table: &[i32; 257],
@@ -47,22 +47,22 @@ fn add_left(
     left: usize,
     places: &mut [u32; 256],
     indices: &mut [u32; 256],
-) -> Added
+) -> Option<usize>
     requires { Adding instructions.now table.now left n cap work.old }
     ensures { AddsBy instructions.now table.now left n cap work.old
         work.new result }
 {
     let entry = entry_of(table, left);
     if 2147483648 <= entry {
-        return Added::Upto(n);
+        return Some(n);
     }
     let mut rights = [0u64; 4];
     let m = survey(instructions, entry as usize, places, indices, &mut rights);
     if cap - n < m {
-        return Added::Over;
+        return None;
     }
     add_rows(work, n as u32, left as u32, &rights, places, indices);
-    Added::Upto(n + m)
+    Some(n + m)
 }
 
 // How many rows are the boundary's, which is the first left.
@@ -83,9 +83,8 @@ fn collect_rows(instructions: &[i32], table: &[i32; 257], work: &mut [u32], cap:
     let mut indices = [0u32; 256];
     let mut n = 0;
     let mut e = 0;
-    let mut left = 0;
-    while left < 257 {
-        let Added::Upto(m) = add_left(
+    for left in 0..257 {
+        let Some(m) = add_left(
             instructions,
             table,
             work,
@@ -99,7 +98,6 @@ fn collect_rows(instructions: &[i32], table: &[i32; 257], work: &mut [u32], cap:
         };
         n = m;
         e = edge_rows(left, n, e);
-        left += 1;
     }
     Collected::Rows(n, e)
 }
@@ -117,16 +115,16 @@ pub fn collect(
         (entries_table entries.now left_entry) (min room (length work.old / 16))
         work.old work.new result }
 {
-    zero_u32(work);
+    zero_all(work);
     if 32767 < instructions.len() / 4 {
         return Collected::Refused(1);
     }
     let table = entries_table(entries, left_entry);
-    let cap = smaller(room, work.len() / 16);
+    let cap = room.min(work.len() / 16);
     match collect_rows(instructions, &table, work, cap) {
         Collected::Rows(n, e) => Collected::Rows(n, e),
         Collected::Refused(number) => {
-            zero_u32(work);
+            zero_all(work);
             Collected::Refused(number)
         }
     }

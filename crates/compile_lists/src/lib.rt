@@ -20,8 +20,8 @@ use compile_ops::write_ops;
 use compile_rows::get;
 use compiling::CountedFont;
 use fonts::Compiled;
-use words::i32s::{put_word, zero_i32};
-use words::u32s::zero_u32;
+use words::i32s::put_word;
+use words::slices::zero_all;
 
 // The bits of a pair's left: -1 for the boundary.
 fn left_word(left: u32) -> u32
@@ -97,8 +97,8 @@ pub fn write_lists(
         design_size) pairs.old ops.old loops.old work.old result
         pairs.new ops.new loops.new work.new }
 {
-    zero_i32(pairs);
-    zero_i32(loops);
+    zero_all(pairs);
+    zero_all(loops);
     let pair_room = pairs.len();
     let loop_room = loops.len();
     match write_ops(
@@ -116,7 +116,7 @@ pub fn write_lists(
         CountedFont::Sizes(n, m, total, r) => {
             let numbers = write_pairs(work, n, m, pairs);
             write_loops(work, r, loops);
-            zero_u32(work);
+            zero_all(work);
             Compiled::Tables(numbers / 6, total as usize, r)
         }
     }

@@ -16,7 +16,7 @@ use compile_loops::find_loops;
 use compile_op_parts::{first_part, second_part};
 use compile_rows::{get, put};
 use compiling::{CountedFont, Part, WalkedFont};
-use words::u32s::zero_u32;
+use words::slices::zero_all;
 
 // A sum that stops at 2^31.
 fn capped_sum(a: u32, b: u32) -> u32
@@ -155,7 +155,7 @@ fn measure(
     let total = count_ops(work, n, m);
     let number = sizes_refusal(scaled, total, r, op_room, loop_room);
     if number != 0 {
-        zero_u32(work);
+        zero_all(work);
         return CountedFont::Refused(number);
     }
     first_ops(work, n, m);

@@ -7,7 +7,7 @@ ghost use Rattle.compiling.specs.OpSteps.{left_part};
 ghost use Rattle.compile_op_parts.specs.FoundParts.{pair_found, last_found, place_of, first_found, second_found};
 
 use compile_rows::{find, get};
-use compiling::{Part, Row};
+use compiling::Part;
 
 // A left that is finished: 0 is the boundary, which gives nothing.
 fn left_part(left: u32) -> Part
@@ -25,8 +25,8 @@ fn pair_part(work: &[u32], n: usize, left: u32, right: u32) -> Part
     ensures { result ≡ pair_found n work.now left right }
 {
     match find(work, n, left, right) {
-        Row::Found(k) => Part::OfRow(k),
-        Row::Missing => left_part(left),
+        Some(k) => Part::OfRow(k),
+        None => left_part(left),
     }
 }
 
@@ -35,8 +35,8 @@ fn last_code(work: &[u32], n: usize, left: u32, right: u32) -> u32
     ensures { result ≡ last_found n work.now left right }
 {
     match find(work, n, left, right) {
-        Row::Found(k) => get(work, k, 6),
-        Row::Missing => right,
+        Some(k) => get(work, k, 6),
+        None => right,
     }
 }
 

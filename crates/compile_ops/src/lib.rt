@@ -12,7 +12,8 @@ ghost use Rattle.fonts.specs.Fonts.{font_of};
 ghost use Rattle.fonts.specs.Numbers.{ops_of, op_numbers};
 ghost use Rattle.compiling.specs.SettledRows.{outcome};
 ghost use Rattle.compiling.specs.OpRows.{Ready, op_total, ops_written};
-ghost use Rattle.compiling.specs.OpSteps.{raised_outs, OpsAt, Apart, ops_place, ops_size, Copies, PartFits, PartWritten};
+ghost use Rattle.compiling.specs.OpSteps.{raised_outs, OpsAt, Apart, ops_place, ops_size, Copies, PartFits};
+ghost use Rattle.compiling.specs.OpSteps.{PartWritten};
 ghost use Rattle.compiling.specs.OpSteps.{ToWrite, first_part, second_part, LastFits};
 ghost use Rattle.compiling.specs.Rows.{Encoded};
 ghost use Rattle.compile_ops.specs.WritesOps.{WritesOps};
@@ -21,7 +22,7 @@ use compile_op_counts::count;
 use compile_op_parts::{first_part, second_part};
 use compile_rows::get;
 use compiling::{CountedFont, Part};
-use words::i32s::zero_i32;
+use words::slices::zero_all;
 
 // An op at place p. Answers the place after it.
 fn put_op(ops: &mut [i32], p: usize, kind: u32, value: u32) -> usize
@@ -79,13 +80,11 @@ fn raise_first(ops: &mut [i32], from: usize, to: usize)
     ensures { (os : List Out) → OpsAt ops.old from to os →
         ops.new ≡ sets ops.old from (op_numbers (raised_outs os)) }
 {
-    let mut i = from;
-    while i < to {
+    for i in (from..to).step_by(2) {
         if words::i32s::word_at(ops, i) != 2 {
             words::i32s::put_word(ops, i, 1);
             return;
         }
-        i += 2;
     }
 }
 
@@ -164,7 +163,7 @@ pub fn write_ops(
         design_size) pair_room loop_room ops.old work.old ops.new
         work.new result }
 {
-    zero_i32(ops);
+    zero_all(ops);
     let room = ops.len();
     match count(
         instructions,

@@ -11,7 +11,7 @@ use compile_rows::{get, put};
 use compiling::Effect;
 use lang::operation::{Operation, PostLigOperation};
 use program_chain::operation_at;
-use tfm::{FixWord, ToScaled};
+use tfm::FixWord;
 
 // The standard op byte of an operation.
 fn op_byte(operation: PostLigOperation) -> u32
@@ -34,12 +34,12 @@ fn kern_effect(kern: FixWord, design_size: i32) -> Effect
     ensures { result ≡ kern_effect (to_scaled kern.0 design_size) }
 {
     match kern.at_design_size(FixWord(design_size)) {
-        ToScaled::Scaled(v) => Effect {
+        Ok(v) => Effect {
             op: 128,
             value: words::word_of(v),
             scaled: true,
         },
-        _ => Effect {
+        Err(_) => Effect {
             op: 128,
             value: 0,
             scaled: false,
@@ -89,15 +89,13 @@ pub(crate) fn encode(
         work.old work.new result }
 {
     let mut scaled = true;
-    let mut k = 0;
-    while k < n {
+    for k in 0..n {
         let index = get(work, k, 2) as usize;
         let operation = operation_at(instructions, kerns, index);
         let effect = effect_of(operation, design_size);
         put(work, k, 3, effect.op);
         put(work, k, 4, effect.value);
         scaled = both(scaled, effect.scaled);
-        k += 1;
     }
     scaled
 }

@@ -5,8 +5,6 @@
 ghost use Rattle.std.specs.Prelude.{◌≡◌, ◌+◌, ◌*◌, set};
 ghost use Rattle.compiling.specs.Rows.{at, row_key, search_row, found_row};
 
-use compiling::Row;
-
 // Number f of row k; 0 past the numbers.
 pub fn get(work: &[u32], k: usize, f: u8) -> u32
     ensures { result ≡ at work.now k f }
@@ -14,7 +12,7 @@ pub fn get(work: &[u32], k: usize, f: u8) -> u32
     if work.len() / 16 < k {
         return 0;
     }
-    words::u32s::u32_at(work, 16 * k + (f as usize))
+    words::slices::item_at(work, 16 * k + (f as usize))
 }
 
 // Number f of row k becomes v; past the numbers nothing is done.
@@ -22,7 +20,7 @@ pub fn put(work: &mut [u32], k: usize, f: u8, v: u32)
     ensures { work.new ≡ set work.old (16 * k + f) v }
 {
     if k <= work.len() / 16 {
-        words::u32s::put_u32(work, 16 * k + (f as usize), v);
+        words::slices::put_item(work, 16 * k + (f as usize), v);
     }
 }
 
@@ -36,8 +34,8 @@ fn key(work: &[u32], k: usize) -> u64
 }
 
 // The row of the pair of a left (0 the boundary, else 1 + character) and a right character among the first n rows, by
-// bisection. Where these ascend it is the row of the pair.
-pub fn find(work: &[u32], n: usize, left: u32, right: u32) -> Row
+// bisection, or nothing. Where these ascend it is the row of the pair.
+pub fn find(work: &[u32], n: usize, left: u32, right: u32) -> Option<usize>
     ensures { result ≡ found_row (search_row work.now n left right) }
 {
     let wanted = 256 * (left as u64) + (right as u64);
@@ -53,8 +51,8 @@ pub fn find(work: &[u32], n: usize, left: u32, right: u32) -> Row
     }
     if lo < n {
         if key(work, lo) == wanted {
-            return Row::Found(lo);
+            return Some(lo);
         }
     }
-    Row::Missing
+    None
 }

@@ -14,14 +14,14 @@ ghost use Rattle.compile_settle.specs.Settles.{Settles};
 
 use compile_prepare::prepare;
 use compile_rows::{find, get, put};
-use compiling::{Last, Prepared, Progress, Row, SettledFont};
+use compiling::{Last, Prepared, Progress, SettledFont};
 
 // The last of the pair of a left and a right: that of its row, or the right as it came.
 fn last_of(work: &[u32], n: usize, left: u32, right: u32) -> Last
     requires { (LastsStored n work.now) × (left < 257) × (right < 256) }
     ensures { PairSays n work.now (left_of left) right result }
 {
-    let Row::Found(j) = find(work, n, left, right) else {
+    let Some(j) = find(work, n, left, right) else {
         return Last::Known(right, 0);
     };
     if get(work, j, 5) == 2 {
@@ -98,9 +98,7 @@ fn give_up(work: &mut [u32], n: usize, h: usize, j: usize)
     ensures { GivenUp work.old work.new h j 0 }
 {
     let mut next = j as u32;
-    let mut i = h;
-    while 0 < i {
-        i -= 1;
+    for i in (0..h).rev() {
         let k = get(work, i, 8);
         put(work, k as usize, 5, 3);
         put(work, k as usize, 9, next);
@@ -175,12 +173,10 @@ fn settle_rows(work: &mut [u32], n: usize) -> usize
     ensures { Settled n work.old work.new result }
 {
     let mut m = 0;
-    let mut k = 0;
-    while k < n {
+    for k in 0..n {
         if get(work, k, 5) == 0 {
             m = search(work, n, k, m);
         }
-        k += 1;
     }
     m
 }

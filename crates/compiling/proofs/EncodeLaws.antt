@@ -15,18 +15,18 @@ use mir.Val.{SFits}
 use borrow.Author.Tests.{lt-ltb}
 use denote.Enum.Declared.{tag_of}
 use types.Run.{OneOf, miss}
+use Rattle.std.specs.Prelude.{Result, Ok, Err}
 use Rattle.words.specs.Words.{word_of}
 use Rattle.words.proofs.Bits.{number_word}
 use Rattle.tfm.specs.declared.Char.{Char}
 use Rattle.tfm.specs.declared.FixWord.{FixWord}
 use Rattle.tfm.specs.declared.Multiplier.{Multiplier}
-use Rattle.tfm.specs.declared.ToScaled.{ToScaled}
-use Rattle.tfm.specs.declared.ToScaled.TheVariants.{Scaled, NegativeDesignSize, TooLarge}
+use Rattle.tfm.specs.declared.ScalingError.{ScalingError}
+use Rattle.tfm.specs.declared.ScalingError.TheVariants.{TooLarge}
 use Rattle.tfm.specs.Scaled.{Below, multiplier, low_bytes, to_scaled}
 use Rattle.tfm.proofs.Halving.{multiplier_halved}
 use Rattle.tfm.proofs.Products.{alpha_times, low_bytes_below}
 use Rattle.tfm.proofs.Differences.{difference_fits}
-use Rattle.tfm.specs.contracts.ToScaled.{the_type as scaled-type}
 use Rattle.lang.specs.declared.operation.Operation.{Operation}
 use Rattle.lang.specs.declared.operation.Operation.TheVariants.{Kern, KernAtIndex, Ligature, EntrypointRedirect}
 use Rattle.lang.specs.declared.operation.PostLigOperation.{PostLigOperation}
@@ -50,19 +50,17 @@ use Rattle.compiling.proofs.RowLaws.{at_stored, at_kept, at_other}
 
 -- ---- the numbers of a kern
 
-pub kern_scaled : (x : ToScaled) (v : ℤ) (w : ℕ) → x ≡ Scaled v → w ≡ word_of v → effect 128 w true ≡ kern_effect x
+pub kern_scaled : (x : Result ℤ ScalingError) (v : ℤ) (w : ℕ) → x ≡ Ok v → w ≡ word_of v → effect 128 w true ≡ kern_effect x
 kern_scaled x v w e h = rw (e, h)
 
-pub kern_unscaled : (x : ToScaled) → OneOf (1 ∷ 2 ∷ []) (tag_of scaled-type x) → effect 128 0 false ≡ kern_effect x
-kern_unscaled (Scaled v) h = absurd (miss (1 ∷ 2 ∷ []) 0 tt h)
-kern_unscaled NegativeDesignSize h = refl
-kern_unscaled TooLarge h = refl
+pub kern_unscaled : (x : Result ℤ ScalingError) (e : ScalingError) → x ≡ Err e → effect 128 0 false ≡ kern_effect x
+kern_unscaled x e h = rw h
 
 -- a scaled value is an i32
 module _ (m : Multiplier) (h : Below m) (b c d : ℕ) (v : ℤ) where
   scaled_by : (s t : Bool) →
-      cond s (Scaled (pos (low_bytes m (b % 256) (c % 256) (d % 256))))
-      (cond t (Scaled (pos (low_bytes m (b % 256) (c % 256) (d % 256)) -ℤ pos (m.alpha * m.z))) TooLarge) ≡ Scaled v → SFits w32 v
+      cond s (Ok (pos (low_bytes m (b % 256) (c % 256) (d % 256))))
+      (cond t (Ok (pos (low_bytes m (b % 256) (c % 256) (d % 256)) -ℤ pos (m.alpha * m.z))) (Err TooLarge)) ≡ Ok v → SFits w32 v
   scaled_by true t e =
       let i : pos (low_bytes m (b % 256) (c % 256) (d % 256)) ≡ v = cc in
       subst (SFits w32) i (record { sfits = low_bytes_below m h b c d })
@@ -71,7 +69,7 @@ module _ (m : Multiplier) (h : Below m) (b c d : ℕ) (v : ℤ) where
       subst (SFits w32) i (difference_fits (low_bytes m (b % 256) (c % 256) (d % 256)) (m.alpha * m.z) (low_bytes_below m h b c d) (alpha_times m h))
   scaled_by false false e = absurd (let z : ◌≡◌ {A = ℕ} 0 1 = cc in omega arith)
 
-scaled_fits : (k design v : ℤ) → SFits w32 design → to_scaled k design ≡ Scaled v → SFits w32 v
+scaled_fits : (k design v : ℤ) → SFits w32 design → to_scaled k design ≡ Ok v → SFits w32 v
 unfolding to_scaled
 scaled_fits k (negsuc n) v f e = absurd (let z : ◌≡◌ {A = ℕ} 0 1 = cc in omega arith)
 scaled_fits k (pos n) v f e =
@@ -79,20 +77,17 @@ scaled_fits k (pos n) v f e =
     scaled_by (multiplier (n / 16)) (multiplier_halved (n / 16) (omega (arith, f.sfits))).below (w / 65536) (w / 256) w v (eqb (w / 16777216) 0)
     (eqb (w / 16777216) 255) e
 
-kern_rule : (x : ToScaled) → ((v : ℤ) → x ≡ Scaled v → SFits w32 v) → rule_of (kern_effect x).op (kern_effect x).value ≡ scaled_kern x
-kern_rule (Scaled v) f = ap kerned (number_word v (f v refl))
-kern_rule NegativeDesignSize f = refl
-kern_rule TooLarge f = refl
+kern_rule : (x : Result ℤ ScalingError) → ((v : ℤ) → x ≡ Ok v → SFits w32 v) → rule_of (kern_effect x).op (kern_effect x).value ≡ scaled_kern x
+kern_rule (Ok v) f = ap kerned (number_word v (f v refl))
+kern_rule (Err e) f = refl
 
-kern_scales : (x : ToScaled) → (kern_effect x).scaled ≡ is_scaled x
-kern_scales (Scaled v) = refl
-kern_scales NegativeDesignSize = refl
-kern_scales TooLarge = refl
+kern_scales : (x : Result ℤ ScalingError) → (kern_effect x).scaled ≡ is_scaled x
+kern_scales (Ok v) = refl
+kern_scales (Err e) = refl
 
-kern_fits_lem : (x : ToScaled) → rule_fits (kern_effect x).op (kern_effect x).value ≡ true
-kern_fits_lem (Scaled v) = refl
-kern_fits_lem NegativeDesignSize = refl
-kern_fits_lem TooLarge = refl
+kern_fits_lem : (x : Result ℤ ScalingError) → rule_fits (kern_effect x).op (kern_effect x).value ≡ true
+kern_fits_lem (Ok v) = refl
+kern_fits_lem (Err e) = refl
 
 -- ---- the numbers of a ligature: its op byte says its name
 

@@ -7,12 +7,11 @@ use mathlib.Core.Logic.{◌⊎◌, inl, inr}
 use mathlib.Core.Option.{Option, none, some, map, map-eq-some_iff, some-injective, none-ne-some}
 use Prim.Native.Nat.{ℕ, zero, suc, ◌+◌, ◌-◌, ◌*◌, ◌<◌, ◌≤◌}
 use native.Mathlib.Nat.{eq-or-lt_of_le, le_of_suc-le-suc}
-use native.Mathlib.Numerals.{add-one}
 use native.Mathlib.Omega.{arith}
 use lib.Dec.{eqb}
 use lib.IntN.{ℤ}
 use lib.ListN.{length, length-append}
-use borrow.Author.Tests.{eqb-true, eqb-false, ne_eqb, le-leb, lt-leb}
+use borrow.Author.Tests.{eqb-true, eqb-false, le-leb}
 use Rattle.lang.specs.declared.operation.PostLigOperation.TheVariants.{RetainBothMoveNowhere, RetainBothMoveToInserted, RetainBothMoveToRight}
 use Rattle.lang.specs.declared.operation.PostLigOperation.TheVariants.{RetainRightMoveToInserted, RetainRightMoveToRight, RetainLeftMoveNowhere}
 use Rattle.lang.specs.declared.operation.PostLigOperation.TheVariants.{RetainLeftMoveToInserted, RetainNeitherMoveToInserted}
@@ -27,8 +26,7 @@ use Rattle.reading.specs.Loops.{Ruled}
 use Rattle.reading.proofs.Flags.{raise_left_none, code_raised}
 use Rattle.reading.proofs.Right.{both_finished}
 use Rattle.reading.proofs.Enough.{once_more}
-use Rattle.compiling.specs.declared.Row.{Row as FoundRow}
-use Rattle.compiling.specs.declared.Row.TheVariants.{Found, Missing}
+use Rattle.std.specs.Prelude.{Option as Answer, Some, None}
 use Rattle.compiling.specs.declared.Part.{Part}
 use Rattle.compiling.specs.declared.Part.TheVariants.{Nothing, Character, Ligature, Kern, OfRow}
 use Rattle.compiling.specs.Rows.{at, pair_at, ruled_at, rule_of, rule_at, pairs, row_of, found_row, rule_by, rules, rule_fits, Encoded}
@@ -433,11 +431,11 @@ module _ (n m : ℕ) (w : List ℕ) (e : Encoded n w) (s : Settled n w w m) wher
 
 -- ---- the parts as code finds them
 
-pub found_some : {x : FoundRow} (o : Option ℕ) {k : ℕ} → x ≡ found_row o → x ≡ Found k → o ≡ some k
+pub found_some : {x : Answer ℕ} (o : Option ℕ) {k : ℕ} → x ≡ found_row o → x ≡ Some k → o ≡ some k
 found_some none e f = let z : ◌≡◌ {A = ℕ} 0 1 = cc in absurd (omega arith)
 found_some (some j) e f = cc
 
-pub missing_none : {x : FoundRow} (o : Option ℕ) → x ≡ found_row o → x ≡ Missing → o ≡ none
+pub missing_none : {x : Answer ℕ} (o : Option ℕ) → x ≡ found_row o → x ≡ None → o ≡ none
 missing_none none e f = refl
 missing_none (some j) e f = let z : ◌≡◌ {A = ℕ} 0 1 = cc in absurd (omega arith)
 

@@ -7,8 +7,7 @@ use Prim.Native.Nat.{ℕ, ◌+◌, ◌*◌, ◌<◌}
 use native.Mathlib.Omega.{arith}
 use Rattle.lang.specs.Bisection.{found_by}
 use Rattle.lang.proofs.Bisection.{bisect_finds, bisect_misses}
-use Rattle.compiling.specs.declared.Row.{Row}
-use Rattle.compiling.specs.declared.Row.TheVariants.{Found, Missing}
+use Rattle.std.specs.Prelude.{Option as Answer, Some, None}
 use Rattle.compiling.specs.Rows.{at, row_of, row_key, search_row, found_row, Ascending}
 use Rattle.compiling.proofs.RowLaws.{keys_ascend, row_found, row_missing}
 
@@ -26,10 +25,10 @@ search_row_lem n w a t r small = go (row_of w n t r) refl
         ∙ sym e
 
 -- what an answer says of the row of a pair
-pub found_is : (o : Option ℕ) (x : Row) (j : ℕ) → x ≡ found_row o → x ≡ Found j → o ≡ some j
+pub found_is : (o : Option ℕ) (x : Answer ℕ) (j : ℕ) → x ≡ found_row o → x ≡ Some j → o ≡ some j
 found_is none x j e i = cc
 found_is (some k) x j e i = cc
 
-pub missing_is : (o : Option ℕ) (x : Row) → x ≡ found_row o → x ≡ Missing → o ≡ none
+pub missing_is : (o : Option ℕ) (x : Answer ℕ) → x ≡ found_row o → x ≡ None → o ≡ none
 missing_is none x e i = refl
 missing_is (some k) x e i = cc

@@ -154,12 +154,5 @@ module _ (n m k : ℕ) (w w' : List ℕ) (p : Passed n w w' m k) where
       met = met_by w'' (λ i a. t.seen i (omega arith) (p.met i a)) t.met;
     }
 
-    -- rows v and a count u, as the two arms of the test leave them
-    pub passed_old : (v : List ℕ) (u : ℕ) → v ≡ w' → u ≡ m → (status w' k ≡ 0 → ⊥) → Passed n w v u (k + 1)
-    passed_old v u e i ne = rw (e, i) (old_by ne)
-
-    pub passed_new : (v w'' : List ℕ) (u m' : ℕ) → v ≡ w'' → u ≡ m' → Searched n w' w'' k m' → Passed n w v u (k + 1)
-    passed_new v w'' u m' e i t = rw (e, i) (new_by w'' m' t)
-
   pub passed_all : n ≤ k → Settled n w w' m
   passed_all q = settled_since n m w w' p.rows (settled_end n m w' p.searching (λ i a. p.met i (omega arith)))

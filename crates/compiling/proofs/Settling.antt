@@ -22,7 +22,7 @@ use Rattle.compiling.specs.SettleSteps.{StillSeen}
 use Rattle.compiling.proofs.RowLaws.{SameRules, outcome_same, consults_same, ascending_same, encoded_same, same_rows_none, rule_at_lem}
 use Rattle.compiling.proofs.Tally.{tally_few, tally_less, tally_same, tally_none, tally_up, tally_down, tally_still}
 use Rattle.compiling.proofs.Known.{waits_later, consults_finished, known_sound, known_status, ready_finishes, waiting_later}
-use Rattle.compiling.proofs.Stores.{rows_kept, Opens, Finishes, finishes, next_within, next_last}
+use Rattle.compiling.proofs.Stores.{rows_kept, Opens, Finishes, next_within, next_last}
 
 -- the rows of finished pairs have their lasts stored
 pub stored : {n h m : ℕ} (w : List ℕ) → Searching n w h m → LastsStored n w

@@ -11,7 +11,6 @@ use borrow.Author.Tests.{lt-ltb, le-ltb}
 use Rattle.words.proofs.Tests.{same_or_not}
 use Rattle.compiling.specs.Rows.{at, Ascending, SameRows}
 use Rattle.compiling.specs.SettleSteps.{status, opening, finishing, next_on_path, Opened, GivenUp}
-use Rattle.compiling.proofs.Tally.{tally_few}
 use Rattle.compiling.proofs.RowLaws.{at_stored, at_other, at_row}
 
 -- a step that changes none of the numbers 0 to 4, 14 and 15
@@ -165,9 +164,6 @@ pub record Climbs (w w' : List ℕ) (h j next i : ℕ) : Type 0 where
   pub next_is : (x : ℕ) → suc x ≡ i → next ≡ next_on_path w h j x
 
 module _ (w : List ℕ) (h j : ℕ) where
-  pub climbs_none : Climbs w w h j j h
-  climbs_none = record { within = omega arith; given_up = given_none w h j; next_is = λ x e. sym (next_last w h j x e) }
-
   module _ (n : ℕ) (a : Ascending n w) (o : Opened n w h) (w' : List ℕ) (next : ℕ) where
     -- the row of a place, as the climb reads it
     pub climbs_row : (i : ℕ) → Climbs w w' h j next i → (x : ℕ) → at w' x 8 ≡ at w x 8
@@ -189,9 +185,3 @@ module _ (w : List ℕ) (h j : ℕ) where
     climbs_more (suc x) k p c e =
         let s : suc x - 1 ≡ x = omega arith in
         rw s (step_by x k c (rw s at e))
-
-    pub climbs_few : (i : ℕ) → Climbs w w' h j next i → i ≤ n
-    climbs_few i c = omega (arith, c.within, o.count, tally_few (status w) 1 n)
-
-    pub climbs_below : (i : ℕ) → 0 < i → Climbs w w' h j next i → at w' (i - 1) 8 < n
-    climbs_below i p c = rw (climbs_row i c (i - 1)) (o.row (i - 1) (omega (arith, c.within)))

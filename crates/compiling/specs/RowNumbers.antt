@@ -1,9 +1,8 @@
 -- The sixteen numbers of every row as the first stage of compiling leaves them, row after row: a pair, its rule's index, what its rule
 -- does, and the order of its left's rows. Rows.antt says what each number is for; those that later passes write are 0.
-use Rattle.std.specs.Prelude.{Bool, true, false, cond, List, [], ◌∷◌, ◌++◌, ℕ, zero, suc, ◌+◌, ◌-◌, ℤ, ltb, length, replicate}
+use Rattle.std.specs.Prelude.{Bool, true, false, cond, List, [], ◌∷◌, ◌++◌, ℕ, zero, suc, ◌+◌, ◌-◌, ℤ, ltb, length, replicate, Result, Ok, Err}
 use Rattle.words.specs.Words.{word_of}
-use Rattle.tfm.specs.declared.ToScaled.{ToScaled}
-use Rattle.tfm.specs.declared.ToScaled.TheVariants.{Scaled, NegativeDesignSize, TooLarge}
+use Rattle.tfm.specs.declared.ScalingError.{ScalingError}
 use Rattle.tfm.specs.Scaled.{to_scaled}
 use Rattle.lang.specs.declared.operation.Operation.{Operation}
 use Rattle.lang.specs.declared.operation.Operation.TheVariants.{Kern, KernAtIndex, Ligature, EntrypointRedirect}
@@ -24,10 +23,9 @@ abbrev pub effect : ℕ → ℕ → Bool → Effect
 effect op value scaled = record { op = op; value = value; scaled = scaled }
 
 -- 128 and the bits of a kern's scaled value; 0 where it does not scale
-abbrev pub kern_effect : ToScaled → Effect
-kern_effect (Scaled v) = effect 128 (word_of v) true
-kern_effect NegativeDesignSize = effect 128 0 false
-kern_effect TooLarge = effect 128 0 false
+abbrev pub kern_effect : Result ℤ ScalingError → Effect
+kern_effect (Ok v) = effect 128 (word_of v) true
+kern_effect (Err e) = effect 128 0 false
 
 -- an op byte and the inserted character; a rule is no kern index and no redirect
 abbrev pub effect_of : ℤ → Operation → Effect

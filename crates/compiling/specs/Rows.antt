@@ -8,14 +8,12 @@
 --    5 status: 0 new, 1 open, 2 finished, 3 never  13 first op
 --    6 last code                                   14 the walk that met this one
 --    7 last flag                                   15 within a left: the row that is so many-th by rule index
-use Rattle.std.specs.Prelude.{◌≡◌, Bool, true, false, cond, List, ℕ, zero, suc, ◌+◌, ◌*◌, ◌<◌, ◌≤◌, ltb, eqb, length, get_or}
+use Rattle.std.specs.Prelude.{◌≡◌, Bool, true, false, cond, List, ℕ, zero, suc, ◌+◌, ◌*◌, ◌<◌, ◌≤◌, ltb, eqb, length, get_or, Option as Answer, Some, None}
 use Rattle.std.proofs.Math.Option.{Option, none, some}
 use Rattle.words.specs.Words.{number_of}
 use Rattle.words.specs.Lists.{tabulate}
 use Rattle.lang.specs.Bisection.{found_by}
 use Rattle.lang.specs.Operations.{retains, keeps_left, keeps_right, advance, is_standard}
-use Rattle.compiling.specs.declared.Row.{Row}
-use Rattle.compiling.specs.declared.Row.TheVariants.{Found, Missing}
 use Rattle.reading.specs.Items.{Rule, free, kerned, lig, Rules}
 use Rattle.reading.specs.Depth.{Pair}
 use Rattle.reading.specs.Loops.{Ruled}
@@ -70,9 +68,9 @@ abbrev pub search_row : List ℕ → ℕ → ℕ → ℕ → Option ℕ
 search_row w n t r = found_by (row_key w) n (256 * t + r)
 
 -- what a search answers: the row of the pair, or that it is missing
-abbrev pub found_row : Option ℕ → Row
-found_row none = Missing
-found_row (some k) = Found k
+abbrev pub found_row : Option ℕ → Answer ℕ
+found_row none = None
+found_row (some k) = Some k
 
 -- the rule of the row that was found; a pair without a row is free
 abbrev pub rule_by : List ℕ → Option ℕ → Rule

@@ -1,27 +1,12 @@
 // The definitions (specs/) and laws (proofs/) of compiling's passes over the rows of the work buffer, and the types
 // that the passes answer with. Crates `compile_collect` to `compile_lists` hold the passes.
-
-// The row of a pair, or nothing.
 #![tactic(auto)]
-
-#[derive(Clone, Copy)]
-pub enum Row {
-    Found(usize),
-    Missing,
-}
 
 // How many rows there are and how many of them are the boundary's, or the number of a refusal.
 #[derive(Clone, Copy)]
 pub enum Collected {
     Rows(usize, usize),
     Refused(u32),
-}
-
-// How many rows there are with those of one more left, or that they are more than the cap.
-#[derive(Clone, Copy)]
-pub enum Added {
-    Upto(usize),
-    Over,
 }
 
 // What a row says of its rule: op byte or 128, and inserted character or scaled kern, 0 for a kern that does not scale;

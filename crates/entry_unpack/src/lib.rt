@@ -10,7 +10,7 @@ ghost use Rattle.entry_unpack.specs.Unpacking.{entry_safe, is_seven_bit_safe, se
 
 use entry_targets::{entry_refusal, is_redirect, stands_for};
 use lang::instruction::field_at;
-use program_chain::{Next, next_instruction};
+use program_chain::next_instruction;
 use program_checks::{program_refusal, range_refusal};
 use program_limits::{entries_refusal, passthrough_refusal, room_refusal};
 
@@ -78,7 +78,7 @@ fn passthrough_at(instructions: &[i32], entry: usize, passthrough: &[u8], i: usi
             return 1;
         }
     }
-    if words::u8s::u8_at(passthrough, i) == 0 {
+    if words::slices::item_at(passthrough, i) == 0 {
         0
     } else {
         1
@@ -91,10 +91,8 @@ fn put_passthrough(instructions: &[i32], entry: usize, passthrough: &[u8], out: 
     ensures { out.new ≡ passthrough_after instructions.now entry
         passthrough.now ++ drop (length passthrough.now) out.old }
 {
-    let mut i = 0;
-    while i < passthrough.len() {
+    for i in 0..passthrough.len() {
         out[i] = passthrough_at(instructions, entry, passthrough, i);
-        i += 1;
     }
 }
 
@@ -108,7 +106,7 @@ pub fn unpack_entrypoint(
     ensures { UnpacksEntry instructions.now entry passthrough.now
         out.old result out.new }
 {
-    words::u8s::zero_u8(out);
+    words::slices::zero_all(out);
     let refusal = unpack_refusal(instructions, entry, passthrough, out.len());
     if refusal != 0 {
         return refused(refusal);
@@ -137,7 +135,7 @@ fn chain_is_seven_bit(instructions: &[i32], entry: usize) -> bool
 {
     let mut at = entry;
     loop {
-        let Next::At(i, on) = next_instruction(instructions, at) else {
+        let Some((i, on)) = next_instruction(instructions, at) else {
             return true;
         };
         if !inserts_seven_bit(instructions, i) {
@@ -165,12 +163,10 @@ fn entry_is_safe(instructions: &[i32], entries: &[i32], i: usize) -> bool
 fn all_are_safe(instructions: &[i32], entries: &[i32]) -> bool
     ensures { result ≡ is_seven_bit_safe instructions.now entries.now }
 {
-    let mut i = 0;
-    while i < entries.len() / 2 {
+    for i in 0..entries.len() / 2 {
         if !entry_is_safe(instructions, entries, i) {
             return false;
         }
-        i += 1;
     }
     true
 }

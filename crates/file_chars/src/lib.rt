@@ -12,8 +12,7 @@ use file_lengths::{char_count, char_start};
 use file_words::put_four;
 use files::FileLengths;
 use words::i32s::word_at;
-use words::sizes::smaller;
-use words::u8s::u8_at;
+use words::slices::item_at;
 
 // The entry at a place of the table, as its 32 bits; past the last place -1.
 fn entry_word(table: &[i32], place: usize) -> u32
@@ -31,7 +30,7 @@ fn tag_byte(old: &[u8], entry: u32, w: usize) -> u8
     requires { w < 17179869184 }
     ensures { result ≡ char_byte old.now (number_of entry) w 2 }
 {
-    let tag = u8_at(old, 4 * w + 2);
+    let tag = item_at(old, 4 * w + 2);
     if entry < 2147483648 {
         return 4 * (tag / 4) + 1;
     }
@@ -46,10 +45,10 @@ fn remainder_byte(old: &[u8], entry: u32, w: usize) -> u8
     if entry < 2147483648 {
         return (entry % 256) as u8;
     }
-    if u8_at(old, 4 * w + 2) % 4 == 1 {
+    if item_at(old, 4 * w + 2) % 4 == 1 {
         0
     } else {
-        u8_at(old, 4 * w + 3)
+        item_at(old, 4 * w + 3)
     }
 }
 
@@ -58,8 +57,8 @@ fn char_word(old: &[u8], entry: u32, w: usize) -> u32
     requires { w < 17179869184 }
     ensures { four_bytes (byte_of result) ≡ four_bytes (char_byte old.now (number_of entry) w) }
 {
-    let first = u8_at(old, 4 * w) as u32;
-    let second = u8_at(old, 4 * w + 1) as u32;
+    let first = item_at(old, 4 * w) as u32;
+    let second = item_at(old, 4 * w + 1) as u32;
     let third = tag_byte(old, entry, w) as u32;
     16777216 * first + 65536 * second + 256 * third + (remainder_byte(old, entry, w) as u32)
 }
@@ -70,13 +69,11 @@ pub fn write_chars(old: &[u8], lengths: FileLengths, table: &[i32; 257], out: &m
         (λ i. char_byte old.now (get_or table.now (lengths.bc + i) (negsuc 0))
         (char_start lengths + i)) out.old }
 {
-    let n = smaller(char_count(lengths), out.len() / 4);
+    let n = char_count(lengths).min(out.len() / 4);
     let first = lengths.bc as usize;
     let start = char_start(lengths);
-    let mut i = 0;
-    while i < n {
+    for i in 0..n {
         let entry = entry_word(table, first + i);
         put_four(out, 4 * i, char_word(old, entry, start + i));
-        i += 1;
     }
 }

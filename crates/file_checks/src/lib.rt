@@ -14,7 +14,7 @@ use file_lengths::{char_start, command_start, lengths_of};
 use files::FileLengths;
 use lang::instruction::field_at;
 use words::i32s::word_at;
-use words::u8s::u8_at;
+use words::slices::item_at;
 use words::word_of;
 
 // A next of at most 127, or -1; it is given by its 32 bits.
@@ -46,12 +46,10 @@ fn are_writable(instructions: &[i32], kerns: &[i32]) -> bool
     ensures { result ≡ every (count instructions.now)
         (is_writable instructions.now kerns.now) }
 {
-    let mut i = 0;
-    while i < instructions.len() / 4 {
+    for i in 0..instructions.len() / 4 {
         if !is_writable(instructions, kerns, i) {
             return false;
         }
-        i += 1;
     }
     true
 }
@@ -68,7 +66,7 @@ fn is_in_file(old: &[u8], lengths: FileLengths, c: u32) -> bool
         return false;
     }
     let w = char_start(lengths) + ((c - lengths.bc) as usize);
-    u8_at(old, 4 * w) != 0
+    item_at(old, 4 * w) != 0
 }
 
 // Entry i of n instructions can be written.
@@ -88,12 +86,10 @@ fn are_entries_writable(old: &[u8], lengths: FileLengths, entries: &[i32], n: us
     ensures { result ≡ every (length entries.now / 2)
         (is_entry_writable old.now entries.now n) }
 {
-    let mut i = 0;
-    while i < entries.len() / 2 {
+    for i in 0..entries.len() / 2 {
         if !is_entry_writable(old, lengths, entries, n, i) {
             return false;
         }
-        i += 1;
     }
     true
 }

@@ -5,10 +5,11 @@
 ghost use Rattle.std.specs.Prelude.{◌≡◌, cond, ◌+◌, ◌*◌, ltb, pos, negsuc};
 ghost use Rattle.words.specs.Words.{number_of};
 ghost use Rattle.lang.specs.Every.{both};
-ghost use Rattle.files.specs.Commands.{word_byte, command_next, command_kind, command_operand, is_first255, kern_number};
+ghost use Rattle.files.specs.Commands.{word_byte, command_next, command_kind, command_operand, is_first255};
+ghost use Rattle.files.specs.Commands.{kern_number};
 ghost use Rattle.files.specs.Commands.{is_lig_tagged};
 
-use words::u8s::u8_at;
+use words::slices::item_at;
 
 // Byte j of word w; 0 past the end.
 pub fn word_byte(file: &[u8], w: usize, j: u8) -> u8
@@ -17,7 +18,7 @@ pub fn word_byte(file: &[u8], w: usize, j: u8) -> u8
     if file.len() / 4 < w {
         return 0;
     }
-    u8_at(file, 4 * w + (j as usize))
+    item_at(file, 4 * w + (j as usize))
 }
 
 // The next of an instruction, from its first byte.

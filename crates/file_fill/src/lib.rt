@@ -2,18 +2,10 @@
 // within the list is proved.
 #![tactic(auto)]
 
-ghost use Rattle.std.specs.Prelude.{◌≤◌, length};
+ghost use Rattle.std.specs.Prelude.{◌≤◌, length, IfOk};
 ghost use Rattle.std.specs.Io.{ReadsAtMost};
-ghost use Rattle.file_fill.specs.Filling.{filled_bytes};
 
 use std::io::{self, ErrorKind, Read};
-
-// How many bytes were read until the file ended or the list was full; or why a read failed.
-#[derive(Drop)]
-pub enum Filled {
-    Bytes(usize),
-    Failed(io::Error),
-}
 
 // A signal interrupted the read that answered this.
 fn is_interrupted(got: &io::Result<usize>) -> bool {
@@ -36,19 +28,18 @@ fn read_some<R: Read>(reader: &mut R, rest: &mut [u8]) -> io::Result<usize>
     reader.read(rest)
 }
 
-// Reads until the file ends or the list is full.
-pub fn fill<R: Read>(reader: &mut R, bytes: &mut [u8]) -> Filled
-    ensures { filled_bytes result ≤ length bytes.new }
+// Reads until the file ends or the list is full. Answers how many bytes were read, or why a read failed.
+pub fn fill<R: Read>(reader: &mut R, bytes: &mut [u8]) -> io::Result<usize>
+    ensures { IfOk result (λ n. n ≤ length bytes.new) }
 {
     let mut done = 0;
     while done < bytes.len() {
-        match read_some(reader, &mut bytes[done..]) {
-            Err(error) => return Filled::Failed(error),
-            Ok(0) => return Filled::Bytes(done),
-            Ok(n) => done += n,
+        match read_some(reader, &mut bytes[done..])? {
+            0 => return Ok(done),
+            n => done += n,
         }
     }
-    Filled::Bytes(done)
+    Ok(done)
 }
 
 // As `fill`, but where a read fails what was read before it stands.

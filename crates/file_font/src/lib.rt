@@ -15,8 +15,7 @@ use file_reading::deserialize;
 use file_unpacking::unpack_within;
 use files::Deserialized;
 use lang::Written;
-use words::i32s::zero_i32;
-use words::u8s::u8_at;
+use words::slices::{item_at, zero_all};
 
 // Every byte from place `from` on is 0.
 fn zeros_from(bytes: &[u8], from: usize) -> bool
@@ -24,12 +23,10 @@ fn zeros_from(bytes: &[u8], from: usize) -> bool
     ensures { result ≡ every (length bytes.now - from)
         (λ i. eqb (file_byte bytes.now (from + i)) 0) }
 {
-    let mut i = 0;
-    while i < bytes.len() - from {
-        if u8_at(bytes, from + i) != 0 {
+    for i in 0..bytes.len() - from {
+        if item_at(bytes, from + i) != 0 {
             return false;
         }
-        i += 1;
     }
     true
 }
@@ -97,8 +94,8 @@ pub fn read_font(
         entries.old lost.old result instructions.new kerns.new
         entries.new lost.new }
 {
-    zero_i32(entries);
-    zero_i32(lost);
+    zero_all(entries);
+    zero_all(lost);
     let mut packed = packed_list();
     match deserialize(file, instructions, kerns, &mut packed) {
         Deserialized::Refused(number) => FileFont::Refused(number),
@@ -108,8 +105,8 @@ pub fn read_font(
                     FileFont::Font(n, k, m, e - m, boundary, left, file_design(file))
                 }
                 Written::Refused(number) => {
-                    zero_i32(instructions);
-                    zero_i32(kerns);
+                    zero_all(instructions);
+                    zero_all(kerns);
                     FileFont::Refused(number)
                 }
             }

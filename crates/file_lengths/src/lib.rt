@@ -8,16 +8,15 @@ ghost use Rattle.files.specs.Lengths.{file_half, lengths_of, char_count, char_st
 ghost use Rattle.files.specs.Lengths.{recipe_start, file_end, lengths_fit, lengths_refusal};
 
 use files::FileLengths;
-use words::sizes::minus;
-use words::u8s::u8_at;
+use words::slices::item_at;
 
 // The number of two bytes that stands in place i, the higher first.
 pub fn file_half(file: &[u8], i: u8) -> u32
     ensures { result ≡ file_half file.now i }
 {
     let at = 2 * (i as usize);
-    let high = u8_at(file, at) as u32;
-    256 * high + (u8_at(file, at + 1) as u32)
+    let high = item_at(file, at) as u32;
+    256 * high + (item_at(file, at + 1) as u32)
 }
 
 // The twelve lengths.
@@ -44,7 +43,7 @@ pub fn lengths_of(file: &[u8]) -> FileLengths
 pub fn char_count(l: FileLengths) -> usize
     ensures { result ≡ char_count l }
 {
-    minus((l.ec as usize) + 1, l.bc as usize)
+    (l.ec as usize + 1).saturating_sub(l.bc as usize)
 }
 
 // The first word of the characters.
@@ -100,12 +99,10 @@ fn lengths_fit(l: FileLengths) -> bool
 fn lengths_small(file: &[u8]) -> bool
     ensures { result ≡ every 12 (λ i. leb (file_half file.now i) 32767) }
 {
-    let mut i = 0u8;
-    while i < 12 {
+    for i in 0..12 {
         if 32767 < file_half(file, i) {
             return false;
         }
-        i += 1;
     }
     true
 }

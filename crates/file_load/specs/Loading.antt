@@ -2,15 +2,9 @@
 use Rattle.std.specs.Prelude.{ℕ}
 use Rattle.file_load.specs.declared.Loaded.{Loaded}
 use Rattle.file_load.specs.declared.Loaded.TheVariants as Answer
-use Rattle.file_load.specs.declared.Filled.{Filled}
-use Rattle.file_load.specs.declared.Filled.TheVariants as Fill
 
 abbrev pub loaded_bytes : Loaded → ℕ
 loaded_bytes (Answer.Bytes n) = n
 loaded_bytes Answer.Missing = 0
 loaded_bytes (Answer.Unreadable e) = 0
 loaded_bytes Answer.TooLong = 0
-
-abbrev pub filled_bytes : Filled → ℕ
-filled_bytes (Fill.Bytes n) = n
-filled_bytes (Fill.Failed e) = 0

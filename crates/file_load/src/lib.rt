@@ -2,9 +2,9 @@
 // list is proved. Zeros past the list's end are passed over.
 #![tactic(auto)]
 
-ghost use Rattle.std.specs.Prelude.{◌≤◌, length};
+ghost use Rattle.std.specs.Prelude.{◌≤◌, length, IfOk};
 ghost use Rattle.std.specs.Io.{ReadsAtMost};
-ghost use Rattle.file_load.specs.Loading.{loaded_bytes, filled_bytes};
+ghost use Rattle.file_load.specs.Loading.{loaded_bytes};
 
 pub mod args;
 
@@ -21,13 +21,6 @@ pub enum Loaded {
     Missing,
     Unreadable(u32),
     TooLong,
-}
-
-// How many bytes were read until the file ended or the list was full; or why a read failed.
-#[derive(Drop)]
-enum Filled {
-    Bytes(usize),
-    Failed(io::Error),
 }
 
 // What a piece past the list is: zeros; the end; other bytes; or why a read failed.
@@ -68,19 +61,18 @@ fn read_some<F: Read>(file: &mut F, rest: &mut [u8]) -> io::Result<usize>
     file.read(rest)
 }
 
-// Reads until the file ends or the list is full.
-fn fill<F: Read>(file: &mut F, bytes: &mut [u8]) -> Filled
-    ensures { filled_bytes result ≤ length bytes.new }
+// Reads until the file ends or the list is full. Answers how many bytes were read, or why a read failed.
+fn fill<F: Read>(file: &mut F, bytes: &mut [u8]) -> io::Result<usize>
+    ensures { IfOk result (λ n. n ≤ length bytes.new) }
 {
     let mut done = 0;
     while done < bytes.len() {
-        match read_some(file, &mut bytes[done..]) {
-            Err(error) => return Filled::Failed(error),
-            Ok(0) => return Filled::Bytes(done),
-            Ok(n) => done += n,
+        match read_some(file, &mut bytes[done..])? {
+            0 => return Ok(done),
+            n => done += n,
         }
     }
-    Filled::Bytes(done)
+    Ok(done)
 }
 
 // Every byte is 0.
@@ -149,8 +141,8 @@ fn load_open<R: Eprint, F: Read>(rt: &R, file: &mut F, path: &[u8], bytes: &mut 
     ensures { loaded_bytes result ≤ length bytes.new }
 {
     match fill(file, bytes) {
-        Filled::Failed(error) => failure(rt, path, error),
-        Filled::Bytes(n) => {
+        Err(error) => failure(rt, path, error),
+        Ok(n) => {
             if n < bytes.len() {
                 return Loaded::Bytes(n);
             }

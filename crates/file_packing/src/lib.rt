@@ -13,7 +13,7 @@ use pack::{Packed, pack_entrypoints};
 use program_checks::program_refusal;
 use program_kerns::{pack_kerns, unpack_kerns};
 use program_limits::{kerns_refusal, room_refusal};
-use words::i32s::zero_i32;
+use words::slices::zero_all;
 
 // 4, 10 or 11, which entries, a boundary character and a left entry decide alone: an empty program is packed with them.
 fn entered_refusal(entries: &[i32], boundary: i32, left_entry: i32) -> u32
@@ -160,9 +160,9 @@ pub fn pack_font(
         entries_out.len(),
     );
     if refusal != 0 {
-        zero_i32(out);
-        zero_i32(kerns_out);
-        zero_i32(entries_out);
+        zero_all(out);
+        zero_all(kerns_out);
+        zero_all(entries_out);
         return PackedFont::Refused(refusal);
     }
     let mut numbers = [0i32; 131068];

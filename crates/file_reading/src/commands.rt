@@ -28,10 +28,8 @@ pub(crate) fn write_commands(file: &[u8], w: usize, n: usize, out: &mut [i32])
     requires { (w + n ≤ 1099511627776) × (4 * n ≤ length out.old) }
     ensures { Appending (commands_from file.now w n) out.old out.new }
 {
-    let mut i = 0;
-    while i < n {
+    for i in 0..n {
         put_command(file, w + i, out, 4 * i);
-        i += 1;
     }
 }
 
@@ -41,9 +39,7 @@ pub(crate) fn write_kerns(file: &[u8], w: usize, n: usize, out: &mut [i32])
     ensures { Filling (λ i. kern_number file.now (w + i)) out.old out.new
         n }
 {
-    let mut i = 0;
-    while i < n {
+    for i in 0..n {
         words::i32s::put_word(out, i, kern_word(file, w + i));
-        i += 1;
     }
 }

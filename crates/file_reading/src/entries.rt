@@ -13,12 +13,10 @@ pub(crate) fn count_entries(file: &[u8], w: usize, n: usize) -> usize
     ensures { (result ≤ n) × ((c : ℕ) → length (entries_from file.now c w n) ≡ 2 * result) }
 {
     let mut count = 0;
-    let mut i = 0;
-    while i < n {
+    for i in 0..n {
         if is_lig_tagged(file, w + i) {
             count += 1;
         }
-        i += 1;
     }
     count
 }
@@ -46,10 +44,8 @@ pub(crate) fn write_entries(file: &[u8], c: u32, w: usize, n: usize, out: &mut [
         × (result ≡ length (entries_from file.now c w n) / 2) }
 {
     let mut at = 0;
-    let mut i = 0;
-    while i < n {
+    for i in 0..n {
         at = put_entry(file, c + (i as u32), w + i, out, at);
-        i += 1;
     }
     at / 2
 }

@@ -74,9 +74,9 @@ pub fn deserialize(
     ensures { Deserializes file.now instructions.old kerns.old
         entries.old result instructions.new kerns.new entries.new }
 {
-    words::i32s::zero_i32(instructions);
-    words::i32s::zero_i32(kerns);
-    words::i32s::zero_i32(entries);
+    words::slices::zero_all(instructions);
+    words::slices::zero_all(kerns);
+    words::slices::zero_all(entries);
     let refusal = deserialize_refusal(file, instructions.len(), kerns.len(), entries.len());
     if refusal != 0 {
         return Deserialized::Refused(refusal);

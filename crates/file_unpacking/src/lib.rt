@@ -18,13 +18,11 @@ fn count_leading(instructions: &[i32], packed: &[i32]) -> usize
         (length packed.now / 2)) ≡ 2 * result }
 {
     let mut n = 0;
-    let mut i = 0;
-    while i < packed.len() / 2 {
+    for i in 0..packed.len() / 2 {
         let entry = word_at(packed, 2 * i + 1);
         if entry_refusal(instructions, entry as usize) == 0 {
             n += 1;
         }
-        i += 1;
     }
     n
 }
@@ -80,10 +78,8 @@ fn unpack_all(instructions: &[i32], packed: &[i32], entries: &mut [i32], lost: &
         lost.new }
 {
     let mut n = 0;
-    let mut i = 0;
-    while i < packed.len() / 2 {
+    for i in 0..packed.len() / 2 {
         n = unpack_one(instructions, packed, i, entries, n, lost);
-        i += 1;
     }
     n
 }

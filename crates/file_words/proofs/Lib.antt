@@ -1,4 +1,3 @@
--- Laws of crate file_words: Sections (a part with words in front), Copies (a part with bytes in front), Bytes (the four bytes of a word).
+-- Laws of crate file_words: Sections (a part with words in front), Bytes (the four bytes of a word).
 pub mod Sections
-pub mod Copies
 pub mod Bytes

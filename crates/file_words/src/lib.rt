@@ -12,8 +12,7 @@ ghost use Rattle.file_words.specs.Fours.{four_bytes};
 
 use lang::instruction::field_at;
 use words::i32s::word_at;
-use words::sizes::smaller;
-use words::u8s::{put_u8, u8_at};
+use words::slices::put_item;
 use words::word_of;
 
 // A length at a place: two bytes, the higher first.
@@ -21,8 +20,8 @@ pub fn put_half(out: &mut [u8], at: usize, n: u32)
     ensures { out.new ≡ sets out.old at (half_bytes n) }
 {
     if at < out.len() {
-        put_u8(out, at, (n / 256 % 256) as u8);
-        put_u8(out, at + 1, (n % 256) as u8);
+        put_item(out, at, (n / 256 % 256) as u8);
+        put_item(out, at + 1, (n % 256) as u8);
     }
 }
 
@@ -30,12 +29,8 @@ pub fn put_half(out: &mut [u8], at: usize, n: u32)
 pub fn copy_bytes(bytes: &[u8], out: &mut [u8])
     ensures { out.new ≡ bytes_in_front bytes.now out.old }
 {
-    let n = smaller(bytes.len(), out.len());
-    let mut i = 0;
-    while i < n {
-        put_u8(out, i, u8_at(bytes, i));
-        i += 1;
-    }
+    let n = bytes.len().min(out.len());
+    out[..n].copy_from_slice(&bytes[..n]);
 }
 
 // The four bytes of a word at a place, the highest first.
@@ -55,11 +50,9 @@ pub fn write_words(kerns: &[i32], out: &mut [u8])
     ensures { out.new ≡ words_in_front (length kerns.now) (kern_byte kerns.now)
         out.old }
 {
-    let n = smaller(kerns.len(), out.len() / 4);
-    let mut i = 0;
-    while i < n {
+    let n = kerns.len().min(out.len() / 4);
+    for i in 0..n {
         put_four(out, 4 * i, word_at(kerns, i));
-        i += 1;
     }
 }
 
@@ -114,10 +107,8 @@ pub fn write_commands(instructions: &[i32], boundary: i32, out: &mut [u8])
         (command_byte instructions.now boundary) out.old }
 {
     let b = word_of(boundary);
-    let n = smaller(instructions.len() / 4, out.len() / 4);
-    let mut i = 0;
-    while i < n {
+    let n = (instructions.len() / 4).min(out.len() / 4);
+    for i in 0..n {
         put_four(out, 4 * i, command_word(instructions, b, i));
-        i += 1;
     }
 }

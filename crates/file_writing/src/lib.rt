@@ -17,7 +17,7 @@ use files::PackedFont;
 use lang::Written;
 use lang::entries::entries_table;
 use program_limits::room_refusal;
-use words::u8s::zero_u8;
+use words::slices::zero_all;
 
 // Room for any font's packed instructions, for its kerns, and for its entries.
 fn program_list() -> [i32; 132096]
@@ -130,7 +130,7 @@ pub fn replace_lig_kern_program(
         (writable instructions.now kerns.now entries.now boundary left_entry)
         out.old result out.new }
 {
-    zero_u8(out);
+    zero_all(out);
     let mut program = program_list();
     let mut shared = kern_list();
     let mut packed = entry_list();

@@ -11,7 +11,7 @@ use file_fonts::FileFont;
 use font_check_parts::{checked_font, zero_tables};
 use font_checks::Checked;
 use fonts::Compiled;
-use words::i32s::zero_i32;
+use words::slices::zero_all;
 
 // What was read, compiled; what was refused stays refused.
 fn compile_read(
@@ -73,10 +73,10 @@ pub fn check_file(
     match compile_read(font, instructions, kerns, entries, pairs, ops, loops, work) {
         Compiled::Tables(p, o, l) => checked_font(font, p, o, l),
         Compiled::Refused(refusal) => {
-            zero_i32(instructions);
-            zero_i32(kerns);
-            zero_i32(entries);
-            zero_i32(lost);
+            zero_all(instructions);
+            zero_all(kerns);
+            zero_all(entries);
+            zero_all(lost);
             Checked::Refused(refusal)
         }
     }

@@ -6,18 +6,17 @@ ghost use Rattle.font_check_parts.specs.CheckParts.{TablesZero, checked_font};
 
 use file_fonts::FileFont;
 use font_checks::Checked;
-use words::i32s::zero_i32;
-use words::u32s::zero_u32;
+use words::slices::zero_all;
 
 // The lists that compiling writes, zeroed.
 pub fn zero_tables(pairs: &mut [i32], ops: &mut [i32], loops: &mut [i32], work: &mut [u32])
     ensures { TablesZero pairs.old ops.old loops.old work.old
         pairs.new ops.new loops.new work.new }
 {
-    zero_i32(pairs);
-    zero_i32(ops);
-    zero_i32(loops);
-    zero_u32(work);
+    zero_all(pairs);
+    zero_all(ops);
+    zero_all(loops);
+    zero_all(work);
 }
 
 // What reading answered, with the counts of what was compiled.

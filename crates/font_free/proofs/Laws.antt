@@ -21,12 +21,11 @@ use Rattle.reading.specs.Items.{item}
 use Rattle.captions.specs.declared.NextLeft.TheVariants as next
 use Rattle.captions.specs.declared.Consumes.TheVariants as consumes
 use Rattle.captions.specs.declared.State.{State}
-use Rattle.captions.specs.declared.Found.TheVariants.{At, Nothing}
-use Rattle.captions.specs.Tables.{number, count_of, last_code, last_flag, found_at, key_by, find, record_fits}
+use Rattle.captions.specs.Tables.{number, count_of, last_code, last_flag, record_fits}
 use Rattle.captions.specs.Queries.{is_found}
 use Rattle.captions.specs.Steps.{find_within, or_boundary, after_right, gives_nothing, entered_at}
 use Rattle.captions.proofs.Sound.{state}
-use Rattle.captions.proofs.Beyond.{looks_up_within, within_left, within_right}
+use Rattle.captions.proofs.Beyond.{within_left, within_right}
 use Rattle.font_runs.specs.Changes.{pairless, left_free}
 
 no : {A : Type 0} → ◌≡◌ {A = Bool} false true → A
@@ -34,24 +33,8 @@ no e = absurd (let z : ◌≡◌ {A = ℕ} 0 1 = cc in omega arith)
 
 -- ---- a pair that is looked up
 
-at_some : (o : Option ℕ) (k : ℕ) → At k ≡ found_at o → o ≡ some k
-at_some none k e = absurd (let z : ◌≡◌ {A = ℕ} 0 1 = cc in omega arith)
-at_some (some j) k e = cc
-
-at_none : (o : Option ℕ) → Nothing ≡ found_at o → o ≡ none
-at_none none e = refl
-at_none (some j) e = absurd (let z : ◌≡◌ {A = ℕ} 0 1 = cc in omega arith)
-
-module _ (pairs : List ℤ) (x y : ℕ) where
-  module _ (left : x ≤ 256) (right : y ≤ 255) where
-    pub looked_some : (k : ℕ) → At k ≡ found_at (find pairs (key_by x y)) → find_within pairs x y ≡ some k
-    looked_some k e = looks_up_within pairs x y left right ∙ at_some (find pairs (key_by x y)) k e
-
-    pub looked_none : Nothing ≡ found_at (find pairs (key_by x y)) → find_within pairs x y ≡ none
-    looked_none e = looks_up_within pairs x y left right ∙ at_none (find pairs (key_by x y)) e
-
-  pub pairless_is : {o : Option ℕ} → find_within pairs x y ≡ o → not (is_found o) ≡ pairless pairs x (some y)
-  pairless_is e = ap (λ (o : Option ℕ). not (is_found o)) (sym e)
+pairless_is : (pairs : List ℤ) (x y : ℕ) {o : Option ℕ} → find_within pairs x y ≡ o → not (is_found o) ≡ pairless pairs x (some y)
+pairless_is pairs x y e = ap (λ (o : Option ℕ). not (is_found o)) (sym e)
 
 -- a left above 255 has none
 pub left_above : (pairs : List ℤ) (c : ℕ) (o : Option ℕ) → 255 < c → true ≡ pairless pairs (suc c) o

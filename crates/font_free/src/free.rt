@@ -7,7 +7,7 @@ ghost use Rattle.captions.specs.declared.NextLeft.TheVariants as next;
 ghost use Rattle.captions.specs.Steps.{or_boundary, right_item};
 ghost use Rattle.font_runs.specs.Changes.{pairless, left_free, free_state};
 
-use captions::{Found, NextLeft, RunOptions, State};
+use captions::{NextLeft, RunOptions, State};
 use table_find::find;
 use words::word_of;
 
@@ -29,10 +29,7 @@ fn is_pairless(pairs: &[i32], left: u32, right: u32) -> bool
     if 255 < right {
         return true;
     }
-    match find(pairs, left, right) {
-        Found::At(_) => false,
-        Found::Nothing => true,
-    }
+    find(pairs, left, right).is_none()
 }
 
 // The left boundary: with a letter to read, and no pair with it.

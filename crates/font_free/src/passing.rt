@@ -11,7 +11,7 @@ ghost use Rattle.font_runs.specs.Requests.{lending};
 ghost use Rattle.font_runs.specs.Passing.{passed_by, passed_left};
 ghost use Rattle.font_runs.specs.Passing as passing;
 
-use captions::{Consumes, Found, NextLeft, State};
+use captions::{Consumes, NextLeft, State};
 use table_find::find;
 use table_numbers::{number_at, record_fits};
 
@@ -73,8 +73,8 @@ fn past_boundary(pairs: &[i32], ops: &[i32], word: &[u32], s: State) -> State
         return s;
     }
     match find(pairs, 0, y) {
-        Found::At(k) => past_pair(pairs, ops, s, k),
-        Found::Nothing => s,
+        Some(k) => past_pair(pairs, ops, s, k),
+        None => s,
     }
 }
 

@@ -3,10 +3,10 @@
 use mathlib.Core.Path.{◌≡◌, refl, ap}
 use Prim.Native.Nat.{ℕ, zero, suc}
 use native.Mathlib.Omega.{arith}
+use Rattle.std.specs.Prelude.{None}
 use Rattle.captions.specs.declared.State.{State}
 use Rattle.captions.specs.declared.Begun.TheVariants as begun
 use Rattle.captions.specs.Begin.{begun_by}
-use Rattle.font_runs.specs.declared.Asked.TheVariants as asked
 use Rattle.font_runs.specs.declared.FontRun.{FontRun}
 use Rattle.font_runs.specs.declared.Requested.TheVariants.{Taken, Refused}
 use Rattle.font_runs.specs.Requests.{requested_by}
@@ -24,7 +24,7 @@ module _ (after : FontRun) {m : ℕ} where
 
 -- a run in a font, with nothing asked for
 abbrev pub in_font : ℕ → State → FontRun
-in_font number s = record { state = s; font = number; asked = asked.Nothing }
+in_font number s = record { state = s; font = number; asked = None }
 
 pub begun_taken : (m number : ℕ) (s t : State) → begun.Run s ≡ begun_by m t → Taken (in_font number s) ≡ requested_by m (in_font number t)
 begun_taken zero number s t e = let q : s ≡ t = cc in ap (λ (u : State). Taken (in_font number u)) q

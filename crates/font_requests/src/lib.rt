@@ -8,7 +8,7 @@ ghost use Rattle.font_runs.specs.Requests.{start_word};
 
 use caption_run::begin::begin;
 use captions::{Begun, RunOptions};
-use font_runs::{Asked, FontRun, Requested};
+use font_runs::{FontRun, Requested};
 use program_checks::absent_refusal;
 use table_form::table_refusal;
 
@@ -35,7 +35,7 @@ pub fn ask_font(number: u32, pairs: &[i32], ops: &[i32], boundary: i32, run: Fon
     Requested::Taken(FontRun {
         state: state,
         font: run.font,
-        asked: Asked::Font(number),
+        asked: Some(number),
     })
 }
 
@@ -56,7 +56,7 @@ fn start_in(
         Begun::Run(state) => Requested::Taken(FontRun {
             state: state,
             font: number,
-            asked: Asked::Nothing,
+            asked: None,
         }),
         Begun::Refused(n) => Requested::Refused(n),
     }
@@ -81,7 +81,7 @@ pub fn start_word(
 {
     let asked = run.asked;
     match asked {
-        Asked::Nothing => start_in(run.font, pairs, ops, boundary, word, options),
-        Asked::Font(n) => start_in(n, asked_pairs, asked_ops, asked_boundary, word, options),
+        None => start_in(run.font, pairs, ops, boundary, word, options),
+        Some(n) => start_in(n, asked_pairs, asked_ops, asked_boundary, word, options),
     }
 }

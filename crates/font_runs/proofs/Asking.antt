@@ -5,6 +5,7 @@ use mathlib.Core.List.{List, [], ◌∷◌, ◌++◌}
 use mathlib.Core.Option.{Option, none, some, map}
 use Prim.Native.Nat.{ℕ, zero, suc}
 use native.Mathlib.Omega.{arith}
+use Rattle.std.specs.Prelude.{Option as Asked, Some, None}
 use Rattle.captions.specs.declared.RunOptions.{RunOptions}
 use Rattle.captions.specs.declared.State.{State}
 use Rattle.captions.specs.declared.Answer.{Answer}
@@ -13,8 +14,6 @@ use Rattle.captions.specs.Begin.{fresh_state}
 use Rattle.captions.specs.Demand3.{Caption}
 use Rattle.captions.proofs.Sound.{Sound, ops_of}
 use Rattle.captions.proofs.Running.{letters}
-use Rattle.font_runs.specs.declared.Asked.{Asked}
-use Rattle.font_runs.specs.declared.Asked.TheVariants as asked
 use Rattle.font_runs.specs.declared.FontRun.{FontRun}
 use Rattle.font_runs.specs.declared.FontStep.{FontStep}
 use Rattle.font_runs.specs.Requests.{LentFont, by_asked, requested_by, starting, start_font, start_refusal, request_refusal}
@@ -89,18 +88,18 @@ module _ (fonts : ℕ → LentFont) (fits : (n : ℕ) → FontFits (fonts n)) wh
 
   -- ---- two hosts that answer the same
 
-  data SameRequest (number : ℕ) : Asked → Asked → Type 0 where
-    same : (a : Asked) → SameRequest number a a
-    again : SameRequest number (asked.Font number) asked.Nothing
+  data SameRequest (number : ℕ) : Asked ℕ → Asked ℕ → Type 0 where
+    same : (a : Asked ℕ) → SameRequest number a a
+    again : SameRequest number (Some number) None
 
-  abbrev run_of : ℕ → State → Asked → FontRun
+  abbrev run_of : ℕ → State → Asked ℕ → FontRun
   run_of number s a = record { state = s; font = number; asked = a }
 
-  abbrev host : List ℕ → RunOptions → List Answer → ℕ → State → Asked → Hosted
+  abbrev host : List ℕ → RunOptions → List Answer → ℕ → State → Asked ℕ → Hosted
   host word options given number s a = record { run = run_of number s a; word = word; options = options; answers = given }
 
   data AlikeHosts (h i : Hosted) : Type 0 where
-    alike : (word : List ℕ) (options : RunOptions) (given : List Answer) (number : ℕ) (s t : State) (a b : Asked) →
+    alike : (word : List ℕ) (options : RunOptions) (given : List Answer) (number : ℕ) (s t : State) (a b : Asked ℕ) →
         h ≡ host word options given number s a → i ≡ host word options given number t b → cleared s ≡ cleared t → SameRequest number a b → AlikeHosts h i
 
   module _ (word : List ℕ) (options : RunOptions) (given : List Answer) (number : ℕ) (s t : State) where
@@ -108,25 +107,25 @@ module _ (fonts : ℕ → LentFont) (fits : (n : ℕ) → FontFits (fonts n)) wh
     f = fonts number
 
     -- after a request, and at the start of a word
-    asks_both : (a b : Asked) → cleared s ≡ cleared t → (n : ℕ) →
+    asks_both : (a b : Asked ℕ) → cleared s ≡ cleared t → (n : ℕ) →
         AlikeHosts (act_on fonts (asks n) (host word options given number s a)) (act_on fonts (asks n) (host word options given number t b))
     asks_both a b e n =
         let z : request_refusal (fonts n) ≡ 0 = rw ((fits n).edge, (fits n).form) in
-        alike word options given number s t (asked.Font n) (asked.Font n)
-        (ap (λ (m : ℕ). after_asking (requested_by m (run_of number s (asked.Font n))) (host word options given number s a)) z)
-        (ap (λ (m : ℕ). after_asking (requested_by m (run_of number t (asked.Font n))) (host word options given number t b)) z) e (same (asked.Font n))
+        alike word options given number s t (Some n) (Some n)
+        (ap (λ (m : ℕ). after_asking (requested_by m (run_of number s (Some n))) (host word options given number s a)) z)
+        (ap (λ (m : ℕ). after_asking (requested_by m (run_of number t (Some n))) (host word options given number t b)) z) e (same (Some n))
 
-    starts_by : (a b : Asked) → cleared s ≡ cleared t → SameRequest number a b → (w : List ℕ) (o : RunOptions) (m n : ℕ) →
+    starts_by : (a b : Asked ℕ) → cleared s ≡ cleared t → SameRequest number a b → (w : List ℕ) (o : RunOptions) (m n : ℕ) →
         AlikeHosts (after_starting (requested_by m (starting n w o)) w o (host word options given number s a))
         (after_starting (requested_by m (starting n w o)) w o (host word options given number t b))
-    starts_by a b e k w o zero n = alike w o given n (fresh_state w o) (fresh_state w o) asked.Nothing asked.Nothing refl refl refl (same asked.Nothing)
+    starts_by a b e k w o zero n = alike w o given n (fresh_state w o) (fresh_state w o) None None refl refl refl (same None)
     starts_by a b e k w o (suc m) n = alike word options given number s t a b refl refl e k
 
-    starts-both : (a b : Asked) → cleared s ≡ cleared t → SameRequest number a b → (w : List ℕ) (o : RunOptions) →
+    starts-both : (a b : Asked ℕ) → cleared s ≡ cleared t → SameRequest number a b → (w : List ℕ) (o : RunOptions) →
         AlikeHosts (act_on fonts (starts w o) (host word options given number s a)) (act_on fonts (starts w o) (host word options given number t b))
     starts-both a b e (same c) w o =
         starts_by c c e (same c) w o (start_refusal (start_font f (by_asked c f fonts) c) w o) (by_asked c number (λ n. n))
-    starts-both a b e again w o = starts_by (asked.Font number) asked.Nothing e again w o (start_refusal f w o) number
+    starts-both a b e again w o = starts_by (Some number) None e again w o (start_refusal f w o) number
 
     -- ---- after a step
 
@@ -134,53 +133,53 @@ module _ (fonts : ℕ → LentFont) (fits : (n : ℕ) → FontFits (fonts n)) wh
     step u = step_in_font f word options u
 
     -- in the font of a number
-    abbrev left : ℕ → Asked → Step → Hosted
+    abbrev left : ℕ → Asked ℕ → Step → Hosted
     left n a u = host word options (given ++ (u.answer ∷ [])) n u.state a
 
-    both_left : (n : ℕ) (u v : Step) (a b : Asked) → cleared_step u ≡ cleared_step v → SameRequest n a b → AlikeHosts (left n a u) (left n b v)
+    both_left : (n : ℕ) (u v : Step) (a b : Asked ℕ) → cleared_step u ≡ cleared_step v → SameRequest n a b → AlikeHosts (left n a u) (left n b v)
     both_left n u v a b e k =
         alike word options (given ++ (v.answer ∷ [])) n u.state v.state a b
         (ap (λ (w : Step). host word options (given ++ (w.answer ∷ [])) n u.state a) e) refl (ap (λ (w : Step). w.state) e) k
 
     module _ (caption : Caption word options) (r : State) where
       -- the host after a change to a font
-      changes : (n : ℕ) (a : Asked) (u : State) → Runs n word (restarted u) →
+      changes : (n : ℕ) (a : Asked ℕ) (u : State) → Runs n word (restarted u) →
           after_stepping (in_asked (run_of number r a) n (step_in_font (fonts n) word options (restarted u))) (host word options given number r a)
-          ≡ left n asked.Nothing (step_in_font (fonts n) word options (restarted u))
+          ≡ left n None (step_in_font (fonts n) word options (restarted u))
       changes n a u h =
           let v = step_in_font (fonts n) word options (restarted u) in
           ap (λ (w : FontStep). after_stepping w (host word options given number r a))
-          (handed (run_of number r a) (run_of n v.state asked.Nothing) v.answer (never_refused (fonts n) (fits n) word options caption (restarted u) h))
+          (handed (run_of number r a) (run_of n v.state None) v.answer (never_refused (fonts n) (fits n) word options caption (restarted u) h))
 
     -- the host after a step with a request, by the first free state
     abbrev stepped : State → ℕ → Option State → Hosted
     stepped r n o =
-        after_stepping (changed_by f (fonts n) word options (run_of number r (asked.Font n)) n o) (host word options given number r (asked.Font n))
+        after_stepping (changed_by f (fonts n) word options (run_of number r (Some n)) n o) (host word options given number r (Some n))
 
-    waits : (r : State) (n : ℕ) → act_on fonts steps (host word options given number r (asked.Font n)) ≡ stepped r n (first_free f word options r)
+    waits : (r : State) (n : ℕ) → act_on fonts steps (host word options given number r (Some n)) ≡ stepped r n (first_free f word options r)
     waits r n =
         let z : both_edges f (fonts n) ≡ 0 = rw ((fits number).edge, (fits n).edge) in
-        ap (λ (m : ℕ). after_stepping (waiting_by m (run_of number r (asked.Font n))
-        (changed_by f (fonts n) word options (run_of number r (asked.Font n)) n (first_free f word options r)))
-        (host word options given number r (asked.Font n))) z
+        ap (λ (m : ℕ). after_stepping (waiting_by m (run_of number r (Some n))
+        (changed_by f (fonts n) word options (run_of number r (Some n)) n (first_free f word options r)))
+        (host word options given number r (Some n))) z
 
-    module _ (e : cleared s ≡ cleared t) (a b : Asked) (h : Known (host word options given number s a)) (i : Known (host word options given number t b)) where
+    module _ (e : cleared s ≡ cleared t) (a b : Asked ℕ) (h : Known (host word options given number s a)) (i : Known (host word options given number t b)) where
       steps_alike : cleared_step (step s) ≡ cleared_step (step t)
       steps_alike = step_cleared f (fits number) word options h.caption s t h.sound i.sound e
 
       -- the same request
       by_both : (n : ℕ) (o q : Option State) → first_free f word options s ≡ o → first_free f word options t ≡ q →
           map restarted o ≡ map restarted q → AlikeHosts (stepped s n o) (stepped t n q)
-      by_both n none none p' q' m = both_left number (step s) (step t) (asked.Font n) (asked.Font n) steps_alike (same (asked.Font n))
+      by_both n none none p' q' m = both_left number (step s) (step t) (Some n) (Some n) steps_alike (same (Some n))
       by_both n none (some v) p' q' m = absurd (let z : ◌≡◌ {A = ℕ} 0 1 = cc in omega arith)
       by_both n (some u) none p' q' m = absurd (let z : ◌≡◌ {A = ℕ} 0 1 = cc in omega arith)
       by_both n (some u) (some v) p' q' m =
           let j : restarted u ≡ restarted v = cc in
           let x = step_in_font (fonts n) word options (restarted v) in
-          alike word options (given ++ (x.answer ∷ [])) n x.state x.state asked.Nothing asked.Nothing
-          (changes h.caption s n (asked.Font n) u (h.restarts u p' n)
-          ∙ ap (λ (y : State). left n asked.Nothing (step_in_font (fonts n) word options y)) j)
-          (changes h.caption t n (asked.Font n) v (i.restarts v q' n)) refl (same asked.Nothing)
+          alike word options (given ++ (x.answer ∷ [])) n x.state x.state None None
+          (changes h.caption s n (Some n) u (h.restarts u p' n)
+          ∙ ap (λ (y : State). left n None (step_in_font (fonts n) word options y)) j)
+          (changes h.caption t n (Some n) v (i.restarts v q' n)) refl (same None)
 
       -- the font in force asked for
       restarts-alike : (u : State) → first_free f word options s ≡ some u → cleared_step (step (restarted u)) ≡ cleared_step (step s)
@@ -193,28 +192,28 @@ module _ (fonts : ℕ → LentFont) (fits : (n : ℕ) → FontFits (fonts n)) wh
           (omega (arith, h.sound.counted)) u found)
           ∙ ap cleared_step (sym (is_ran f (fits number) word options c s h.sound))
 
-      by-again : (o : Option State) → first_free f word options s ≡ o → AlikeHosts (stepped s number o) (left number asked.Nothing (step t))
-      by-again none p' = both_left number (step s) (step t) (asked.Font number) asked.Nothing steps_alike again
+      by-again : (o : Option State) → first_free f word options s ≡ o → AlikeHosts (stepped s number o) (left number None (step t))
+      by-again none p' = both_left number (step s) (step t) (Some number) None steps_alike again
       by-again (some u) p' =
-          subst (λ (x : Hosted). AlikeHosts x (left number asked.Nothing (step t)))
-          (sym (changes h.caption s number (asked.Font number) u (h.restarts u p' number)))
-          (both_left number (step (restarted u)) (step t) asked.Nothing asked.Nothing (restarts-alike u p' ∙ steps_alike) (same asked.Nothing))
+          subst (λ (x : Hosted). AlikeHosts x (left number None (step t)))
+          (sym (changes h.caption s number (Some number) u (h.restarts u p' number)))
+          (both_left number (step (restarted u)) (step t) None None (restarts-alike u p' ∙ steps_alike) (same None))
 
-    steps-both : (a b : Asked) → cleared s ≡ cleared t → SameRequest number a b → Known (host word options given number s a) →
+    steps-both : (a b : Asked ℕ) → cleared s ≡ cleared t → SameRequest number a b → Known (host word options given number s a) →
         Known (host word options given number t b) →
         AlikeHosts (act_on fonts steps (host word options given number s a)) (act_on fonts steps (host word options given number t b))
-    steps-both a b e (same asked.Nothing) h i =
-        both_left number (step s) (step t) asked.Nothing asked.Nothing (steps_alike e asked.Nothing asked.Nothing h i) (same asked.Nothing)
-    steps-both a b e (same (asked.Font n)) h i =
-        subst (λ (x : Hosted). AlikeHosts x (act_on fonts steps (host word options given number t (asked.Font n)))) (sym (waits s n))
+    steps-both a b e (same None) h i =
+        both_left number (step s) (step t) None None (steps_alike e None None h i) (same None)
+    steps-both a b e (same (Some n)) h i =
+        subst (λ (x : Hosted). AlikeHosts x (act_on fonts steps (host word options given number t (Some n)))) (sym (waits s n))
         (subst (AlikeHosts (stepped s n (first_free f word options s))) (sym (waits t n))
-        (by_both e (asked.Font n) (asked.Font n) h i n (first_free f word options s) (first_free f word options t) refl refl
+        (by_both e (Some n) (Some n) h i n (first_free f word options s) (first_free f word options t) refl refl
         (first_cleared f word options s t e)))
     steps-both a b e again h i =
-        subst (λ (x : Hosted). AlikeHosts x (left number asked.Nothing (step t))) (sym (waits s number))
-        (by-again e (asked.Font number) asked.Nothing h i (first_free f word options s) refl)
+        subst (λ (x : Hosted). AlikeHosts x (left number None (step t))) (sym (waits s number))
+        (by-again e (Some number) None h i (first_free f word options s) refl)
 
-    act-both : (c : HostAct) (a b : Asked) → cleared s ≡ cleared t → SameRequest number a b → Known (host word options given number s a) →
+    act-both : (c : HostAct) (a b : Asked ℕ) → cleared s ≡ cleared t → SameRequest number a b → Known (host word options given number s a) →
         Known (host word options given number t b) →
         AlikeHosts (act_on fonts c (host word options given number s a)) (act_on fonts c (host word options given number t b))
     act-both (asks n) a b e k h i = asks_both a b e n
@@ -252,6 +251,6 @@ asked_in_force fonts fits number before h e a later =
     let f = h.run.font in
     let s = h.run.state in
     all fonts fits later (act_on fonts (asks f) h) h (held_act fonts fits (asks f) held) held
-    (alike h.word h.options h.answers f s s (asked.Font f) asked.Nothing
-    (ap (λ (m : ℕ). after_asking (requested_by m (record { state = s; font = f; asked = asked.Font f })) h) z)
+    (alike h.word h.options h.answers f s s (Some f) None
+    (ap (λ (m : ℕ). after_asking (requested_by m (record { state = s; font = f; asked = Some f })) h) z)
     (ap (host fonts fits h.word h.options h.answers f s) a) refl again)

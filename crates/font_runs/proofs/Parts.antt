@@ -13,6 +13,7 @@ use lib.Dec.{leb, eqb}
 use lib.ListN.{length, get_or, drop, length-drop}
 use lib.Seq.{get_or-drop}
 use borrow.Author.Tests.{leb-true}
+use Rattle.std.specs.Prelude.{Option as Asked, Some, None}
 use Rattle.lang.specs.Records.{absent_or}
 use Rattle.lang.specs.Checks.{or_else, absent_refusal, is_letter}
 use Rattle.lang.proofs.Every.{every_none}
@@ -37,8 +38,6 @@ use Rattle.captions.proofs.Sound.{Sound, ops_of, shown_of, Follows}
 use Rattle.captions.proofs.Running.{letters, step_turns, step_follows}
 use Rattle.captions.proofs.Lettered.{plains_are, Lettered, Keeps}
 use Rattle.captions.proofs.Letters.{keeps}
-use Rattle.font_runs.specs.declared.Asked.{Asked}
-use Rattle.font_runs.specs.declared.Asked.TheVariants as asked
 use Rattle.font_runs.specs.declared.FontRun.{FontRun}
 use Rattle.font_runs.specs.declared.FontStep.{FontStep}
 use Rattle.font_runs.specs.Requests.{LentFont, by_asked, requested_by, start_font, starting, start_refusal, request_refusal}
@@ -276,18 +275,18 @@ module _ (fonts : ℕ → LentFont) (fits : (n : ℕ) → FontFits (fonts n)) wh
         ap (λ (x : State). after_stepping (in_asked (hosted_of p).run n (step_in_font (fonts n) p.word p.options x)) (hosted_of p))
         (restarts_there p g n t found)
         ∙ ap (λ (x : FontStep). after_stepping x (hosted_of p))
-        (handed (hosted_of p).run (record { state = u.state; font = n; asked = asked.Nothing }) u.answer (step_taken q h))
+        (handed (hosted_of p).run (record { state = u.state; font = n; asked = None }) u.answer (step_taken q h))
         ∙ stays q h
 
     -- by the first free state
     by_free : (o : Option State) → first_free (fonts p.font) (part_word p) (part_options p) (part_state fonts p) ≡ o →
         after_stepping (changed_by (fonts p.font) (fonts n) p.word p.options (hosted_of p).run n (map (later_state p.before) o)) (hosted_of p)
-        ≡ hosted_of (stepped_part fonts p (asked.Font n) o)
+        ≡ hosted_of (stepped_part fonts p (Some n) o)
     by_free none e = stays p g
     by_free (some t) e = changes t e
 
     by-free-good : (o : Option State) → first_free (fonts p.font) (part_word p) (part_options p) (part_state fonts p) ≡ o →
-        Good (stepped_part fonts p (asked.Font n) o)
+        Good (stepped_part fonts p (Some n) o)
     by-free-good none e = onward-good p g
     by-free-good (some t) e = onward-good (changed_part n t p) (part_good p g n t e)
 
@@ -298,7 +297,7 @@ module _ (fonts : ℕ → LentFont) (fits : (n : ℕ) → FontFits (fonts n)) wh
         (waiting_by (both_edges (fonts p.font) (fonts n)) (hosted_of p).run
         (changed_by (fonts p.font) (fonts n) p.word p.options (hosted_of p).run n
         (first_free (fonts p.font) p.word p.options (hosted_of p).run.state))) (hosted_of p)
-        ≡ hosted_of (stepped_part fonts p (asked.Font n) (first_free (fonts p.font) (part_word p) (part_options p) (part_state fonts p)))
+        ≡ hosted_of (stepped_part fonts p (Some n) (first_free (fonts p.font) (part_word p) (part_options p) (part_state fonts p)))
     waits =
         (λ j. after_stepping
         (waiting_by (edges j) (hosted_of p).run
@@ -310,15 +309,15 @@ module _ (fonts : ℕ → LentFont) (fits : (n : ℕ) → FontFits (fonts n)) wh
   -- ---- one act
 
   module _ (p : Part) (g : Good p) where
-    steps_by : (a : Asked) →
+    steps_by : (a : Asked ℕ) →
         after_stepping (font_step_by (fonts p.font) (by_asked a (fonts p.font) fonts) p.word p.options (hosted_of p).run a) (hosted_of p)
         ≡ hosted_of (stepped_part fonts p a (first_free (fonts p.font) (part_word p) (part_options p) (part_state fonts p)))
-    steps_by asked.Nothing = stays p g
-    steps_by (asked.Font n) = waits p g n
+    steps_by None = stays p g
+    steps_by (Some n) = waits p g n
 
-    steps-good : (a : Asked) → Good (stepped_part fonts p a (first_free (fonts p.font) (part_word p) (part_options p) (part_state fonts p)))
-    steps-good asked.Nothing = onward-good p g
-    steps-good (asked.Font n) = by-free-good p g n (first_free (fonts p.font) (part_word p) (part_options p) (part_state fonts p)) refl
+    steps-good : (a : Asked ℕ) → Good (stepped_part fonts p a (first_free (fonts p.font) (part_word p) (part_options p) (part_state fonts p)))
+    steps-good None = onward-good p g
+    steps-good (Some n) = by-free-good p g n (first_free (fonts p.font) (part_word p) (part_options p) (part_state fonts p)) refl
 
     taken : (n : ℕ) → request_refusal (fonts n) ≡ 0
     taken n = rw ((fits n).edge, (fits n).form)
@@ -341,7 +340,7 @@ module _ (fonts : ℕ → LentFont) (fits : (n : ℕ) → FontFits (fonts n)) wh
               consumes_left = s.consumes_left;
             };
             font = number;
-            asked = asked.Nothing;
+            asked = None;
           };
           word = word;
           options = options;
@@ -358,13 +357,13 @@ module _ (fonts : ℕ → LentFont) (fits : (n : ℕ) → FontFits (fonts n)) wh
         begun_good (started_part zero number word options p) refl (omega arith) (begun_caption (fonts number) word options e) g.unrefused
     started-good word options (suc m) number e = g
 
-    same_start : (a : Asked) → start_font (fonts p.font) (by_asked a (fonts p.font) fonts) a ≡ fonts (by_asked a p.font (λ n. n))
-    same_start asked.Nothing = refl
-    same_start (asked.Font n) = refl
+    same_start : (a : Asked ℕ) → start_font (fonts p.font) (by_asked a (fonts p.font) fonts) a ≡ fonts (by_asked a p.font (λ n. n))
+    same_start None = refl
+    same_start (Some n) = refl
 
     pub one : (a : HostAct) → act_on fonts a (hosted_of p) ≡ hosted_of (act_on_part fonts a p)
     one (asks n) =
-        ap (λ (m : ℕ). after_asking (requested_by m (record { state = (hosted_of p).run.state; font = p.font; asked = asked.Font n })) (hosted_of p)) (taken n)
+        ap (λ (m : ℕ). after_asking (requested_by m (record { state = (hosted_of p).run.state; font = p.font; asked = Some n })) (hosted_of p)) (taken n)
     one (starts word options) =
         ap (λ (f : LentFont). after_starting (requested_by (start_refusal f word options) (starting (part_number p) word options)) word options (hosted_of p))
         (same_start p.asked)

@@ -1,6 +1,6 @@
 -- Where a font changes (R474), and a step of a run that may change it (R475). With a request waiting the turns of a step (R286) are made on
 -- the font in force, and each state is tested before its turn; from the first that is free the step goes on in the font asked for.
-use Rattle.std.specs.Prelude.{Bool, true, false, cond, not, List, ℕ, zero, suc, ◌-◌, ℤ, ltb, eqb, length, get_or}
+use Rattle.std.specs.Prelude.{Bool, true, false, cond, not, List, ℕ, zero, suc, ◌-◌, ℤ, ltb, eqb, length, get_or, Option as Asked, Some, None}
 use Rattle.std.proofs.Math.Option.{Option, none, some}
 use Rattle.lang.specs.Every.{both}
 use Rattle.lang.specs.Checks.{or_else, absent_refusal}
@@ -17,8 +17,6 @@ use Rattle.captions.specs.declared.Turned.TheVariants.{Gives, Goes}
 use Rattle.captions.specs.Queries.{is_found}
 use Rattle.captions.specs.Steps.{find_within, turn, right_item, step_of}
 use Rattle.step_turns.specs.Turns.{turn_once}
-use Rattle.font_runs.specs.declared.Asked.{Asked}
-use Rattle.font_runs.specs.declared.Asked.TheVariants as asked
 use Rattle.font_runs.specs.declared.FontRun.{FontRun}
 use Rattle.font_runs.specs.declared.FontStep.{FontStep}
 use Rattle.font_runs.specs.Requests.{LentFont}
@@ -102,7 +100,7 @@ hand_run run after (Refused n) = record { answer = Refused n; run = run }
 
 -- a step in the font asked for, which is then in force with nothing asked for
 abbrev pub in_asked : FontRun → ℕ → Step → FontStep
-in_asked run number t = hand_run run (record { state = t.state; font = number; asked = asked.Nothing }) t.answer
+in_asked run number t = hand_run run (record { state = t.state; font = number; asked = None }) t.answer
 
 -- by the first free state: without one the step is made in the font in force; with one from there in the font asked for
 abbrev pub changed_by : LentFont → LentFont → List ℕ → RunOptions → FontRun → ℕ → Option State → FontStep
@@ -119,9 +117,9 @@ waiting_by zero run t = t
 waiting_by (suc n) run t = record { answer = Refused (suc n); run = run }
 
 -- THE contract of font_step: lent the font in force and the one asked for, which with nothing asked for is not read
-abbrev pub font_step_by : LentFont → LentFont → List ℕ → RunOptions → FontRun → Asked → FontStep
-font_step_by font other word options run asked.Nothing = in_force run (step_in_font font word options run.state)
-font_step_by font other word options run (asked.Font number) =
+abbrev pub font_step_by : LentFont → LentFont → List ℕ → RunOptions → FontRun → Asked ℕ → FontStep
+font_step_by font other word options run None = in_force run (step_in_font font word options run.state)
+font_step_by font other word options run (Some number) =
     waiting_by (both_edges font other) run (changed_by font other word options run number (first_free font word options run.state))
 
 abbrev pub font_step : LentFont → LentFont → List ℕ → RunOptions → FontRun → FontStep

@@ -1,6 +1,6 @@
 -- What a change of font is for (R477, R479): whatever a host asks for, starts and steps, its answers are those of runs over parts of the words,
 -- each part in one font. Proved: proofs/Theorems. No contract cites this.
-use Rattle.std.specs.Prelude.{◌≡◌, Bool, ℕ, zero, suc, ◌+◌, drop}
+use Rattle.std.specs.Prelude.{◌≡◌, Bool, ℕ, zero, suc, ◌+◌, drop, Option as Asked, Some, None}
 use mathlib.Core.List.{List, [], ◌∷◌, ◌++◌, Memᴰ}
 use Rattle.std.proofs.Math.Option.{Option, none, some}
 use Rattle.captions.specs.declared.RunOptions.{RunOptions}
@@ -11,8 +11,6 @@ use Rattle.captions.specs.declared.Answer.TheVariants.{Refused}
 use Rattle.captions.specs.Begin.{fresh, fresh_state, plain_options}
 use Rattle.captions.specs.Runs.{answers}
 use Rattle.captions.specs.Letters.{state_after, answer_after}
-use Rattle.font_runs.specs.declared.Asked.{Asked}
-use Rattle.font_runs.specs.declared.Asked.TheVariants as asked
 use Rattle.font_runs.specs.declared.FontRun.{FontRun}
 use Rattle.font_runs.specs.declared.FontStep.{FontStep}
 use Rattle.font_runs.specs.declared.Requested.{Requested}
@@ -39,7 +37,7 @@ pub record Hosted : Type 0 where
 -- before the first word: a run in the font of some number, and no letters
 abbrev pub first_hosted : ℕ → Hosted
 first_hosted number =
-    record { run = record { state = fresh next.Boundary 0; font = number; asked = asked.Nothing }; word = []; options = plain_options; answers = [] }
+    record { run = record { state = fresh next.Boundary 0; font = number; asked = None }; word = []; options = plain_options; answers = [] }
 
 -- the fonts that it lends, by their numbers: that in force, and that asked for. With nothing asked for the second is not read
 abbrev pub force_font : (ℕ → LentFont) → FontRun → LentFont
@@ -78,7 +76,7 @@ hosting fonts (a ∷ acts) h = hosting fonts acts (act_on fonts a h)
 -- whether it is without a left boundary, and how many steps were made in it; and the answers so far
 pub record Part : Type 0 where
   pub font : ℕ
-  pub asked : Asked
+  pub asked : Asked ℕ
   pub word : List ℕ
   pub options : RunOptions
   pub before : ℕ
@@ -90,7 +88,7 @@ abbrev pub opening_part : ℕ → Part
 opening_part number =
     record {
       font = number;
-      asked = asked.Nothing;
+      asked = None;
       word = [];
       options = plain_options;
       before = 0;
@@ -138,7 +136,7 @@ abbrev pub changed_part : ℕ → State → Part → Part
 changed_part number s p =
     record {
       font = number;
-      asked = asked.Nothing;
+      asked = None;
       word = p.word;
       options = p.options;
       before = p.before + s.given;
@@ -148,17 +146,17 @@ changed_part number s p =
     }
 
 -- a step: with nothing asked for, or no free state before its answer, the part goes on; else a new one begins
-abbrev pub stepped_part : (ℕ → LentFont) → Part → Asked → Option State → Part
-stepped_part fonts p asked.Nothing o = onward fonts p
-stepped_part fonts p (asked.Font n) none = onward fonts p
-stepped_part fonts p (asked.Font n) (some s) = onward fonts (changed_part n s p)
+abbrev pub stepped_part : (ℕ → LentFont) → Part → Asked ℕ → Option State → Part
+stepped_part fonts p None o = onward fonts p
+stepped_part fonts p (Some n) none = onward fonts p
+stepped_part fonts p (Some n) (some s) = onward fonts (changed_part n s p)
 
 -- the later of two requests stands
 abbrev pub asked_part : ℕ → Part → Part
 asked_part n p =
     record {
       font = p.font;
-      asked = asked.Font n;
+      asked = Some n;
       word = p.word;
       options = p.options;
       before = p.before;
@@ -172,7 +170,7 @@ abbrev pub started_part : ℕ → ℕ → List ℕ → RunOptions → Part → P
 started_part zero number word options p =
     record {
       font = number;
-      asked = asked.Nothing;
+      asked = None;
       word = word;
       options = options;
       before = 0;
@@ -222,7 +220,7 @@ font_answers font other word options (suc n) run =
 -- WITHOUT A REQUEST a run answers what its state's run answers, of which demand 3 speaks; whatever the tables, the word and the run
 abbrev pub WithoutRequest : Type 0
 WithoutRequest =
-    (font other : LentFont) (word : List ℕ) (options : RunOptions) (n : ℕ) (run : FontRun) → run.asked ≡ asked.Nothing →
+    (font other : LentFont) (word : List ℕ) (options : RunOptions) (n : ℕ) (run : FontRun) → run.asked ≡ None →
     font_answers font other word options n run ≡ answers font.pairs font.ops font.boundary word options n run.state
 
 -- ---- a request for the font in force
@@ -232,5 +230,5 @@ WithoutRequest =
 abbrev pub AskedInForce : Type 0
 AskedInForce =
     (fonts : ℕ → LentFont) → ((n : ℕ) → FontFits (fonts n)) → (number : ℕ) (before : List HostAct) (h : Hosted) →
-    hosting fonts before (first_hosted number) ≡ h → h.run.asked ≡ asked.Nothing → (later : List HostAct) →
+    hosting fonts before (first_hosted number) ≡ h → h.run.asked ≡ None → (later : List HostAct) →
     (hosting fonts (asks h.run.font ∷ later) h).answers ≡ (hosting fonts later h).answers

@@ -1,11 +1,9 @@
 -- A font as it is lent, a request for one, and the start of a word (R471 to R473). The host numbers its fonts.
-use Rattle.std.specs.Prelude.{List, ℕ, zero, suc, ℤ}
+use Rattle.std.specs.Prelude.{List, ℕ, zero, suc, ℤ, Option, Some, None}
 use Rattle.lang.specs.Checks.{or_else, absent_refusal}
 use Rattle.captions.specs.declared.RunOptions.{RunOptions}
 use Rattle.captions.specs.Form.{table_refusal}
 use Rattle.captions.specs.Begin.{fresh_state, begin_refusal}
-use Rattle.font_runs.specs.declared.Asked.{Asked}
-use Rattle.font_runs.specs.declared.Asked.TheVariants as asked
 use Rattle.font_runs.specs.declared.FontRun.{FontRun}
 use Rattle.font_runs.specs.declared.Requested.{Requested}
 use Rattle.font_runs.specs.declared.Requested.TheVariants.{Taken, Refused}
@@ -32,7 +30,7 @@ request_refusal font = or_else (absent_refusal 255 font.boundary) (table_refusal
 
 -- the run with this font asked for, whatever was asked for before
 abbrev pub asking : ℕ → FontRun → FontRun
-asking number run = record { state = run.state; font = run.font; asked = asked.Font number }
+asking number run = record { state = run.state; font = run.font; asked = Some number }
 
 -- THE contract of ask_font
 abbrev pub ask_font : ℕ → LentFont → FontRun → Requested
@@ -41,12 +39,12 @@ ask_font number font run = requested_by (request_refusal font) (asking number ru
 -- ---- the start of a word (R473)
 
 -- of a value for the font in force and one for the font asked for: that of the font on which a word starts
-abbrev pub by_asked {ℓ} : {A : Type ℓ} → Asked → A → (ℕ → A) → A
-by_asked asked.Nothing here there = here
-by_asked (asked.Font n) here there = there n
+abbrev pub by_asked {ℓ} : {A : Type ℓ} → Option ℕ → A → (ℕ → A) → A
+by_asked None here there = here
+by_asked (Some n) here there = there n
 
 -- the font on which a word starts, and its number
-abbrev pub start_font : LentFont → LentFont → Asked → LentFont
+abbrev pub start_font : LentFont → LentFont → Option ℕ → LentFont
 start_font font other a = by_asked a font (λ n. other)
 
 abbrev pub start_number : FontRun → ℕ
@@ -54,7 +52,7 @@ start_number run = by_asked run.asked run.font (λ n. n)
 
 -- a fresh run in a font, with nothing asked for
 abbrev pub starting : ℕ → List ℕ → RunOptions → FontRun
-starting number word options = record { state = fresh_state word options; font = number; asked = asked.Nothing }
+starting number word options = record { state = fresh_state word options; font = number; asked = None }
 
 -- 4, 6, 7 or 20, as begin refuses
 abbrev pub start_refusal : LentFont → List ℕ → RunOptions → ℕ

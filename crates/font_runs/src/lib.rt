@@ -2,21 +2,14 @@
 // are lent, so that a call gets those of both numbers. Types, definitions (specs/) and theorems (proofs/Theorems)
 // alone: crates `font_requests` and `font_steps` have the functions.
 
-// Another font that is asked for, by its number, or none.
+// A run between two steps, with the number of the font in force, and that of another that is asked for.
 #![tactic(auto)]
 
-#[derive(Clone, Copy)]
-pub enum Asked {
-    Nothing,
-    Font(u32),
-}
-
-// A run between two steps, with the number of the font in force.
 #[derive(Clone, Copy)]
 pub struct FontRun {
     pub state: captions::State,
     pub font: u32,
-    pub asked: Asked,
+    pub asked: Option<u32>,
 }
 
 // What a request, and the start of a word, answers: the run after it, or the number of its refusal.

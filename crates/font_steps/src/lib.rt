@@ -6,13 +6,14 @@
 ghost use Rattle.std.specs.Prelude.{◌≡◌};
 ghost use Rattle.lang.specs.Checks.{or_else, absent_refusal};
 ghost use Rattle.font_runs.specs.Requests.{lending};
-ghost use Rattle.font_runs.specs.Changes.{in_force, in_asked, first_free, changed_by, both_edges, waiting_by, font_step};
+ghost use Rattle.font_runs.specs.Changes.{in_force, in_asked, first_free, changed_by, both_edges, waiting_by};
+ghost use Rattle.font_runs.specs.Changes.{font_step};
 
 use caption_run::steps::step;
 use captions::{Answer, RunOptions, Step};
 use font_free::free::is_free;
 use font_free::passing::{passed, restarted};
-use font_runs::{Asked, FontRun, FontStep};
+use font_runs::{FontRun, FontStep};
 use program_checks::absent_refusal;
 
 // 4: one of the boundary characters out of range.
@@ -53,7 +54,7 @@ fn in_asked(run: FontRun, number: u32, t: Step) -> FontStep
     let after = FontRun {
         state: state,
         font: number,
-        asked: Asked::Nothing,
+        asked: None,
     };
     match answer {
         Answer::Char(_, _) => FontStep {
@@ -135,12 +136,12 @@ pub fn font_step(
 {
     let asked = run.asked;
     match asked {
-        Asked::Nothing => {
+        None => {
             let state = run.state;
             let kept = step(pairs, ops, boundary, word, options, state);
             in_force(run, kept)
         }
-        Asked::Font(n) => waiting_step(
+        Some(n) => waiting_step(
             pairs,
             ops,
             boundary,

@@ -1,4 +1,4 @@
--- Laws of what the passes over a font find: where its own instructions end, and whether redirects stand only where packing puts them. Assumes nothing.
+-- Laws of what the passes over a font find: whether redirects stand only where packing puts them. Assumes nothing.
 use mathlib.Core.Path.{◌≡◌, refl, sym, ap, ◌∙◌}
 use mathlib.Core.Bool.{Bool, true, false, cond, not}
 use mathlib.Core.List.{List}
@@ -19,14 +19,6 @@ use Rattle.font_unpackings.specs.Unpackings.{own_end, own_start, own_count, left
 use Rattle.font_unpackings.proofs.Ends.{end_le, start_le}
 use Rattle.font_unpackings.proofs.Own.{length_own}
 use Rattle.font_unpack.specs.OwnPart.{part_front, own_part_count, FindsPart}
-
--- ---- where they end, by the word of the left entry
-
-pub end_present : (s : List ℤ) (w : ℕ) → w < 2 ^ 31 → own_end s (number_of w) ≡ count s - 1
-end_present s w h = ap (λ (z : ℤ). own_end s z) (number_pos w h)
-
-pub end_absent : (s : List ℤ) (w : ℕ) → 2 ^ 31 ≤ w → own_end s (number_of w) ≡ count s
-end_absent s w h = ap (λ (z : ℤ). own_end s z) (number_neg w h)
 
 -- ---- the left entry
 

@@ -11,7 +11,7 @@ use lib.Seq.{take-suc, get_or-drop, ext_get_or}
 use borrow.Author.Tests.{eqb-false, eq-eqb, ne_eqb}
 use Rattle.words.specs.Words.{Word, word_of, number_of}
 use Rattle.words.specs.Lists.{tabulate, Filling, Appending}
-use Rattle.words.proofs.Bits.{number_pos, number_neg, number_is, read_pos}
+use Rattle.words.proofs.Bits.{number_is, read_pos}
 use Rattle.words.proofs.Lists.{length_tabulate, get_d_tabulate, appending_rest}
 use Rattle.lang.specs.Records.{count}
 use Rattle.lang.specs.Checks.{program_refusal, entries_refusal, absent_refusal, or_else}
@@ -44,13 +44,6 @@ filling_part s front count h e v =
     rw (tabulate_part s (4 * front) (4 * count) h) at (filling_appends (λ i. get_or s (4 * front + i) (pos 0)) (4 * count) (rw e at v))
 
 -- ---- entries moved back
-
-module _ (w front : ℕ) where
-  pub back_present : {r : ℕ} → w < 2147483648 → r ≡ w - front → number_of r ≡ left_moved_back (number_of w) front
-  back_present {r} h e = number_pos r (omega arith) ∙ ap pos e ∙ sym (ap (λ (z : ℤ). left_moved_back z front) (number_pos w h))
-
-  pub back_absent : 2147483648 ≤ w → number_of w ≡ left_moved_back (number_of w) front
-  back_absent h = number_neg w h ∙ sym (ap (λ (z : ℤ). left_moved_back z front) (number_neg w h))
 
 module _ (es : List ℤ) (front j : ℕ) {w : ℕ} (r : Word (get_or es j (pos 0)) w) where
   pub moved_char : j % 2 ≡ 0 → number_of w ≡ moved_number es front j

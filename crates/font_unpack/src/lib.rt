@@ -8,7 +8,8 @@ ghost use Rattle.words.specs.Lists.{Appending};
 ghost use Rattle.lang.specs.Every.{both, every};
 ghost use Rattle.lang.specs.Records.{is_kind};
 ghost use Rattle.lang.specs.Checks.{entry_at, entries_refusal};
-ghost use Rattle.font_unpackings.specs.Unpackings.{in_front, own_end, own_start, left_stands, stands_packed, moved_entries};
+ghost use Rattle.font_unpackings.specs.Unpackings.{in_front, own_end, own_start, left_stands, stands_packed};
+ghost use Rattle.font_unpackings.specs.Unpackings.{moved_entries};
 ghost use Rattle.font_unpackings.specs.Unpackings.{moved_number, left_moved_back, unpack_font_refusal, UnpacksFont};
 ghost use Rattle.font_unpack.specs.OwnPart.{own_part_count, FindsPart};
 
@@ -16,8 +17,8 @@ use entry_targets::is_redirect;
 use font_unpackings::UnpackedFont;
 use program_checks::{absent_refusal, program_refusal};
 use program_limits::{entries_refusal, room_refusal};
-use words::i32s::{put_word, word_at, zero_i32};
-use words::sizes::minus;
+use words::i32s::{put_word, word_at};
+use words::slices::zero_all;
 use words::{number_of, word_of};
 
 // Whether redirects stand only where packing puts them; how many instructions are taken away in front, and how many
@@ -33,14 +34,12 @@ struct OwnPart {
 fn in_front(instructions: &[i32], end: usize) -> usize
     ensures { result ≡ in_front instructions.now end }
 {
-    let mut i = 0;
-    while i < end {
+    for i in 0..end {
         if !is_redirect(instructions, i) {
             return i;
         }
-        i += 1;
     }
-    i
+    end
 }
 
 // Where the font's own instructions end; the left entry is given by its 32 bits.
@@ -48,7 +47,7 @@ fn own_end(instructions: &[i32], left: u32) -> usize
     ensures { result ≡ own_end instructions.now (number_of left) }
 {
     if left < 2147483648 {
-        minus(instructions.len() / 4, 1)
+        (instructions.len() / 4).saturating_sub(1)
     } else {
         instructions.len() / 4
     }
@@ -59,12 +58,10 @@ fn are_plain(instructions: &[i32], start: usize, end: usize) -> bool
     requires { start ≤ end }
     ensures { result ≡ every (end - start) (λ i. not (is_kind 3 instructions.now (start + i))) }
 {
-    let mut i = 0;
-    while i < end - start {
+    for i in 0..end - start {
         if is_redirect(instructions, start + i) {
             return false;
         }
-        i += 1;
     }
     true
 }
@@ -82,13 +79,11 @@ fn are_own(entries: &[i32], start: usize, end: usize) -> bool
         (λ i. both (leb start (word_of (entry_at entries.now i)))
         (ltb (word_of (entry_at entries.now i)) end)) }
 {
-    let mut i = 0;
-    while i < entries.len() / 2 {
+    for i in 0..entries.len() / 2 {
         let entry = word_at(entries, 2 * i + 1) as usize;
         if !is_own(entry, start, end) {
             return false;
         }
-        i += 1;
     }
     true
 }
@@ -182,10 +177,8 @@ fn put_own(instructions: &[i32], front: usize, count: usize, out: &mut [i32])
     ensures { Appending (take (4 * count) (drop (4 * front) instructions.now))
         out.old out.new }
 {
-    let mut j = 0;
-    while j < 4 * count {
+    for j in 0..4 * count {
         put_word(out, j, word_at(instructions, 4 * front + j));
-        j += 1;
     }
 }
 
@@ -194,7 +187,7 @@ fn moved_back(word: u32, front: usize) -> u32
     ensures { number_of result ≡ left_moved_back (number_of word) front }
 {
     if word < 2147483648 {
-        minus(word as usize, front) as u32
+        (word as usize).saturating_sub(front) as u32
     } else {
         word
     }
@@ -219,10 +212,8 @@ fn put_entries(entries: &[i32], front: usize, out: &mut [i32])
     ensures { Appending (moved_entries entries.now front) out.old
         out.new }
 {
-    let mut j = 0;
-    while j < entries.len() {
+    for j in 0..entries.len() {
         put_word(out, j, moved_number(entries, front, j));
-        j += 1;
     }
 }
 
@@ -238,8 +229,8 @@ pub fn unpacked_font(
     ensures { UnpacksFont instructions.now entries.now left_entry
         out.old entries_out.old result out.new entries_out.new }
 {
-    zero_i32(out);
-    zero_i32(entries_out);
+    zero_all(out);
+    zero_all(entries_out);
     let left = word_of(left_entry);
     let own = find_part(instructions, entries, left);
     let n = own.count;

@@ -1,207 +1,149 @@
 // The words for a loop: its pair, the index of the pair's rule, and what stands after each of the first five steps of
 // its reading.
-use crate::report::{make_room, small};
+use crate::font::Program;
+use crate::line::Line;
+use crate::report::small;
 use lang::entries::{entries_table, entry_at};
-use phrase_put::{put_coded, put_counted, put_text};
-use program_chain::{FoundRule, rule_index};
-use read_step::one_step;
+use program_chain::rule_index;
 use readings::OneStep;
-use words::i32s::{put_word, word_at};
 
-// The place of a left among the entries: its code, or 256 for the boundary.
-fn left_place(left: u32) -> usize {
-    if left < 256 { left as usize } else { 256 }
+// An item that stands.
+#[derive(Clone, Copy)]
+enum Item {
+    Char(u32),
+    Kern,
+    Boundary,
 }
 
-// The index of the instruction that is the rule of a pair.
-fn pair_index(
-    instructions: &[i32],
-    entries: &[i32],
-    left_entry: i32,
-    left: u32,
-    right: u32,
-) -> u32 {
-    let table = entries_table(entries, left_entry);
-    let entry = entry_at(&table, left_place(left)) as usize;
-    match rule_index(instructions, entry, (right % 256) as u8) {
-        FoundRule::Rule(i) => small(i),
-        FoundRule::Nothing => 0,
+impl Item {
+    // The item that a kind and a value mean.
+    fn of(kind: i32, value: i32) -> Item {
+        match kind {
+            2 => Item::Kern,
+            3 => Item::Boundary,
+            _ => Item::Char(value.cast_unsigned()),
+        }
     }
-}
 
-// An item that stands, by its kind and its value, after a blank.
-fn put_item(line: &mut [u8], at: usize, kind: u32, value: u32) -> usize {
-    match kind {
-        2 => put_text(line, at, b" kern"),
-        3 => put_text(line, at, b" boundary"),
-        _ => put_coded(line, at, b" ", value),
+    // The item after a blank.
+    fn put(self, line: &mut Line) {
+        match self {
+            Item::Char(c) => line.coded(b" ", c),
+            Item::Kern => line.text(b" kern"),
+            Item::Boundary => line.text(b" boundary"),
+        }
     }
-}
-
-// Item i of a list.
-fn put_item_at(line: &mut [u8], at: usize, items: &[i32], i: usize) -> usize {
-    if items.len() / 2 <= i {
-        return at;
-    }
-    put_item(line, at, word_at(items, 2 * i), word_at(items, 2 * i + 1))
 }
 
 // The first `count` items of a list.
-fn put_items(line: &mut [u8], at: usize, items: &[i32], count: usize) -> usize {
-    let mut next = at;
-    let mut i = 0;
-    while i < count {
-        next = put_item_at(line, next, items, i);
-        i += 1;
+fn put_items(line: &mut Line, items: &[i32], count: usize) {
+    let (records, _) = items.as_chunks::<2>();
+    for record in records.iter().take(count) {
+        Item::of(record[0], record[1]).put(line);
     }
-    next
 }
 
-// The kind of the item that a left is.
-fn left_kind(left: u32) -> u32 {
-    if left < 256 { 0 } else { 3 }
+// The left of a loop: a character, or the boundary, and the right, as a list of loops has them.
+#[derive(Clone, Copy)]
+struct Pair {
+    left: u32,
+    right: u32,
 }
 
-// The two items of a pair, in a list of zeros.
-fn put_pair(items: &mut [i32], left: u32, right: u32) {
-    put_word(items, 0, left_kind(left));
-    put_word(items, 1, left % 256);
-    put_word(items, 3, right);
-}
+impl Pair {
+    fn is_at_boundary(self) -> bool {
+        256 <= self.left
+    }
 
-// One reading more.
-fn put_reading(line: &mut [u8], at: usize, items: &[i32], count: usize) -> usize {
-    let next = put_text(line, at, b",");
-    put_items(line, next, items, count)
+    // The place of the left among the entries: its code, or 256 for the boundary.
+    fn place(self) -> usize {
+        if self.is_at_boundary() {
+            256
+        } else {
+            self.left as usize
+        }
+    }
+
+    // The index of the instruction that is the rule of the pair.
+    fn index(self, program: &Program) -> u32 {
+        let table = entries_table(program.entries, program.left_entry);
+        let entry = entry_at(&table, self.place()) as usize;
+        rule_index(program.instructions, entry, (self.right % 256) as u8).map_or(0, small)
+    }
+
+    // Its two items, with room for a reading: it grows by an item a step, to seven of two numbers each.
+    fn items(self) -> [i32; 14] {
+        let mut items = [0i32; 14];
+        items[0] = if self.is_at_boundary() { 3 } else { 0 };
+        items[1] = (self.left % 256).cast_signed();
+        items[3] = self.right.cast_signed();
+        items
+    }
+
+    // The pair by its numbers, -1 for the boundary.
+    fn put(self, line: &mut Line) {
+        if self.is_at_boundary() {
+            line.text(b" (-1");
+        } else {
+            line.counted(b" (", self.left);
+        }
+        line.counted(b" ", self.right);
+    }
 }
 
 // What stands after each of the next five steps of two items.
-fn put_readings(
-    line: &mut [u8],
-    at: usize,
-    instructions: &[i32],
-    kerns: &[i32],
-    entries: &[i32],
-    left_entry: i32,
-    design: i32,
-    items: &mut [i32],
-) -> usize {
-    let mut next = at;
+fn put_readings(line: &mut Line, program: &Program, items: &mut [i32]) {
     let mut count = 2;
     let mut cursor = 0;
-    let mut steps: usize = 0;
-    while steps < 5 {
-        let OneStep::Standing(n, moved) = one_step(
-            instructions,
-            kerns,
-            entries,
-            left_entry,
-            design,
-            items,
-            count,
-            cursor,
-        ) else {
-            return next;
+    for _ in 0..5 {
+        let OneStep::Standing(n, moved) = program.step(items, count, cursor) else {
+            return;
         };
-        next = put_reading(line, next, items, n);
+        line.text(b",");
+        put_items(line, items, n);
         count = n;
         cursor = moved;
-        steps += 1;
     }
-    next
 }
 
 // What stands in front of loop i: the word for it, or what parts it from the one before.
-fn put_head(rt: &(impl Print + Eprint), line: &mut [u8], at: usize, i: usize) -> usize {
+fn put_head(rt: &(impl Print + Eprint), line: &mut Line, i: usize) {
     if i == 0 {
-        return put_text(line, at, b"LOOP at");
+        line.text(b"LOOP at");
+    } else {
+        line.make_room(rt);
+        line.text(b";");
     }
-    let next = make_room(rt, line, at);
-    put_text(line, next, b";")
 }
 
-// The number of a left, -1 for the boundary.
-fn put_left(line: &mut [u8], at: usize, left: u32) -> usize {
-    if left < 256 {
-        return put_counted(line, at, b" (", left);
-    }
-    put_text(line, at, b" (-1")
-}
-
-// A pair by its characters and by its numbers, and the index of its rule.
-fn put_names(
-    line: &mut [u8],
-    at: usize,
-    items: &[i32],
-    left: u32,
-    right: u32,
-    index: u32,
-) -> usize {
-    let a = put_items(line, at, items, 2);
-    let b = put_left(line, a, left);
-    let c = put_counted(line, b, b" ", right);
-    let d = put_counted(line, c, b"), instruction ", index);
-    put_text(line, d, b":")
-}
-
-// The words for a loop.
-fn put_loop(
-    line: &mut [u8],
-    at: usize,
-    instructions: &[i32],
-    kerns: &[i32],
-    entries: &[i32],
-    left_entry: i32,
-    design: i32,
-    left: u32,
-    right: u32,
-) -> usize {
-    let index = pair_index(instructions, entries, left_entry, left, right);
-    // A reading grows by an item a step, to seven of two numbers each.
-    let mut items = [0i32; 14];
-    put_pair(&mut items, left, right);
-    let pair = put_names(line, at, &items, left, right, index);
-    let next = put_items(line, pair, &items, 2);
-    put_readings(
-        line,
-        next,
-        instructions,
-        kerns,
-        entries,
-        left_entry,
-        design,
-        &mut items,
-    )
+// The words for a loop: its pair by its characters and by its numbers, the index of its rule, and its readings.
+fn put_loop(line: &mut Line, program: &Program, pair: Pair) {
+    let mut items = pair.items();
+    put_items(line, &items, 2);
+    pair.put(line);
+    line.counted(b"), instruction ", pair.index(program));
+    line.text(b":");
+    put_items(line, &items, 2);
+    put_readings(line, program, &mut items);
 }
 
 // The words for each loop of a list, two numbers each.
 pub(crate) fn put_loops(
     rt: &(impl Print + Eprint),
-    line: &mut [u8],
-    at: usize,
-    instructions: &[i32],
-    kerns: &[i32],
-    entries: &[i32],
-    left_entry: i32,
-    design: i32,
+    line: &mut Line,
+    program: &Program,
     loops: &[i32],
-) -> usize {
-    let mut next = at;
-    for i in 0..loops.len() / 2 {
-        let left = word_at(loops, 2 * i);
-        let right = word_at(loops, 2 * i + 1);
-        next = put_head(rt, line, next, i);
-        next = put_loop(
+) {
+    let (pairs, _) = loops.as_chunks::<2>();
+    for (i, pair) in pairs.iter().enumerate() {
+        put_head(rt, line, i);
+        put_loop(
             line,
-            next,
-            instructions,
-            kerns,
-            entries,
-            left_entry,
-            design,
-            left,
-            right,
+            program,
+            Pair {
+                left: pair[0].cast_unsigned(),
+                right: pair[1].cast_unsigned(),
+            },
         );
     }
-    next
 }

@@ -5,144 +5,102 @@
 #![tactic(auto)]
 
 use file_font::file_length;
-use file_load::{Loaded, args, load_file};
+use file_load::{args, load_file};
 use font_room::byte_room;
-use phrase_put::{bytes_before, put_counted, put_decimal, put_text};
-use report::{Report, Verdict};
+use line::{Line, write_bytes};
+use phrase_put::bytes_before;
+use refusals::{Refusal, bytes_read};
+use report::{Verdict, put_refusal, report_font, small};
 use std::rt::{Env, Files};
-use words::sizes::minus;
 
+mod font;
+mod line;
 mod loops;
 mod refusals;
 mod report;
 mod test_fonts;
 
 // How many files have no loop, have one, and were refused.
-#[derive(Drop)]
+#[derive(Clone, Copy, Default)]
 struct Tally {
     free: u32,
     looping: u32,
     refused: u32,
 }
 
-fn one_more(n: u32) -> u32 {
-    if n < 4294967295 { n + 1 } else { n }
-}
+impl Tally {
+    // A file more.
+    fn count(&mut self, verdict: Verdict) {
+        match verdict {
+            Ok(None) => self.free = self.free.saturating_add(1),
+            Ok(Some(_)) => self.looping = self.looping.saturating_add(1),
+            Err(_) => self.refused = self.refused.saturating_add(1),
+        }
+    }
 
-// A file more.
-fn counted(tally: Tally, verdict: Verdict) -> Tally {
-    let free = tally.free;
-    let looping = tally.looping;
-    let refused = tally.refused;
-    match verdict {
-        Verdict::Free => Tally {
-            free: one_more(free),
-            looping,
-            refused,
-        },
-        Verdict::Loops(_, _, _) => Tally {
-            free,
-            looping: one_more(looping),
-            refused,
-        },
-        Verdict::Refused => Tally {
-            free,
-            looping,
-            refused: one_more(refused),
-        },
+    // The last line, of so many files.
+    fn print(self, rt: &(impl Print + Eprint), files: usize) {
+        let mut line = Line::new();
+        line.number(small(files));
+        line.counted(b" files: ", self.free);
+        line.counted(b" without a loop, ", self.looping);
+        line.counted(b" with a loop, ", self.refused);
+        line.end(rt, b" refused\n");
     }
 }
 
-// What its bytes are read as.
-fn report_bytes(rt: &(impl Print + Eprint), bytes: &[u8], line: &mut [u8], at: usize) -> Report {
-    let file = bytes_before(bytes, file_length(bytes));
-    report::report_font(rt, file, line, at)
-}
-
-// The line of a file but for its line feed, from behind its name on.
-fn report_file(
-    rt: &(impl Files + Print + Eprint),
-    name: &[u8],
-    line: &mut [u8],
-    at: usize,
-) -> Report {
+// What a file is read as, and the words for it but for those of a refusal.
+fn report_file(rt: &(impl Files + Print + Eprint), name: &[u8], line: &mut Line) -> Verdict {
     let mut bytes = byte_room();
-    match load_file(rt, name, &mut bytes) {
-        Loaded::Bytes(n) => report_bytes(rt, bytes_before(&bytes, n), line, at),
-        other => Report {
-            verdict: Verdict::Refused,
-            at: refusals::put_unread(line, at, other),
-        },
-    }
+    let n = bytes_read(load_file(rt, name, &mut bytes))?;
+    let read = bytes_before(&bytes, n);
+    report_font(rt, bytes_before(read, file_length(read)), line)
 }
 
-// The line of a file.
-fn check_file(rt: &(impl Files + Print + Eprint), name: &[u8]) -> Verdict {
-    let mut line = report::line_room();
-    let end = put_text(&mut line, 0, name);
-    let start = put_text(&mut line, end, b": ");
-    let report = report_file(rt, name, &mut line, start);
-    report::end_line(rt, &mut line, report.at, b"\n");
-    report.verdict
-}
-
-// The line of an argument that has no room.
-fn refuse_name(rt: &(impl Print + Eprint), i: usize) -> Verdict {
-    let mut line = [0u8; 4096];
-    let end = put_counted(&mut line, 0, b"argument ", report::small(i));
-    report::end_line(
-        rt,
-        &mut line,
-        end,
-        b": refused: a name of more than 4,096 bytes\n",
-    );
-    Verdict::Refused
+// The name of argument i, or its number where it has no room, and what its file is read as.
+fn report_argument(rt: &(impl Env + Files + Print + Eprint), i: usize, line: &mut Line) -> Verdict {
+    let mut room = [0u8; 4096];
+    let Ok(n) = rt.arg(i, &mut room) else {
+        line.counted(b"argument ", small(i));
+        line.text(b": ");
+        return Err(Refusal::LongName);
+    };
+    let name = &room[..n];
+    line.text(name);
+    line.text(b": ");
+    report_file(rt, name, line)
 }
 
 // The line of argument i.
 fn check_argument(rt: &(impl Env + Files + Print + Eprint), i: usize) -> Verdict {
-    let mut name = [0u8; 4096];
-    let Ok(n) = rt.arg(i, &mut name) else {
-        return refuse_name(rt, i);
-    };
-    check_file(rt, &name[..n])
+    let mut line = Line::new();
+    let verdict = report_argument(rt, i, &mut line);
+    put_refusal(&mut line, verdict);
+    line.end(rt, b"\n");
+    verdict
 }
 
 // A line for each argument.
 fn check_all(rt: &(impl Env + Files + Print + Eprint), count: usize) -> Tally {
-    let mut tally = Tally {
-        free: 0,
-        looping: 0,
-        refused: 0,
-    };
+    let mut tally = Tally::default();
     for i in 1..count {
-        tally = counted(tally, check_argument(rt, i));
+        tally.count(check_argument(rt, i));
     }
     tally
-}
-
-// The last line.
-fn print_tally(rt: &(impl Print + Eprint), count: usize, tally: Tally) {
-    let mut line = [0u8; 4096];
-    let free = put_decimal(&mut line, 0, report::small(minus(count, 1)));
-    let looping = put_counted(&mut line, free, b" files: ", tally.free);
-    let refused = put_counted(&mut line, looping, b" without a loop, ", tally.looping);
-    let end = put_counted(&mut line, refused, b" with a loop, ", tally.refused);
-    report::end_line(rt, &mut line, end, b" refused\n");
 }
 
 fn main(rt: HostRuntime) {
     let count = args::count(&rt);
     if count < 2 {
-        report::write_bytes(
+        write_bytes(
             &rt,
             b"use: fontcheck FILE...  says of each font file (TFM) whether it has a loop\n",
         );
         return;
     }
     if !test_fonts::are_right(&rt) {
-        report::write_bytes(&rt, b"fontcheck: its answers are not to be believed\n");
+        write_bytes(&rt, b"fontcheck: its answers are not to be believed\n");
         return;
     }
-    print_tally(&rt, count, check_all(&rt, count));
+    check_all(&rt, count).print(&rt, count - 1);
 }

@@ -1,48 +1,74 @@
-// The words for a file that is refused.
+// Why a file is refused, and the words for it.
+use crate::line::Line;
 use file_lengths::file_half;
 use file_load::Loaded;
-use phrase_put::{put_counted, put_text};
 
-// Why a file was not read.
-pub(crate) fn put_unread(line: &mut [u8], at: usize, loaded: Loaded) -> usize {
+// The argument has no room; the file was not read; or its bytes are refused, most of them by a number.
+#[derive(Clone, Copy)]
+pub(crate) enum Refusal {
+    LongName,
+    Missing,
+    Unreadable(u32),
+    TooLong,
+    Pairs,
+    Kern,
+    Ops,
+    Length,
+    Lengths,
+    Other(u32),
+}
+
+impl Refusal {
+    // What a number means.
+    pub(crate) fn of_number(number: u32, file: &[u8]) -> Refusal {
+        match number {
+            12 => Refusal::Pairs,
+            13 => Refusal::Kern,
+            14 => Refusal::Ops,
+            17 => Refusal::of_lengths(file),
+            _ => Refusal::Other(number),
+        }
+    }
+
+    // 17: the file is not as long as its first two bytes say, or its lengths do not fit.
+    fn of_lengths(file: &[u8]) -> Refusal {
+        if file.len() == 4 * (file_half(file, 0) as usize) {
+            Refusal::Lengths
+        } else {
+            Refusal::Length
+        }
+    }
+
+    // The words for it.
+    pub(crate) fn put(self, line: &mut Line) {
+        match self {
+            Refusal::LongName => line.text(b"refused: a name of more than 4,096 bytes"),
+            Refusal::Missing => line.text(b"refused: no such file"),
+            Refusal::Unreadable(error) => line.counted(b"refused: cannot be read, error ", error),
+            Refusal::TooLong => line.text(b"refused: longer than 32,767 words"),
+            Refusal::Pairs => line.text(b"refused, 12: more than 49,152 pairs have a rule"),
+            Refusal::Kern => {
+                line.text(
+                    b"refused, 13: a kern that a pair uses is 16 times the design size or more",
+                );
+            }
+            Refusal::Ops => line.text(b"refused, 14: more than 98,304 ops"),
+            Refusal::Length => line.text(b"refused, 17: not the length that its first bytes say"),
+            Refusal::Lengths => line.text(b"refused, 17: its lengths do not fit together"),
+            Refusal::Other(number) => {
+                line.counted(b"refused, ", number);
+                line.text(b": see README");
+            }
+        }
+    }
+}
+
+// How many bytes were read, or why none.
+pub(crate) fn bytes_read(loaded: Loaded) -> Result<usize, Refusal> {
     match loaded {
-        Loaded::Bytes(_) => at,
-        Loaded::Missing => put_text(line, at, b"refused: no such file"),
-        Loaded::Unreadable(error) => put_counted(
-            line,
-            at,
-            b"refused: cannot be read, error ",
-            error,
-        ),
-        Loaded::TooLong => put_text(line, at, b"refused: longer than 32,767 words"),
+        Loaded::Bytes(n) => Ok(n),
+        Loaded::Missing => Err(Refusal::Missing),
+        Loaded::Unreadable(error) => Err(Refusal::Unreadable(error)),
+        Loaded::TooLong => Err(Refusal::TooLong),
     }
-}
-
-// 17: the file is not as long as its first two bytes say, or its lengths do not fit.
-fn put_lengths(line: &mut [u8], at: usize, file: &[u8]) -> usize {
-    if file.len() == 4 * (file_half(file, 0) as usize) {
-        return put_text(line, at, b": its lengths do not fit together");
-    }
-    put_text(line, at, b": not the length that its first bytes say")
-}
-
-// What a number means.
-fn put_reason(line: &mut [u8], at: usize, file: &[u8], number: u32) -> usize {
-    match number {
-        12 => put_text(line, at, b": more than 49,152 pairs have a rule"),
-        13 => put_text(
-            line,
-            at,
-            b": a kern that a pair uses is 16 times the design size or more",
-        ),
-        14 => put_text(line, at, b": more than 98,304 ops"),
-        17 => put_lengths(line, at, file),
-        _ => put_text(line, at, b": see README"),
-    }
-}
-
-// The number of a refusal, and what it means.
-pub(crate) fn put_refused(line: &mut [u8], at: usize, file: &[u8], number: u32) -> usize {
-    let reason = put_counted(line, at, b"refused, ", number);
-    put_reason(line, reason, file, number)
 }

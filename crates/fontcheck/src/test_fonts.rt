@@ -1,7 +1,7 @@
 // Two fonts of the program's own, each of the characters A and B and of one instruction, at A: between A and B it
 // inserts a B. The first goes on from the A, and never ends; the second goes on from the inserted B, and ends.
-use crate::report::{Verdict, end_line, line_room, report_font};
-use phrase_put::put_text;
+use crate::line::Line;
+use crate::report::{Verdict, put_refusal, report_font};
 
 // Twelve lengths, a checksum, a design size of ten points, the two characters, two widths, a height, a depth, an italic
 // correction, and the instruction, by its op byte: 3 or 7.
@@ -15,30 +15,30 @@ fn font(op: u8) -> [u8; 64] {
 
 // One loop, at A B.
 fn is_loop_of_both(verdict: Verdict) -> bool {
-    match verdict {
-        Verdict::Loops(n, left, right) => n == 1 && left == 65 && right == 66,
-        _ => false,
-    }
+    let Ok(Some(loops)) = verdict else {
+        return false;
+    };
+    loops.count == 1 && loops.left == 65 && loops.right == 66
 }
 
-fn is_free(verdict: Verdict) -> bool {
-    match verdict {
-        Verdict::Free => true,
-        _ => false,
-    }
+// The words for one of the fonts, behind a text. Answers what it is read as.
+fn report(rt: &(impl Print + Eprint), line: &mut Line, text: &[u8], font: &[u8]) -> Verdict {
+    line.text(text);
+    let verdict = report_font(rt, font, line);
+    put_refusal(line, verdict);
+    verdict
 }
 
 // Reads both, prints a line with what they are read as, and answers whether that is right.
 pub(crate) fn are_right(rt: &(impl Print + Eprint)) -> bool {
-    let mut line = line_room();
-    let looping = font(3);
-    let free = font(7);
-    let first = put_text(&mut line, 0, b"test fonts: the one that loops reads ");
-    let looped = report_font(rt, &looping, &mut line, first);
-    let second = put_text(&mut line, looped.at, b"; the one that does not reads ");
-    let freed = report_font(rt, &free, &mut line, second);
-    end_line(rt, &mut line, freed.at, b"\n");
-    let first_verdict = looped.verdict;
-    let second_verdict = freed.verdict;
-    is_loop_of_both(first_verdict) && is_free(second_verdict)
+    let mut line = Line::new();
+    let looped = report(
+        rt,
+        &mut line,
+        b"test fonts: the one that loops reads ",
+        &font(3),
+    );
+    let freed = report(rt, &mut line, b"; the one that does not reads ", &font(7));
+    line.end(rt, b"\n");
+    is_loop_of_both(looped) && matches!(freed, Ok(None))
 }

@@ -12,7 +12,6 @@ use std::fs::File;
 use std::io::{self, Write};
 use std::rt::{Env, Files};
 use words::i32s::{put_word, word_at};
-use words::sizes::{minus, smaller};
 
 // What came of a font that was written: its file is the old one, or saved; it is another, or not saved; or the number
 // of its refusal.
@@ -100,7 +99,7 @@ fn tell_copy(rt: &impl Print, done: Done, first: u32, last: u32) {
 // One instruction more, behind the n of the font: before the last letter that has an entry the first one becomes itself
 // again, and the cursor stays. The first letter's entry leads there.
 fn add_loop(program: &mut [i32], n: usize, entries: &mut [i32], first: u32, last: u32) {
-    let at = smaller(n, 32767);
+    let at = n.min(32767);
     put_word(program, 4 * at, 4294967295);
     put_word(program, 4 * at + 1, last);
     put_word(program, 4 * at + 2, 2);
@@ -134,9 +133,9 @@ fn write_both(
         return;
     }
     let first = word_at(entries, 0);
-    let last = word_at(entries, minus(e, 2));
+    let last = word_at(entries, e.saturating_sub(2));
     add_loop(program, n, entries, first, last);
-    let more = smaller(n, 32767) + 1;
+    let more = n.min(32767) + 1;
     let copy = written(
         rt,
         file,

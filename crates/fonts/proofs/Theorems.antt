@@ -11,9 +11,10 @@ use native.Mathlib.Omega.{arith}
 use lib.Dec.{T, leb, eqb}
 use lib.IntN.{ℤ, pos}
 use lib.ListN.{length}
+use Rattle.std.specs.Prelude.{Result, Ok, Err}
 use Rattle.words.specs.Words.{word_of}
-use Rattle.tfm.specs.declared.ToScaled.{ToScaled}
-use Rattle.tfm.specs.declared.ToScaled.TheVariants.{Scaled, NegativeDesignSize, TooLarge}
+use Rattle.tfm.specs.declared.ScalingError.{ScalingError}
+use Rattle.tfm.specs.declared.ScalingError.TheVariants.{TooLarge}
 use Rattle.tfm.specs.Scaled.{to_scaled}
 use Rattle.lang.specs.declared.operation.Operation.{Operation}
 use Rattle.lang.specs.declared.operation.Operation.TheVariants.{Kern, KernAtIndex, Ligature, EntrypointRedirect}
@@ -93,10 +94,9 @@ never_in_range f l r h = ruled_in_range f l r (λ e. free_ends (rules_of f) l r 
 -- ---- design sizes
 
 -- with a kern of zero a kern is the same, scaled or not
-kern_zero : (t : ToScaled) → Reading.unkerned (scaled_kern t) ≡ kerned (pos 0)
-kern_zero (Scaled v) = refl
-kern_zero NegativeDesignSize = refl
-kern_zero TooLarge = refl
+kern_zero : (t : Result ℤ ScalingError) → Reading.unkerned (scaled_kern t) ≡ kerned (pos 0)
+kern_zero (Ok v) = refl
+kern_zero (Err e) = refl
 
 -- so what an operation does with a kern of zero is the same at two sizes
 same_operation : (a b : ℤ) (op : Operation) → Reading.unkerned (rule_of_operation a op) ≡ Reading.unkerned (rule_of_operation b op)
@@ -144,7 +144,7 @@ ops_at_any_size f size =
 
 -- Whether a number scales goes by its top byte, at every design size of 0 or more.
 scaled_by : (t u : Bool) (x y x' y' : ℤ) →
-    is_scaled (cond t (Scaled x) (cond u (Scaled y) TooLarge)) ≡ is_scaled (cond t (Scaled x') (cond u (Scaled y') TooLarge))
+    is_scaled (cond t (Ok x) (cond u (Ok y) (Err TooLarge))) ≡ is_scaled (cond t (Ok x') (cond u (Ok y') (Err TooLarge)))
 scaled_by true u x y x' y' = refl
 scaled_by false true x y x' y' = refl
 scaled_by false false x y x' y' = refl

@@ -1,7 +1,6 @@
 -- What compiling answers, and what it leaves in every list: the contract of `compile` (R90 to R94).
-use Rattle.std.specs.Prelude.{◌≡◌, Bool, true, false, cond, List, [], ◌∷◌, ℕ, ◌*◌, ◌/◌, ℤ, pos, leb, length, replicate}
-use Rattle.tfm.specs.declared.ToScaled.{ToScaled}
-use Rattle.tfm.specs.declared.ToScaled.TheVariants.{Scaled, NegativeDesignSize, TooLarge}
+use Rattle.std.specs.Prelude.{◌≡◌, Bool, true, false, cond, List, [], ◌∷◌, ℕ, ◌*◌, ◌/◌, ℤ, pos, leb, length, replicate, Result, Ok, Err}
+use Rattle.tfm.specs.declared.ScalingError.{ScalingError}
 use Rattle.tfm.specs.Scaled.{to_scaled}
 use Rattle.lang.specs.declared.operation.Operation.{Operation}
 use Rattle.lang.specs.declared.operation.Operation.TheVariants.{Kern, KernAtIndex, Ligature, EntrypointRedirect}
@@ -77,10 +76,9 @@ pairs_refusal f room =
     cond (both (leb (length (pairs_of f)) (room.work / 16)) (leb (length (pairs_of f)) (room.pairs / 6))) 0 12
 
 -- a kern was scaled (R94, R242)
-abbrev pub is_scaled : ToScaled → Bool
-is_scaled (Scaled v) = true
-is_scaled NegativeDesignSize = false
-is_scaled TooLarge = false
+abbrev pub is_scaled : Result ℤ ScalingError → Bool
+is_scaled (Ok v) = true
+is_scaled (Err e) = false
 
 -- an operation is no kern, or its kern scales at this design size
 abbrev pub scales : ℤ → Operation → Bool

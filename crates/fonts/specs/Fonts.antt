@@ -1,8 +1,7 @@
 -- A font as it is lent (R90), its rules (R55, R58 to R61), and the pairs that have one (R80).
-use Rattle.std.specs.Prelude.{cond, List, [], ◌∷◌, ◌++◌, ℕ, zero, suc, ℤ, pos, negsuc, ltb, get_or}
+use Rattle.std.specs.Prelude.{cond, List, [], ◌∷◌, ◌++◌, ℕ, zero, suc, ℤ, pos, negsuc, ltb, get_or, Result, Ok, Err}
 use Rattle.std.proofs.Math.Option.{Option, none, some}
-use Rattle.tfm.specs.declared.ToScaled.{ToScaled}
-use Rattle.tfm.specs.declared.ToScaled.TheVariants.{Scaled, NegativeDesignSize, TooLarge}
+use Rattle.tfm.specs.declared.ScalingError.{ScalingError}
 use Rattle.tfm.specs.Scaled.{to_scaled}
 use Rattle.lang.specs.declared.operation.Operation.{Operation}
 use Rattle.lang.specs.declared.operation.Operation.TheVariants.{Kern, KernAtIndex, Ligature, EntrypointRedirect}
@@ -86,10 +85,9 @@ pairs_of f = pairs_by f.instructions (table_of f)
 -- ---- what it does
 
 -- a kern that cannot be scaled is 13 in compiling (R242); where only the loops are asked for (R183) it is a kern like any other, of zero
-abbrev pub scaled_kern : ToScaled → Rule
-scaled_kern (Scaled v) = kerned v
-scaled_kern NegativeDesignSize = kerned (pos 0)
-scaled_kern TooLarge = kerned (pos 0)
+abbrev pub scaled_kern : Result ℤ ScalingError → Rule
+scaled_kern (Ok v) = kerned v
+scaled_kern (Err e) = kerned (pos 0)
 
 -- what an operation does, a kern scaled at the design size; a kern index and a redirect, which `actsAs` never leaves, do nothing
 abbrev pub rule_of_operation : ℤ → Operation → Rule

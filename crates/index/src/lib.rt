@@ -42,10 +42,8 @@ fn ones_from(index: &[u64], at: usize, w: usize) -> u32
     ensures { (result ≡ ones_from index.now at w) × (result ≤ 64 * w) }
 {
     let mut n = 0;
-    let mut v = 0;
-    while v < w {
+    for v in 0..w {
         n += u64::count_ones(index_at(index, at + v));
-        v += 1;
     }
     n
 }

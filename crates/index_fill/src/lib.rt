@@ -13,7 +13,7 @@ ghost use Rattle.index_fill.specs.Filling.{Filled};
 use table_find::left_place;
 use table_form::keys::keys_form;
 use table_numbers::number_at;
-use words::u64s::zero_u64;
+use words::slices::zero_all;
 
 // 7, or 15 where a list of `room` places is too short for an index.
 fn index_refusal(pairs: &[i32], room: usize) -> u32
@@ -45,14 +45,12 @@ fn set_bits(pairs: &[i32], index: &mut [u64])
     ensures { Filled pairs.now (pair_count pairs.now) 0 index.old
         index.new }
 {
-    let mut k = 0;
-    while k < pairs.len() / 6 {
+    for k in 0..pairs.len() / 6 {
         set_bit(
             index,
             left_place(number_at(pairs, k, 0)),
             number_at(pairs, k, 1),
         );
-        k += 1;
     }
 }
 
@@ -63,14 +61,12 @@ fn count_on(pairs: &[i32], from: usize, left: u32) -> usize
     ensures { result ≡ pairs_before pairs.now left }
 {
     let n = pairs.len() / 6;
-    let mut k = from;
-    while k < n {
+    for k in from..n {
         if left <= left_place(number_at(pairs, k, 0)) {
             return k;
         }
-        k += 1;
     }
-    k
+    n
 }
 
 // The pairs before each left, in an index that has its bits.
@@ -81,12 +77,10 @@ fn count_pairs(pairs: &[i32], index: &mut [u64])
         index.new }
 {
     let mut k = 0;
-    let mut left: u32 = 0;
-    while left < 257 {
+    for left in 0..257 {
         k = count_on(pairs, k, left);
         let at = 5 * (left as usize) + 4;
         index[at] = k as u64;
-        left += 1;
     }
 }
 
@@ -95,7 +89,7 @@ fn count_pairs(pairs: &[i32], index: &mut [u64])
 pub fn fill_index(pairs: &[i32], index: &mut [u64]) -> u32
     ensures { FillsIndex pairs.now index.old result index.new }
 {
-    zero_u64(index);
+    zero_all(index);
     let refusal = index_refusal(pairs, index.len());
     if refusal == 0 {
         set_bits(pairs, index);

@@ -13,7 +13,6 @@ use captions::{RunOptions, State};
 use index::place_by;
 use step_quick::left::quick_left;
 use word_plain_letters::{give_pair, letters_moved, put_six};
-use words::sizes::{minus, smaller};
 
 // Where a run stands, and how many items it has given.
 #[derive(Clone, Copy)]
@@ -55,8 +54,7 @@ fn set_plain(
         items.old k result.left result.count items.new }
 {
     let mut l = left;
-    let mut i = 0;
-    while i < n {
+    for i in 0..n {
         let y = word[read + i];
         if 255 < y {
             return PlainSet { left: l, count: i };
@@ -66,9 +64,8 @@ fn set_plain(
         }
         put_six(items, 6 * (k + i), 0, l - 1, (given + i) as u32, 1, 0, 0);
         l = y + 1;
-        i += 1;
     }
-    PlainSet { left: l, count: i }
+    PlainSet { left: l, count: n }
 }
 
 // Where letters end: i of them were given as m items, and the left is next.
@@ -113,9 +110,9 @@ pub fn set_letters(
     let mut op = s.op;
     let mut i = 0;
     let mut m = 0;
-    let n = minus(word.len(), s.read);
+    let n = word.len().saturating_sub(s.read);
     while i < n {
-        let most = smaller(items.len() / 6 - (k + m), n - i);
+        let most = (items.len() / 6 - (k + m)).min(n - i);
         let plain = set_plain(
             index,
             word,

@@ -10,7 +10,7 @@ use captions::RunOptions;
 use index_set_word::set_fresh_indexed;
 use lang::Written;
 use word_set_checked::checked_refusal;
-use words::i32s::zero_i32;
+use words::slices::zero_all;
 
 // The items of a word up to its end over a table and an index that are taken as they stand, six numbers each as a T
 // line has them, with zeros after them. Answers how many there are. 4, 6 or 20, then the numbers of the steps and 15.
@@ -30,7 +30,7 @@ pub fn set_checked_word_indexed(
 {
     let refusal = checked_refusal(boundary, word, options);
     if refusal != 0 {
-        zero_i32(items);
+        zero_all(items);
         return Written::Refused(refusal);
     }
     set_fresh_indexed(index, pairs, ops, boundary, word, options, items)

@@ -16,7 +16,7 @@ use index_plain_letters::set_letters;
 use index_step::step_indexed;
 use lang::Written;
 use word_items::{is_item, put_item, stopped};
-use words::i32s::zero_i32;
+use words::slices::zero_all;
 
 // The items from a state on, in a list of zeros.
 fn set_from(
@@ -73,7 +73,7 @@ pub fn set_fresh_indexed(
         word.now options) (length items.old / 6)
         (fresh_state word.now options)) items.old result items.new }
 {
-    zero_i32(items);
+    zero_all(items);
     let fresh = fresh_state(word, options);
     set_from(index, pairs, ops, boundary, word, options, fresh, items)
 }
@@ -93,7 +93,7 @@ pub fn set_word_indexed(
         (indexed_reply index.now pairs.now ops.now boundary word.now
         options (length items.old)) items.old result items.new }
 {
-    zero_i32(items);
+    zero_all(items);
     match begin(pairs, ops, boundary, word, options) {
         Begun::Run(state) => set_from(index, pairs, ops, boundary, word, options, state, items),
         Begun::Refused(n) => Written::Refused(n),

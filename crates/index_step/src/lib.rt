@@ -9,7 +9,7 @@ use captions::{Answer, RunOptions, State, Step};
 use index::{Looked, look_up};
 use step_quick::left::quick_left;
 use step_quick_op::{is_ready, quick_step};
-use words::u32s::u32_at;
+use words::slices::item_at;
 
 // One step: its answer and the state that it leaves.
 pub fn step_indexed(
@@ -29,7 +29,7 @@ pub fn step_indexed(
         return kern_step(pairs, ops, boundary, word, options, state);
     }
     let read = state.read;
-    match look_up(index, pairs, left, u32_at(word, read)) {
+    match look_up(index, pairs, left, item_at(word, read)) {
         Looked::Missing => quick_step(pairs, ops, word, pairs.len() / 6, state),
         Looked::At(k) => {
             if is_ready(pairs, ops, k) {

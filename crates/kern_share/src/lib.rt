@@ -19,12 +19,10 @@ fn place_of(kerns: &[i32], m: usize, word: u32) -> usize
     requires { m ≤ length kerns.now }
     ensures { result ≡ kern_place (number_of word) (take m kerns.now) }
 {
-    let mut p = 0;
-    while p < m {
+    for p in 0..m {
         if word_at(kerns, p) == word {
             return p;
         }
-        p += 1;
     }
     m
 }
@@ -84,10 +82,8 @@ fn gather(instructions: &[i32], kerns: &mut [i32], k: usize) -> usize
         kerns.old kerns.new }
 {
     let mut m = k;
-    let mut i = 0;
-    while i < instructions.len() / 4 {
+    for i in 0..instructions.len() / 4 {
         m = share_value(instructions, k, i, kerns, m);
-        i += 1;
     }
     m
 }
@@ -110,10 +106,8 @@ fn share_all(instructions: &mut [i32], kerns: &[i32], k: usize)
     ensures { instructions.new ≡ tabulate (length instructions.old)
         (shared_number instructions.old kerns.now k) }
 {
-    let mut i = 0;
-    while i < instructions.len() / 4 {
+    for i in 0..instructions.len() / 4 {
         share_at(instructions, kerns, k, i);
-        i += 1;
     }
 }
 

@@ -12,12 +12,11 @@ use borrow.Author.Tests.{ltb-true, ltb-false, lt-leb, leb-true, eq-eqb, ne_eqb, 
 use mir.Syntax.{w32}
 use mir.Val.{of_z, to_z, SFits}
 use mir.ValLaws.{to_z-of_z}
+use Rattle.std.specs.Prelude.{None, Some, Option}
 use Rattle.words.specs.Words.{Word, word_of, number_of}
 use Rattle.words.proofs.Bits.{number_pos, number_neg, number_is, number_fits, word_number}
 use Rattle.lang.specs.declared.operation.Operation.{Operation}
 use Rattle.lang.specs.declared.operation.Operation.TheVariants.{Kern, KernAtIndex, EntrypointRedirect}
-use Rattle.lang.specs.declared.instruction.NextInstruction.{NextInstruction}
-use Rattle.lang.specs.declared.instruction.NextInstruction.TheVariants.{Stop, Skip}
 use Rattle.lang.specs.declared.instruction.Instruction.{Instruction}
 use Rattle.lang.specs.Operations.{from_bytes}
 use Rattle.lang.specs.Records.{field, next_of, operation_of, instruction_at, within, absent_or, operand_fits}
@@ -83,10 +82,10 @@ within_bound n (negsuc m) t = absurd (let z : ◌≡◌ {A = ℕ} 0 1 = cc in om
 
 -- ---- the parts of an instruction
 
-pub next_skip : (w : ℕ) → w < 2 ^ 31 → next_of (number_of w) ≡ Skip (w % 256)
+pub next_skip : (w : ℕ) → w < 2 ^ 31 → next_of (number_of w) ≡ Some (w % 256)
 next_skip w h = rw (number_pos w h)
 
-pub next_stop : (w : ℕ) → 2 ^ 31 ≤ w → next_of (number_of w) ≡ Stop
+pub next_stop : (w : ℕ) → 2 ^ 31 ≤ w → next_of (number_of w) ≡ None
 next_stop w h = rw (number_neg w h)
 
 module _ (kind w : ℕ) where
@@ -113,6 +112,6 @@ operand_read p q = rw (number_is q, p.is)
 
 module _ (s : List ℤ) (i w₀ w₁ w₂ w₃ : ℕ) (r₀ : Word (field s i 0) w₀) (r₁ : Word (field s i 1) w₁) (r₂ : Word (field s i 2) w₂) (r₃ : Word (field s i 3) w₃)
   where
-    pub instruction_is : (n : NextInstruction) (o : Operation) → n ≡ next_of (number_of w₀) → o ≡ operation_of w₂ (number_of w₃) →
+    pub instruction_is : (n : Option ℕ) (o : Operation) → n ≡ next_of (number_of w₀) → o ≡ operation_of w₂ (number_of w₃) →
         ◌≡◌ {A = Instruction} (record { next_instruction = n; right_char = record { 0 = w₁ % 256 }; operation = o }) (instruction_at s i)
     instruction_is n o e f = rw (e, f, number_is r₀, number_is r₃, r₁.is, r₂.is)

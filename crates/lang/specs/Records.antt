@@ -1,10 +1,8 @@
 -- The four numbers of an instruction: next, right character, kind and operand (R25 to R31).
-use Rattle.std.specs.Prelude.{Bool, true, false, cond, List, ℕ, ◌+◌, ◌*◌, ◌/◌, ◌%◌, ℤ, pos, negsuc, leb, ltb, eqb, length, get_or}
+use Rattle.std.specs.Prelude.{Bool, true, false, cond, List, ℕ, ◌+◌, ◌*◌, ◌/◌, ◌%◌, ℤ, pos, negsuc, leb, ltb, eqb, length, get_or, None, Some, Option}
 use Rattle.words.specs.Words.{word_of}
 use Rattle.lang.specs.declared.operation.Operation.{Operation}
 use Rattle.lang.specs.declared.operation.Operation.TheVariants.{Kern, KernAtIndex, EntrypointRedirect}
-use Rattle.lang.specs.declared.instruction.NextInstruction.{NextInstruction}
-use Rattle.lang.specs.declared.instruction.NextInstruction.TheVariants.{Stop, Skip}
 use Rattle.lang.specs.declared.instruction.Instruction.{Instruction}
 use Rattle.lang.specs.Operations.{from_bytes}
 use Rattle.lang.specs.Every.{both}
@@ -18,9 +16,9 @@ abbrev pub field : List ℤ → ℕ → ℕ → ℤ
 field s i k = cond (ltb i (count s)) (get_or s (4 * i + k) (pos 0)) (pos 0)
 
 -- next: -1 is none, else how many instructions are skipped (R26)
-abbrev pub next_of : ℤ → NextInstruction
-next_of (negsuc n) = Stop
-next_of (pos n) = Skip (n % 256)
+abbrev pub next_of : ℤ → Option ℕ
+next_of (negsuc n) = None
+next_of (pos n) = Some (n % 256)
 
 -- The operation of a kind and an operand (R27 to R31). A kind past 3 reads as 0, and what passes an operand's range is left off:
 -- `isInstruction` refuses both.

@@ -9,11 +9,9 @@ pub fn entries_table(entries: &[i32], left_entry: i32) -> [i32; 257]
     ensures { result ≡ entries_table entries.now left_entry }
 {
     let mut table = [-1i32; 257];
-    let mut i = 0;
-    while i < entries.len() / 2 {
+    for i in 0..entries.len() / 2 {
         let c = words::i32s::word_at(entries, 2 * i) as usize;
         words::i32s::put_word(&mut table, c, words::i32s::word_at(entries, 2 * i + 1));
-        i += 1;
     }
     table[256] = left_entry;
     table

@@ -7,16 +7,10 @@ ghost use Rattle.lang.specs.Records.{field, next_of, operation_of, instruction_a
 use crate::operation::{Operation, lig_kern_operation_from_bytes};
 use tfm::{Char, FixWord};
 
-// Where a chain goes on: nowhere, or after so many skipped instructions.
-#[derive(Clone, Copy)]
-pub enum NextInstruction {
-    Stop,
-    Skip(u8),
-}
-
 #[derive(Clone, Copy)]
 pub struct Instruction {
-    pub next_instruction: NextInstruction,
+    // Where a chain goes on: after so many skipped instructions, or nowhere.
+    pub next_instruction: Option<u8>,
     pub right_char: Char,
     pub operation: Operation,
 }
@@ -32,13 +26,13 @@ pub fn field_at(instructions: &[i32], i: usize, k: u8) -> u32
     }
 }
 
-fn next_of(word: u32) -> NextInstruction
+fn next_of(word: u32) -> Option<u8>
     ensures { result ≡ next_of (number_of word) }
 {
     if word < 2147483648 {
-        NextInstruction::Skip((word % 256) as u8)
+        Some((word % 256) as u8)
     } else {
-        NextInstruction::Stop
+        None
     }
 }
 

@@ -1,12 +1,11 @@
 -- A set of characters as 256 bits, in four numbers of 64 (R431): which characters are in it, how many (R432), how many words of at most four
 -- letters it has (R434), and the least letter from a character on (R433). The contracts of crate letter_set.
 use Rattle.std.specs.Prelude.{Bool, cond, List, ℕ, zero, suc, ◌+◌, ◌-◌, ◌*◌, ltb, eqb}
+use Rattle.std.specs.Prelude as rust
 use Rattle.std.proofs.Math.Option.{Option, none, some}
 use Rattle.lang.specs.Every.{both}
 use Rattle.compile_survey.specs.Bits.{bit_at}
 use Rattle.index.specs.Index.{how_many}
-use Rattle.letter_set.specs.declared.Letter.{Letter}
-use Rattle.letter_set.specs.declared.Letter.TheVariants.{At, Nothing}
 
 -- character c is in the set: bit c % 64 of number c / 64, bit 0 the lowest; above 255 none is (R431)
 abbrev pub letter_in : List ℕ → ℕ → Bool
@@ -30,6 +29,6 @@ abbrev pub letter_from : List ℕ → ℕ → Option ℕ
 letter_from letters c = least_from (256 - c) c (letter_in letters)
 
 -- as it is answered
-abbrev pub letter_found : Option ℕ → Letter
-letter_found none = Nothing
-letter_found (some c) = At c
+abbrev pub letter_found : Option ℕ → rust.Option ℕ
+letter_found none = rust.None
+letter_found (some c) = rust.Some c

@@ -6,14 +6,7 @@
 ghost use Rattle.std.specs.Prelude.{◌≡◌, suc};
 ghost use Rattle.letter_set.specs.LetterSets.{letter_in, alphabet_size, word_count, letter_from, letter_found};
 
-use words::u64s::u64_at;
-
-// The least letter that was asked for, or that there is none.
-#[derive(Clone, Copy)]
-pub enum Letter {
-    At(u32),
-    Nothing,
-}
+use words::slices::item_at;
 
 // Character c is in the set; above 255 none is.
 pub fn is_member(letters: &[u64; 4], c: u32) -> bool
@@ -22,7 +15,7 @@ pub fn is_member(letters: &[u64; 4], c: u32) -> bool
     if 255 < c {
         return false;
     }
-    let number = u64_at(letters, (c / 64) as usize);
+    let number = item_at(letters, (c / 64) as usize);
     (number >> ((c % 64) as u64)) % 2 == 1
 }
 
@@ -30,8 +23,8 @@ pub fn is_member(letters: &[u64; 4], c: u32) -> bool
 pub fn alphabet_size(letters: &[u64; 4]) -> u32
     ensures { result ≡ alphabet_size letters.now }
 {
-    let low = u64::count_ones(u64_at(letters, 0)) + u64::count_ones(u64_at(letters, 1));
-    let high = u64::count_ones(u64_at(letters, 2)) + u64::count_ones(u64_at(letters, 3));
+    let low = u64::count_ones(item_at(letters, 0)) + u64::count_ones(item_at(letters, 1));
+    let high = u64::count_ones(item_at(letters, 2)) + u64::count_ones(item_at(letters, 3));
     low + high
 }
 
@@ -47,26 +40,27 @@ pub fn word_count(letters: &[u64; 4]) -> u64
 
 // The least letter not below c. In c's own number the bits below c are shifted out; the numbers after it are taken
 // whole.
-pub fn letter_from(letters: &[u64; 4], c: u32) -> Letter
+pub fn letter_from(letters: &[u64; 4], c: u32) -> Option<u32>
     ensures { result ≡ letter_found (letter_from letters.now c) }
 {
     let mut at = c;
+    // A `for` over the four numbers is no plainer: only the first of them has bits that are shifted out.
     while at < 256 {
-        let own = u64_at(letters, (at / 64) as usize) >> ((at % 64) as u64);
+        let own = item_at(letters, (at / 64) as usize) >> ((at % 64) as u64);
         if own != 0 {
-            return Letter::At(at + u64::trailing_zeros(own));
+            return Some(at + u64::trailing_zeros(own));
         }
         at = 64 * (at / 64) + 64;
     }
-    Letter::Nothing
+    None
 }
 
 // The least letter above c.
-pub fn letter_after(letters: &[u64; 4], c: u32) -> Letter
+pub fn letter_after(letters: &[u64; 4], c: u32) -> Option<u32>
     ensures { result ≡ letter_found (letter_from letters.now (suc c)) }
 {
     if 255 < c {
-        return Letter::Nothing;
+        return None;
     }
     letter_from(letters, c + 1)
 }

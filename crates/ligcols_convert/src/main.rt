@@ -6,7 +6,7 @@
 ghost use Rattle.std.specs.Prelude.{◌≡◌, length};
 
 use failures::tell;
-use file_fill::{Filled, fill};
+use file_fill::fill;
 use text_print::{front, print_converted};
 
 // Room for a text, and one byte more.
@@ -39,8 +39,8 @@ fn print<R: Print + Eprint>(rt: &R, text: &[u8; 65537], got: usize) {
 fn main(rt: HostRuntime) {
     let mut text = text_room();
     match fill(&mut rt.stdin(), &mut text) {
-        Filled::Bytes(got) => print(&rt, &text, got),
-        Filled::Failed(error) => tell(
+        Ok(got) => print(&rt, &text, got),
+        Err(error) => tell(
             &rt,
             "ligcols_convert: no text: standard input can't be read",
             error,

@@ -1,4 +1,4 @@
-ghost use Rattle.tfm.specs.Scaled.{scaled_at, scaled_at_reply};
+ghost use Rattle.tfm.specs.Scaled.{scaled_at, scaled_reply};
 ghost use Rattle.c_scale.specs.Scaling.{TellsScaled};
 
 // A kern in scaled points, at the design size or, where one is not zero, at a size or by a magnification.
@@ -10,7 +10,7 @@ pub extern "C" fn ligkern_to_scaled(
     magnification: i32,
     scaled: &mut [i32],
 ) -> u32
-    ensures { TellsScaled (scaled_at_reply (scaled_at kern design_size size magnification))
+    ensures { TellsScaled (scaled_reply (scaled_at kern design_size size magnification))
         scaled.old result scaled.new }
 {
     c_scale::ligkern_to_scaled(kern, design_size, size, magnification, scaled)

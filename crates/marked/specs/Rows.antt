@@ -1,9 +1,9 @@
 -- The marked readings (R266 to R273), one row each: what the definitions give, as numbers, and what the rule says. With them stands the
 -- example of the column text (R275): a font that compiling accepts, without a loop, and a word that is read in it, so that what demand 3
 -- asks of a font is met by one. The theorem `marked` of proofs/Marked says that the two columns are equal.
-use Rattle.std.specs.Prelude.{Bool, true, false, cond, List, [], ◌∷◌, ℕ, suc, ℤ, pos, negsuc, eqb}
+use Rattle.std.specs.Prelude.{Bool, true, false, cond, List, [], ◌∷◌, ℕ, suc, ℤ, pos, negsuc, eqb, Result}
 use Rattle.std.proofs.Math.Option.{none}
-use Rattle.tfm.specs.declared.ToScaled.{ToScaled}
+use Rattle.tfm.specs.declared.ScalingError.{ScalingError}
 use Rattle.tfm.specs.Scaled.{scaled_reply, to_scaled}
 use Rattle.lang.specs.declared.operation.PostLigOperation.TheVariants.{RetainBothMoveNowhere, RetainBothMoveToInserted}
 use Rattle.lang.specs.declared.operation.PostLigOperation.TheVariants.{RetainRightMoveToInserted, RetainLeftMoveNowhere}
@@ -37,7 +37,7 @@ abbrev pub reply_numbers : Reply → List ℤ
 reply_numbers r = pos r.number ∷ r.values
 
 -- the same of a kern that is scaled
-abbrev pub scaled_numbers : ToScaled → List ℤ
+abbrev pub scaled_numbers : Result ℤ ScalingError → List ℤ
 scaled_numbers x = reply_numbers (scaled_reply x)
 
 -- 1 where an operation is marked invalid, else 0

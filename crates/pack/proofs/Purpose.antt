@@ -12,10 +12,10 @@ use lib.Dec.{ltb, eqb}
 use lib.ListN.{length, get_or}
 use lib.Signed.{non_neg}
 use borrow.Author.Tests.{lt-ltb, le-leb, eq-eqb, ne_eqb, ltb-true, ltb-false}
+use Rattle.std.specs.Prelude.{None}
 use Rattle.words.specs.Words.{word_of}
 use Rattle.words.proofs.Lists.{get_d_tabulate}
 use Rattle.lang.specs.declared.operation.Operation.TheVariants.{EntrypointRedirect}
-use Rattle.lang.specs.declared.instruction.NextInstruction.TheVariants.{Stop}
 use Rattle.lang.specs.declared.instruction.Instruction.{Instruction}
 use Rattle.lang.specs.Every.{both}
 use Rattle.lang.specs.Records.{count, field, within, absent_or, operand_fits, next_of, operation_of, instruction_at, is_instruction, is_kind}
@@ -358,7 +358,7 @@ module _ (f : Packable) (room entryRoom : ℕ) (accepted : packing_refusal f roo
       let s = packed_instructions f in
       let i = font_offset f + count f.instructions in
       let z = old-fours f room entryRoom accepted in
-      let stops : (instruction_at s i).next_instruction ≡ Stop = ap next_of (back_field f 0 z t (omega arith)) in
+      let stops : (instruction_at s i).next_instruction ≡ None = ap next_of (back_field f 0 z t (omega arith)) in
       let k : is_kind 3 s i ≡ true = ap (λ (n : ℤ). eqb (word_of n) 3) (back_field f 2 z t (omega arith)) in
       let inside : i < packed_size = omega (arith, whole_size f, z, ap length (back_some f.left (font_offset f) t)) in
       rw (

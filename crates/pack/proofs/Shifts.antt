@@ -11,15 +11,15 @@ use Prim.Native.Nat.{ℕ, zero, suc, ◌+◌, ◌<◌, ◌≤◌}
 use native.Mathlib.Omega.{arith}
 use lib.Dec.{ltb}
 use borrow.Author.Tests.{ltb-true, ltb-false}
-use Rattle.lang.specs.declared.instruction.NextInstruction.{NextInstruction}
-use Rattle.lang.specs.declared.instruction.NextInstruction.TheVariants.{Stop, Skip}
+use Rattle.std.specs.declared.option.Option as rust
+use Rattle.std.specs.Prelude.{None, Some}
 use Rattle.lang.specs.declared.instruction.Instruction.{Instruction}
 use Rattle.program_chain.specs.Chains.{Program, onward_from, chain_from, chain, is_rule_for, first_for, rule_index}
 use Rattle.program_chain.proofs.Walks.{chain_step, chain_end}
 
 -- no next on the chain from i leads past the last of n instructions
 abbrev pub Inside : ℕ → Program → ℕ → Type 0
-Inside n program i = (j k : ℕ) → Memᴰ j (chain n program i) → (program j).next_instruction ≡ Skip k → j + 1 + k < n
+Inside n program i = (j k : ℕ) → Memᴰ j (chain n program i) → (program j).next_instruction ≡ Some k → j + 1 + k < n
 
 module _ (n : ℕ) (program : Program) where
   -- every index of a chain is one of an instruction
@@ -35,10 +35,10 @@ module _ (n : ℕ) (program : Program) where
       below_by i j (ltb i n) _ refl (chain_below most (onward_from n (program i).next_instruction i) j) m
 
   -- what is left of a chain inside is inside
-  inside_rest : (i k : ℕ) → i < n → (program i).next_instruction ≡ Skip k → Inside n program i → Inside n program (i + 1 + k)
+  inside_rest : (i k : ℕ) → i < n → (program i).next_instruction ≡ Some k → Inside n program i → Inside n program (i + 1 + k)
   inside_rest i k h e s j l m = s j l (rw (chain_step n program i h, e) (Memᴰ.tail m))
 
-  inside_next : (i k : ℕ) → i < n → (program i).next_instruction ≡ Skip k → Inside n program i → i + 1 + k < n
+  inside_next : (i k : ℕ) → i < n → (program i).next_instruction ≡ Some k → Inside n program i → i + 1 + k < n
   inside_next i k h e s = s i k (rw (chain_step n program i h) (Memᴰ.head refl)) e
 
 -- n instructions of a program stand among n', o places on
@@ -46,11 +46,11 @@ module _ (n n' o : ℕ) (program program' : Program) (room : n + o ≤ n') (same
   abbrev moved : List ℕ → List ℕ
   moved is = map (λ (i : ℕ). i + o) is
 
-  onward_moved : (i : ℕ) (x : NextInstruction) → (program i).next_instruction ≡ x → i < n → Inside n program i →
+  onward_moved : (i : ℕ) (x : rust.Option ℕ) → (program i).next_instruction ≡ x → i < n → Inside n program i →
       ((k : ℕ) → i + 1 + k < n → Inside n program (i + 1 + k) → chain n' program' (i + 1 + k + o) ≡ moved (chain n program (i + 1 + k))) →
       chain n' program' (onward_from n' x (i + o)) ≡ moved (chain n program (onward_from n x i))
-  onward_moved i Stop e h s r = chain_end n' program' n' (omega arith) ∙ sym (ap moved (chain_end n program n (omega arith)))
-  onward_moved i (Skip k) e h s r =
+  onward_moved i None e h s r = chain_end n' program' n' (omega arith) ∙ sym (ap moved (chain_end n program n (omega arith)))
+  onward_moved i (Some k) e h s r =
       let q : i + o + 1 + k ≡ i + 1 + k + o = omega arith in
       ap (chain n' program') q ∙ r k (inside_next n program i k h e s) (inside_rest n program i k h e s)
 
@@ -92,12 +92,12 @@ module _ (n n' o : ℕ) (program program' : Program) (room : n + o ≤ n') (same
     unfolding first_for
     past-moved right i h = beyond (i + o) right (omega arith) ∙ rw (chain_end n program i h)
 
-    rest-moved : (right i : ℕ) (x : NextInstruction) → i < n →
+    rest-moved : (right i : ℕ) (x : rust.Option ℕ) → i < n →
         ((k : ℕ) → rule_index n' program' (i + 1 + k + o) right ≡ Option.map (λ (j : ℕ). j + o) (rule_index n program (i + 1 + k) right)) →
         rule_index n' program' (onward_from n' x (i + o)) right ≡ Option.map (λ (j : ℕ). j + o) (rule_index n program (onward_from n x i) right)
     unfolding first_for
-    rest-moved right i Stop h r = rw (chain_end n' program' n' (omega arith), chain_end n program n (omega arith))
-    rest-moved right i (Skip k) h r =
+    rest-moved right i None h r = rw (chain_end n' program' n' (omega arith), chain_end n program n (omega arith))
+    rest-moved right i (Some k) h r =
         let q : i + o + 1 + k ≡ i + 1 + k + o = omega arith in
         rw q (r k)
 

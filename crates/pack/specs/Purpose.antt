@@ -1,11 +1,10 @@
 -- What packing is for (R154): theorems `packed-unpacks`, `packed-chains` and `packed-rules` of proofs/Purpose. No contract cites this.
-use Rattle.std.specs.Prelude.{◌≡◌, true, false, ℕ, ◌+◌, ◌-◌, ◌/◌, ◌<◌, ◌≤◌, ℤ, pos, length}
+use Rattle.std.specs.Prelude.{◌≡◌, true, false, ℕ, ◌+◌, ◌-◌, ◌/◌, ◌<◌, ◌≤◌, ℤ, pos, length, Some}
 use mathlib.Core.List.{List, [], ◌∷◌, map, Memᴰ}
 use Rattle.std.proofs.Math.Option
 use Rattle.std.proofs.Math.Option.{some}
 use Rattle.words.specs.Words.{word_of}
 use Rattle.lang.specs.declared.operation.Operation.TheVariants.{EntrypointRedirect}
-use Rattle.lang.specs.declared.instruction.NextInstruction.TheVariants.{Skip}
 use Rattle.lang.specs.Records.{count, within, is_kind, instruction_at}
 use Rattle.lang.specs.Checks.{char_at, entry_at}
 use Rattle.lang.specs.Answers.{reply_of}
@@ -44,7 +43,7 @@ PackedUnpacks =
 
 -- no next on the chain from e leads past the last instruction
 abbrev pub StaysInside : List ℤ → ℕ → Type 0
-StaysInside s e = (i k : ℕ) → Memᴰ i (chain_of s e) → (instruction_at s i).next_instruction ≡ Skip k → i + 1 + k < count s
+StaysInside s e = (i k : ℕ) → Memᴰ i (chain_of s e) → (instruction_at s i).next_instruction ≡ Some k → i + 1 + k < count s
 
 -- the packed chain from e, shifted, is the old chain from e with the offset added to each index; at each of them the old instruction
 -- stands; and the rule of every right character is the old one, shifted, or there is none in both

@@ -66,7 +66,7 @@ fn shift_refusal(labels: &[u32], left: u32, offset: usize) -> u32
     requires { offset < 65536 }
     ensures { result ≡ shift_refusal (largest labels.now) (left_or (number_of left)) offset }
 {
-    if 65535 < (words::u32s::u32_at(labels, 0) as usize) + offset {
+    if 65535 < (words::slices::item_at(labels, 0) as usize) + offset {
         return 11;
     }
     if 65535 < (present_or_zero(left) as usize) + offset {
@@ -114,7 +114,7 @@ fn front_target(labels: &[u32], redirects: usize, offset: usize, i: usize) -> u3
     if redirects == 0 {
         0
     } else {
-        words::u32s::u32_at(labels, i) + (offset as u32)
+        words::slices::item_at(labels, i) + (offset as u32)
     }
 }
 
@@ -181,11 +181,9 @@ fn put_instructions(
         ++ back (number_of left) offset) out.old out.new }
 {
     let size = packed_size(instructions, left, offset);
-    let mut j = 0;
-    while j < size {
+    for j in 0..size {
         let number = packed_number(instructions, boundary, left, labels, redirects, offset, j);
         words::i32s::put_word(out, j, number);
-        j += 1;
     }
 }
 
@@ -216,11 +214,9 @@ fn put_entries(entries: &[i32], labels: &[u32], redirects: usize, offset: usize,
         (entry_number entries.now redirects offset labels.now)) out.old
         out.new }
 {
-    let mut j = 0;
-    while j < entries.len() {
+    for j in 0..entries.len() {
         let number = entry_number(entries, labels, redirects, offset, j);
         words::i32s::put_word(out, j, number);
-        j += 1;
     }
 }
 
@@ -281,8 +277,8 @@ pub fn pack_entrypoints(
         (packable instructions.now entries.now boundary left_entry) out.old
         entries_out.old result out.new entries_out.new }
 {
-    words::i32s::zero_i32(out);
-    words::i32s::zero_i32(entries_out);
+    words::slices::zero_all(out);
+    words::slices::zero_all(entries_out);
     let font = packable_refusal(instructions, entries, boundary, left_entry);
     if font != 0 {
         return Packed::Refused(font);

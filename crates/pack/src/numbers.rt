@@ -23,14 +23,12 @@ pub(crate) fn present_or_zero(word: u32) -> u32
 pub(crate) fn place_among(labels: &[u32], e: u32) -> usize
     ensures { result ≡ place_among e labels.now }
 {
-    let mut p = 0;
-    while p < labels.len() {
-        if words::u32s::u32_at(labels, p) == e {
+    for (p, label) in labels.iter().enumerate() {
+        if *label == e {
             return p;
         }
-        p += 1;
     }
-    p
+    labels.len()
 }
 
 // Number m of a redirect: no next, the right character, kind 3 and the operand; 0 past these.

@@ -6,8 +6,6 @@ ghost use Rattle.std.specs.Prelude.{◌≡◌, [], ◌∷◌, ◌++◌, take};
 ghost use Rattle.phrases.specs.Phrases.{PutsText, decimal_text, is_printed};
 ghost use Rattle.phrases.specs.Phrases.{paren_text, code_text, char_text};
 
-use words::sizes::smaller;
-
 // One byte. Answers the place after it.
 fn put_byte(out: &mut [u8], at: usize, b: u8) -> usize
     ensures { PutsText out.old at (b ∷ []) result out.new }
@@ -23,11 +21,9 @@ fn put_byte(out: &mut [u8], at: usize, b: u8) -> usize
 pub fn put_text(out: &mut [u8], at: usize, text: &[u8]) -> usize
     ensures { PutsText out.old at text.now result out.new }
 {
-    let mut next = smaller(at, out.len());
-    let mut i = 0;
-    while i < text.len() {
-        next = put_byte(out, next, text[i]);
-        i += 1;
+    let mut next = at.min(out.len());
+    for b in text {
+        next = put_byte(out, next, *b);
     }
     next
 }
@@ -39,6 +35,7 @@ pub fn put_decimal(out: &mut [u8], at: usize, n: u32) -> usize
     let mut digits = [0u8; 10];
     let mut first = 9;
     let mut rest = n;
+    // The number ends this loop, and not the place of a digit.
     while 10 <= rest {
         digits[first] = 48 + ((rest % 10) as u8);
         rest = rest / 10;

@@ -15,17 +15,16 @@ use Rattle.words.specs.Words.{number_of}
 use Rattle.words.proofs.Bits.{number_pos}
 use Rattle.lang.specs.Every.{both}
 use Rattle.property_lists.specs.declared.Progress.{Progress}
-use Rattle.pl_progress.specs.declared.Change.{Change}
-use Rattle.pl_progress.specs.declared.Change.TheVariants as change
+use Rattle.std.specs.Prelude.{Option as Answer, Some, None}
 use Rattle.pl_apply.specs.Standing.{overlay, ChangesBy}
 
 -- ---- a test that lets through
 
-pub let_through : {test : Bool} {s : Progress} {list list₀ list' : List ℤ} → test ≡ true → list' ≡ list → ChangesBy test s list list₀ (change.To s) list'
+pub let_through : {test : Bool} {s : Progress} {list list₀ list' : List ℤ} → test ≡ true → list' ≡ list → ChangesBy test s list list₀ (Some s) list'
 let_through e f = record { is = sym (rw e); list_is = rw e f }
 
 pub let_through_to : {test : Bool} {s s' : Progress} {list list₀ list' : List ℤ} → test ≡ true → s' ≡ s → list' ≡ list →
-    ChangesBy test s list list₀ (change.To s') list'
+    ChangesBy test s list list₀ (Some s') list'
 let_through_to e g f = record { is = rw (e, g); list_is = rw e f }
 
 pub both_no : (a : Bool) {b : Bool} → b ≡ false → both a b ≡ false
@@ -33,7 +32,7 @@ both_no true e = e
 both_no false e = refl
 
 -- a further test that passes, and other names for the same
-pub skips : {test more : Bool} {s s' : Progress} {list list'' list₀ list' : List ℤ} {r : Change} → more ≡ true → ChangesBy test s list list₀ r list' → s ≡ s' →
+pub skips : {test more : Bool} {s s' : Progress} {list list'' list₀ list' : List ℤ} {r : Answer Progress} → more ≡ true → ChangesBy test s list list₀ r list' → s ≡ s' →
     list ≡ list'' → ChangesBy (both test more) s' list'' list₀ r list'
 skips {test} e p f g = rw (e, both_yes test, ← f, ← g) p
   where
@@ -47,7 +46,7 @@ small_number w h = number_pos w (omega arith)
 pub at_most_right : (a b : ℕ) → min a b ≤ b
 at_most_right a b = min-le_right a b
 
-pub held_back : {test : Bool} {s : Progress} {list list₀ : List ℤ} → test ≡ false → ChangesBy test s list list₀ change.Refused list₀
+pub held_back : {test : Bool} {s : Progress} {list list₀ : List ℤ} → test ≡ false → ChangesBy test s list list₀ None list₀
 held_back e = record { is = sym (rw e); list_is = sym (rw e) }
 
 -- ---- the lent list

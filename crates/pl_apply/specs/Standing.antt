@@ -3,8 +3,7 @@ use Rattle.std.specs.Prelude.{◌≡◌, Bool, true, cond, List, [], ◌∷◌, 
 use Rattle.std.proofs.Math.Option.{Option, none, some}
 use Rattle.property_lists.specs.declared.Progress.{Progress}
 use Rattle.property_lists.specs.ListReading.{ListRead}
-use Rattle.pl_progress.specs.declared.Change.{Change}
-use Rattle.pl_progress.specs.declared.Change.TheVariants as change
+use Rattle.std.specs.Prelude.{Option as Answer, Some, None}
 use Rattle.pl_progress.specs.Changes.{changed_to}
 
 -- xs over the front of d, as far as d goes
@@ -14,7 +13,7 @@ overlay (x ∷ xs) [] = []
 overlay (x ∷ xs) (y ∷ d) = x ∷ overlay xs d
 
 -- it is what the test lets through, and a list is changed with it
-pub record ChangesBy (test : Bool) (s : Progress) (list list₀ : List ℤ) (r : Change) (list' : List ℤ) : Type 0 where
+pub record ChangesBy (test : Bool) (s : Progress) (list list₀ : List ℤ) (r : Answer Progress) (list' : List ℤ) : Type 0 where
   pub is : changed_to r ≡ cond test (some s) none
   pub list_is : list' ≡ cond test list list₀
 
@@ -32,6 +31,6 @@ pub record StandsAt (z : List ℤ) (o : Option ListRead) (s : Progress) (instruc
   pub stands : Stands z read s instructions labels
 
 -- after a property, and after all of them
-pub data Follows (z : List ℤ) (o : Option ListRead) : Change → List ℤ → List ℤ → Type 0 where
-  on : {s : Progress} {i l : List ℤ} → StandsAt z o s i l → Follows z o (change.To s) i l
-  stuck : {i l : List ℤ} → o ≡ none → Follows z o change.Refused i l
+pub data Follows (z : List ℤ) (o : Option ListRead) : Answer Progress → List ℤ → List ℤ → Type 0 where
+  on : {s : Progress} {i l : List ℤ} → StandsAt z o s i l → Follows z o (Some s) i l
+  stuck : {i l : List ℤ} → o ≡ none → Follows z o None i l

@@ -6,7 +6,7 @@ ghost use Rattle.property_lists.specs.Properties.{least_bytes};
 ghost use Rattle.property_lists.specs.ListReading.{ListRead, applied};
 ghost use Rattle.pl_apply.specs.Standing.{Stands, Follows};
 
-use pl_progress::{Change, bounded, least_bytes, table_closed, table_opened};
+use pl_progress::{bounded, least_bytes, table_closed, table_opened};
 use property_lists::{Progress, Property};
 use state::{label, put_step, skip, stop};
 
@@ -27,16 +27,21 @@ fn operand_of(op: u32, inserted: u32) -> u32
 }
 
 // What was read, with a property more, of a text that has four bytes for each step before it.
-pub fn applied(p: Property, s: Progress, instructions: &mut [i32], labels: &mut [i32]) -> Change
+pub fn applied(
+    p: Property,
+    s: Progress,
+    instructions: &mut [i32],
+    labels: &mut [i32],
+) -> Option<Progress>
     ensures { 4 * s.steps + least_bytes p ≤ 18446744073709551615 → (z : List ℤ) (l : ListRead) →
         Stands z l s instructions.old labels.old →
         Follows z (applied p l) result instructions.new labels.new }
 {
     if !is_size(p, s.steps) {
-        return Change::Refused;
+        return None;
     }
     match p {
-        Property::Comment => Change::To(s),
+        Property::Comment => Some(s),
         Property::Boundary(c) => bounded(c, s),
         Property::Table => table_opened(s),
         Property::Label(c) => label(c, s, labels),
@@ -51,6 +56,6 @@ pub fn applied(p: Property, s: Progress, instructions: &mut [i32], labels: &mut 
         ),
         Property::Kern(right, bits) => put_step(right, 0, bits, s, instructions),
         Property::Closed => table_closed(s),
-        Property::Ended => Change::Refused,
+        Property::Ended => None,
     }
 }

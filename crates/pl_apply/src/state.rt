@@ -7,10 +7,9 @@ ghost use Rattle.property_lists.specs.ListReading.{at_least, may_label};
 ghost use Rattle.property_lists.specs.ListReading.{labelled_at, label_set, may_end, ended_at, next_set, stepped_at};
 ghost use Rattle.pl_apply.specs.Standing.{ChangesBy};
 
-use pl_progress::{Change, may_label};
+use pl_progress::may_label;
 use property_lists::Progress;
 use words::i32s::put_word;
-use words::sizes::{minus, smaller};
 
 // As many steps as a label or SKIP asks for.
 fn at_least(needed: usize, n: usize) -> usize
@@ -21,17 +20,17 @@ fn at_least(needed: usize, n: usize) -> usize
 }
 
 // LABEL.
-pub(crate) fn label(c: u32, s: Progress, labels: &mut [i32]) -> Change
+pub(crate) fn label(c: u32, s: Progress, labels: &mut [i32]) -> Option<Progress>
     requires { 4 * s.steps ≤ 18446744073709551615 }
     ensures { ChangesBy (may_label c s labels.old) (labelled_at s)
         (label_set c s.steps labels.old) labels.old result labels.new }
 {
     if !may_label(c, s, labels) {
-        return Change::Refused;
+        return None;
     }
-    put_word(labels, c as usize, smaller(s.steps, 65535) as u32);
+    put_word(labels, c as usize, s.steps.min(65535) as u32);
     let needed = at_least(s.needed, s.steps);
-    Change::To(Progress {
+    Some(Progress {
         stage: s.stage,
         boundary: s.boundary,
         steps: s.steps,
@@ -41,20 +40,20 @@ pub(crate) fn label(c: u32, s: Progress, labels: &mut [i32]) -> Change
 }
 
 // The end of a step: its next, and how many steps are asked for then.
-fn end_step(next: u32, needed: usize, s: Progress, instructions: &mut [i32]) -> Change
+fn end_step(next: u32, needed: usize, s: Progress, instructions: &mut [i32]) -> Option<Progress>
     requires { 4 * s.steps ≤ 18446744073709551615 }
     ensures { ChangesBy (may_end s) (ended_at needed s)
         (next_set s.steps (number_of next) instructions.old) instructions.old result
         instructions.new }
 {
     if s.stage != 2 {
-        return Change::Refused;
+        return None;
     }
     if !s.ending {
-        return Change::Refused;
+        return None;
     }
-    put_word(instructions, 4 * minus(s.steps, 1), next);
-    Change::To(Progress {
+    put_word(instructions, 4 * s.steps.saturating_sub(1), next);
+    Some(Progress {
         stage: s.stage,
         boundary: s.boundary,
         steps: s.steps,
@@ -64,7 +63,7 @@ fn end_step(next: u32, needed: usize, s: Progress, instructions: &mut [i32]) -> 
 }
 
 // STOP.
-pub(crate) fn stop(s: Progress, instructions: &mut [i32]) -> Change
+pub(crate) fn stop(s: Progress, instructions: &mut [i32]) -> Option<Progress>
     requires { 4 * s.steps ≤ 18446744073709551615 }
     ensures { ChangesBy (may_end s) (ended_at s.needed s)
         (next_set s.steps (negsuc 0) instructions.old) instructions.old result
@@ -74,14 +73,14 @@ pub(crate) fn stop(s: Progress, instructions: &mut [i32]) -> Change
 }
 
 // SKIP.
-pub(crate) fn skip(n: u32, s: Progress, instructions: &mut [i32]) -> Change
+pub(crate) fn skip(n: u32, s: Progress, instructions: &mut [i32]) -> Option<Progress>
     requires { 4 * s.steps ≤ 18446744073709551615 }
     ensures { ChangesBy (both (may_end s) (leb n 127)) (ended_at (at_least s.needed (s.steps + n)) s)
         (next_set s.steps (pos n) instructions.old) instructions.old result
         instructions.new }
 {
     if 127 < n {
-        return Change::Refused;
+        return None;
     }
     end_step(n, at_least(s.needed, s.steps + n as usize), s, instructions)
 }
@@ -93,7 +92,7 @@ pub(crate) fn put_step(
     operand: u32,
     s: Progress,
     instructions: &mut [i32],
-) -> Change
+) -> Option<Progress>
     requires { 4 * s.steps + 4 ≤ 18446744073709551615 }
     ensures { ChangesBy (eqb s.stage 2) (stepped_at s)
         (sets instructions.old (4 * s.steps)
@@ -101,13 +100,13 @@ pub(crate) fn put_step(
         instructions.new }
 {
     if s.stage != 2 {
-        return Change::Refused;
+        return None;
     }
     put_word(instructions, 4 * s.steps, 0);
     put_word(instructions, 4 * s.steps + 1, right % 256);
     put_word(instructions, 4 * s.steps + 2, kind);
     put_word(instructions, 4 * s.steps + 3, operand);
-    Change::To(Progress {
+    Some(Progress {
         stage: s.stage,
         boundary: s.boundary,
         steps: s.steps + 1,

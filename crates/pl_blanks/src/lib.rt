@@ -5,8 +5,6 @@ ghost use Rattle.std.specs.Prelude.{◌≡◌, false, ◌≤◌, length, drop};
 ghost use Rattle.property_lists.specs.Chars.{is_passed, unless_held, pass_over, past_blanks, to_paren, Passes};
 
 use pl_bytes::is_visible;
-use property_lists::Passed;
-use words::sizes::smaller;
 
 // A byte that is passed over: a blank, or with `all` any character but parentheses.
 fn is_passed(all: bool, held: bool, b: u8) -> bool
@@ -31,39 +29,37 @@ fn is_passed(all: bool, held: bool, b: u8) -> bool
 }
 
 // Where passing over ends: nowhere after a carriage return.
-fn unless_held(text: &[u8], held: bool, i: usize) -> Passed
+fn unless_held(text: &[u8], held: bool, i: usize) -> Option<usize>
     requires { i ≤ length text.now }
     ensures { Passes (unless_held held (drop i text.now)) text.now i 0 result }
 {
-    if held { Passed::Refused } else { Passed::At(i) }
+    if held { None } else { Some(i) }
 }
 
 // Blanks passed over; with `all` everything up to a parenthesis.
-fn pass_over(text: &[u8], at: usize, all: bool) -> Passed
+fn pass_over(text: &[u8], at: usize, all: bool) -> Option<usize>
     ensures { Passes (pass_over all false (drop at text.now)) text.now at 0 result }
 {
     let mut held = false;
-    let mut i = smaller(at, text.len());
-    while i < text.len() {
+    for i in at..text.len() {
         let b = text[i];
         if !is_passed(all, held, b) {
             return unless_held(text, held, i);
         }
         held = b == 13;
-        i += 1;
     }
-    unless_held(text, held, i)
+    unless_held(text, held, text.len())
 }
 
 // Blanks passed over.
-pub fn past_blanks(text: &[u8], at: usize) -> Passed
+pub fn past_blanks(text: &[u8], at: usize) -> Option<usize>
     ensures { Passes (past_blanks (drop at text.now)) text.now at 0 result }
 {
     pass_over(text, at, false)
 }
 
 // Everything up to a parenthesis passed over.
-pub fn to_paren(text: &[u8], at: usize) -> Passed
+pub fn to_paren(text: &[u8], at: usize) -> Option<usize>
     ensures { Passes (to_paren (drop at text.now)) text.now at 0 result }
 {
     pass_over(text, at, true)

@@ -6,21 +6,17 @@ ghost use Rattle.property_lists.specs.Chars.{in_name, past_comment, past_byte, p
 
 use pl_blanks::past_blanks;
 use pl_bytes::{is_capital, is_figure, upper_case};
-use property_lists::Passed;
-use words::sizes::smaller;
 
 // The rest of a comment.
-pub fn past_comment(text: &[u8], at: usize) -> Passed
+pub fn past_comment(text: &[u8], at: usize) -> Option<usize>
     ensures { Passes (past_comment 0 (drop at text.now)) text.now at 1 result }
 {
     let mut depth: usize = 0;
-    let mut i = at;
-    while i < text.len() {
+    for i in at..text.len() {
         let b = text[i];
-        i += 1;
         if b == 41 {
             if depth == 0 {
-                return Passed::At(i);
+                return Some(i + 1);
             }
             depth -= 1;
         } else {
@@ -29,28 +25,26 @@ pub fn past_comment(text: &[u8], at: usize) -> Passed
             }
         }
     }
-    Passed::Refused
+    None
 }
 
 // One byte.
-pub fn past_byte(text: &[u8], at: usize, a: u8) -> Passed
+pub fn past_byte(text: &[u8], at: usize, a: u8) -> Option<usize>
     ensures { Passes (past_byte a (drop at text.now)) text.now at 1 result }
 {
     if at < text.len() {
         if text[at] == a {
-            return Passed::At(at + 1);
+            return Some(at + 1);
         }
     }
-    Passed::Refused
+    None
 }
 
 // The end of a property.
-pub fn past_end(text: &[u8], at: usize) -> Passed
+pub fn past_end(text: &[u8], at: usize) -> Option<usize>
     ensures { Passes (past_end (drop at text.now)) text.now at 1 result }
 {
-    let Passed::At(i) = past_blanks(text, at) else {
-        return Passed::Refused;
-    };
+    let i = past_blanks(text, at)?;
     past_byte(text, i, 41)
 }
 
@@ -71,34 +65,31 @@ fn in_name(b: u8) -> bool
 }
 
 // No more characters of a name.
-fn name_ends(text: &[u8], at: usize) -> Passed
+fn name_ends(text: &[u8], at: usize) -> Option<usize>
     requires { at ≤ length text.now }
     ensures { Passes (name_ends (drop at text.now)) text.now at 0 result }
 {
     if at < text.len() {
         if in_name(text[at]) {
-            return Passed::Refused;
+            return None;
         }
     }
-    Passed::At(at)
+    Some(at)
 }
 
 // A name.
-pub fn past_name(text: &[u8], at: usize, name: &[u8]) -> Passed
+pub fn past_name(text: &[u8], at: usize, name: &[u8]) -> Option<usize>
     ensures { Passes (past_name name.now (drop at text.now)) text.now at
         (length name.now) result }
 {
-    let mut i = smaller(at, text.len());
-    let mut k = 0;
-    while k < name.len() {
-        if text.len() <= i {
-            return Passed::Refused;
+    let first = at.min(text.len());
+    for (k, letter) in name.iter().enumerate() {
+        if text.len() <= first + k {
+            return None;
         }
-        if upper_case(text[i]) != name[k] {
-            return Passed::Refused;
+        if upper_case(text[first + k]) != *letter {
+            return None;
         }
-        i += 1;
-        k += 1;
     }
-    name_ends(text, i)
+    name_ends(text, first + name.len())
 }

@@ -30,10 +30,8 @@ pub fn put_label_entries(labels: &[i32], entries: &mut [i32]) -> usize
         (result ≡ length (label_entries labels.now 256)) }
 {
     let mut n = 0;
-    let mut c = 0;
-    while c < 256 {
+    for c in 0..256 {
         n = put_label_entry(labels, c, n, entries);
-        c += 1;
     }
     n
 }

@@ -160,13 +160,11 @@ pub fn good_indents(text: &[u8]) -> bool
         good: 0,
         indent: 0,
     };
-    let mut i = 0;
-    while i < text.len() {
-        let Indented::To(t) = after_byte(text[i], s) else {
+    for b in text {
+        let Indented::To(t) = after_byte(*b, s) else {
             return false;
         };
         s = t;
-        i += 1;
     }
     true
 }

@@ -5,17 +5,17 @@
 
 ghost use Rattle.words.specs.Words.{number_of};
 ghost use Rattle.property_lists.specs.Putting.{PutsCounted};
-ghost use Rattle.property_lists.specs.Displays.{leading_octal, octal_char, label_line, boundary_label_line, boundary_line};
+ghost use Rattle.property_lists.specs.Displays.{leading_octal, octal_char, label_line, boundary_label_line};
+ghost use Rattle.property_lists.specs.Displays.{boundary_line};
 
 use pl_put::bytes::{put_byte, put_bytes};
-use words::sizes::smaller;
 
 // The last octal digit of a number, and nothing where the number is 0.
 fn put_leading(out: &mut [u8], at: usize, n: u32) -> usize
     ensures { PutsCounted out.old at (leading_octal n) result out.new }
 {
     if n == 0 {
-        return smaller(at, out.len() + 1);
+        return at.min(out.len() + 1);
     }
     put_byte(out, at, 48 + ((n % 8) as u8))
 }
@@ -51,7 +51,7 @@ pub fn put_boundary(out: &mut [u8], at: usize, boundary: u32) -> usize
     ensures { PutsCounted out.old at (boundary_line (number_of boundary)) result out.new }
 {
     if 2147483648 <= boundary {
-        return smaller(at, out.len() + 1);
+        return at.min(out.len() + 1);
     }
     let first = put_bytes(out, at, b"(BOUNDARYCHAR");
     let end = put_char(out, first, boundary);

@@ -11,7 +11,6 @@ use pl_labels::put_char;
 use pl_put::bytes::{put_bytes, put_repeated};
 use pl_put::whole::put_whole;
 use real_text::put_real;
-use words::sizes::smaller;
 
 // LIG with the slashes and arrows of an op byte.
 fn put_name(out: &mut [u8], at: usize, op: u32) -> usize
@@ -60,7 +59,7 @@ pub fn put_next(out: &mut [u8], at: usize, next: u32) -> usize
     ensures { PutsCounted out.old at (next_line (number_of next)) result out.new }
 {
     if next == 0 {
-        return smaller(at, out.len() + 1);
+        return at.min(out.len() + 1);
     }
     if next < 2147483648 {
         return put_skip(out, at, next);

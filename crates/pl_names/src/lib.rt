@@ -8,7 +8,7 @@ ghost use Rattle.property_lists.specs.Values.{number_after, Scans};
 ghost use Rattle.property_lists.specs.Properties.{or_named, first_named, common_names, name_at};
 
 use pl_chars::past_name;
-use property_lists::{Passed, ValueRead};
+use property_lists::ValueRead;
 
 // The code of a name that stands here, where none before it does.
 fn or_named(text: &[u8], at: usize, earlier: ValueRead, code: u32, name: &[u8]) -> ValueRead
@@ -19,8 +19,8 @@ fn or_named(text: &[u8], at: usize, earlier: ValueRead, code: u32, name: &[u8]) 
     match earlier {
         ValueRead::Value(_, _) => earlier,
         ValueRead::Refused => match past_name(text, at, name) {
-            Passed::At(n) => ValueRead::Value(code, n),
-            Passed::Refused => ValueRead::Refused,
+            Some(n) => ValueRead::Value(code, n),
+            None => ValueRead::Refused,
         },
     }
 }

@@ -9,21 +9,14 @@ ghost use Rattle.pl_progress.specs.Changes.{changed_to};
 use property_lists::{Progress, Property};
 use words::i32s::word_at;
 
-// After a property: where reading stands, or 23.
-#[derive(Clone, Copy)]
-pub enum Change {
-    To(Progress),
-    Refused,
-}
-
 // BOUNDARYCHAR.
-pub fn bounded(c: u32, s: Progress) -> Change
+pub fn bounded(c: u32, s: Progress) -> Option<Progress>
     ensures { changed_to result ≡ bounded c s }
 {
     if s.stage != 0 {
-        return Change::Refused;
+        return None;
     }
-    Change::To(Progress {
+    Some(Progress {
         stage: 1,
         boundary: c,
         steps: s.steps,
@@ -33,13 +26,13 @@ pub fn bounded(c: u32, s: Progress) -> Change
 }
 
 // LIGTABLE.
-pub fn table_opened(s: Progress) -> Change
+pub fn table_opened(s: Progress) -> Option<Progress>
     ensures { changed_to result ≡ table_opened s }
 {
     if 1 < s.stage {
-        return Change::Refused;
+        return None;
     }
-    Change::To(Progress {
+    Some(Progress {
         stage: 2,
         boundary: s.boundary,
         steps: s.steps,
@@ -49,13 +42,13 @@ pub fn table_opened(s: Progress) -> Change
 }
 
 // The parenthesis that closes it.
-pub fn table_closed(s: Progress) -> Change
+pub fn table_closed(s: Progress) -> Option<Progress>
     ensures { changed_to result ≡ table_closed s }
 {
     if s.stage != 2 {
-        return Change::Refused;
+        return None;
     }
-    Change::To(Progress {
+    Some(Progress {
         stage: 3,
         boundary: s.boundary,
         steps: s.steps,

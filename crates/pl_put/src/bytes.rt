@@ -2,8 +2,6 @@
 ghost use Rattle.std.specs.Prelude.{[], ◌∷◌, replicate};
 ghost use Rattle.property_lists.specs.Putting.{PutsCounted};
 
-use words::sizes::smaller;
-
 // One byte. Answers the place after it.
 pub fn put_byte(out: &mut [u8], at: usize, b: u8) -> usize
     ensures { PutsCounted out.old at (b ∷ []) result out.new }
@@ -19,11 +17,9 @@ pub fn put_byte(out: &mut [u8], at: usize, b: u8) -> usize
 pub fn put_repeated(out: &mut [u8], at: usize, b: u8, n: u32) -> usize
     ensures { PutsCounted out.old at (replicate n b) result out.new }
 {
-    let mut next = smaller(at, out.len() + 1);
-    let mut i: u32 = 0;
-    while i < n {
+    let mut next = at.min(out.len() + 1);
+    for _ in 0..n {
         next = put_byte(out, next, b);
-        i += 1;
     }
     next
 }
@@ -32,11 +28,9 @@ pub fn put_repeated(out: &mut [u8], at: usize, b: u8, n: u32) -> usize
 pub fn put_bytes(out: &mut [u8], at: usize, text: &[u8]) -> usize
     ensures { PutsCounted out.old at text.now result out.new }
 {
-    let mut next = smaller(at, out.len() + 1);
-    let mut i = 0;
-    while i < text.len() {
-        next = put_byte(out, next, text[i]);
-        i += 1;
+    let mut next = at.min(out.len() + 1);
+    for b in text {
+        next = put_byte(out, next, *b);
     }
     next
 }

@@ -3,14 +3,13 @@ ghost use Rattle.points.specs.Printing.{leading_digit, whole_text};
 ghost use Rattle.property_lists.specs.Putting.{PutsCounted};
 
 use crate::bytes::put_byte;
-use words::sizes::smaller;
 
 // The last digit of a number, and nothing where the number is 0. Answers the place after it.
 fn put_leading(out: &mut [u8], at: usize, n: u32) -> usize
     ensures { PutsCounted out.old at (leading_digit n) result out.new }
 {
     if n == 0 {
-        return smaller(at, out.len() + 1);
+        return at.min(out.len() + 1);
     }
     put_byte(out, at, 48 + ((n % 10) as u8))
 }

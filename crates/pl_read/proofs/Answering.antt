@@ -19,8 +19,7 @@ use Rattle.property_lists.specs.declared.Progress.{Progress}
 use Rattle.property_lists.specs.ListReading.{ListRead, label_entries, pl_read}
 use Rattle.pl_read.specs.declared.StepsListed.TheVariants as listed
 use Rattle.pl_read.specs.ValueLists.{steps_refusal, steps_values, steps_reply, ReadsValues}
-use Rattle.pl_progress.specs.declared.Change.{Change}
-use Rattle.pl_progress.specs.declared.Change.TheVariants as change
+use Rattle.std.specs.Prelude.{Option as Answer, Some, None}
 use Rattle.pl_apply.specs.Standing.{overlay, Stands, StandsAt, Follows, on, stuck}
 use Rattle.pl_apply.proofs.Laws.{overlay_all}
 
@@ -40,7 +39,7 @@ written : (n : ℕ) (xs : List ℤ) {d : List ℤ} → d ≡ overlay xs (replica
 written n xs e h =
     e ∙ overlay_all xs (replicate n (pos 0)) (rw (length-replicate n (pos 0)) h) ∙ ap (λ (t : List ℤ). xs ++ t) (drop_replicate (length xs) n (pos 0))
 
-pub followed_on : {z : List ℤ} {o : Option ListRead} {r : Change} {s : Progress} {i b : List ℤ} → Follows z o r i b → r ≡ change.To s → StandsAt z o s i b
+pub followed_on : {z : List ℤ} {o : Option ListRead} {r : Answer Progress} {s : Progress} {i b : List ℤ} → Follows z o r i b → r ≡ Some s → StandsAt z o s i b
 followed_on {s = s} (on {s = u} st) q = let x : u ≡ s = cc in rw x at st
 followed_on (stuck k) q = let x : ◌≡◌ {A = ℕ} 0 1 = cc in absurd (omega arith)
 
@@ -49,7 +48,7 @@ number_of_lem zero h vs = absurd (h refl)
 number_of_lem (suc m) h vs = refl
 
 module _ (text : List ℕ) (instructions entries : List ℤ) where
-  pub answer_none : {r : Change} {z i₁ b₁ i e : List ℤ} → Follows z (pl_read text) r i₁ b₁ → r ≡ change.Refused → i ≡ replicate (length instructions) (pos 0) →
+  pub answer_none : {r : Answer Progress} {z i₁ b₁ i e : List ℤ} → Follows z (pl_read text) r i₁ b₁ → r ≡ None → i ≡ replicate (length instructions) (pos 0) →
       e ≡ replicate (length entries) (pos 0) → ReadsValues text instructions entries (listed.Refused 23) i e
   answer_none (on st) q p f = let x : ◌≡◌ {A = ℕ} 0 1 = cc in absurd (omega arith)
   answer_none (stuck k) q p f = record { answer = rw k; program = rw k p; labels = rw k f }

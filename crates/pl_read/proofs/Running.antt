@@ -2,29 +2,26 @@
 -- Assumes nothing.
 use mathlib.Core.Path.{◌≡◌, refl, sym, ap, ◌∙◌}
 use mathlib.Core.Bool.{Bool, true, false, cond}
-use mathlib.Core.List.{List, [], ◌∷◌, ◌++◌}
+use mathlib.Core.List.{List}
 use mathlib.Core.Option.{Option, none, some}
 use Prim.Native.Nat.{ℕ, zero, suc, ◌+◌, ◌-◌, ◌*◌, ◌<◌, ◌≤◌}
 use native.Mathlib.Omega.{arith}
-use lib.IntN.{ℤ, pos, negsuc}
+use lib.IntN.{ℤ, negsuc}
 use lib.Dec.{eqb, leb}
 use lib.ListN.{length, drop, set, replicate, length-set}
-use Rattle.words.specs.Words.{number_of}
 use Rattle.lang.specs.Every.{both}
 use Rattle.property_lists.specs.declared.Property.{Property}
 use Rattle.property_lists.specs.declared.Property.TheVariants as property
 use Rattle.property_lists.specs.declared.Progress.{Progress}
 use Rattle.property_lists.specs.Properties.{property_at, least_bytes}
-use Rattle.property_lists.specs.ListReading.{ListRead, reading_by, progress_by, at_stage, bounded, table_opened, table_closed, may_label, labelled_at, may_end, ended_at}
-use Rattle.property_lists.specs.ListReading.{next_set, stepped_at, stepped, at_least, label_set, with_now}
+use Rattle.property_lists.specs.ListReading.{ListRead, reading_by, progress_by, may_label, may_end}
+use Rattle.property_lists.specs.ListReading.{next_set, with_now}
 use Rattle.property_lists.specs.ListReading.{applied, is_ended, nothing_read, read_all, list_finished, pl_read}
 use Rattle.property_lists.specs.Indents.{good_indents}
-use Rattle.pl_progress.specs.declared.Change.{Change}
-use Rattle.pl_progress.specs.declared.Change.TheVariants as change
-use Rattle.pl_apply.specs.Standing.{overlay, Stands, StandsAt, Follows, on, stuck}
+use Rattle.std.specs.Prelude.{Option as Answer, Some, None}
+use Rattle.pl_apply.specs.Standing.{overlay, Stands, Follows, on, stuck}
 use Rattle.pl_read.specs.Going.{Going}
 use Rattle.pl_apply.proofs.Laws.{overlay_set}
-use Rattle.pl_apply.proofs.Applying.{follows_is}
 
 -- ---- a property makes no more steps than its bytes allow
 
@@ -137,19 +134,19 @@ module _ {text : List ℕ} {z : List ℤ} {s : Progress} {at : ℕ} {i b : List 
   has_fuel : 0 < g.fuel
   has_fuel = omega (arith, g.enough, g.within)
 
-  pub going_stuck : {i' b' : List ℤ} → property_at (drop at text) ≡ none → Follows z (all_read text) change.Refused i' b'
+  pub going_stuck : {i' b' : List ℤ} → property_at (drop at text) ≡ none → Follows z (all_read text) None i' b'
   going_stuck e = stuck (sym g.same ∙ stuck_by g.fuel g.read (drop at text) e)
 
-  pub going_done : {p : Property} {rest : List ℕ} → property_at (drop at text) ≡ some (p, rest) → is_ended p ≡ true → Follows z (all_read text) (change.To s) i b
+  pub going_done : {p : Property} {rest : List ℕ} → property_at (drop at text) ≡ some (p, rest) → is_ended p ≡ true → Follows z (all_read text) (Some s) i b
   going_done e h = on (record { read = g.read; is = sym g.same ∙ done_by g.fuel g.read (drop at text) has_fuel e h; stands = g.stands })
 
   module _ {p : Property} {rest : List ℕ} (e : property_at (drop at text) ≡ some (p, rest)) (h : is_ended p ≡ false) where
-    pub going_refused : {r : Change} {i₁ b₁ i' b' : List ℤ} → Follows z (applied p g.read) r i₁ b₁ → r ≡ change.Refused →
-        Follows z (all_read text) change.Refused i' b'
+    pub going_refused : {r : Answer Progress} {i₁ b₁ i' b' : List ℤ} → Follows z (applied p g.read) r i₁ b₁ → r ≡ None →
+        Follows z (all_read text) None i' b'
     going_refused (on st) q = let x : ◌≡◌ {A = ℕ} 0 1 = cc in absurd (omega arith)
     going_refused (stuck k) q = stuck (sym g.same ∙ none_by g.fuel g.read (drop at text) e h k)
 
-    pub going_on : {r : Change} {t : Progress} {n : ℕ} {i' b' : List ℤ} → Follows z (applied p g.read) r i' b' → r ≡ change.To t → rest ≡ drop n text →
+    pub going_on : {r : Answer Progress} {t : Progress} {n : ℕ} {i' b' : List ℤ} → Follows z (applied p g.read) r i' b' → r ≡ Some t → rest ≡ drop n text →
         at + least_bytes p ≤ n → n ≤ length text → Going text z t n i' b'
     going_on (stuck k) q d m w = let x : ◌≡◌ {A = ℕ} 0 1 = cc in absurd (omega arith)
     going_on {t = t} (on {s = u} st) q d m w =
@@ -171,19 +168,16 @@ module _ {text : List ℕ} {z : List ℤ} {s : Progress} {at : ℕ} {i b : List 
           );
         })
 
-    pub going_less : (n : ℕ) → at + least_bytes p ≤ n → at < n
-    going_less n m = omega (arith, some_bytes p h)
-
 -- ---- at the end
 
 module _ {z : List ℤ} {l : ListRead} {s : Progress} {i b : List ℤ} (st : Stands z l s i b) where
-  pub finish_open : eqb s.stage 2 ≡ true → {i' : List ℤ} → Follows z (list_finished l) change.Refused i' b
+  pub finish_open : eqb s.stage 2 ≡ true → {i' : List ℤ} → Follows z (list_finished l) None i' b
   finish_open e = stuck (rw (st.now_is, e))
 
-  pub finish_short : eqb s.stage 2 ≡ false → leb s.needed s.steps ≡ false → {i' : List ℤ} → Follows z (list_finished l) change.Refused i' b
+  pub finish_short : eqb s.stage 2 ≡ false → leb s.needed s.steps ≡ false → {i' : List ℤ} → Follows z (list_finished l) None i' b
   finish_short e f = stuck (rw (st.now_is, e, f))
 
-  pub finish_kept : eqb s.stage 2 ≡ false → leb s.needed s.steps ≡ true → s.ending ≡ false → Follows z (list_finished l) (change.To s) i b
+  pub finish_kept : eqb s.stage 2 ≡ false → leb s.needed s.steps ≡ true → s.ending ≡ false → Follows z (list_finished l) (Some s) i b
   finish_kept e f g =
       on (record {
         read = reading_by s l.program l.labels;
@@ -192,7 +186,7 @@ module _ {z : List ℤ} {l : ListRead} {s : Progress} {i b : List ℤ} (st : Sta
       })
 
   pub finish_ended : eqb s.stage 2 ≡ false → leb s.needed s.steps ≡ true → s.ending ≡ true → {i' : List ℤ} →
-      i' ≡ set i (4 * (s.steps - 1)) (negsuc 0) → Follows z (list_finished l) (change.To s) i' b
+      i' ≡ set i (4 * (s.steps - 1)) (negsuc 0) → Follows z (list_finished l) (Some s) i' b
   finish_ended e f g p =
       let some-steps : 1 ≤ s.steps = st.some_step g in
       on (record {
@@ -210,17 +204,5 @@ module _ {z : List ℤ} {l : ListRead} {s : Progress} {i b : List ℤ} (st : Sta
 
 -- the whole
 module _ (text : List ℕ) {z : List ℤ} where
-  pub scan_bad : good_indents text ≡ false → {i b : List ℤ} → Follows z (pl_read text) change.Refused i b
+  pub scan_bad : good_indents text ≡ false → {i b : List ℤ} → Follows z (pl_read text) None i b
   scan_bad e = stuck (rw e)
-
-  pub scan_none : {r : Change} {i b i' b' : List ℤ} → good_indents text ≡ true → Follows z (all_read text) r i b → r ≡ change.Refused →
-      Follows z (pl_read text) change.Refused i' b'
-  scan_none e (on st) q = let x : ◌≡◌ {A = ℕ} 0 1 = cc in absurd (omega arith)
-  scan_none e (stuck k) q = stuck (rw (e, k))
-
-  pub scan_all : {r r' : Change} {s : Progress} {i b i' : List ℤ} → good_indents text ≡ true → Follows z (all_read text) r i b → r ≡ change.To s →
-      ((l : ListRead) → Stands z l s i b → Follows z (list_finished l) r' i' b) → Follows z (pl_read text) r' i' b
-  scan_all e (stuck k) q f = let x : ◌≡◌ {A = ℕ} 0 1 = cc in absurd (omega arith)
-  scan_all {s = s} {i = i} {b = b} e (on {s = u} st) q f =
-      let x : u ≡ s = cc in
-      follows_is (rw (e, st.is)) (f st.read (rw x at st.stands))

@@ -2,14 +2,13 @@
 use Rattle.std.specs.Prelude.{◌≡◌, List, ℕ, suc, ◌+◌, ◌*◌, ◌≤◌, ◌<◌, ℤ, length, drop}
 use Rattle.property_lists.specs.declared.Progress.{Progress}
 use Rattle.property_lists.specs.ListReading.{ListRead, nothing_read, read_all}
-use Rattle.pl_progress.specs.declared.Change.{Change}
-use Rattle.pl_progress.specs.declared.Change.TheVariants as change
+use Rattle.std.specs.Prelude.{Option as Answer, Some, None}
 use Rattle.pl_apply.specs.Standing.{Stands}
 
 -- how many steps
-abbrev pub steps_in : Change → ℕ
-steps_in (change.To s) = s.steps
-steps_in change.Refused = 0
+abbrev pub steps_in : Answer Progress → ℕ
+steps_in (Some s) = s.steps
+steps_in None = 0
 
 -- before a property, at a place of the text
 pub record Going (text : List ℕ) (z : List ℤ) (s : Progress) (at : ℕ) (instructions labels : List ℤ) : Type 0 where

@@ -8,10 +8,10 @@ ghost use Rattle.lang.specs.Answers.{room_refusal};
 ghost use Rattle.pl_read.specs.ValueLists.{ReadsValues};
 
 use pl_entries::put_label_entries;
-use pl_progress::Change;
 use whole::scan;
-use words::i32s::{word_at, zero_i32};
+use words::i32s::word_at;
 use words::number_of;
+use words::slices::zero_all;
 
 mod whole;
 
@@ -45,18 +45,18 @@ pub fn read_list(text: &[u8], instructions: &mut [i32], entries: &mut [i32]) -> 
     ensures { ReadsValues text.now instructions.old entries.old result
         instructions.new entries.new }
 {
-    zero_i32(instructions);
-    zero_i32(entries);
+    zero_all(instructions);
+    zero_all(entries);
     let mut labels = [-1i32; 257];
-    let Change::To(s) = scan(text, instructions, &mut labels) else {
-        zero_i32(instructions);
+    let Some(s) = scan(text, instructions, &mut labels) else {
+        zero_all(instructions);
         return StepsListed::Refused(23);
     };
     let n = put_label_entries(&labels, entries);
     let refusal = list_refusal(s.steps, n, instructions.len(), entries.len());
     if refusal != 0 {
-        zero_i32(instructions);
-        zero_i32(entries);
+        zero_all(instructions);
+        zero_all(entries);
         return StepsListed::Refused(refusal);
     }
     StepsListed::Font(

@@ -12,8 +12,7 @@ ghost use Rattle.pl_reals.specs.Places.{FiguresEnd, ReadsDecimals};
 
 use pl_blanks::past_blanks;
 use pl_bytes::{is_figure, upper_case};
-use property_lists::{Passed, ValueRead};
-use words::sizes::smaller;
+use property_lists::ValueRead;
 
 // A blank or a sign.
 fn is_sign(held: bool, b: u8) -> bool
@@ -66,17 +65,15 @@ fn past_signs(text: &[u8], at: usize) -> ValueRead
 {
     let mut held = false;
     let mut minus: u32 = 0;
-    let mut i = at;
-    while i < text.len() {
+    for i in at..text.len() {
         let b = text[i];
         if !is_sign(held, b) {
             return signs_end(text, held, minus, i);
         }
         minus = turned(minus, b);
         held = b == 13;
-        i += 1;
     }
-    signs_end(text, held, minus, i)
+    signs_end(text, held, minus, text.len())
 }
 
 fn wide(b: u8) -> u32
@@ -101,8 +98,7 @@ fn whole_digits(text: &[u8], at: usize) -> ValueRead
     ensures { Scans (whole_digits 0 (drop at text.now)) text.now at 0 result }
 {
     let mut n: u32 = 0;
-    let mut i = at;
-    while i < text.len() {
+    for i in at..text.len() {
         let b = text[i];
         if !is_figure(b) {
             return ValueRead::Value(n, i);
@@ -112,9 +108,8 @@ fn whole_digits(text: &[u8], at: usize) -> ValueRead
             return ValueRead::Refused;
         }
         n = m;
-        i += 1;
     }
-    ValueRead::Value(n, i)
+    ValueRead::Value(n, text.len())
 }
 
 // Where the digits from a place on end.
@@ -122,14 +117,12 @@ fn figures_end(text: &[u8], at: usize) -> usize
     requires { at ≤ length text.now }
     ensures { FiguresEnd text.now at result }
 {
-    let mut i = at;
-    while i < text.len() {
+    for i in at..text.len() {
         if !is_figure(text[i]) {
             return i;
         }
-        i += 1;
     }
-    i
+    text.len()
 }
 
 // What decimals come to, from the last to the first.
@@ -138,9 +131,7 @@ fn decimal_sum(text: &[u8], from: usize, end: usize) -> u32
     ensures { (result ≡ decimal_sum (slice from end text.now)) × (result ≤ 500000000) }
 {
     let mut a: u32 = 0;
-    let mut k = end;
-    while from < k {
-        k -= 1;
+    for k in (from..end).rev() {
         a = 2097152 * digit_of(text[k]) + a / 10;
     }
     a
@@ -160,7 +151,7 @@ fn decimals_at(text: &[u8], at: usize) -> Decimals
     if at < text.len() {
         if text[at] == 46 {
             let end = figures_end(text, at + 1);
-            let seven = smaller(end - (at + 1), 7);
+            let seven = (end - (at + 1)).min(7);
             let value = (decimal_sum(text, at + 1, at + 1 + seven) + 10) / 20;
             return Decimals {
                 value: value,
@@ -238,7 +229,7 @@ fn typed_real(text: &[u8], at: usize) -> ValueRead
 pub fn real_value(text: &[u8], at: usize) -> ValueRead
     ensures { Scans (real_value (drop at text.now)) text.now at 0 result }
 {
-    let Passed::At(i) = past_blanks(text, at) else {
+    let Some(i) = past_blanks(text, at) else {
         return ValueRead::Refused;
     };
     typed_real(text, i)

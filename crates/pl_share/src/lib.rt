@@ -9,7 +9,7 @@ use lang::Written;
 use pl_read::{StepsListed, read_list};
 use program_kerns::unpack_kerns;
 use property_lists::Listed;
-use words::i32s::zero_i32;
+use words::slices::zero_all;
 
 // Four places for each step that can be given back.
 fn step_places() -> [i32; 131068]
@@ -33,15 +33,15 @@ pub fn from_pl_source_code(
     let read = read_list(text, &mut steps, entries);
     match read {
         StepsListed::Refused(number) => {
-            zero_i32(instructions);
-            zero_i32(kerns);
+            zero_all(instructions);
+            zero_all(kerns);
             Listed::Refused(number)
         }
         StepsListed::Font(n, e, boundary, left) => {
             let shared = unpack_kerns(&steps[..4 * n], instructions, kerns);
             match shared {
                 Written::Refused(number) => {
-                    zero_i32(entries);
+                    zero_all(entries);
                     Listed::Refused(number)
                 }
                 Written::Count(k) => Listed::Font(n, k, e, boundary, left),

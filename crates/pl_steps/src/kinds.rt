@@ -1,6 +1,7 @@
 // What stands after the name of a property (PLtoTF 94 to 102).
 ghost use Rattle.std.specs.Prelude.{◌≡◌, ◌-◌, ◌≤◌, length, drop};
-ghost use Rattle.property_lists.specs.Properties.{closed_by, label_from, label_at, comment_from, kern_from, ligature_from};
+ghost use Rattle.property_lists.specs.Properties.{closed_by, label_from, label_at, comment_from, kern_from};
+ghost use Rattle.property_lists.specs.Properties.{ligature_from};
 ghost use Rattle.property_lists.specs.Properties.{by_code, no_bytes, of_byte, ReadsProperty};
 ghost use Rattle.property_lists.specs.declared.Property.TheVariants as property;
 
@@ -9,15 +10,15 @@ use pl_bytes::upper_case;
 use pl_chars::{past_comment, past_end};
 use pl_reals::real_value;
 use pl_values::byte_value;
-use property_lists::{Passed, Property, PropertyRead, ValueRead};
+use property_lists::{Property, PropertyRead, ValueRead};
 
 // A property that ends here.
 fn closed_by(text: &[u8], at: usize, p: Property) -> PropertyRead
     ensures { ReadsProperty (closed_by p (drop at text.now)) text.now at no_bytes result }
 {
     match past_end(text, at) {
-        Passed::At(n) => PropertyRead::Read(p, n),
-        Passed::Refused => PropertyRead::Refused,
+        Some(n) => PropertyRead::Read(p, n),
+        None => PropertyRead::Refused,
     }
 }
 
@@ -65,7 +66,7 @@ fn label_from(text: &[u8], at: usize) -> PropertyRead
     if upper_case(text[at]) != 66 {
         return character_label(text, at);
     }
-    let Passed::At(n) = to_paren(text, at + 1) else {
+    let Some(n) = to_paren(text, at + 1) else {
         return PropertyRead::Refused;
     };
     closed_by(text, n, Property::Label(256))
@@ -102,8 +103,8 @@ fn comment(text: &[u8], at: usize) -> PropertyRead
     ensures { ReadsProperty (comment_from (drop at text.now)) text.now at no_bytes result }
 {
     match past_comment(text, at) {
-        Passed::At(n) => PropertyRead::Read(Property::Comment, n),
-        Passed::Refused => PropertyRead::Refused,
+        Some(n) => PropertyRead::Read(Property::Comment, n),
+        None => PropertyRead::Refused,
     }
 }
 
@@ -111,7 +112,7 @@ fn comment(text: &[u8], at: usize) -> PropertyRead
 fn label(text: &[u8], at: usize) -> PropertyRead
     ensures { ReadsProperty (label_at (drop at text.now)) text.now at no_bytes result }
 {
-    let Passed::At(i) = past_blanks(text, at) else {
+    let Some(i) = past_blanks(text, at) else {
         return PropertyRead::Refused;
     };
     label_from(text, i)

@@ -7,7 +7,7 @@ ghost use Rattle.property_lists.specs.Properties.{property_at, named_from, least
 use kinds::by_code;
 use pl_blanks::past_blanks;
 use pl_names::name_at;
-use property_lists::{Passed, Property, PropertyRead, ValueRead};
+use property_lists::{Property, PropertyRead, ValueRead};
 
 mod kinds;
 
@@ -26,7 +26,7 @@ fn named_from(text: &[u8], at: usize) -> PropertyRead
 pub fn property(text: &[u8], at: usize) -> PropertyRead
     ensures { ReadsProperty (property_at (drop at text.now)) text.now at least_bytes result }
 {
-    let Passed::At(i) = past_blanks(text, at) else {
+    let Some(i) = past_blanks(text, at) else {
         return PropertyRead::Refused;
     };
     if text.len() <= i {
@@ -38,7 +38,7 @@ pub fn property(text: &[u8], at: usize) -> PropertyRead
     if text[i] != 40 {
         return PropertyRead::Refused;
     }
-    let Passed::At(j) = past_blanks(text, i + 1) else {
+    let Some(j) = past_blanks(text, i + 1) else {
         return PropertyRead::Refused;
     };
     named_from(text, j)

@@ -5,7 +5,6 @@ use mathlib.Core.Bool.{Bool, true, false}
 use mathlib.Core.List.{List, [], ◌∷◌}
 use mathlib.Core.Option.{Option, none, some}
 use Prim.Native.Nat.{ℕ, suc, ◌+◌, ◌-◌, ◌*◌, ◌<◌, ◌≤◌}
-use native.Mathlib.Nat.{mul-le-mul}
 use native.Mathlib.Omega.{arith}
 use lib.ListN.{length, get_or, drop, length-drop}
 use borrow.Author.Tests.{eq-eqb, ne_eqb, lt-ltb, le-ltb, le-leb, lt-leb}
@@ -32,10 +31,6 @@ module _ (text : List ℕ) (i base n : ℕ) (h : i < length text) where
 pub digits_end : (text : List ℕ) (i base n : ℕ) → length text ≤ i → byte_digits base n (drop i text) ≡ some (n, drop i text)
 unfolding byte_digits
 digits_end text i base n h = rw (at_end_lem text i h)
-
--- the product stays small
-pub digits_small : (base n : ℕ) → base ≤ 16 → n ≤ 255 → base * n ≤ 4080
-digits_small base n a b = mul-le-mul a b
 
 -- ---- characters
 

@@ -33,8 +33,7 @@ fn byte_digits(text: &[u8], at: usize, base: u32) -> ValueRead
     ensures { Scans (byte_digits base 0 (drop at text.now)) text.now at 0 result }
 {
     let mut n: u32 = 0;
-    let mut i = at;
-    while i < text.len() {
+    for i in at..text.len() {
         let d = figure_of(text[i]);
         if base <= d {
             return ValueRead::Value(n, i);
@@ -43,9 +42,8 @@ fn byte_digits(text: &[u8], at: usize, base: u32) -> ValueRead
             return ValueRead::Refused;
         }
         n = base * n + d;
-        i += 1;
     }
-    ValueRead::Value(n, i)
+    ValueRead::Value(n, text.len())
 }
 
 // A character itself.

@@ -6,7 +6,6 @@ ghost use Rattle.pl_write.specs.NextLabels.{NextLabel};
 
 use lang::entries::entry_at;
 use pl_labels::{put_boundary_label, put_label};
-use words::sizes::smaller;
 
 // The lowest instruction from `from` on and below n that has a label, or n.
 pub(crate) fn next_label(table: &[i32; 257], from: usize, n: usize) -> usize
@@ -14,13 +13,11 @@ pub(crate) fn next_label(table: &[i32; 257], from: usize, n: usize) -> usize
     ensures { NextLabel table.now from result }
 {
     let mut lowest = n;
-    let mut c = 0;
-    while c < 257 {
+    for c in 0..257 {
         let entry = entry_at(table, c) as usize;
         if from <= entry {
-            lowest = smaller(entry, lowest);
+            lowest = entry.min(lowest);
         }
-        c += 1;
     }
     lowest
 }
@@ -29,13 +26,11 @@ pub(crate) fn next_label(table: &[i32; 257], from: usize, n: usize) -> usize
 fn put_chars(table: &[i32; 257], i: usize, out: &mut [u8], at: usize) -> usize
     ensures { PutsCounted out.old at (char_labels table.now i 256) result out.new }
 {
-    let mut next = smaller(at, out.len() + 1);
-    let mut c = 0;
-    while c < 256 {
+    let mut next = at.min(out.len() + 1);
+    for c in 0..256 {
         if (entry_at(table, c) as usize) == i {
             next = put_label(out, next, c as u32);
         }
-        c += 1;
     }
     next
 }

@@ -13,8 +13,7 @@ use pl_labels::put_boundary;
 use pl_put::bytes::put_bytes;
 use pl_write_refusals::display_fault;
 use steps::put_steps;
-use words::sizes::smaller;
-use words::u8s::zero_u8;
+use words::slices::zero_all;
 
 mod labels;
 mod steps;
@@ -31,7 +30,7 @@ fn put_table(
         (lig_table_lines instructions.now kerns.now table.now) result out.new }
 {
     if instructions.len() / 4 == 0 {
-        return smaller(at, out.len() + 1);
+        return at.min(out.len() + 1);
     }
     let first = put_bytes(out, at, b"(LIGTABLE\n");
     let end = put_steps(instructions, kerns, table, out, first);
@@ -68,14 +67,14 @@ pub fn display(
     ensures { Displays instructions.now kerns.now entries.now boundary
         left_entry text.old result text.new }
 {
-    zero_u8(text);
+    zero_all(text);
     let fault = display_fault(instructions, kerns, entries, boundary, left_entry);
     if fault != 0 {
         return Written::Refused(fault);
     }
     let count = put_display(instructions, kerns, entries, boundary, left_entry, text);
     if text.len() < count {
-        zero_u8(text);
+        zero_all(text);
         return Written::Refused(15);
     }
     Written::Count(count)

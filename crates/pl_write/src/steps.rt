@@ -9,7 +9,6 @@ use crate::labels::{next_label, put_labels};
 use lang::instruction::field_at;
 use pl_lines::{put_krn, put_lig, put_next};
 use words::i32s::word_at;
-use words::sizes::smaller;
 
 // The kern of an instruction, as its 32 bits.
 fn kern_of(instructions: &[i32], kerns: &[i32], i: usize) -> u32
@@ -62,16 +61,14 @@ pub(crate) fn put_steps(
         (program_lines instructions.now kerns.now table.now
         (count instructions.now)) result out.new }
 {
-    let mut next = smaller(at, out.len() + 1);
+    let mut next = at.min(out.len() + 1);
     let mut label = next_label(table, 0, instructions.len() / 4);
-    let mut i = 0;
-    while i < instructions.len() / 4 {
+    for i in 0..instructions.len() / 4 {
         if i == label {
             next = put_labels(table, i, out, next);
             label = next_label(table, i + 1, instructions.len() / 4);
         }
         next = put_instruction(instructions, kerns, i, out, next);
-        i += 1;
     }
     next
 }

@@ -7,7 +7,8 @@ ghost use Rattle.words.specs.Words.{number_of};
 ghost use Rattle.lang.specs.Every.{every};
 ghost use Rattle.lang.specs.Operations.{is_standard};
 ghost use Rattle.lang.specs.Records.{count};
-ghost use Rattle.property_lists.specs.Displays.{next_shown, operand_shown, instruction_shown, kerns_shown, entries_shown};
+ghost use Rattle.property_lists.specs.Displays.{next_shown, operand_shown, instruction_shown, kerns_shown};
+ghost use Rattle.property_lists.specs.Displays.{entries_shown};
 ghost use Rattle.property_lists.specs.Displays.{left_shown, shows_all, lent_fault, display_fault};
 
 use lang::instruction::field_at;
@@ -71,12 +72,10 @@ fn instructions_shown(instructions: &[i32], kerns: usize) -> bool
     ensures { result ≡ every (count instructions.now)
         (instruction_shown instructions.now kerns) }
 {
-    let mut i = 0;
-    while i < instructions.len() / 4 {
+    for i in 0..instructions.len() / 4 {
         if !is_instruction_shown(instructions, kerns, i) {
             return false;
         }
-        i += 1;
     }
     true
 }
@@ -85,12 +84,10 @@ fn instructions_shown(instructions: &[i32], kerns: usize) -> bool
 fn kerns_shown(kerns: &[i32]) -> bool
     ensures { result ≡ kerns_shown kerns.now }
 {
-    let mut i = 0;
-    while i < kerns.len() {
+    for i in 0..kerns.len() {
         if word_at(kerns, i) == 2147483648 {
             return false;
         }
-        i += 1;
     }
     true
 }
@@ -99,12 +96,10 @@ fn kerns_shown(kerns: &[i32]) -> bool
 fn entries_shown(n: usize, entries: &[i32]) -> bool
     ensures { result ≡ entries_shown n entries.now }
 {
-    let mut i = 0;
-    while i < entries.len() / 2 {
+    for i in 0..entries.len() / 2 {
         if n <= (word_at(entries, 2 * i + 1) as usize) {
             return false;
         }
-        i += 1;
     }
     true
 }

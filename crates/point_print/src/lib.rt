@@ -9,7 +9,7 @@ ghost use Rattle.points.specs.Printing.{PrintsScaled};
 ghost use Rattle.point_print.specs.Putting.{PutsBytes};
 
 use lang::Written;
-use words::u8s::{put_u8, zero_u8};
+use words::slices::{put_item, zero_all};
 
 // The last digit of a number, and nothing where the number is 0. Answers the place after it.
 fn put_leading(out: &mut [u8], at: usize, n: u32) -> usize
@@ -19,7 +19,7 @@ fn put_leading(out: &mut [u8], at: usize, n: u32) -> usize
     if n == 0 {
         return at;
     }
-    put_u8(out, at, 48 + ((n % 10) as u8));
+    put_item(out, at, 48 + ((n % 10) as u8));
     at + 1
 }
 
@@ -35,7 +35,7 @@ fn put_whole(out: &mut [u8], at: usize, n: u32) -> usize
     let third = put_leading(out, second, thousands);
     let fourth = put_leading(out, third, hundreds);
     let last = put_leading(out, fourth, tens);
-    put_u8(out, last, 48 + ((n % 10) as u8));
+    put_item(out, last, 48 + ((n % 10) as u8));
     last + 1
 }
 
@@ -55,9 +55,10 @@ fn put_decimals(out: &mut [u8], at: usize, part: u32) -> usize
     let mut s = 10 * part + 5;
     let mut delta: u32 = 10;
     let mut next = at;
+    // Ends by what is left of the part, and not by a place.
     loop {
         let t = last_rounded(delta, s);
-        put_u8(out, next, 48 + ((t / 65536) as u8));
+        put_item(out, next, 48 + ((t / 65536) as u8));
         next += 1;
         s = 10 * (t % 65536);
         delta = 10 * delta;
@@ -73,7 +74,7 @@ fn put_size(out: &mut [u8], at: usize, n: u32) -> usize
     ensures { PutsBytes out.old at (size_text n) result out.new }
 {
     let point = put_whole(out, at, n / 65536);
-    put_u8(out, point, 46);
+    put_item(out, point, 46);
     put_decimals(out, point + 1, n % 65536)
 }
 
@@ -84,7 +85,7 @@ fn put_value(out: &mut [u8], w: u32) -> usize
     if w < 2147483648 {
         return put_size(out, 0, w);
     }
-    put_u8(out, 0, 45);
+    put_item(out, 0, 45);
     put_size(out, 1, 4294967295 - w + 1)
 }
 
@@ -92,10 +93,10 @@ fn put_value(out: &mut [u8], w: u32) -> usize
 pub fn print_scaled(value: i32, out: &mut [u8]) -> Written
     ensures { PrintsScaled value out.old result out.new }
 {
-    zero_u8(out);
+    zero_all(out);
     let count = put_value(out, words::word_of(value));
     if out.len() < count {
-        zero_u8(out);
+        zero_all(out);
         return Written::Refused(15);
     }
     Written::Count(count)

@@ -1,6 +1,6 @@
 -- Loops that pass over the bytes of a text: the first point, digits alone, the value of digits, and decimals from the last to the first.
 -- Assumes nothing.
-use mathlib.Core.Path.{◌≡◌, refl, sym, ap, ◌∙◌}
+use mathlib.Core.Path.{◌≡◌, sym, ap, ◌∙◌}
 use mathlib.Core.Bool.{true, false}
 use mathlib.Core.List.{List, [], ◌∷◌}
 use mathlib.Core.Logic.{◌⊎◌, inl, inr}
@@ -89,9 +89,6 @@ pub record Valued (text : List ℕ) (n i : ℕ) : Type 0 where
   pub value : min 2048 (digits_after 0 text) ≡ min 2048 (digits_after n (drop i text))
   pub small : n ≤ 2048
 
-pub valued_none : (text : List ℕ) → Valued text 0 0
-valued_none text = record { value = refl; small = omega arith }
-
 module _ {text : List ℕ} {n i : ℕ} (v : Valued text n i) where
   pub valued_more : {m d : ℕ} → i < length text → d ≡ get_or text i 0 - 48 → m ≡ min 2048 (10 * n + d) → Valued text m (i + 1)
   unfolding digits_after
@@ -138,6 +135,3 @@ module _ {text : List ℕ} {a k : ℕ} (v : HalfRead text a k) where
         within = omega (arith, v.within);
         small = omega (arith, v.small, g.1);
       }
-
-  pub halved_all : k ≡ 0 → a ≡ half_scaled (take 17 text)
-  halved_all e = v.is ∙ ap (λ (j : ℕ). half_scaled (drop j (take 17 text))) e

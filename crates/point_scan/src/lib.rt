@@ -2,39 +2,35 @@
 #![tactic(auto)]
 
 ghost use Rattle.std.specs.Prelude.{◌≡◌, ◌+◌, ◌-◌, ◌≤◌, min, eqb, get_or, take};
-ghost use Rattle.points.specs.Scanning.{point_place, only_digits, digits_after, round_decimals, scaled_parts, scaled_of};
+ghost use Rattle.points.specs.Scanning.{point_place, only_digits, digits_after, round_decimals, scaled_parts};
+ghost use Rattle.points.specs.Scanning.{scaled_of};
 ghost use Rattle.points.specs.Scanning.{scanned_as};
 
-use points::Scanned;
-use words::u8s::u8_at;
+use words::slices::item_at;
 
 // Where the first point stands, or the length.
 fn point_place(text: &[u8]) -> usize
     ensures { result ≡ point_place text.now }
 {
-    let mut i = 0;
-    while i < text.len() {
-        if text[i] == 46 {
+    for (i, b) in text.iter().enumerate() {
+        if *b == 46 {
             return i;
         }
-        i += 1;
     }
-    i
+    text.len()
 }
 
 // Every byte is a digit.
 fn only_digits(text: &[u8]) -> bool
     ensures { result ≡ only_digits text.now }
 {
-    let mut i = 0;
-    while i < text.len() {
-        if text[i] < 48 {
+    for b in text {
+        if *b < 48 {
             return false;
         }
-        if 57 < text[i] {
+        if 57 < *b {
             return false;
         }
-        i += 1;
     }
     true
 }
@@ -43,7 +39,7 @@ fn only_digits(text: &[u8]) -> bool
 fn digit_at(text: &[u8], i: usize) -> u32
     ensures { (result ≡ get_or text.now i 0 - 48) × (result ≤ 207) }
 {
-    let b = u8_at(text, i);
+    let b = item_at(text, i);
     if b < 48 { 0 } else { (b - 48) as u32 }
 }
 
@@ -59,10 +55,8 @@ fn whole_of(text: &[u8]) -> u32
     ensures { result ≡ min 2048 (digits_after 0 text.now) }
 {
     let mut n: u32 = 0;
-    let mut i = 0;
-    while i < text.len() {
+    for i in 0..text.len() {
         n = capped_whole(10 * n + digit_at(text, i));
-        i += 1;
     }
     n
 }
@@ -72,9 +66,7 @@ fn round_decimals(text: &[u8]) -> u32
     ensures { (result ≡ round_decimals (take 17 text.now)) × (result ≤ 2000000) }
 {
     let mut a: u32 = 0;
-    let mut k = words::sizes::smaller(17, text.len());
-    while 0 < k {
-        k -= 1;
+    for k in (0..text.len().min(17)).rev() {
         a = (a + digit_at(text, k) * 131072) / 10;
     }
     (a + 1) / 2
@@ -87,28 +79,28 @@ fn both_empty(a: usize, b: usize) -> bool
     if a == 0 { b == 0 } else { false }
 }
 
-// The size of a decimal by its two parts.
-fn scan_parts(whole: &[u8], decimals: &[u8]) -> Scanned
+// The size of a decimal by its two parts, in scaled points below 2^27, or none where they are not taken.
+fn scan_parts(whole: &[u8], decimals: &[u8]) -> Option<u32>
     ensures { result ≡ scanned_as (scaled_parts whole.now decimals.now) }
 {
     if !only_digits(whole) {
-        return Scanned::Unreadable;
+        return None;
     }
     if !only_digits(decimals) {
-        return Scanned::Unreadable;
+        return None;
     }
     if both_empty(whole.len(), decimals.len()) {
-        return Scanned::Unreadable;
+        return None;
     }
     let sum = 65536 * whole_of(whole) + round_decimals(decimals);
     if 134217728 <= sum {
-        return Scanned::Unreadable;
+        return None;
     }
-    Scanned::Points(sum)
+    Some(sum)
 }
 
-// The size that a text says.
-pub fn scan_points(text: &[u8]) -> Scanned
+// The size that a text says, in scaled points below 2^27, or none where it is not taken.
+pub fn scan_points(text: &[u8]) -> Option<u32>
     ensures { result ≡ scanned_as (scaled_of text.now) }
 {
     let point = point_place(text);

@@ -2,11 +2,9 @@
 -- at least one digit in all, no sign, no blank, no comma, no unit. Any number of zeros may stand in front, and any number of decimals
 -- behind, of which the first 17 count (TeX 452) and are rounded (TeX 102). What comes to 2 ^ 27 scaled points or more, 2,048 points, is not
 -- taken: no font's size is that large (TeX 1259).
-use Rattle.std.specs.Prelude.{Bool, true, cond, List, [], ◌∷◌, ℕ, suc, ◌+◌, ◌-◌, ◌*◌, ◌/◌, leb, ltb, eqb, length, take, drop}
+use Rattle.std.specs.Prelude.{Bool, true, cond, List, [], ◌∷◌, ℕ, suc, ◌+◌, ◌-◌, ◌*◌, ◌/◌, leb, ltb, eqb, length, take, drop, Option as Answer, Some, None}
 use Rattle.std.proofs.Math.Option.{Option, none, some}
 use Rattle.lang.specs.Every.{both}
-use Rattle.points.specs.declared.Scanned.{Scanned}
-use Rattle.points.specs.declared.Scanned.TheVariants.{Points, Unreadable}
 
 -- where the first point stands, or the length where there is none
 unfoldable pub point_place : List ℕ → ℕ
@@ -48,6 +46,6 @@ abbrev pub scaled_of : List ℕ → Option ℕ
 scaled_of text = scaled_parts (take (point_place text) text) (drop (suc (point_place text)) text)
 
 -- what scan_points answers
-abbrev pub scanned_as : Option ℕ → Scanned
-scanned_as none = Unreadable
-scanned_as (some n) = Points n
+abbrev pub scanned_as : Option ℕ → Answer ℕ
+scanned_as none = None
+scanned_as (some n) = Some n

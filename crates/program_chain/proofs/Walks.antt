@@ -11,19 +11,16 @@ use lib.Dec.{ltb}
 use lib.IntN.{ℤ}
 use lib.ListN.{length, set, length-append}
 use borrow.Author.Tests.{lt-ltb, le-ltb, ltb-true, ltb-false}
-use Rattle.lang.specs.declared.instruction.NextInstruction.{NextInstruction}
-use Rattle.lang.specs.declared.instruction.NextInstruction.TheVariants.{Stop, Skip}
-use Rattle.program_chain.specs.declared.Next.TheVariants.{At, End}
-use Rattle.program_chain.specs.declared.FoundRule.TheVariants.{Rule, Nothing}
+use Rattle.std.specs.Prelude.{Option, None, Some}
 use Rattle.words.specs.Lists.{Appending}
 use Rattle.words.proofs.Lists.{appending_none, appending_length, appending_one}
 use Rattle.lang.specs.Records.{count, instruction_at}
 use Rattle.program_chain.specs.Chains.{Program, onward_from, step_at, chain_from, chain, is_rule_for, first_for, rule_index, found, chain_of}
 
 -- a chain goes on past its index
-pub onward_ascends : (n : ℕ) (x : NextInstruction) (i : ℕ) → i < n → i < onward_from n x i
-onward_ascends n Stop i h = h
-onward_ascends n (Skip k) i h = omega arith
+pub onward_ascends : (n : ℕ) (x : Option ℕ) (i : ℕ) → i < n → i < onward_from n x i
+onward_ascends n None i h = h
+onward_ascends n (Some k) i h = omega arith
 
 -- past the end nothing is left
 pub chain_past : (most n : ℕ) (program : Program) (i : ℕ) → n ≤ i → chain_from most n program i ≡ []
@@ -76,8 +73,8 @@ length_chain (suc most) n program i = bounded (ltb i n) i most _ (length_chain m
 -- ---- a step of a walk
 
 -- inside, a step goes where the instruction says
-pub step_to : (n : ℕ) (program : Program) (at : ℕ) (x : NextInstruction) → at < n → (program at).next_instruction ≡ x →
-    At at (onward_from n x at) ≡ step_at n program at
+pub step_to : (n : ℕ) (program : Program) (at : ℕ) (x : Option ℕ) → at < n → (program at).next_instruction ≡ x →
+    Some (at, onward_from n x at) ≡ step_at n program at
 step_to n program at x h e = rw (lt-ltb at n h, e)
 
 -- a step from index `at` that goes on: it is at that index, moves ahead, and the chain is the index and what is left
@@ -88,27 +85,28 @@ pub record Stepped (n : ℕ) (program : Program) (at i on : ℕ) : Type 0 where
   pub rest : chain n program at ≡ at ∷ chain n program on
 
 stepped_by : (t : Bool) (n : ℕ) (program : Program) (at i on : ℕ) → ltb at n ≡ t →
-    cond t (At at (onward_from n (program at).next_instruction at)) End ≡ At i on → Stepped n program at i on
+    cond {A = Option (ℕ × ℕ)} t (Some (at, onward_from n (program at).next_instruction at)) None ≡ Some (i, on) → Stepped n program at i on
 stepped_by true n program at i on e h =
     let l = ltb-true at n e in
-    let o : onward_from n (program at).next_instruction at ≡ on = cc in
+    let p : ◌≡◌ {A = ℕ × ℕ} (at, onward_from n (program at).next_instruction at) (i, on) = cc in
+    let o : onward_from n (program at).next_instruction at ≡ on = ap (λ (x : ℕ × ℕ). x.1) p in
     record {
-      here = cc;
+      here = sym (ap (λ (x : ℕ × ℕ). x.0) p);
       inside = l;
       ahead = rw o at (onward_ascends n (program at).next_instruction at l);
       rest = rw o at (chain_step n program at l);
     }
 stepped_by false n program at i on e h = absurd (let z : ◌≡◌ {A = ℕ} 0 1 = cc in omega arith)
 
-pub step_on : (n : ℕ) (program : Program) (at i on : ℕ) → step_at n program at ≡ At i on → Stepped n program at i on
+pub step_on : (n : ℕ) (program : Program) (at i on : ℕ) → step_at n program at ≡ Some (i, on) → Stepped n program at i on
 step_on n program at i on h = stepped_by (ltb at n) n program at i on refl h
 
-ended_by : (t : Bool) (n : ℕ) (program : Program) (at : ℕ) → ltb at n ≡ t → cond t (At at (onward_from n (program at).next_instruction at)) End ≡ End →
+ended_by : (t : Bool) (n : ℕ) (program : Program) (at : ℕ) → ltb at n ≡ t → cond {A = Option (ℕ × ℕ)} t (Some (at, onward_from n (program at).next_instruction at)) None ≡ None →
     chain n program at ≡ []
 ended_by true n program at e h = absurd (let z : ◌≡◌ {A = ℕ} 0 1 = cc in omega arith)
 ended_by false n program at e h = chain_end n program at (ltb-false at n e)
 
-pub step_end : (n : ℕ) (program : Program) (at : ℕ) → step_at n program at ≡ End → chain n program at ≡ []
+pub step_end : (n : ℕ) (program : Program) (at : ℕ) → step_at n program at ≡ None → chain n program at ≡ []
 step_end n program at h = ended_by (ltb at n) n program at refl h
 
 -- ---- the rule of a right character
@@ -125,7 +123,7 @@ first_later program right i is e = rw e
 -- a walk from an entry that has come to index `at`, where the rule of the chain from there is the entry's
 module _ (n : ℕ) (program : Program) (right entry at : ℕ) where
   pub rule_here : (i on : ℕ) → Stepped n program at i on → first_for program right (chain n program at) ≡ rule_index n program entry right →
-      is_rule_for right (program i) ≡ true → Rule i ≡ found (rule_index n program entry right)
+      is_rule_for right (program i) ≡ true → Some i ≡ found (rule_index n program entry right)
   rule_here i on step inv e =
       let left : first_for program right (i ∷ chain n program on) ≡ rule_index n program entry right = rw (step.here, ← step.rest) inv in
       ap found (sym (first_here program right i (chain n program on) e) ∙ left)
@@ -136,7 +134,7 @@ module _ (n : ℕ) (program : Program) (right entry at : ℕ) where
       sym (first_later program right i (chain n program on) e) ∙ rw (step.here, ← step.rest) inv
 
   pub rule_nowhere : chain n program at ≡ [] → first_for program right (chain n program at) ≡ rule_index n program entry right →
-      Nothing ≡ found (rule_index n program entry right)
+      None ≡ found (rule_index n program entry right)
   unfolding first_for
   rule_nowhere e inv = ap found (sym (ap (first_for program right) e) ∙ inv)
 

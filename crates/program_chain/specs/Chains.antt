@@ -1,18 +1,13 @@
 -- Chains (R56 to R63): each next goes to index + 1 + next (R56); a chain stops at an index past the end (R57). TeX 1039 and TFtoPL 91.
 -- Which instruction is the rule (`ruleIndex`, R58 to R60) and what it does (`actsAs`, R61) are two definitions. Both are said of a count
 -- and of a function from an index to an instruction, so that they hold of any form in which a program is lent.
-use Rattle.std.specs.Prelude.{◌≡◌, Bool, true, false, cond, not, List, [], ◌∷◌, ℕ, zero, suc, ◌+◌, ◌/◌, ◌%◌, ℤ, pos, ltb, eqb, length, get_or}
+use Rattle.std.specs.Prelude.{◌≡◌, Bool, true, false, cond, not, List, [], ◌∷◌, ℕ, zero, suc, ◌+◌, ◌/◌, ◌%◌, ℤ, pos, ltb, eqb, length, get_or, None, Some}
 use Rattle.std.proofs.Math.Option.{Option, none, some}
+use Rattle.std.specs.declared.option.Option as rust
 use Rattle.words.specs.Words.{word_of}
 use Rattle.lang.specs.declared.operation.Operation.{Operation}
 use Rattle.lang.specs.declared.operation.Operation.TheVariants.{Kern, KernAtIndex, Ligature, EntrypointRedirect}
-use Rattle.lang.specs.declared.instruction.NextInstruction.{NextInstruction}
-use Rattle.lang.specs.declared.instruction.NextInstruction.TheVariants.{Stop, Skip}
 use Rattle.lang.specs.declared.instruction.Instruction.{Instruction}
-use Rattle.program_chain.specs.declared.Next.{Next}
-use Rattle.program_chain.specs.declared.Next.TheVariants.{At, End}
-use Rattle.program_chain.specs.declared.FoundRule.{FoundRule}
-use Rattle.program_chain.specs.declared.FoundRule.TheVariants.{Rule, Nothing}
 use Rattle.lang.specs.Operations.{from_bytes}
 use Rattle.lang.specs.Every.{both}
 use Rattle.lang.specs.Records.{count, instruction_at}
@@ -25,13 +20,13 @@ abbrev pub Program : Type 0
 Program = ℕ → Instruction
 
 -- where a chain goes on after index i of n instructions (R56, R60): past the end where it stops (R57)
-abbrev pub onward_from : ℕ → NextInstruction → ℕ → ℕ
-onward_from n Stop i = n
-onward_from n (Skip k) i = i + 1 + k
+abbrev pub onward_from : ℕ → rust.Option ℕ → ℕ → ℕ
+onward_from n None i = n
+onward_from n (Some k) i = i + 1 + k
 
 -- one step of a walk: the index and where the walk goes on, or the end
-abbrev pub step_at : ℕ → Program → ℕ → Next
-step_at n program i = cond (ltb i n) (At i (onward_from n (program i).next_instruction i)) End
+abbrev pub step_at : ℕ → Program → ℕ → rust.Option (ℕ × ℕ)
+step_at n program i = cond (ltb i n) (Some (i, onward_from n (program i).next_instruction i)) None
 
 -- the indices of the chain from i, none where it is past the end (R62), at most as many as the first number says. Indices ascend, so n is
 -- enough (theorem `chain-whole`).
@@ -67,9 +62,9 @@ abbrev pub rule_index : ℕ → Program → ℕ → ℕ → Option ℕ
 rule_index n program entry right = first_for program right (chain n program entry)
 
 -- what a search answers: the index of the rule, or nothing
-abbrev pub found : Option ℕ → FoundRule
-found none = Nothing
-found (some i) = Rule i
+abbrev pub found : Option ℕ → rust.Option ℕ
+found none = None
+found (some i) = Some i
 
 -- what an instruction does: a redirect would act by its target's two bytes (TFtoPL 91 to 93 read them so), but no rule is one (theorem
 -- `no-redirect`) ..

@@ -16,34 +16,21 @@ use lang::operation::{Operation, lig_kern_operation_from_bytes};
 use program_checks::{program_refusal, range_refusal};
 use tfm::FixWord;
 
-// One step of a walk: the index of an instruction and where the walk goes on, or the end.
-#[derive(Clone, Copy)]
-pub enum Next {
-    At(usize, usize),
-    End,
-}
-
-// The rule of a pair: the index of an instruction, or nothing.
-#[derive(Clone, Copy)]
-pub enum FoundRule {
-    Rule(usize),
-    Nothing,
-}
-
 // The instruction at index `at` of a walk, and where the walk goes on.
-pub fn next_instruction(instructions: &[i32], at: usize) -> Next
+// Past the last instruction there is neither.
+pub fn next_instruction(instructions: &[i32], at: usize) -> Option<(usize, usize)>
     ensures { result ≡ step_at (count instructions.now)
         (instruction_at instructions.now) at }
 {
     let n = instructions.len() / 4;
     if n <= at {
-        return Next::End;
+        return None;
     }
     let word = field_at(instructions, at, 0);
     if word < 2147483648 {
-        Next::At(at, at + 1 + ((word % 256) as usize))
+        Some((at, at + 1 + ((word % 256) as usize)))
     } else {
-        Next::At(at, n)
+        Some((at, n))
     }
 }
 
@@ -58,16 +45,16 @@ fn is_rule_for(instructions: &[i32], i: usize, right: u8) -> bool
 }
 
 // The rule of a right character on the chain from an entry: the first instruction for it that is no redirect.
-pub fn rule_index(instructions: &[i32], entry: usize, right: u8) -> FoundRule
+pub fn rule_index(instructions: &[i32], entry: usize, right: u8) -> Option<usize>
     ensures { result ≡ found (rule_index_of instructions.now entry right) }
 {
     let mut at = entry;
     loop {
-        let Next::At(i, on) = next_instruction(instructions, at) else {
-            return FoundRule::Nothing;
+        let Some((i, on)) = next_instruction(instructions, at) else {
+            return None;
         };
         if is_rule_for(instructions, i, right) {
-            return FoundRule::Rule(i);
+            return Some(i);
         }
         at = on;
     }
@@ -120,7 +107,7 @@ fn chain_length(instructions: &[i32], entry: usize) -> usize
     let mut n: usize = 0;
     let mut at = entry;
     loop {
-        let Next::At(_, on) = next_instruction(instructions, at) else {
+        let Some((_, on)) = next_instruction(instructions, at) else {
             return n;
         };
         n += 1;
@@ -158,7 +145,7 @@ fn write_chain(instructions: &[i32], entry: usize, out: &mut [u32]) -> usize
     let mut n: usize = 0;
     let mut at = entry;
     loop {
-        let Next::At(i, on) = next_instruction(instructions, at) else {
+        let Some((i, on)) = next_instruction(instructions, at) else {
             return n;
         };
         out[n] = i as u32;
@@ -171,7 +158,7 @@ fn write_chain(instructions: &[i32], entry: usize, out: &mut [u32]) -> usize
 pub fn instructions_for_entrypoint(instructions: &[i32], entry: i32, out: &mut [u32]) -> Written
     ensures { WalksChain instructions.now entry out.old result out.new }
 {
-    words::u32s::zero_u32(out);
+    words::slices::zero_all(out);
     let refused = walk_refusal(instructions, entry, out.len());
     if refused != 0 {
         return Written::Refused(refused);

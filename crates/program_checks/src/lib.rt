@@ -5,7 +5,8 @@
 
 ghost use Rattle.std.specs.Prelude.{◌≡◌, ◌<◌};
 ghost use Rattle.lang.specs.Records.{is_instruction, absent_or, within, operand_fits};
-ghost use Rattle.lang.specs.Checks.{size_refusal, record_refusal, absent_refusal, range_refusal, program_refusal, lower};
+ghost use Rattle.lang.specs.Checks.{size_refusal, record_refusal, absent_refusal, range_refusal, program_refusal};
+ghost use Rattle.lang.specs.Checks.{lower};
 ghost use Rattle.lang.specs.Checks.{is_letter};
 ghost use Rattle.words.specs.Words.{number_of};
 
@@ -73,12 +74,10 @@ fn is_instruction(instructions: &[i32], i: usize) -> bool
 pub fn record_refusal(instructions: &[i32]) -> u32
     ensures { result ≡ record_refusal instructions.now }
 {
-    let mut i = 0;
-    while i < instructions.len() / 4 {
+    for i in 0..instructions.len() / 4 {
         if !is_instruction(instructions, i) {
             return 2;
         }
-        i += 1;
     }
     0
 }

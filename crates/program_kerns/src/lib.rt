@@ -58,10 +58,8 @@ fn write_packed(instructions: &[i32], kerns: &[i32], out: &mut [i32])
     ensures { out.new ≡ packed instructions.now kerns.now
         ++ drop (length instructions.now) out.old }
 {
-    let mut j = 0;
-    while j < instructions.len() {
+    for j in 0..instructions.len() {
         words::i32s::put_word(out, j, packed_word(instructions, kerns, j));
-        j += 1;
     }
 }
 
@@ -70,7 +68,7 @@ pub fn pack_kerns(instructions: &[i32], kerns: &[i32], out: &mut [i32]) -> Writt
     ensures { PacksKerns instructions.now kerns.now out.old result
         out.new }
 {
-    words::i32s::zero_i32(out);
+    words::slices::zero_all(out);
     let refusal = pack_refusal(instructions, kerns, out.len());
     if refusal != 0 {
         return Written::Refused(refusal);
@@ -118,10 +116,8 @@ fn write_unpacked(instructions: &[i32], kerns: &[i32], links: &[u16; 65536], out
         (λ i. pos (kern_place (field instructions.now i 3) kerns.now)))
         ++ drop (length instructions.now) out.old }
 {
-    let mut j = 0;
-    while j < instructions.len() {
+    for j in 0..instructions.len() {
         words::i32s::put_word(out, j, unpacked_word(instructions, kerns, links, j));
-        j += 1;
     }
 }
 
@@ -131,8 +127,8 @@ pub fn unpack_kerns(instructions: &[i32], out: &mut [i32], kerns: &mut [i32]) ->
     ensures { UnpacksKerns instructions.now out.old kerns.old result
         out.new kerns.new }
 {
-    words::i32s::zero_i32(out);
-    words::i32s::zero_i32(kerns);
+    words::slices::zero_all(out);
+    words::slices::zero_all(kerns);
     let refusal = unpack_refusal(instructions, out.len());
     if refusal != 0 {
         return Written::Refused(refusal);
@@ -140,7 +136,7 @@ pub fn unpack_kerns(instructions: &[i32], out: &mut [i32], kerns: &mut [i32]) ->
     let mut links = [0u16; 65536];
     let m = gather(instructions, kerns, &mut links);
     if kerns.len() < m {
-        words::i32s::zero_i32(kerns);
+        words::slices::zero_all(kerns);
         return Written::Refused(15);
     }
     write_unpacked(instructions, &kerns[..m], &links, out);

@@ -78,13 +78,11 @@ pub(crate) fn gather(instructions: &[i32], kerns: &mut [i32], links: &mut [u16; 
         (length kerns.old) kerns.new links.new result }
 {
     let mut m = 0;
-    let mut i = 0;
-    while i < instructions.len() / 4 {
+    for i in 0..instructions.len() / 4 {
         m = share_kern(instructions, i, kerns, m, links);
         if kerns.len() < m {
             return m;
         }
-        i += 1;
     }
     m
 }

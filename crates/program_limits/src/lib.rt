@@ -6,7 +6,8 @@
 ghost use Rattle.std.specs.Prelude.{◌≡◌, ◌<◌, ◌/◌, eqb, length, get_or};
 ghost use Rattle.lang.specs.Every.{both};
 ghost use Rattle.lang.specs.Records.{within};
-ghost use Rattle.lang.specs.Checks.{kerns_refusal, char_at, entry_at, entries_refusal, passthrough_refusal, design_refusal};
+ghost use Rattle.lang.specs.Checks.{kerns_refusal, char_at, entry_at, entries_refusal, passthrough_refusal};
+ghost use Rattle.lang.specs.Checks.{design_refusal};
 ghost use Rattle.lang.specs.Answers.{room_refusal};
 ghost use Rattle.words.specs.Words.{word_of};
 
@@ -44,14 +45,12 @@ pub fn entries_refusal(limit: u16, entries: &[i32]) -> u32
         return 4;
     }
     let mut seen = [0u8; 256];
-    let mut i = 0;
-    while i < entries.len() / 2 {
+    for i in 0..entries.len() / 2 {
         if !entry_fits(limit, entries, i, &seen) {
             return 4;
         }
         let c = words::i32s::word_at(entries, 2 * i) as usize;
         seen[c] = 1;
-        i += 1;
     }
     0
 }

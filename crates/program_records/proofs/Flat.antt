@@ -10,6 +10,7 @@ use lib.IntN.{ℤ, pos}
 use lib.ListN.{length, get_or, get_or-eq_default}
 use lib.Seq.{ext_get_or}
 use borrow.Author.Tests.{lt-ltb, le-ltb, ltb-true, ltb-false, le-leb}
+use Rattle.std.specs.Prelude.{None, Some, Option}
 use Rattle.words.specs.Words.{word_of}
 use Rattle.words.proofs.Lists.{length_tabulate, get_d_tabulate}
 use Rattle.lang.specs.declared.operation.PostLigOperation.{PostLigOperation}
@@ -18,8 +19,6 @@ use Rattle.lang.specs.declared.operation.PostLigOperation.TheVariants.{RetainRig
 use Rattle.lang.specs.declared.operation.PostLigOperation.TheVariants.{RetainLeftMoveToInserted, RetainNeitherMoveToInserted}
 use Rattle.lang.specs.declared.operation.Operation.{Operation}
 use Rattle.lang.specs.declared.operation.Operation.TheVariants.{Kern, KernAtIndex, Ligature, EntrypointRedirect}
-use Rattle.lang.specs.declared.instruction.NextInstruction.{NextInstruction}
-use Rattle.lang.specs.declared.instruction.NextInstruction.TheVariants.{Stop, Skip}
 use Rattle.lang.specs.declared.instruction.Instruction.{Instruction}
 use Rattle.lang.specs.Operations.{byte_of_operation, lig, ligature, from_bytes}
 use Rattle.lang.specs.Every.{every}
@@ -81,13 +80,13 @@ each_at P [] p i h = absurd (omega arith)
 each_at P (x ∷ xs) p zero h = p.0
 each_at P (x ∷ xs) p (suc i) h = each_at P xs p.1 i (omega arith)
 
-next_reads : (x : NextInstruction) → SkipFits x → next_of (next_number x) ≡ x
-next_reads Stop h = refl
-next_reads (Skip k) h = ap Skip (let e : k % 256 ≡ k = omega arith in e)
+next_reads : (x : Option ℕ) → SkipFits x → next_of (next_number x) ≡ x
+next_reads None h = refl
+next_reads (Some k) h = ap Some (let e : k % 256 ≡ k = omega arith in e)
 
-next_fits : (x : NextInstruction) → SkipFits x → absent_or 255 (next_number x) ≡ true
-next_fits Stop h = refl
-next_fits (Skip k) h = le-leb k 255 (omega arith)
+next_fits : (x : Option ℕ) → SkipFits x → absent_or 255 (next_number x) ≡ true
+next_fits None h = refl
+next_fits (Some k) h = le-leb k 255 (omega arith)
 
 op_byte_lem : (p : PostLigOperation) → byte_of_operation p < 12
 op_byte_lem RetainNeitherMoveToInserted = omega arith

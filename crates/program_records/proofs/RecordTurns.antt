@@ -21,8 +21,7 @@ use Rattle.lang.specs.declared.Written.{Written}
 use Rattle.lang.specs.Checks.{range_refusal, or_else}
 use Rattle.lang.specs.Answers.{room_refusal, list_of}
 use Rattle.lang.proofs.Refusals.{or_else_assoc, or_else_none, unless_none, room_fits}
-use Rattle.program_chain.specs.declared.Next.{Next}
-use Rattle.program_chain.specs.declared.Next.TheVariants.{At}
+use Rattle.std.specs.Prelude.{Option, Some}
 use Rattle.program_chain.specs.Chains.{Program, step_at, chain, is_rule_for, first_for, rule_index, found}
 use Rattle.program_chain.proofs.Walks.{Stepped, step_on, chain_end, length_chain, rule_here, rule_later, rule_nowhere}
 use Rattle.program_records.specs.declared.steps.ChainWalk.{ChainWalk}
@@ -131,10 +130,10 @@ module _ (n : ℕ) (program : Program) (entry : ℤ) (out₀ out : List ℕ) (wa
               rw h.reached (appending_one out₀ walk.at (h.written (omega arith)) (omega (arith, h.kept)));
         }
 
-    goes_by : (next : Next) → next ≡ At walk.at on → Walked n program entry out₀ (put_by walk next out) (moved_by walk next)
+    goes_by : (next : Option (ℕ × ℕ)) → next ≡ Some (walk.at, on) → Walked n program entry out₀ (put_by walk next out) (moved_by walk next)
     goes_by next e = rw e passed
 
-    walked_on : step_at n program walk.at ≡ At walk.at on
+    walked_on : step_at n program walk.at ≡ Some (walk.at, on)
     walked_on = rw (lt-ltb walk.at n inside)
 
     -- the numbers that are stored fit 32 bits
@@ -142,7 +141,7 @@ module _ (n : ℕ) (program : Program) (entry : ℤ) (out₀ out : List ℕ) (wa
     walked_small = (omega (arith, inside, walked-few, ap step_index walked_on), omega (arith, walked-few, walked-count))
 
     pub walked_nearer : n - (moved_by walk (step_at n program walk.at)).at < n - walk.at
-    walked_nearer = omega (arith, inside, step.ahead, ap (λ (z : Next). (moved_by walk z).at) walked_on)
+    walked_nearer = omega (arith, inside, step.ahead, ap (λ (z : Option (ℕ × ℕ)). (moved_by walk z).at) walked_on)
 
     pub walked_more : Walked n program entry out₀ (put_by walk (step_at n program walk.at) out) (moved_by walk (step_at n program walk.at))
     walked_more = goes_by (step_at n program walk.at) walked_on

@@ -1,6 +1,6 @@
 -- The walk over records and the walk over numbers agree (R282), both ways: on a program that is lent as numbers, read as records
 -- (`Agrees`), and on a list of records, written as numbers (`Flattened`). Theorems `agrees`, `flattened` and `only-on-lig`.
-use Rattle.std.specs.Prelude.{◌≡◌, true, cond, List, [], ◌∷◌, ℕ, ◌+◌, ◌*◌, ◌<◌, ◌≤◌, ℤ, pos, negsuc, length}
+use Rattle.std.specs.Prelude.{◌≡◌, true, cond, List, [], ◌∷◌, ℕ, ◌+◌, ◌*◌, ◌<◌, ◌≤◌, ℤ, pos, negsuc, length, None, Some, Option}
 use Rattle.std.specs.Int.{w32}
 use Rattle.std.proofs.Common.{SFits}
 use Rattle.words.specs.Lists.{tabulate}
@@ -8,8 +8,6 @@ use Rattle.lang.specs.declared.Written.{Written}
 use Rattle.lang.specs.declared.operation.PostLigOperation.TheVariants.{RetainNeitherMoveToInserted}
 use Rattle.lang.specs.declared.operation.Operation.{Operation}
 use Rattle.lang.specs.declared.operation.Operation.TheVariants.{Kern, KernAtIndex, Ligature, EntrypointRedirect}
-use Rattle.lang.specs.declared.instruction.NextInstruction.{NextInstruction}
-use Rattle.lang.specs.declared.instruction.NextInstruction.TheVariants.{Stop, Skip}
 use Rattle.lang.specs.declared.instruction.Instruction.{Instruction}
 use Rattle.lang.specs.Operations.{byte_of_operation}
 use Rattle.lang.specs.Records.{count, instruction_at}
@@ -40,9 +38,9 @@ Agrees = (s : List ℤ) → program_refusal s ≡ 0 → SameWalks s (records_of 
 -- ---- from records to numbers
 
 -- next: -1, or how many instructions are skipped
-abbrev pub next_number : NextInstruction → ℤ
-next_number Stop = negsuc 0
-next_number (Skip k) = pos k
+abbrev pub next_number : Option ℕ → ℤ
+next_number None = negsuc 0
+next_number (Some k) = pos k
 
 -- number 2 of an instruction: 0 a kern, 1 a kern index, 2 a ligature, 3 a redirect
 abbrev pub kind_number : Operation → ℕ
@@ -69,9 +67,9 @@ flat (x ∷ xs) =
     next_number x.next_instruction ∷ pos x.right_char.0 ∷ pos (kind_number x.operation) ∷ operand_number x.operation ∷ flat xs
 
 -- a skip is a byte
-abbrev pub SkipFits : NextInstruction → Type 0
-SkipFits Stop = Unit {0}
-SkipFits (Skip k) = k < 256
+abbrev pub SkipFits : Option ℕ → Type 0
+SkipFits None = Unit {0}
+SkipFits (Some k) = k < 256
 
 -- an operation's number is in the range of its type: an i32, 16 bits, or a byte
 abbrev pub OperationFits : Operation → Type 0

@@ -1,9 +1,8 @@
 -- Chains over a lent list of instruction records, which instructions_for_entrypoint walks too (R282): those of crate program_chain, at the
 -- count and the records of the list.
-use Rattle.std.specs.Prelude.{◌≡◌, List, [], ◌∷◌, ℕ, ℤ, pos, leb, length, get_or}
+use Rattle.std.specs.Prelude.{◌≡◌, List, [], ◌∷◌, ℕ, ℤ, pos, leb, length, get_or, Some}
 use Rattle.words.specs.Words.{word_of}
 use Rattle.lang.specs.declared.operation.Operation.TheVariants.{Kern}
-use Rattle.lang.specs.declared.instruction.NextInstruction.TheVariants.{Skip}
 use Rattle.lang.specs.declared.instruction.Instruction.{Instruction}
 use Rattle.lang.specs.declared.Written.{Written}
 use Rattle.lang.specs.Checks.{unless, range_refusal, or_else}
@@ -13,7 +12,7 @@ use Rattle.program_chain.specs.Chains.{Program, chain}
 -- the instruction of four zeros, `instructionAt [] 0`
 abbrev pub zero_record : Instruction
 zero_record =
-    record { next_instruction = Skip 0; right_char = record { 0 = 0 }; operation = Kern (record { 0 = pos 0 }) }
+    record { next_instruction = Some 0; right_char = record { 0 = 0 }; operation = Kern (record { 0 = pos 0 }) }
 
 -- the record at an index; past the last one, the instruction of four zeros
 abbrev pub record_at : List Instruction → Program

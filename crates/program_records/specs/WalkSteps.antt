@@ -1,14 +1,10 @@
 -- What the functions on a record or on numbers are held to, from which the walks over records are made.
-use Rattle.std.specs.Prelude.{◌≡◌, Bool, false, cond, not, List, [], ◌∷◌, ℕ, ◌+◌, ℤ, pos, ltb, eqb, length, set, take}
+use Rattle.std.specs.Prelude.{◌≡◌, Bool, false, cond, not, List, [], ◌∷◌, ℕ, ◌+◌, ℤ, pos, ltb, eqb, length, set, take, Option, None, Some}
 use Rattle.words.specs.Words.{word_of}
 use Rattle.lang.specs.declared.Written.{Written}
 use Rattle.lang.specs.Checks.{range_refusal, or_else}
 use Rattle.lang.specs.Answers.{room_refusal, written_reply, reply_of, list_of}
 use Rattle.lang.specs.declared.instruction.Instruction.{Instruction}
-use Rattle.program_chain.specs.declared.Next.{Next}
-use Rattle.program_chain.specs.declared.Next.TheVariants.{At, End}
-use Rattle.program_chain.specs.declared.FoundRule.{FoundRule}
-use Rattle.program_chain.specs.declared.FoundRule.TheVariants.{Rule, Nothing}
 use Rattle.program_chain.specs.Chains.{is_rule_for}
 use Rattle.program_records.specs.declared.steps.ChainWalk.{ChainWalk}
 use Rattle.program_records.specs.RecordChains.{records_refusal}
@@ -20,13 +16,13 @@ abbrev pub searches_on : ℕ → Instruction → ℕ → ℕ → Bool
 searches_on n x i right = cond (ltb i n) (not (is_rule_for right x)) false
 
 -- where a step goes on
-abbrev pub onward_of : Next → ℕ
-onward_of (At i on) = on
-onward_of End = 0
+abbrev pub onward_of : Option (ℕ × ℕ) → ℕ
+onward_of (Some x) = x.1
+onward_of None = 0
 
 -- what a search has found that stopped at index i of n
-abbrev pub rule_where : ℕ → ℕ → FoundRule
-rule_where n i = cond (ltb i n) (Rule i) Nothing
+abbrev pub rule_where : ℕ → ℕ → Option ℕ
+rule_where n i = cond (ltb i n) (Some i) None
 
 -- ---- a walk into a list
 
@@ -43,19 +39,19 @@ abbrev pub start_of : ℕ → ℤ → ℕ
 start_of n entry = cond (eqb (early_refusal n entry) 0) (word_of entry) n
 
 -- the index of a step
-abbrev pub step_index : Next → ℕ
-step_index (At i on) = i
-step_index End = 0
+abbrev pub step_index : Option (ℕ × ℕ) → ℕ
+step_index (Some x) = x.0
+step_index None = 0
 
 -- a walk after a step
-abbrev pub moved_by : ChainWalk → Next → ChainWalk
-moved_by walk (At i on) = record { at = on; count = walk.count + 1 }
-moved_by walk End = walk
+abbrev pub moved_by : ChainWalk → Option (ℕ × ℕ) → ChainWalk
+moved_by walk (Some x) = record { at = x.1; count = walk.count + 1 }
+moved_by walk None = walk
 
 -- the list after a step
-abbrev pub put_by : ChainWalk → Next → List ℕ → List ℕ
-put_by walk (At i on) out = set out walk.count i
-put_by walk End out = out
+abbrev pub put_by : ChainWalk → Option (ℕ × ℕ) → List ℕ → List ℕ
+put_by walk (Some x) out = set out walk.count x.0
+put_by walk None out = out
 
 -- the end of a walk that has written `count` indices: zeros after them, or zeros alone
 pub record FinishesWalk (n : ℕ) (entry : ℤ) (count : ℕ) (out : List ℕ) (r : Written) (out' : List ℕ) : Type 0 where

@@ -9,7 +9,6 @@ ghost use Rattle.program_records.specs.RecordChains.{record_at, WalksRecords};
 
 use lang::Written;
 use lang::instruction::Instruction;
-use program_chain::{FoundRule, Next};
 
 mod steps;
 
@@ -24,7 +23,7 @@ fn record_at(instructions: &[Instruction], at: usize) -> Instruction
 }
 
 // The instruction at index `at` of a walk, and where the walk goes on.
-pub fn next_instruction(instructions: &[Instruction], at: usize) -> Next
+pub fn next_instruction(instructions: &[Instruction], at: usize) -> Option<(usize, usize)>
     ensures { result ≡ step_at (length instructions.now) (record_at instructions.now)
         at }
 {
@@ -32,7 +31,7 @@ pub fn next_instruction(instructions: &[Instruction], at: usize) -> Next
 }
 
 // The rule of a right character on the chain from an entry: the first instruction for it that is no redirect.
-pub fn rule_index(instructions: &[Instruction], entry: usize, right: u8) -> FoundRule
+pub fn rule_index(instructions: &[Instruction], entry: usize, right: u8) -> Option<usize>
     ensures { result ≡ found
         (rule_index (length instructions.now) (record_at instructions.now) entry right) }
 {

@@ -7,9 +7,8 @@ ghost use Rattle.program_records.specs.WalkSteps.{searches_on, onward_of, rule_w
 ghost use Rattle.program_records.specs.WalkSteps.{start_of, step_index, moved_by, put_by, FinishesWalk};
 
 use lang::Written;
-use lang::instruction::{Instruction, NextInstruction};
+use lang::instruction::Instruction;
 use lang::operation::Operation;
-use program_chain::{FoundRule, Next};
 use program_checks::range_refusal;
 use tfm::{Char, FixWord};
 
@@ -25,24 +24,24 @@ pub(crate) fn zeros() -> Instruction
     ensures { result ≡ zero_record }
 {
     Instruction {
-        next_instruction: NextInstruction::Skip(0),
+        next_instruction: Some(0),
         right_char: Char(0),
         operation: Operation::Kern(FixWord::ZERO),
     }
 }
 
 // The step from index `at` of n records, where the record there is x.
-pub(crate) fn step(n: usize, x: Instruction, at: usize) -> Next
+pub(crate) fn step(n: usize, x: Instruction, at: usize) -> Option<(usize, usize)>
     requires { n < 2 ^ 63 }
     ensures { result ≡ step_at n (λ _. x) at }
 {
     if n <= at {
-        return Next::End;
+        return None;
     }
     let next = x.next_instruction;
     match next {
-        NextInstruction::Stop => Next::At(at, n),
-        NextInstruction::Skip(k) => Next::At(at, at + 1 + (k as usize)),
+        None => Some((at, n)),
+        Some(k) => Some((at, at + 1 + (k as usize))),
     }
 }
 
@@ -71,23 +70,23 @@ pub(crate) fn searches_on(n: usize, x: Instruction, at: usize, right: u8) -> boo
 }
 
 // Where a step goes on.
-pub(crate) fn onward(next: Next) -> usize
+pub(crate) fn onward(next: Option<(usize, usize)>) -> usize
     ensures { result ≡ onward_of next }
 {
     match next {
-        Next::At(_, on) => on,
-        Next::End => 0,
+        Some((_, on)) => on,
+        None => 0,
     }
 }
 
 // The rule where a search has stopped.
-pub(crate) fn rule_at(n: usize, at: usize) -> FoundRule
+pub(crate) fn rule_at(n: usize, at: usize) -> Option<usize>
     ensures { result ≡ rule_where n at }
 {
     if at < n {
-        return FoundRule::Rule(at);
+        return Some(at);
     }
-    FoundRule::Nothing
+    None
 }
 
 // 1 of the records, 4 of the entry.
@@ -128,20 +127,20 @@ pub(crate) fn begin(n: usize, entry: i32) -> ChainWalk
 }
 
 // The index that a step passes is written at the end of those before it, where there is room, and the walk goes on.
-pub(crate) fn put(walk: ChainWalk, next: Next, out: &mut [u32]) -> ChainWalk
+pub(crate) fn put(walk: ChainWalk, next: Option<(usize, usize)>, out: &mut [u32]) -> ChainWalk
     requires { (step_index next < 2 ^ 32) × (walk.count < 2 ^ 32) }
     ensures { (result ≡ moved_by walk next) × (out.new ≡ put_by walk next out.old) }
 {
     let k = walk.count;
     match next {
-        Next::At(i, on) => {
-            words::u32s::put_u32(out, k, i as u32);
+        Some((i, on)) => {
+            words::slices::put_item(out, k, i as u32);
             ChainWalk {
                 at: on,
                 count: k + 1,
             }
         }
-        Next::End => walk,
+        None => walk,
     }
 }
 
@@ -151,9 +150,9 @@ pub(crate) fn finish(n: usize, entry: i32, count: usize, out: &mut [u32]) -> Wri
 {
     let refused = refusal(n, entry, count, out.len());
     if refused != 0 {
-        words::u32s::zero_u32(out);
+        words::slices::zero_all(out);
         return Written::Refused(refused);
     }
-    words::u32s::zero_u32(&mut out[count..]);
+    words::slices::zero_all(&mut out[count..]);
     Written::Count(count)
 }

@@ -2,10 +2,9 @@
 -- bytes, and gives what follows in it; none is 23. Bytes are those of ASCII: 10 a line feed, 13 a carriage return, 32 a blank, 40 and 41
 -- the parentheses.
 use Rattle.std.specs.Prelude.{◌≡◌, Bool, true, false, cond, not, List, [], ◌∷◌, ℕ, suc, ◌+◌, ◌-◌, ◌≤◌, leb, eqb, length, drop}
+use Rattle.std.specs.Prelude.{Option as Answer, Some, None}
 use Rattle.std.proofs.Math.Option.{Option, none, some}
 use Rattle.lang.specs.Every.{both}
-use Rattle.property_lists.specs.declared.Passed.{Passed}
-use Rattle.property_lists.specs.declared.Passed.TheVariants as passed
 
 -- one of two tests passes
 abbrev pub one_of : Bool → Bool → Bool
@@ -96,20 +95,20 @@ past_name [] bs = name_ends bs
 past_name (a ∷ more) [] = none
 past_name (a ∷ more) (b ∷ bs) = cond (eqb (upper_case b) a) (past_name more bs) none
 
--- ---- the contract of functions that pass over a part of a text
+-- ---- the contract of functions that pass over a part of a text: the place that follows it, or none for 23
 
 -- the rest of the text after it
-abbrev pub text_after : List ℕ → Passed → Option (List ℕ)
-text_after text (passed.At n) = some (drop n text)
-text_after text passed.Refused = none
+abbrev pub text_after : List ℕ → Answer ℕ → Option (List ℕ)
+text_after text (Some n) = some (drop n text)
+text_after text None = none
 
 -- the place that follows; d where there is none
-abbrev pub place_after : ℕ → Passed → ℕ
-place_after d (passed.At n) = n
-place_after d passed.Refused = d
+abbrev pub place_after : ℕ → Answer ℕ → ℕ
+place_after d (Some n) = n
+place_after d None = d
 
 -- the rest is what the scanner gives, `least` bytes or more behind the place
-pub record Passes (o : Option (List ℕ)) (text : List ℕ) (at least : ℕ) (r : Passed) : Type 0 where
+pub record Passes (o : Option (List ℕ)) (text : List ℕ) (at least : ℕ) (r : Answer ℕ) : Type 0 where
   pub is : text_after text r ≡ o
   pub low : at ≤ length text → at + least ≤ place_after (at + least) r
   pub high : place_after (length text) r ≤ length text

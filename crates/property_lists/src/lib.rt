@@ -1,14 +1,6 @@
 // The LIGTABLE property list of TFtoPL and PLtoTF, as text. Definitions and theorems; the functions are the crates
 // real_text and pl_*.
-
-// After a part of a text: the place that follows it, or 23.
 #![tactic(auto)]
-
-#[derive(Clone, Copy)]
-pub enum Passed {
-    At(usize),
-    Refused,
-}
 
 // A number of a text and the place that follows it, or 23.
 #[derive(Clone, Copy)]

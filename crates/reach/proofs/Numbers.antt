@@ -10,11 +10,10 @@ use lib.IntN.{ℤ, pos, negsuc}
 use lib.Dec.{eqb}
 use lib.ListN.{length, get_or, set}
 use borrow.Author.Tests.{eq-eqb, ne_eqb, le-leb, lt-leb}
+use Rattle.std.specs.Prelude.{None, Some, Option}
 use Rattle.words.specs.Words.{number_of}
 use Rattle.words.specs.Lists.{Filling}
 use Rattle.words.proofs.Bits.{number_pos}
-use Rattle.lang.specs.declared.instruction.NextInstruction.{NextInstruction}
-use Rattle.lang.specs.declared.instruction.NextInstruction.TheVariants.{Stop, Skip}
 use Rattle.lang.specs.declared.instruction.Instruction.{Instruction}
 use Rattle.lang.specs.Records.{count, instruction_at}
 use Rattle.lang.proofs.Filled.{filling_put}
@@ -44,24 +43,24 @@ counted_few m i (suc k) = go (eqb (get_or m (i + k) 0) 0) (counted_few m i k)
     go false h = omega arith
 
 module _ (n : ℕ) (m : List ℕ) where
-  pub skip_stops : (next : NextInstruction) (i : ℕ) → next ≡ Stop → negsuc 0 ≡ adjusted_skip n m next i
-  skip_stops next i e = sym (ap (λ (x : NextInstruction). adjusted_skip n m x i) e)
+  pub skip_stops : (next : Option ℕ) (i : ℕ) → next ≡ None → negsuc 0 ≡ adjusted_skip n m next i
+  skip_stops next i e = sym (ap (λ (x : Option ℕ). adjusted_skip n m x i) e)
 
-  pub skip_nothing : (next : NextInstruction) (k i : ℕ) → next ≡ Skip k → k ≡ 0 → negsuc 0 ≡ adjusted_skip n m next i
-  skip_nothing next k i e z = sym (ap (λ (x : NextInstruction). adjusted_skip n m x i) (e ∙ ap Skip z))
+  pub skip_nothing : (next : Option ℕ) (k i : ℕ) → next ≡ Some k → k ≡ 0 → negsuc 0 ≡ adjusted_skip n m next i
+  skip_nothing next k i e z = sym (ap (λ (x : Option ℕ). adjusted_skip n m x i) (e ∙ ap Some z))
 
-  pub skip_past : (next : NextInstruction) (k i : ℕ) → next ≡ Skip k → n < i + 1 + k → negsuc 0 ≡ adjusted_skip n m next i
-  skip_past next k i e h = go k h ∙ sym (ap (λ (x : NextInstruction). adjusted_skip n m x i) e)
+  pub skip_past : (next : Option ℕ) (k i : ℕ) → next ≡ Some k → n < i + 1 + k → negsuc 0 ≡ adjusted_skip n m next i
+  skip_past next k i e h = go k h ∙ sym (ap (λ (x : Option ℕ). adjusted_skip n m x i) e)
     where
-      go : (k : ℕ) → n < i + 1 + k → negsuc 0 ≡ adjusted_skip n m (Skip k) i
+      go : (k : ℕ) → n < i + 1 + k → negsuc 0 ≡ adjusted_skip n m (Some k) i
       go zero h = refl
       go (suc k) h = rw (lt-leb (i + 1 + suc k) n h)
 
-  pub skip_counted : (next : NextInstruction) (k i r : ℕ) → next ≡ Skip k → (k ≡ 0 → ⊥) → k < 256 → i + 1 + k ≤ n → r ≡ marks_from m (i + 1) k →
+  pub skip_counted : (next : Option ℕ) (k i r : ℕ) → next ≡ Some k → (k ≡ 0 → ⊥) → k < 256 → i + 1 + k ≤ n → r ≡ marks_from m (i + 1) k →
       number_of r ≡ adjusted_skip n m next i
-  skip_counted next k i r e z l h c = go k z l h c ∙ sym (ap (λ (x : NextInstruction). adjusted_skip n m x i) e)
+  skip_counted next k i r e z l h c = go k z l h c ∙ sym (ap (λ (x : Option ℕ). adjusted_skip n m x i) e)
     where
-      go : (k : ℕ) → (k ≡ 0 → ⊥) → k < 256 → i + 1 + k ≤ n → r ≡ marks_from m (i + 1) k → number_of r ≡ adjusted_skip n m (Skip k) i
+      go : (k : ℕ) → (k ≡ 0 → ⊥) → k < 256 → i + 1 + k ≤ n → r ≡ marks_from m (i + 1) k → number_of r ≡ adjusted_skip n m (Some k) i
       go zero z l h c = absurd (z refl)
       go (suc k) z l h c =
           rw (le-leb (i + 1 + suc k) n h)

@@ -1,11 +1,9 @@
 -- Reach: which instructions a font's entries lead to (R148 to R153), after `reachable_iter` of ligkern/lang.rs. TFtoPL 66 to 70 compute the
 -- activity of each step (crate reach_marks), and TFtoPL 75 counts skips over reachable steps alone. A skip that lands exactly at the end is
 -- not made to stop, as TFtoPL 70 does; it has an adjusted skip: docs/DIFFERENCES.md.
-use Rattle.std.specs.Prelude.{◌≡◌, cond, List, [], ◌∷◌, ℕ, zero, suc, ◌+◌, ◌*◌, ◌/◌, ◌%◌, ℤ, pos, negsuc, leb, eqb, length, get_or}
+use Rattle.std.specs.Prelude.{◌≡◌, cond, List, [], ◌∷◌, ℕ, zero, suc, ◌+◌, ◌*◌, ◌/◌, ◌%◌, ℤ, pos, negsuc, leb, eqb, length, get_or, None, Some, Option}
 use Rattle.words.specs.Lists.{tabulate}
 use Rattle.lang.specs.declared.Written.{Written}
-use Rattle.lang.specs.declared.instruction.NextInstruction.{NextInstruction}
-use Rattle.lang.specs.declared.instruction.NextInstruction.TheVariants.{Stop, Skip}
 use Rattle.lang.specs.Records.{count, instruction_at}
 use Rattle.lang.specs.Checks.{program_refusal, entries_refusal, absent_refusal, passthrough_refusal, or_else}
 use Rattle.lang.specs.Answers.{room_refusal, written_reply, reply_of, list_of}
@@ -18,10 +16,10 @@ marks_from marks i (suc k) = marks_from marks i k + cond (eqb (get_or marks (i +
 
 -- R152 and R153, TFtoPL 75: the skip of instruction i counted over reachable ones. None (-1) where nothing is skipped, or where the skip
 -- passes the end.
-abbrev pub adjusted_skip : ℕ → List ℕ → NextInstruction → ℕ → ℤ
-adjusted_skip n marks Stop i = negsuc 0
-adjusted_skip n marks (Skip zero) i = negsuc 0
-adjusted_skip n marks (Skip (suc k)) i = cond (leb (i + 1 + suc k) n) (pos (marks_from marks (i + 1) (suc k))) (negsuc 0)
+abbrev pub adjusted_skip : ℕ → List ℕ → Option ℕ → ℕ → ℤ
+adjusted_skip n marks None i = negsuc 0
+adjusted_skip n marks (Some zero) i = negsuc 0
+adjusted_skip n marks (Some (suc k)) i = cond (leb (i + 1 + suc k) n) (pos (marks_from marks (i + 1) (suc k))) (negsuc 0)
 
 -- 0 unreachable, 1 reachable, 2 passthrough (R151)
 abbrev pub state_of : List ℕ → List ℕ → ℕ → ℕ

@@ -11,7 +11,7 @@ ghost use Rattle.reach.specs.Reach.{marks_from, adjusted_skip, state_of, skip_of
 ghost use Rattle.reach.specs.Reach.{Reaches};
 
 use lang::Written;
-use lang::instruction::{NextInstruction, instruction_at};
+use lang::instruction::instruction_at;
 use program_checks::{absent_refusal, program_refusal};
 use program_limits::{entries_refusal, passthrough_refusal, room_refusal};
 use reach_marks::reachable_array;
@@ -55,24 +55,22 @@ fn marks_from(marks: &[u8], i: usize, k: u8) -> u32
     ensures { result ≡ marks_from marks.now i k }
 {
     let mut found = 0;
-    let mut j = 0;
-    while j < (k as usize) {
-        if marks[i + j] != 0 {
+    for mark in &marks[i..i + (k as usize)] {
+        if *mark != 0 {
             found += 1;
         }
-        j += 1;
     }
     found
 }
 
 // TFtoPL 75: the skip of instruction i counted over marked ones, as its bits.
-fn adjusted_skip(marks: &[u8], next: NextInstruction, i: usize) -> u32
+fn adjusted_skip(marks: &[u8], next: Option<u8>, i: usize) -> u32
     requires { i < length marks.now }
     ensures { number_of result ≡ adjusted_skip (length marks.now) marks.now next i }
 {
     match next {
-        NextInstruction::Stop => NONE,
-        NextInstruction::Skip(k) => {
+        None => NONE,
+        Some(k) => {
             if k == 0 {
                 return NONE;
             }
@@ -88,10 +86,10 @@ fn adjusted_skip(marks: &[u8], next: NextInstruction, i: usize) -> u32
 fn state_of(marks: &[u8], passthrough: &[u8], i: usize) -> u32
     ensures { result ≡ state_of marks.now passthrough.now i }
 {
-    if words::u8s::u8_at(marks, i) != 0 {
+    if words::slices::item_at(marks, i) != 0 {
         return 1;
     }
-    if words::u8s::u8_at(passthrough, i) != 0 {
+    if words::slices::item_at(passthrough, i) != 0 {
         return 2;
     }
     0
@@ -102,7 +100,7 @@ fn skip_of(instructions: &[i32], marks: &[u8], i: usize) -> u32
     requires { (length marks.now ≡ count instructions.now) × (i < length marks.now) }
     ensures { number_of result ≡ skip_of instructions.now marks.now i }
 {
-    if words::u8s::u8_at(marks, i) == 0 {
+    if words::slices::item_at(marks, i) == 0 {
         return NONE;
     }
     let instruction = instruction_at(instructions, i);
@@ -118,11 +116,9 @@ fn write_reach(instructions: &[i32], marks: &[u8], passthrough: &[u8], out: &mut
         (reach_number instructions.now marks.now passthrough.now)
         ++ drop (2 * count instructions.now) out.old }
 {
-    let mut i = 0;
-    while i < marks.len() {
+    for i in 0..marks.len() {
         words::i32s::put_word(out, 2 * i, state_of(marks, passthrough, i));
         words::i32s::put_word(out, 2 * i + 1, skip_of(instructions, marks, i));
-        i += 1;
     }
 }
 
@@ -145,7 +141,7 @@ pub fn reachable_iter(
     ensures { Reaches instructions.now entries.now left_entry
         passthrough.now out.old result out.new }
 {
-    words::i32s::zero_i32(out);
+    words::slices::zero_all(out);
     let refusal = reach_refusal(instructions, entries, left_entry, passthrough, out.len());
     if refusal != 0 {
         return Written::Refused(refusal);

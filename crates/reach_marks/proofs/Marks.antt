@@ -11,8 +11,7 @@ use lib.Dec.{eqb}
 use lib.ListN.{length, get_or, set, replicate, length-set, length-replicate}
 use borrow.Author.Tests.{eq-eqb, ne_eqb, lt-ltb}
 use Rattle.words.specs.Words.{word_of}
-use Rattle.program_chain.specs.declared.Next.{Next}
-use Rattle.program_chain.specs.declared.Next.TheVariants.{At, End}
+use Rattle.std.specs.Prelude.{Option, None, Some}
 use Rattle.lang.specs.Records.{count, instruction_at}
 use Rattle.lang.specs.Checks.{entry_at}
 use Rattle.program_chain.specs.Chains.{Program, onward_from, step_at}
@@ -54,18 +53,20 @@ length_either false m i = length-set m i 1
 
 -- ---- the pass (TFtoPL 70)
 
-step_at_lem : (n : ℕ) (program : Program) (i : ℕ) → i < n → step_at n program i ≡ At i (onward_from n (program i).next_instruction i)
+step_at_lem : (n : ℕ) (program : Program) (i : ℕ) → i < n → step_at n program i ≡ Some (i, onward_from n (program i).next_instruction i)
 step_at_lem n program i h = rw (lt-ltb i n h)
 
 -- below the count a step is no end, and goes where the definition says
-pub step_ends : (n : ℕ) (program : Program) (i : ℕ) (r : Next) → i < n → r ≡ step_at n program i → r ≡ End → ⊥
+pub step_ends : (n : ℕ) (program : Program) (i : ℕ) (r : Option (ℕ × ℕ)) → i < n → r ≡ step_at n program i → r ≡ None → ⊥
 step_ends n program i r h e g =
     let z : ◌≡◌ {A = ℕ} 0 1 = cc (step_at_lem n program i h) in
     omega arith
 
-pub step_onward : (n : ℕ) (program : Program) (i j on : ℕ) (r : Next) → i < n → r ≡ step_at n program i → r ≡ At j on →
+pub step_onward : (n : ℕ) (program : Program) (i j on : ℕ) (r : Option (ℕ × ℕ)) → i < n → r ≡ step_at n program i → r ≡ Some (j, on) →
     on ≡ onward_from n (program i).next_instruction i
-step_onward n program i j on r h e g = cc (step_at_lem n program i h)
+step_onward n program i j on r h e g =
+    let p : ◌≡◌ {A = ℕ × ℕ} (i, onward_from n (program i).next_instruction i) (j, on) = cc (step_at_lem n program i h) in
+    sym (ap (λ (x : ℕ × ℕ). x.1) p)
 
 pub pass_bare : (s : List ℤ) (m : List ℕ) (i : ℕ) → get_or m i 0 ≡ 0 → m ≡ onward_marked s m i
 pass_bare s m i e = rw (eq-eqb (get_or m i 0) 0 e)

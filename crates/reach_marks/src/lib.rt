@@ -6,19 +6,17 @@ ghost use Rattle.std.specs.Prelude.{◌≡◌, cond, ◌/◌, ◌<◌, eqb, leng
 ghost use Rattle.lang.specs.Records.{count};
 ghost use Rattle.reach_marks.specs.Marks.{entries_marked, left_marked, onward_marked, reachable};
 
-use program_chain::{Next, next_instruction};
+use program_chain::next_instruction;
 
 // TFtoPL 68: no place is marked, then the entries are.
 fn mark_entries(entries: &[i32], marks: &mut [u8])
     ensures { marks.new ≡ entries_marked (length marks.old) entries.now
         (length entries.now / 2) }
 {
-    words::u8s::zero_u8(marks);
-    let mut k = 0;
-    while k < entries.len() / 2 {
+    words::slices::zero_all(marks);
+    for k in 0..entries.len() / 2 {
         let entry = words::i32s::word_at(entries, 2 * k + 1) as usize;
-        words::u8s::put_u8(marks, entry, 1);
-        k += 1;
+        words::slices::put_item(marks, entry, 1);
     }
 }
 
@@ -29,7 +27,7 @@ fn mark_left(left_entry: i32, marks: &mut [u8])
 {
     let entry = words::word_of(left_entry) as usize;
     if entry + 1 != marks.len() {
-        words::u8s::put_u8(marks, entry, 1);
+        words::slices::put_item(marks, entry, 1);
     }
 }
 
@@ -38,13 +36,13 @@ fn mark_onward(instructions: &[i32], i: usize, marks: &mut [u8])
     requires { i < count instructions.now }
     ensures { marks.new ≡ onward_marked instructions.now marks.old i }
 {
-    if words::u8s::u8_at(marks, i) == 0 {
+    if words::slices::item_at(marks, i) == 0 {
         return;
     }
-    let Next::At(_, on) = next_instruction(instructions, i) else {
+    let Some((_, on)) = next_instruction(instructions, i) else {
         return;
     };
-    words::u8s::put_u8(marks, on, 1);
+    words::slices::put_item(marks, on, 1);
 }
 
 // The instructions that the entries lead to, in one pass: a chain only goes forward.
@@ -55,10 +53,8 @@ fn mark_reached(instructions: &[i32], entries: &[i32], left_entry: i32, marks: &
 {
     mark_entries(entries, marks);
     mark_left(left_entry, marks);
-    let mut i = 0;
-    while i < instructions.len() / 4 {
+    for i in 0..instructions.len() / 4 {
         mark_onward(instructions, i, marks);
-        i += 1;
     }
 }
 
@@ -71,7 +67,7 @@ pub fn reachable_array(instructions: &[i32], entries: &[i32], left_entry: i32, m
         (replicate (length marks.old) 0) }
 {
     if marks.len() != instructions.len() / 4 {
-        words::u8s::zero_u8(marks);
+        words::slices::zero_all(marks);
         return;
     }
     mark_reached(instructions, entries, left_entry, marks);

@@ -61,17 +61,6 @@ drop_least l m n = go (less_or_not (m + n) (length l))
     go (inl h) = ap (λ (k : ℕ). drop k l) (let e : min m (length l) + min n (length l) ≡ m + n = omega arith in e)
     go (inr h) = drop_of_length-le l {i = min m (length l) + min n (length l)} (omega arith) ∙ sym (drop_of_length-le l {i = m + n} h)
 
-pub without_least : (l : List ℤ) (place n p k : ℕ) → p ≡ min place (length l) → k ≡ min n (length l) → without p k l ≡ without place n l
-without_least l place n p k e g = rw (e, g) (λ i. take_least l place i ++ drop_least l place n i)
-
-pub two_least : (l : List ℤ) (place p : ℕ) (a b : ℤ) → p ≡ min place (length l) → with_two p a b l ≡ with_two place a b l
-two_least l place p a b e =
-    let z : place ≡ place + 0 = omega arith in
-    let y : min place (length l) ≡ min place (length l) + min 0 (length l) = omega arith in
-    rw e (λ i.
-    take_least l place i
-    ++ (a ∷ b ∷ (ap (λ (k : ℕ). drop k l) y ∙ drop_least l place 0 ∙ ap (λ (k : ℕ). drop k l) (sym z)) i))
-
 -- ---- numbers taken out
 
 module _ (l : List ℤ) (place n : ℕ) (h : place ≤ length l) where

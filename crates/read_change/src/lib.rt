@@ -10,7 +10,6 @@ ghost use Rattle.read_change.specs.Changes.{change_of, Retains, finished_by, Cha
 
 use lang::operation::PostLigOperation;
 use read_rule::PairRule;
-use words::sizes::smaller;
 
 pub mod places;
 
@@ -107,7 +106,7 @@ fn finished(done: Change, boundary: bool) -> Change
     ensures { result ≡ finished_by boundary done }
 {
     if boundary {
-        let gone = smaller(done.left, done.advance);
+        let gone = done.left.min(done.advance);
         return change_of(
             done.left - gone,
             done.right,

@@ -4,17 +4,14 @@ ghost use Rattle.words.specs.Words.{number_of};
 ghost use Rattle.read_change.specs.Fitted.{fitted, without, with_two};
 
 use words::i32s::{put_word, word_at};
-use words::sizes::smaller;
 
 // The n numbers at a place go; zeros come in at the end.
 pub fn remove(s: &mut [i32], at: usize, n: usize)
     ensures { s.new ≡ fitted (length s.old) (without at n s.old) }
 {
-    let far = smaller(n, s.len());
-    let mut i = smaller(at, s.len());
-    while i < s.len() {
+    let far = n.min(s.len());
+    for i in at.min(s.len())..s.len() {
         put_word(s, i, word_at(s, i + far));
-        i += 1;
     }
 }
 
@@ -25,12 +22,10 @@ pub fn insert(s: &mut [i32], at: usize, first: u32, second: u32)
 {
     let mut a = first;
     let mut b = second;
-    let mut i = smaller(at, s.len());
-    while i < s.len() {
+    for i in at.min(s.len())..s.len() {
         let w = word_at(s, i);
         put_word(s, i, a);
         a = b;
         b = w;
-        i += 1;
     }
 }

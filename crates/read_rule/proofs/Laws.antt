@@ -14,14 +14,14 @@ use mir.Val.{SFits}
 use borrow.Author.Tests.{lt-ltb}
 use denote.Enum.Declared.{tag_of}
 use types.Run.{OneOf, miss}
+use Rattle.std.specs.declared.option.Option as rust
+use Rattle.std.specs.Prelude.{Result, Ok, Err, None, Some}
 use Rattle.words.specs.Words.{word_of, number_of, Word}
 use Rattle.words.proofs.Bits.{number_word, read_pos, read_neg}
 use Rattle.tfm.specs.declared.Char.{Char}
 use Rattle.tfm.specs.declared.FixWord.{FixWord}
-use Rattle.tfm.specs.declared.ToScaled.{ToScaled}
-use Rattle.tfm.specs.declared.ToScaled.TheVariants.{Scaled, NegativeDesignSize, TooLarge}
+use Rattle.tfm.specs.declared.ScalingError.{ScalingError}
 use Rattle.tfm.specs.Scaled.{to_scaled}
-use Rattle.tfm.specs.contracts.ToScaled.{the_type as scaled-type}
 use Rattle.lang.specs.declared.operation.Operation.{Operation}
 use Rattle.lang.specs.declared.operation.Operation.TheVariants.{Kern, KernAtIndex, Ligature, EntrypointRedirect}
 use Rattle.lang.specs.declared.operation.PostLigOperation.{PostLigOperation}
@@ -29,8 +29,6 @@ use Rattle.lang.specs.Entries.{entered, entries_table}
 use Rattle.lang.specs.Records.{instruction_at}
 use Rattle.lang.specs.contracts.operation.Operation.{the_type as operation-type}
 use Rattle.lang.proofs.Tables.{length_entered}
-use Rattle.program_chain.specs.declared.FoundRule.{FoundRule}
-use Rattle.program_chain.specs.declared.FoundRule.TheVariants as Found
 use Rattle.program_chain.specs.Chains.{rule_index_of, found, acts_as}
 use Rattle.reading.specs.Items.{Left, Rule, free, kerned, lig}
 use Rattle.fonts.specs.Fonts.{Font, left_entry_of, rule_from, index_of, table_of, scaled_kern, rule_of_operation, rule_of_index, rules_of}
@@ -64,13 +62,11 @@ module _ (es : List ℤ) (l l' : ℤ) (table : List ℤ) (b : Bool) (c r : ℕ) 
 
 -- ---- what an operation does
 
-pub kern_scaled : (x : ToScaled) (v : ℤ) (w : ℕ) → SFits w32 v → x ≡ Scaled v → w ≡ word_of v → kerned (number_of w) ≡ scaled_kern x
+pub kern_scaled : (x : Result ℤ ScalingError) (v : ℤ) (w : ℕ) → SFits w32 v → x ≡ Ok v → w ≡ word_of v → kerned (number_of w) ≡ scaled_kern x
 kern_scaled x v w f e h = rw (e, h) (ap kerned (number_word v f))
 
-pub kern_unscaled : (x : ToScaled) → OneOf (1 ∷ 2 ∷ []) (tag_of scaled-type x) → kerned (pos 0) ≡ scaled_kern x
-kern_unscaled (Scaled v) h = absurd (miss (1 ∷ 2 ∷ []) 0 tt h)
-kern_unscaled NegativeDesignSize h = refl
-kern_unscaled TooLarge h = refl
+pub kern_unscaled : (x : Result ℤ ScalingError) (e : ScalingError) → x ≡ Err e → kerned (pos 0) ≡ scaled_kern x
+kern_unscaled x e h = rw h
 
 module _ (design : ℤ) (o : Operation) where
   pub kern_operation : (d : ℤ) (k : FixWord) (x : Rule) → d ≡ design → o ≡ Kern k → x ≡ scaled_kern (to_scaled k.0 d) → x ≡ rule_of_operation design o
@@ -87,11 +83,11 @@ other_operation design (EntrypointRedirect t g) h = refl
 
 -- ---- the rule by what was found
 
-found_none : (o : Option ℕ) → found o ≡ Found.Nothing → o ≡ none
+found_none : (o : Option ℕ) → found o ≡ None → o ≡ none
 found_none none e = refl
 found_none (some i) e = absurd (let z : ◌≡◌ {A = ℕ} 0 1 = cc in omega arith)
 
-found_some : (o : Option ℕ) (i : ℕ) → found o ≡ Found.Rule i → o ≡ some i
+found_some : (o : Option ℕ) (i : ℕ) → found o ≡ Some i → o ≡ some i
 found_some none i e = absurd (let z : ◌≡◌ {A = ℕ} 0 1 = cc in omega arith)
 found_some (some j) i e = let q : j ≡ i = cc in ap some q
 
@@ -99,13 +95,13 @@ module _ (f : Font) (l : Left) (r entry : ℕ) (word : Word (left_entry_of (tabl
   pub rule_absent : 2147483648 ≤ entry → free ≡ rules_of f l r
   rule_absent h = sym (ap (λ (z : ℤ). rule_of_index f (rule_from f.instructions z r)) (read_neg word h))
 
-  module _ (h : entry < 2147483648) (x : FoundRule) (is : x ≡ found (rule_index_of f.instructions entry r)) where
+  module _ (h : entry < 2147483648) (x : rust.Option ℕ) (is : x ≡ found (rule_index_of f.instructions entry r)) where
     index_is : index_of f.instructions (table_of f) l r ≡ rule_index_of f.instructions entry r
     index_is = ap (λ (z : ℤ). rule_from f.instructions z r) (read_pos word h)
 
-    pub rule_none : x ≡ Found.Nothing → free ≡ rules_of f l r
+    pub rule_none : x ≡ None → free ≡ rules_of f l r
     rule_none e = sym (ap (rule_of_index f) (index_is ∙ found_none _ (sym is ∙ e)))
 
-    pub rule_found : (i : ℕ) (d : ℤ) (o : Operation) (m : Rule) → x ≡ Found.Rule i → d ≡ f.design →
+    pub rule_found : (i : ℕ) (d : ℤ) (o : Operation) (m : Rule) → x ≡ Some i → d ≡ f.design →
         o ≡ acts_as f.kerns (instruction_at f.instructions i).operation → m ≡ rule_of_operation d o → m ≡ rules_of f l r
     rule_found i d o m e g a k = k ∙ rw (g, a) (sym (ap (rule_of_index f) (index_is ∙ found_some _ i (sym is ∙ e))))

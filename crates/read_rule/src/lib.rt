@@ -10,8 +10,8 @@ ghost use Rattle.read_rule.specs.Meant.{meant, left_as};
 
 use lang::entries::{entries_table, entry_at};
 use lang::operation::{Operation, PostLigOperation};
-use program_chain::{FoundRule, operation_at, rule_index};
-use tfm::{FixWord, ToScaled};
+use program_chain::{operation_at, rule_index};
+use tfm::FixWord;
 
 // What the font says of a pair: nothing; a kern, by the 32 bits of its scaled value; or a ligature operation, and the
 // character that it inserts.
@@ -38,8 +38,8 @@ fn kern_rule(kern: FixWord, design_size: i32) -> PairRule
     ensures { meant result ≡ scaled_kern (to_scaled kern.0 design_size) }
 {
     match kern.at_design_size(FixWord(design_size)) {
-        ToScaled::Scaled(v) => PairRule::Kern(words::word_of(v)),
-        _ => PairRule::Kern(0),
+        Ok(v) => PairRule::Kern(words::word_of(v)),
+        Err(_) => PairRule::Kern(0),
     }
 }
 
@@ -78,7 +78,7 @@ pub fn pair_rule(
         return PairRule::Free;
     }
     match rule_index(instructions, entry as usize, right) {
-        FoundRule::Nothing => PairRule::Free,
-        FoundRule::Rule(i) => rule_of(operation_at(instructions, kerns, i), design_size),
+        None => PairRule::Free,
+        Some(i) => rule_of(operation_at(instructions, kerns, i), design_size),
     }
 }

@@ -13,7 +13,8 @@ use read_change::places::{insert, remove};
 use read_change::{Change, rule_change};
 use read_rule::pair_rule;
 use readings::OneStep;
-use words::i32s::{word_at, zero_i32};
+use words::i32s::word_at;
+use words::slices::zero_all;
 
 // What the font says of the two items at the cursor.
 fn change_at(
@@ -112,7 +113,7 @@ fn step_standing(
     );
     let n = count_after(count, change);
     if room / 2 < n {
-        zero_i32(items);
+        zero_all(items);
         return OneStep::Refused(15);
     }
     change_items(items, count, cursor, change);
@@ -159,6 +160,6 @@ pub fn one_step(
             cursor,
         );
     }
-    zero_i32(items);
+    zero_all(items);
     OneStep::Refused(7)
 }

@@ -4,7 +4,6 @@ ghost use Rattle.property_lists.specs.Putting.{PutsCounted};
 ghost use Rattle.property_lists.specs.RealTexts.{nearest_in, reads_as, places_of, fixed_digits, fraction_digits};
 
 use pl_put::bytes::put_byte;
-use words::sizes::smaller;
 
 // How many decimals there are, and ten to that power.
 #[derive(Clone, Copy)]
@@ -41,20 +40,18 @@ fn places_of(f: u64) -> Places
     requires { f < 1048576 }
     ensures { (result.count ≡ places_of f) × (result.power ≡ 10 ^ places_of f) }
 {
-    let mut count: u32 = 1;
     let mut power: u64 = 10;
-    while count < 7 {
+    for count in 1..7 {
         if reads_as(power, f, nearest_in(power, f)) {
             return Places {
                 count: count,
                 power: power,
             };
         }
-        count += 1;
         power = 10 * power;
     }
     Places {
-        count: count,
+        count: 7,
         power: power,
     }
 }
@@ -64,15 +61,13 @@ fn put_digits(out: &mut [u8], at: usize, count: u32, power: u64, d: u64) -> usiz
     requires { (power ≡ 10 ^ count) × (d < power) }
     ensures { PutsCounted out.old at (fixed_digits count d) result out.new }
 {
-    let mut next = smaller(at, out.len() + 1);
-    let mut left = count;
+    let mut next = at.min(out.len() + 1);
     let mut unit = power;
     let mut rest = d;
-    while 0 < left {
+    for _ in 0..count {
         unit = unit / 10;
         next = put_byte(out, next, 48 + ((rest / unit) as u8));
         rest = rest % unit;
-        left -= 1;
     }
     next
 }

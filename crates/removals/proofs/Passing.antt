@@ -12,8 +12,8 @@ use lib.Dec.{ltb, eqb}
 use lib.ListN.{length, get_or, set, length-set}
 use lib.Seq.{get_or-set_same, get_or-set_other}
 use borrow.Author.Tests.{lt-ltb, ltb-true, eq-eqb, ne_eqb}
+use Rattle.std.specs.declared.option.Option as rust
 use Rattle.words.specs.Words.{word_of}
-use Rattle.lang.specs.declared.instruction.NextInstruction.{NextInstruction}
 use Rattle.lang.specs.Records.{count, field, next_of, operation_of, instruction_at}
 use Rattle.program_chain.specs.Chains.{Program, onward_from, chain_from, chain, is_rule_for, first_for, rule_index_of}
 use Rattle.program_chain.proofs.Rules.{redirect_passed_lem, redirect_kind}
@@ -80,7 +80,7 @@ same_chain n p q h zero j = refl
 same_chain n p q h (suc most) j =
     ap (λ (is : List ℕ). cond (ltb j n) (j ∷ is) [])
     (same_chain n p q h most (onward_from n (p j).next_instruction j)
-    ∙ ap (λ (x : NextInstruction). chain_from most n q (onward_from n x j)) (h j))
+    ∙ ap (λ (x : rust.Option ℕ). chain_from most n q (onward_from n x j)) (h j))
 
 module _ (s : List ℤ) (i : ℕ) (h : i < count s) (r : ℕ) where
   abbrev n : ℕ

@@ -8,12 +8,12 @@ ghost use Rattle.repairs.specs.Repairs.{damaged_of};
 ghost use Rattle.repairs.specs.Asking.{Asks};
 ghost use Rattle.repair_ask.specs.Told.{told};
 
-use c_values::i32s::keep_i32;
+use c_values::lists::keep_list;
 use lang::Written;
 use repair_passes::mend;
 use repair_places::{placed, places, programs};
 use repairs::Validated;
-use words::i32s::zero_i32;
+use words::slices::zero_all;
 
 // How many warnings there are; the refusal of the passes, or 15 where there are not four places for each.
 fn told(mended: Validated, room: usize) -> Written
@@ -60,7 +60,7 @@ pub fn ask_repair(
         left_entry replacement existing.now passthrough.now) warnings.old
         work.old result warnings.new work.new }
 {
-    zero_i32(warnings);
+    zero_all(warnings);
     let n = placed(instructions.len() / 4);
     let mut program = programs();
     let mut passed = places();
@@ -79,6 +79,6 @@ pub fn ask_repair(
         work,
     );
     let written = told(mended, warnings.len());
-    keep_i32(number_of(written), warnings);
+    keep_list(number_of(written), warnings);
     written
 }

@@ -13,7 +13,7 @@ use repair_commit_refusals::commit_refusal;
 use repair_passes::mend;
 use repair_places::{placed, places, programs, write_repaired};
 use repairs::{Committed, Validated};
-use words::i32s::zero_i32;
+use words::slices::zero_all;
 
 // The number, or else the repaired left entry.
 fn finished(mended: Validated, number: u32) -> Committed
@@ -82,6 +82,6 @@ pub fn commit_repair(
         found,
     );
     write_repaired(number, &program[..4 * n], &passed[..n], fixed, through);
-    zero_i32(found);
+    zero_all(found);
     finished(mended, number)
 }

@@ -65,12 +65,10 @@ fn count_of(mended: Validated) -> usize
 fn starts_with(found: &[i32], handed: &[i32]) -> bool
     ensures { result ≡ starts_with found.now handed.now }
 {
-    let mut i = 0;
-    while i < handed.len() {
+    for i in 0..handed.len() {
         if word_at(handed, i) != word_at(found, i) {
             return false;
         }
-        i += 1;
     }
     true
 }

@@ -8,8 +8,8 @@ use native.Mathlib.Numerals.{add-one}
 use native.Mathlib.Omega.{arith}
 use lib.IntN.{ℤ, pos}
 use lib.Dec.{leb, ltb, eqb}
-use lib.ListN.{length, get_or, set, length-set, length-append}
-use lib.Seq.{sets, length-sets}
+use lib.ListN.{length, get_or, set, length-append}
+use lib.Seq.{sets}
 use lib.Signed.{non_neg}
 use borrow.Author.Tests.{eqb-true, eq-eqb, ne_eqb}
 use Rattle.words.specs.Words.{Word, word_of, number_of}
@@ -21,12 +21,12 @@ use Rattle.lang.specs.Checks.{char_at, entry_at}
 use Rattle.lang.proofs.Every.{both_left, both_false}
 use Rattle.entry_targets.specs.Targets.{stands_for, entry_refusal}
 use Rattle.entry_targets.proofs.Targets.{followed_below, stands_below}
-use Rattle.repairs.specs.Damaged.{Damaged, packed_entry_of, unpacks, unpacked_upto, unpacked_entries, redirects_at, repaired_passthrough, left_goes}
+use Rattle.repairs.specs.Damaged.{Damaged, packed_entry_of, unpacks, unpacked_upto, unpacked_entries, redirects_at, repaired_passthrough}
 use Rattle.repairs.specs.Warnings.{warning, warn_if, left_warning, entry_warnings}
 use Rattle.repairs.specs.Pushed.{Pushed}
 use Rattle.repairs.proofs.Pushing.{sets_after, pushed_none, pushed_append, pushed_if}
 use Rattle.repair_entries.specs.Entering.{Lends, Placed, entry_numbers, passthrough_bits, redirect_passed, passed_upto, passthrough_upto, PassesFrom}
-use Rattle.repair_entries.specs.Entering.{EntersFrom, is_enterable, enter_warnings, Enters}
+use Rattle.repair_entries.specs.Entering.{EntersFrom, is_enterable, Enters}
 use Rattle.repair_entries.proofs.Stores.{stored_none, stored_more, stored_set}
 
 -- ---- entries placed one after the other
@@ -40,9 +40,6 @@ placed_append u n xs u₁ m ys u₂ r a b =
       count = omega (arith, a.count, b.count, length-append xs ys);
       list = sets_after xs ys u (2 * n) (2 * m) a.list a.count b.list;
     }
-
-pub placed_length : (u : List ℤ) (n : ℕ) (ws u' : List ℤ) (r : ℕ) → Placed u n ws u' r → length u' ≡ length u
-placed_length u n ws u' r p = ap length p.list ∙ length-sets u (2 * n) ws
 
 -- one entry, that unpacks or does not
 module _ (s : List ℤ) (c e : ℕ) where
@@ -102,9 +99,6 @@ module _ (p t : List ℕ) where
       t₂ ≡ sets t 0 (passthrough_bits p (i + 1))
   bits_more i bit e f g = g ∙ rw (e, f) (stored_more t (λ i. cond (eqb (get_or p i 0) 0) 0 1) i)
 
-  pub bits_all : (i n : ℕ) {t₁ : List ℕ} → i ≤ n → n ≤ i → t₁ ≡ sets t 0 (passthrough_bits p i) → t₁ ≡ sets t 0 (passthrough_bits p n)
-  bits_all i n h l e = let k : i ≡ n = omega arith in rw k at e
-
 module _ (p : List ℕ) (i : ℕ) {b : ℕ} (bs : b ≡ get_or p i 0) where
   pub bit_clear : b ≡ 0 → ◌≡◌ {A = ℕ} 0 (cond (eqb (get_or p i 0) 0) 0 1)
   bit_clear h = rw (← bs, eq-eqb b 0 h)
@@ -126,13 +120,6 @@ module _ (s : List ℤ) (e : ℕ) (t : List ℕ) where
 
     pub followed : x ≡ 0 → is_kind 3 s e ≡ true → {t₁ : List ℕ} → t₁ ≡ set t e 1 → t₁ ≡ redirect_passed s e t
     followed h k g = rw (← xs, eq-eqb x 0 h, k) g
-
-  pub redirect_length : length (redirect_passed s e t) ≡ length t
-  redirect_length = go (both (eqb (entry_refusal s e) 0) (is_kind 3 s e))
-    where
-      go : (b : Bool) → length (cond b (set t e 1) t) ≡ length t
-      go true = length-set t e 1
-      go false = refl
 
 came_so : (z : Bool) → ◌≡◌ {A = ℕ} (cond z 0 1) (cond (cond z false true) 1 0)
 came_so true = refl
@@ -219,9 +206,6 @@ warned_step d k c cs w w₁ w₂ n m r h l a b =
     (rw (number_is cs) at
     (pushed_if w₁ m (not (unpacks d k)) (warning 2 (number_of c) (number_of 0) (number_of 0)) w₂ r (omega (arith, a.count, few_warned d k)) b)))
 
-pub warned_all : (d : Damaged) (k n : ℕ) → k ≤ n → n ≤ k → {w w₁ : List ℤ} {m r : ℕ} → Pushed w m (entry_warnings d k) w₁ r → Pushed w m (entry_warnings d n) w₁ r
-warned_all d k n h l p = let e : k ≡ n = omega arith in rw e at p
-
 -- ---- the left entry
 
 module _ {z : ℤ} {w : ℕ} (n : ℕ) (zs : Word z w) where
@@ -252,17 +236,6 @@ module _ (d : Damaged) (s es : List ℤ) (l : Lends d s es) where
       Pushed w n (entry_warnings d (k + 1)) w₂ r
   warned_more k c e x cs i xs w w₁ w₂ n m r h b a q =
       warned_step d k c (rw (← l.entries) at cs) w w₁ w₂ n m r h b a (rw (xs, i, ← l.instructions, ← l.entries) at q)
-
-  whole : (k : ℕ) → k ≤ length es / 2 → length es / 2 ≤ k → k ≡ length d.entries / 2
-  whole k h m = let e : k ≡ length es / 2 = omega arith in e ∙ ap (λ (z : List ℤ). length z / 2) (sym l.entries)
-
-  module _ (k : ℕ) (h : k ≤ length es / 2) (m : length es / 2 ≤ k) where
-    pub unpacked_all : (u u₁ : List ℤ) (n : ℕ) → Placed u 0 (unpacked_upto d k) u₁ n → Placed u 0 (unpacked_entries d) u₁ n
-    unpacked_all u u₁ n p = rw (whole k h m) at p
-
-  pub passed_all : (t : List ℕ) (k : ℕ) → k ≤ length es / 2 → length es / 2 ≤ k → {t₁ : List ℕ} → t₁ ≡ sets t 0 (passthrough_upto d k) →
-      t₁ ≡ sets t 0 (repaired_passthrough d)
-  passed_all t k h m a = a ∙ ap (λ (j : ℕ). sets t 0 (passthrough_upto d j)) (whole k h m)
 
 -- ---- all passes, one after the other
 

@@ -45,12 +45,10 @@ fn put_entries(instructions: &[i32], entries: &[i32], unpacked: &mut [i32]) -> u
         Placed unpacked.old 0 (unpacked_entries d) unpacked.new result }
 {
     let mut n = 0;
-    let mut k = 0;
-    while k < entries.len() / 2 {
+    for k in 0..entries.len() / 2 {
         let c = words::i32s::word_at(entries, 2 * k);
         let entry = words::i32s::word_at(entries, 2 * k + 1);
         n = put_entry(instructions, c, entry, unpacked, n);
-        k += 1;
     }
     n
 }
@@ -60,14 +58,12 @@ fn put_passthrough(passthrough: &[u8], n: usize, through: &mut [u8])
     ensures { through.new ≡ sets through.old 0
         (passthrough_bits passthrough.now n) }
 {
-    let mut i = 0;
-    while i < n {
+    for i in 0..n {
         let mut bit = 1;
-        if words::u8s::u8_at(passthrough, i) == 0 {
+        if words::slices::item_at(passthrough, i) == 0 {
             bit = 0;
         }
-        words::u8s::put_u8(through, i, bit);
-        i += 1;
+        words::slices::put_item(through, i, bit);
     }
 }
 
@@ -80,7 +76,7 @@ fn pass_redirect(instructions: &[i32], entry: usize, through: &mut [u8])
         return;
     }
     if is_redirect(instructions, entry) {
-        words::u8s::put_u8(through, entry, 1);
+        words::slices::put_item(through, entry, 1);
     }
 }
 
@@ -90,11 +86,9 @@ fn pass_redirects(instructions: &[i32], entries: &[i32], through: &mut [u8])
         PassesFrom d t instructions.now entries.now through.old →
         through.new ≡ sets t 0 (repaired_passthrough d) }
 {
-    let mut k = 0;
-    while k < entries.len() / 2 {
+    for k in 0..entries.len() / 2 {
         let entry = words::i32s::word_at(entries, 2 * k + 1) as usize;
         pass_redirect(instructions, entry, through);
-        k += 1;
     }
 }
 
@@ -118,13 +112,11 @@ fn warn_entries(instructions: &[i32], entries: &[i32], warnings: &mut [i32], n: 
         warnings.new result }
 {
     let mut count = n;
-    let mut k = 0;
-    while k < entries.len() / 2 {
+    for k in 0..entries.len() / 2 {
         let c = words::i32s::word_at(entries, 2 * k);
         let entry = words::i32s::word_at(entries, 2 * k + 1) as usize;
         let goes = entry_refusal(instructions, entry) != 0;
         count = push_if(goes, warnings, count, 2, c, 0, 0);
-        k += 1;
     }
     count
 }

@@ -12,13 +12,13 @@ ghost use Rattle.repair_faults.specs.Tests.{kern_past_list, product_missing, tag
 
 use lang::instruction::field_at;
 use repairs::Faults;
-use words::u64s::u64_at;
+use words::slices::item_at;
 
 // Character c exists.
 fn exists(existing: &[u64; 4], c: u32) -> bool
     ensures { result ≡ exists_in existing.now c }
 {
-    let word = u64_at(existing, (c / 64) as usize);
+    let word = item_at(existing, (c / 64) as usize);
     (word >> ((c % 64) as u64)) % 2 == 1
 }
 
@@ -33,7 +33,7 @@ fn is_standard(op: u32) -> bool
 fn skip_goes(instructions: &[i32], marks: &[u8], i: usize) -> bool
     ensures { result ≡ skip_past_end instructions.now marks.now i }
 {
-    if words::u8s::u8_at(marks, i) == 0 {
+    if words::slices::item_at(marks, i) == 0 {
         return false;
     }
     let next = field_at(instructions, i, 0);
@@ -59,10 +59,10 @@ fn redirect_warns(instructions: &[i32], marks: &[u8], passthrough: &[u8], i: usi
     if target < instructions.len() / 4 {
         return false;
     }
-    if words::u8s::u8_at(marks, i) != 0 {
+    if words::slices::item_at(marks, i) != 0 {
         return true;
     }
-    words::u8s::u8_at(passthrough, i) == 0
+    words::slices::item_at(passthrough, i) == 0
 }
 
 // The boundary character is the right character; both as their 32 bits.

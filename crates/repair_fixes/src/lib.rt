@@ -109,8 +109,7 @@ fn warn_skips(
         warnings.new result }
 {
     let mut at = n;
-    let mut i = 0;
-    while i < instructions.len() / 4 {
+    for i in 0..instructions.len() / 4 {
         let f = faults(
             instructions,
             kerns,
@@ -121,7 +120,6 @@ fn warn_skips(
             i,
         );
         at = push_if(f.skip, warnings, at, 3, i as u32, 0, 0);
-        i += 1;
     }
     at
 }
@@ -146,8 +144,7 @@ fn fix_steps(
         fixed.old warnings.old result fixed.new warnings.new }
 {
     let mut at = n;
-    let mut i = 0;
-    while i < instructions.len() / 4 {
+    for i in 0..instructions.len() / 4 {
         let f = faults(
             instructions,
             kerns,
@@ -159,7 +156,6 @@ fn fix_steps(
         );
         at = warn_step(instructions, replacement, f, i, warnings, at);
         write_step(instructions, replacement, f, i, fixed);
-        i += 1;
     }
     at
 }

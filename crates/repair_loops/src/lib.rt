@@ -18,7 +18,7 @@ use compiling::WalkedFont;
 use lang::Written;
 use repair_warnings::push_if;
 use tfm::FixWord;
-use words::u32s::zero_u32;
+use words::slices::zero_all;
 
 // One warning for each of the r rows that are listed, after n others.
 fn warn_rows(work: &[u32], r: usize, warnings: &mut [i32], n: usize) -> usize
@@ -68,11 +68,11 @@ pub fn warn_loops(
         WalkedFont::Refused(number) => Written::Refused(number),
         WalkedFont::Rows(_, _, r, _) => {
             if 2147483647 < n {
-                zero_u32(work);
+                zero_all(work);
                 return Written::Refused(15);
             }
             let count = warn_rows(work, r, warnings, n);
-            zero_u32(work);
+            zero_all(work);
             Written::Count(count)
         }
     }

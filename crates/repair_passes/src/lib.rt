@@ -22,7 +22,7 @@ use repair_fixes::fix_program;
 use repair_loops::warn_loops;
 use repair_refusals::damaged_refusal;
 use repairs::{Entered, Validated};
-use words::u32s::zero_u32;
+use words::slices::zero_all;
 
 // The left entry of n instructions, or -1 where it is past the end.
 fn repaired_left(n: usize, left_entry: i32) -> i32
@@ -149,7 +149,7 @@ pub fn mend(
     );
     let number = lent_refusal(font, n, program.len(), through.len());
     if number != 0 {
-        zero_u32(work);
+        zero_all(work);
         return Validated::Refused(number);
     }
     let mut unpacked = entry_places();

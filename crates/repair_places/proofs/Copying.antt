@@ -2,31 +2,36 @@
 -- Assumes nothing.
 use mathlib.Core.Path.{◌≡◌, refl, sym, ap, ◌∙◌}
 use mathlib.Core.List.{List, [], ◌∷◌, ◌++◌}
-use Prim.Native.Nat.{ℕ, zero, suc, ◌+◌, ◌<◌, ◌≤◌}
+use Prim.Native.Nat.{ℕ, zero, suc, ◌+◌, ◌<◌, ◌≤◌, min}
 use native.Mathlib.Omega.{arith}
 use lib.IntN.{ℤ, pos}
-use lib.ListN.{length, get_or, set, take, replicate}
-use lib.Seq.{sets, take-suc, take_all, length-take-le}
-use Rattle.words.proofs.Lists.{sets_append}
+use lib.ListN.{length, take, drop, replicate, take-append-drop, length-append, length-drop}
+use lib.Seq.{sets, length-take-le}
+use Rattle.std.proofs.lemmas.List.{set_past}
+use Rattle.words.proofs.Lists.{sets_append, sets_front}
 use Rattle.repair_loops.specs.WarnsLoops.{if_taken}
 use Rattle.repair_places.specs.Writing.{over_zeros, WritesRepaired}
 
--- ---- copied one by one
+-- ---- copied to the front
 
-module _ {A : Type 0} (from d₀ : List A) where
-  pub copied_none : d₀ ≡ sets d₀ 0 (take 0 from)
-  copied_none = refl
+-- what is left of the numbers is stored past the end
+sets_rest : {A : Type 0} (vs d : List A) (i : ℕ) → (0 < length vs → length d ≤ i) → sets d i vs ≡ d
+sets_rest [] d i h = refl
+sets_rest (v ∷ vs) d i h =
+    let k : length d ≤ i = h (omega arith) in
+    rw (set_past d i v k) (sets_rest vs d (suc i) (λ l. omega arith))
 
-  pub copied_more : (d d₁ : List A) (i : ℕ) (v o : A) → i < length from → d₁ ≡ set d i v → v ≡ get_or from i o → d ≡ sets d₀ 0 (take i from) →
-      d₁ ≡ sets d₀ 0 (take (i + 1) from)
-  copied_more d d₁ i v o h e f s =
-      let l : 0 + length (take i from) ≡ i = omega (arith, length-take-le i from (omega arith)) in
-      let more : take (i + 1) from
-      ≡ take i from ++ (get_or from i o ∷ []) = ap (λ (k : ℕ). take k from) (let g : i + 1 ≡ suc i = omega arith in g) ∙ take-suc from i o h in
-      e ∙ (λ j. set (s j) (sym l j) (f j)) ∙ sym (ap (sets d₀ 0) more ∙ sets_append (take i from) (get_or from i o ∷ []) d₀ 0)
-
-  pub copied_all : (d : List A) (i : ℕ) → length from ≤ i → d ≡ sets d₀ 0 (take i from) → d ≡ sets d₀ 0 from
-  copied_all d i h s = s ∙ ap (sets d₀ 0) (take_all i from h)
+-- the first n of the numbers, where n is the length of the shorter list
+pub copied : {A : Type 0} (from d : List A) (n : ℕ) → n ≡ min (length from) (length d) → take n from ++ drop n d ≡ sets d 0 from
+copied {A} from d n m =
+    let xs = take n from in
+    let l : length xs ≡ n = omega (arith, length-take-le n from (omega arith)) in
+    let front : sets d 0 xs ≡ xs ++ drop n d = sets_front xs d (omega arith) ∙ ap (λ (k : ℕ). xs ++ drop k d) l in
+    let long : length (xs ++ drop n d) ≡ length d = omega (arith, length-append xs (drop n d), length-drop n d) in
+    let rest : sets (xs ++ drop n d) (0 + length xs) (drop n from) ≡ xs ++ drop n d =
+    sets_rest (drop n from) (xs ++ drop n d) (0 + length xs) (λ h. omega (arith, length-drop n from)) in
+    sym (ap (sets d 0) (sym (take-append-drop n from)) ∙ sets_append xs (drop n from) d 0
+    ∙ ap (λ (t : List A). sets t (0 + length xs) (drop n from)) front ∙ rest)
 
 -- ---- written by the number
 

@@ -6,8 +6,7 @@ ghost use Rattle.std.specs.Prelude.{◌≡◌, min, length};
 ghost use Rattle.std.proofs.lemmas.List.Edits.{sets};
 ghost use Rattle.repair_places.specs.Writing.{WritesRepaired};
 
-use words::i32s::zero_i32;
-use words::u8s::zero_u8;
+use words::slices::zero_all;
 
 // Four places for each instruction that a program can have.
 pub fn programs() -> [i32; 131068]
@@ -34,21 +33,15 @@ pub fn placed(n: usize) -> usize
 pub fn copy_numbers(from: &[i32], to: &mut [i32])
     ensures { to.new ≡ sets to.old 0 from.now }
 {
-    let mut i = 0;
-    while i < from.len() {
-        words::i32s::put_word(to, i, words::i32s::word_at(from, i));
-        i += 1;
-    }
+    let n = from.len().min(to.len());
+    to[..n].copy_from_slice(&from[..n]);
 }
 
 fn copy_bytes(from: &[u8], to: &mut [u8])
     ensures { to.new ≡ sets to.old 0 from.now }
 {
-    let mut i = 0;
-    while i < from.len() {
-        words::u8s::put_u8(to, i, words::u8s::u8_at(from, i));
-        i += 1;
-    }
+    let n = from.len().min(to.len());
+    to[..n].copy_from_slice(&from[..n]);
 }
 
 // The repaired program and its passthrough, with zeros after them, where the number is 0; else zeros.
@@ -62,8 +55,8 @@ pub fn write_repaired(
     ensures { WritesRepaired number program.now passed.now fixed.old
         through.old fixed.new through.new }
 {
-    zero_i32(fixed);
-    zero_u8(through);
+    zero_all(fixed);
+    zero_all(through);
     if number != 0 {
         return;
     }

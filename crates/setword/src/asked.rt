@@ -1,107 +1,88 @@
 // The size that is asked for: at POINTS, a decimal (TeX 102, 452), or scaled THOUSANDTHS.
 use point_scan::scan_points;
-use points::Scanned;
 use std::rt::Env;
-use words::u8s::u8_at;
 
-// A size in scaled points and a magnification, 0 for what is not asked for; a size or a magnification of 0; one that
-// can't be read; or neither `at` nor `scaled`.
-#[derive(Drop)]
-pub(crate) enum Asked {
-    Scale(u32, u32),
+// The most that a magnification is read as.
+const MOST: u32 = 100000;
+
+// A size in scaled points and a magnification in thousandths; 0 for what is not asked for.
+#[derive(Clone, Copy)]
+pub(crate) struct Scale {
+    pub(crate) size: u32,
+    pub(crate) magnification: u32,
+}
+
+// A size or a magnification of 0; one that can't be read; or neither `at` nor `scaled`.
+#[derive(Clone, Copy)]
+pub(crate) enum SizeError {
     Zero,
     Unreadable,
     Unknown,
 }
 
-// What stands for no number.
-const NONE: u32 = 4294967295;
-
 // A size in points.
-fn read_points(text: &[u8]) -> Asked {
-    match scan_points(text) {
-        Scanned::Unreadable => Asked::Unreadable,
-        Scanned::Points(size) => {
-            if size == 0 {
-                return Asked::Zero;
-            }
-            Asked::Scale(size, 0)
-        }
+fn read_points(text: &[u8]) -> Result<Scale, SizeError> {
+    match scan_points(text).ok_or(SizeError::Unreadable)? {
+        0 => Err(SizeError::Zero),
+        size => Ok(Scale {
+            size,
+            magnification: 0,
+        }),
     }
 }
 
-// A number with a digit behind it; 100,000 for all that is more.
-fn with_digit(n: u32, b: u8) -> u32 {
-    if b < 48 {
-        return NONE;
+// A number with a digit behind it; MOST for all that is more.
+fn with_digit(n: u32, b: u8) -> Option<u32> {
+    if !b.is_ascii_digit() {
+        return None;
     }
-    if 57 < b {
-        return NONE;
-    }
-    if n == NONE {
-        return NONE;
-    }
-    if 10000 <= n {
-        return 100000;
-    }
-    10 * n + ((b - 48) as u32)
+    let longer = n.saturating_mul(10).saturating_add((b - b'0') as u32);
+    Some(longer.min(MOST))
 }
 
-// The number of some digits.
-fn number_of(text: &[u8]) -> u32 {
-    let mut n: u32 = 0;
-    let mut i = 0;
-    while i < text.len() {
-        n = with_digit(n, u8_at(text, i));
-        i += 1;
+// The number of one digit or more.
+fn number_of(text: &[u8]) -> Option<u32> {
+    if text.is_empty() {
+        return None;
     }
-    n
+    let mut n = 0;
+    for b in text {
+        n = with_digit(n, *b)?;
+    }
+    Some(n)
 }
 
 // A magnification in thousandths.
-fn read_thousandths(text: &[u8]) -> Asked {
-    if text.len() == 0 {
-        return Asked::Unreadable;
+fn read_thousandths(text: &[u8]) -> Result<Scale, SizeError> {
+    match number_of(text).ok_or(SizeError::Unreadable)? {
+        0 => Err(SizeError::Zero),
+        magnification => Ok(Scale {
+            size: 0,
+            magnification,
+        }),
     }
-    match number_of(text) {
-        0 => Asked::Zero,
-        NONE => Asked::Unreadable,
-        n => Asked::Scale(0, n),
-    }
-}
-
-// Two texts of one length are the same.
-fn is_same(a: &[u8], b: &[u8]) -> bool {
-    let mut i = 0;
-    while i < a.len() {
-        if u8_at(a, i) != u8_at(b, i) {
-            return false;
-        }
-        i += 1;
-    }
-    a.len() == b.len()
 }
 
 // A size by its kind and its number.
-fn read_size(kind: &[u8], number: &[u8]) -> Asked {
-    if is_same(kind, b"at") {
+fn read_size(kind: &[u8], number: &[u8]) -> Result<Scale, SizeError> {
+    if kind == b"at".as_slice() {
         return read_points(number);
     }
-    if is_same(kind, b"scaled") {
+    if kind == b"scaled".as_slice() {
         return read_thousandths(number);
     }
-    Asked::Unknown
+    Err(SizeError::Unknown)
 }
 
 // The size of the arguments.
-pub(crate) fn read_asked(rt: &impl Env) -> Asked {
+pub(crate) fn read_asked(rt: &impl Env) -> Result<Scale, SizeError> {
     let mut kind = [0u8; 4096];
     let Ok(k) = rt.arg(3, &mut kind) else {
-        return Asked::Unknown;
+        return Err(SizeError::Unknown);
     };
     let mut number = [0u8; 4096];
     let Ok(n) = rt.arg(4, &mut number) else {
-        return Asked::Unreadable;
+        return Err(SizeError::Unreadable);
     };
     read_size(&kind[..k], &number[..n])
 }

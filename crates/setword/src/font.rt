@@ -1,6 +1,7 @@
 // The word set in a font: the font read from its file, compiled, and the word's items.
 ghost use Rattle.std.specs.Prelude.{◌≡◌, length};
 
+use crate::asked::Scale;
 use crate::items::print_items;
 use crate::print::print_text;
 use crate::refusals::print_refused;
@@ -16,8 +17,17 @@ use fonts::Compiled;
 use lang::Written;
 use word_set::set_word;
 use words::number_of;
-use words::u8s::u8_at;
-use words::u32s::put_u32;
+
+// A font that was read; -1 for no boundary character and for no left entry.
+#[derive(Clone, Copy)]
+struct Font<'a> {
+    instructions: &'a [i32],
+    kerns: &'a [i32],
+    entries: &'a [i32],
+    boundary: i32,
+    left_entry: i32,
+    design: i32,
+}
 
 // One number a letter.
 fn letter_room() -> [u32; 4096]
@@ -35,18 +45,13 @@ fn item_room() -> [i32; 98304]
 
 // The first n letters; all where there are fewer.
 fn letters_of(list: &[u32], n: usize) -> &[u32] {
-    if list.len() < n {
-        return list;
-    }
-    &list[..n]
+    list.get(..n).unwrap_or(list)
 }
 
 // The bytes of a word as letters.
 fn put_letters(list: &mut [u32], word: &[u8]) {
-    let mut i = 0;
-    while i < word.len() {
-        put_u32(list, i, u8_at(word, i) as u32);
-        i += 1;
+    for (letter, b) in list.iter_mut().zip(word) {
+        *letter = *b as u32;
     }
 }
 
@@ -89,33 +94,21 @@ fn print_loops(rt: &(impl Print + Eprint), loops: usize) {
     }
 }
 
-// The word set in a font that was read, at a size or by a magnification.
-fn set_read(
-    rt: &(impl Print + Eprint),
-    instructions: &[i32],
-    kerns: &[i32],
-    entries: &[i32],
-    boundary: i32,
-    left_entry: i32,
-    design: i32,
-    size: u32,
-    magnification: u32,
-    word: &[u8],
-    file: &[u8],
-) {
+// The word set in a font that was read, at a scale.
+fn set_read(rt: &(impl Print + Eprint), font: &Font, scale: Scale, word: &[u8], file: &[u8]) {
     let mut pairs = pair_room();
     let mut ops = op_room();
     let mut loops = loop_room();
     let mut work = work_room();
     match compile(
-        instructions,
-        kerns,
-        entries,
-        boundary,
-        left_entry,
-        design,
-        number_of(size),
-        number_of(magnification),
+        font.instructions,
+        font.kerns,
+        font.entries,
+        font.boundary,
+        font.left_entry,
+        font.design,
+        number_of(scale.size),
+        number_of(scale.magnification),
         &mut pairs,
         &mut ops,
         &mut loops,
@@ -124,37 +117,36 @@ fn set_read(
         Compiled::Refused(number) => print_refused(rt, number, file),
         Compiled::Tables(p, o, l) => {
             print_loops(rt, l);
-            set_tables(rt, sixes(&pairs, p), twos(&ops, o), boundary, word, file);
+            set_tables(
+                rt,
+                sixes(&pairs, p),
+                twos(&ops, o),
+                font.boundary,
+                word,
+                file,
+            );
         }
     }
 }
 
 // The word set in the font of a file.
-pub(crate) fn set_font(
-    rt: &(impl Print + Eprint),
-    file: &[u8],
-    word: &[u8],
-    size: u32,
-    magnification: u32,
-) {
+pub(crate) fn set_font(rt: &(impl Print + Eprint), file: &[u8], word: &[u8], scale: Scale) {
     let mut instructions = instruction_room();
     let mut kerns = kern_room();
     let mut entries = entry_room();
     let mut lost = lost_room();
     match read_font(file, &mut instructions, &mut kerns, &mut entries, &mut lost) {
         FileFont::Refused(number) => print_refused(rt, number, file),
-        FileFont::Font(n, k, e, _, boundary, left, design) => set_read(
-            rt,
-            fours(&instructions, n),
-            ones(&kerns, k),
-            twos(&entries, e),
-            boundary,
-            left,
-            design,
-            size,
-            magnification,
-            word,
-            file,
-        ),
+        FileFont::Font(n, k, e, _, boundary, left_entry, design) => {
+            let font = Font {
+                instructions: fours(&instructions, n),
+                kerns: ones(&kerns, k),
+                entries: twos(&entries, e),
+                boundary,
+                left_entry,
+                design,
+            };
+            set_read(rt, &font, scale, word, file);
+        }
     }
 }

@@ -6,20 +6,24 @@ use point_print::print_scaled;
 use std::num::wrapping_add_u32;
 use words::i32s::word_at;
 use words::number_of;
-use words::sizes::smaller;
-use words::u8s::u8_at;
+
+// The kind of a character, the item's first number.
+const CHARACTER: u32 = 0;
+
+// The kind of a ligature; all that is neither is a kern.
+const LIGATURE: u32 = 1;
 
 // So many letters of a word from a place on; fewer where the word ends.
 fn part(word: &[u8], start: usize, length: usize) -> &[u8] {
-    let from = smaller(start, word.len());
+    let from = start.min(word.len());
     bytes_before(&word[from..], length)
 }
 
 // Letters in quotes.
 fn print_letters(rt: &(impl Print + Eprint), letters: &[u8]) {
     print_text(rt, b" for '");
-    for i in 0..letters.len() {
-        print_coded(rt, b"", u8_at(letters, i) as u32);
+    for letter in letters {
+        print_coded(rt, b"", *letter as u32);
     }
 }
 
@@ -45,8 +49,8 @@ fn print_original(rt: &(impl Print + Eprint), word: &[u8], start: u32, length: u
 }
 
 // A text where a flag is set.
-fn print_flag(rt: &(impl Print + Eprint), flag: u32, text: &[u8]) {
-    if flag != 0 {
+fn print_flag(rt: &(impl Print + Eprint), flag: bool, text: &[u8]) {
+    if flag {
         print_text(rt, text);
     }
 }
@@ -54,40 +58,37 @@ fn print_flag(rt: &(impl Print + Eprint), flag: u32, text: &[u8]) {
 // A kern, as TeX prints a scaled number.
 fn print_kern(rt: &(impl Print + Eprint), value: u32) {
     let mut text = [0u8; 16];
-    match print_scaled(number_of(value), &mut text) {
-        Written::Count(n) => {
-            print_text(rt, b"kern ");
-            print_text(rt, bytes_before(&text, n));
-            print_text(rt, b" points\n");
-        }
-        Written::Refused(_) => {}
+    if let Written::Count(n) = print_scaled(number_of(value), &mut text) {
+        print_text(rt, b"kern ");
+        print_text(rt, bytes_before(&text, n));
+        print_text(rt, b" points\n");
     }
 }
 
-// A ligature, six numbers from a place of the list on.
+// A ligature of six numbers.
 fn print_ligature(rt: &(impl Print + Eprint), item: &[i32], word: &[u8]) {
     print_named(rt, b"ligature ", word_at(item, 1));
     print_original(rt, word, word_at(item, 2), word_at(item, 3));
-    print_flag(rt, word_at(item, 4), b", start of the word");
-    print_flag(rt, word_at(item, 5), b", end of the word");
+    print_flag(rt, word_at(item, 4) != 0, b", start of the word");
+    print_flag(rt, word_at(item, 5) != 0, b", end of the word");
     print_text(rt, b"\n");
 }
 
 // An item of six numbers: its kind, its code or its value, and for a ligature its letters and its two flags.
 fn print_item(rt: &(impl Print + Eprint), item: &[i32], word: &[u8]) {
     match word_at(item, 0) {
-        0 => {
+        CHARACTER => {
             print_named(rt, b"character ", word_at(item, 1));
             print_text(rt, b"\n");
         }
-        1 => print_ligature(rt, item, word),
+        LIGATURE => print_ligature(rt, item, word),
         _ => print_kern(rt, word_at(item, 1)),
     }
 }
 
 // The items of a word.
 pub(crate) fn print_items(rt: &(impl Print + Eprint), items: &[i32], word: &[u8]) {
-    for i in 0..items.len() / 6 {
-        print_item(rt, &items[6 * i..], word);
+    for item in items.chunks_exact(6) {
+        print_item(rt, item, word);
     }
 }

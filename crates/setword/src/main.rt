@@ -3,7 +3,7 @@
 // font that `read_font` reads.
 #![tactic(auto)]
 
-use asked::Asked;
+use asked::{Scale, SizeError};
 use file_font::file_length;
 use file_load::{Loaded, args, load_file};
 use font_room::byte_room;
@@ -17,25 +17,13 @@ mod items;
 mod print;
 mod refusals;
 
-// The word set in the font of a file, at a size or by a magnification; 0 for what is not asked for.
-fn set_in_file(
-    rt: &(impl Files + Print + Eprint),
-    name: &[u8],
-    word: &[u8],
-    size: u32,
-    magnification: u32,
-) {
+// The word set in the font of a file, at a scale.
+fn set_in_file(rt: &(impl Files + Print + Eprint), name: &[u8], word: &[u8], scale: Scale) {
     let mut bytes = byte_room();
     match load_file(rt, name, &mut bytes) {
         Loaded::Bytes(n) => {
             let read = bytes_before(&bytes, n);
-            font::set_font(
-                rt,
-                bytes_before(read, file_length(read)),
-                word,
-                size,
-                magnification,
-            );
+            font::set_font(rt, bytes_before(read, file_length(read)), word, scale);
         }
         Loaded::Missing => print_text(rt, b"refused: no such file\n"),
         Loaded::Unreadable(error) => refusals::print_error(rt, error),
@@ -44,15 +32,20 @@ fn set_in_file(
 }
 
 // The word set as it is asked for.
-fn set_as_asked(rt: &(impl Files + Print + Eprint), name: &[u8], word: &[u8], asked: Asked) {
+fn set_as_asked(
+    rt: &(impl Files + Print + Eprint),
+    name: &[u8],
+    word: &[u8],
+    asked: Result<Scale, SizeError>,
+) {
     match asked {
-        Asked::Scale(size, magnification) => set_in_file(rt, name, word, size, magnification),
-        Asked::Zero => refusals::print_refused(rt, 19, name),
-        Asked::Unreadable => print_text(
+        Ok(scale) => set_in_file(rt, name, word, scale),
+        Err(SizeError::Zero) => refusals::print_refused(rt, 19, name),
+        Err(SizeError::Unreadable) => print_text(
             rt,
             b"refused: POINTS is a decimal below 2,048, and THOUSANDTHS a whole number\n",
         ),
-        Asked::Unknown => print_text(
+        Err(SizeError::Unknown) => print_text(
             rt,
             b"refused: a size is asked for by at POINTS or scaled THOUSANDTHS\n",
         ),
@@ -60,7 +53,7 @@ fn set_as_asked(rt: &(impl Files + Print + Eprint), name: &[u8], word: &[u8], as
 }
 
 // The word and the file of the arguments.
-fn set_arguments(rt: &(impl Env + Files + Print + Eprint), asked: Asked) {
+fn set_arguments(rt: &(impl Env + Files + Print + Eprint), asked: Result<Scale, SizeError>) {
     let mut name = [0u8; 4096];
     let Ok(n) = rt.arg(1, &mut name) else {
         print_text(rt, b"refused: FILE has more than 4,096 bytes\n");
@@ -75,8 +68,12 @@ fn set_arguments(rt: &(impl Env + Files + Print + Eprint), asked: Asked) {
 }
 
 fn main(rt: HostRuntime) {
+    let none = Scale {
+        size: 0,
+        magnification: 0,
+    };
     match args::count(&rt) {
-        3 => set_arguments(&rt, Asked::Scale(0, 0)),
+        3 => set_arguments(&rt, Ok(none)),
         5 => set_arguments(&rt, asked::read_asked(&rt)),
         _ => print_text(
             &rt,

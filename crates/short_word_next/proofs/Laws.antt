@@ -2,13 +2,11 @@
 use mathlib.Core.Path.{◌≡◌, refl, sym, ap, ap₂, ◌∙◌}
 use mathlib.Core.Bool.{Bool, true, false, cond, not}
 use mathlib.Core.List.{List, [], ◌∷◌, ◌++◌}
-use mathlib.Core.Logic.{◌⊎◌, inl, inr}
 use mathlib.Core.Option.{Option, none, some}
 use Prim.Native.Nat.{ℕ, zero, suc, ◌+◌, ◌-◌, ◌<◌, ◌≤◌}
-use native.Mathlib.Nat.{eq-or-lt_of_le}
 use native.Mathlib.Numerals.{add-one}
 use native.Mathlib.Omega.{arith}
-use lib.Dec.{leb, ltb}
+use lib.Dec.{leb}
 use lib.ListN.{length, get_or, take, drop, replicate, length-drop, length-replicate, get_or-replicate, get_or-append, get_or-eq_default, length-append}
 use lib.Seq.{drop-cons, drop-length, get_or-take, get_or_at, get_or-append-add, length-take-le}
 use borrow.Author.Tests.{leb-true, le-leb, lt-leb, lt-ltb, le-ltb}
@@ -16,9 +14,8 @@ use Rattle.lang.specs.Every.{both}
 use Rattle.lang.specs.Checks.{unless, or_else}
 use Rattle.lang.proofs.Every.{both_false}
 use Rattle.letter_set.specs.LetterSets.{letter_in, letter_from, letter_found}
-use Rattle.letter_set.specs.declared.Letter.{Letter}
-use Rattle.letter_set.specs.declared.Letter.TheVariants.{At, Nothing}
-use Rattle.short_words.specs.ShortWords.{all_in_set, is_short_word}
+use Rattle.std.specs.Prelude.{Some, None}
+use Rattle.short_words.specs.ShortWords.{all_in_set}
 use Rattle.short_words.specs.NextWords.{advanced_to, kept_before, next_as_long, or_longer, next_by_least, next_short_word, short_refusal}
 use Rattle.short_words.specs.NextWords.{no_word, next_found, next_word_by, next_word_of}
 use Rattle.short_words.specs.declared.NextAnswer.TheVariants.{Word, End, Refused}
@@ -109,11 +106,11 @@ word_is w n a b c d e f g h i = cc
 
 -- ---- a letter that was found
 
-at_is : (o : Option ℕ) (c : ℕ) → At c ≡ letter_found o → o ≡ some c
+at_is : (o : Option ℕ) (c : ℕ) → Some c ≡ letter_found o → o ≡ some c
 at_is none c e = absurd (let z : ◌≡◌ {A = ℕ} 0 1 = cc in omega arith)
 at_is (some d) c e = let q : c ≡ d = cc in ap some (sym q)
 
-nothing_is : (o : Option ℕ) → Nothing ≡ letter_found o → o ≡ none
+nothing_is : (o : Option ℕ) → None ≡ letter_found o → o ≡ none
 nothing_is none e = refl
 nothing_is (some d) e = absurd (let z : ◌≡◌ {A = ℕ} 0 1 = cc in omega arith)
 
@@ -139,7 +136,7 @@ module _ (letters : List ℕ) (least : ℕ) where
         ∙ ap (λ (k : ℕ). advanced_to (letter_from letters (suc (get_or word i 0))) k least) (length-drop (suc i) word)
 
     -- it has a greater letter
-    pub advanced : (c : ℕ) → At c ≡ letter_found (letter_from letters (suc (get_or word i 0))) →
+    pub advanced : (c : ℕ) → Some c ≡ letter_found (letter_from letters (suc (get_or word i 0))) →
         next_found (some (letters_with word i c least (length word))) ≡ next_found (or_longer (next_as_long letters least word) (length word) least)
     advanced c e =
         let q = own ∙ ap (λ (o : Option ℕ). advanced_to o (length word - suc i) least) (at_is (letter_from letters (suc (get_or word i 0))) c e) in
@@ -147,7 +144,7 @@ module _ (letters : List ℕ) (least : ℕ) where
         (from_place word i (c ∷ replicate (length word - suc i) least) (omega arith) q))
 
     -- it has none
-    pub passed : Nothing ≡ letter_found (letter_from letters (suc (get_or word i 0))) → next_as_long letters least (drop i word) ≡ none
+    pub passed : None ≡ letter_found (letter_from letters (suc (get_or word i 0))) → next_as_long letters least (drop i word) ≡ none
     passed e = own ∙ ap (λ (o : Option ℕ). advanced_to o (length word - suc i) least) (nothing_is (letter_from letters (suc (get_or word i 0))) e)
 
   pub none_yet : (word : List ℕ) → next_as_long letters least (drop (length word) word) ≡ none
@@ -168,13 +165,6 @@ module _ (letters : List ℕ) (least : ℕ) where
         ∙ sym
         (ap (λ (o : Option (List ℕ)). next_found (or_longer o (length word) least)) none_at_all
         ∙ ap (λ (t : Bool). next_found (cond t (some (replicate (suc (length word)) least)) none)) (lt-ltb (length word) 4 l))
-
-pub below_four : (n : ℕ) → n ≤ 4 → (n ≡ 4 → ⊥) → n < 4
-below_four n l h = go (eq-or-lt_of_le l)
-  where
-    go : (n ≡ 4) ⊎ (n < 4) → n < 4
-    go (inl e) = absurd (h e)
-    go (inr g) = g
 
 -- ---- the whole
 
@@ -199,10 +189,10 @@ module _ (letters word : List ℕ) (r : ℕ) (e : r ≡ short_refusal letters wo
       ∙ by_refusal letters word 0 (sym taken ∙ e)
 
   -- a set without letters
-  pub no_letter_is : Nothing ≡ letter_found (letter_from letters 0) → no_word End ≡ next_word_of letters word
+  pub no_letter_is : None ≡ letter_found (letter_from letters 0) → no_word End ≡ next_word_of letters word
   no_letter_is f = taken_is none (nothing_is (letter_from letters 0) f)
 
-  pub letter_is : (least : ℕ) → At least ≡ letter_found (letter_from letters 0) →
+  pub letter_is : (least : ℕ) → Some least ≡ letter_found (letter_from letters 0) →
       next_found (or_longer (next_as_long letters least word) (length word) least) ≡ next_word_of letters word
   letter_is least f = taken_is (some least) (at_is (letter_from letters 0) least f)
 

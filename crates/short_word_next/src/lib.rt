@@ -8,10 +8,10 @@ ghost use Rattle.short_words.specs.NextWords.{next_as_long, or_longer, next_shor
 ghost use Rattle.short_words.specs.NextWords.{no_word, next_found, next_word_by, next_word_of};
 ghost use Rattle.short_word_next.specs.Placing.{letters_with};
 
-use letter_set::{Letter, is_member, letter_after, letter_from};
+use letter_set::{is_member, letter_after, letter_from};
 use program_checks::absent_refusal;
 use short_words::{NextAnswer, NextWord, ShortWord};
-use words::u32s::u32_at;
+use words::slices::item_at;
 
 // 27: more than four letters, or one outside the set.
 pub fn short_refusal(letters: &[u64; 4], word: &[u32]) -> u32
@@ -20,12 +20,10 @@ pub fn short_refusal(letters: &[u64; 4], word: &[u32]) -> u32
     if 4 < word.len() {
         return 27;
     }
-    let mut i = 0;
-    while i < word.len() {
-        if !is_member(letters, word[i]) {
+    for letter in word {
+        if !is_member(letters, *letter) {
             return 27;
         }
-        i += 1;
     }
     0
 }
@@ -51,7 +49,7 @@ fn letter_at(word: &[u32], kept: usize, c: u32, least: u32, n: usize, j: usize) 
     ensures { result ≡ get_or (letters_with word.now kept c least n) j 0 }
 {
     if j < kept {
-        return u32_at(word, j);
+        return item_at(word, j);
     }
     if j == kept {
         return c;
@@ -85,11 +83,9 @@ fn next_over(letters: &[u64; 4], word: &[u32], least: u32) -> NextWord
     ensures { result ≡ next_found (or_longer (next_as_long letters.now least word.now)
         (length word.now) least) }
 {
-    let mut i = word.len();
-    while 0 < i {
-        i -= 1;
+    for i in (0..word.len()).rev() {
         let later = letter_after(letters, word[i]);
-        if let Letter::At(c) = later {
+        if let Some(c) = later {
             return word_with(word, i, c, least, word.len());
         }
     }
@@ -108,8 +104,8 @@ pub fn next_word(letters: &[u64; 4], word: &[u32]) -> NextWord
         return no_word(NextAnswer::Refused(refusal));
     }
     match letter_from(letters, 0) {
-        Letter::Nothing => no_word(NextAnswer::End),
-        Letter::At(least) => next_over(letters, word, least),
+        None => no_word(NextAnswer::End),
+        Some(least) => next_over(letters, word, least),
     }
 }
 

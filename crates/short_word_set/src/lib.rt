@@ -10,14 +10,14 @@ use lang::Written;
 use short_word_items::set_items;
 use short_word_next::checked_next;
 use short_words::{NextAnswer, SetNext, ShortWord};
-use words::i32s::zero_i32;
+use words::slices::zero_all;
 
 // No word is answered: zeros for the items.
 fn not_set(answer: NextAnswer, items: &mut [i32]) -> SetNext
     ensures { (result ≡ not_set answer) ×
         (items.new ≡ replicate (length items.old) (pos 0)) }
 {
-    zero_i32(items);
+    zero_all(items);
     let none = ShortWord {
         length: 0,
         letters: [0u32; 4],

@@ -7,7 +7,6 @@ use super::give::{give_character, give_ligature, refused};
 use captions::{Answer, NextLeft, State, Step};
 use table_numbers::{kind_at, op_fits, value_at};
 use words::number_of;
-use words::sizes::minus;
 
 // The state after an op that is there; the state itself where no list can have that op.
 pub fn after_op(s: State) -> State
@@ -19,7 +18,7 @@ pub fn after_op(s: State) -> State
     }
     let next = s.next_left;
     let consumes = s.consumes_left;
-    let ops = minus(s.ops, 1);
+    let ops = s.ops.saturating_sub(1);
     State {
         next_left: next,
         op: s.op + 1,

@@ -9,13 +9,13 @@ ghost use Rattle.reading.specs.Items.{item};
 ghost use Rattle.captions.specs.Tables.{pair_count, op_count, number, op_holds};
 ghost use Rattle.captions.specs.Steps.{after_right};
 ghost use Rattle.table_numbers.specs.Parts.{last_fits};
-ghost use Rattle.step_quick.specs.Quick.{has_letter, first_plain, is_entered, is_ready, moved_on, given_plain, given_first};
+ghost use Rattle.step_quick.specs.Quick.{has_letter, first_plain, is_entered, is_ready, moved_on, given_plain};
+ghost use Rattle.step_quick.specs.Quick.{given_first};
 ghost use Rattle.step_quick.specs.Quick.{quick_step};
 
 use captions::{Answer, Consumes, NextLeft, State, Step};
 use step_quick::left::{has_letter, plain_code};
 use words::i32s::word_at;
-use words::sizes::minus;
 use words::word_of;
 
 // Number j of pair k, which is there.
@@ -153,7 +153,7 @@ fn given_first(pairs: &[i32], ops: &[i32], k: usize, s: State) -> Step
     let first = number_in(pairs, k, 4) as usize;
     let count = number_in(pairs, k, 5) as usize;
     let next = after_letter(number_in(pairs, k, 3) == 1, number_in(pairs, k, 2));
-    let more = minus(count, 1);
+    let more = count.saturating_sub(1);
     let moved = moved_on(next, first + 1, more, s);
     Step {
         answer: Answer::Char(word_at(ops, 2 * first + 1), s.given),

@@ -2,7 +2,8 @@
 ghost use Rattle.std.specs.Prelude.{◌≡◌, true, ◌<◌};
 ghost use Rattle.reading.specs.Items.{item};
 ghost use Rattle.captions.specs.Replies.{next_code};
-ghost use Rattle.captions.specs.Steps.{gathered, left_place_of, left_consumed, after_right, read_on, with_next, give_left};
+ghost use Rattle.captions.specs.Steps.{gathered, left_place_of, left_consumed, after_right, read_on, with_next};
+ghost use Rattle.captions.specs.Steps.{give_left};
 ghost use Rattle.captions.specs.Steps.{is_character, with_pending, longer, next_fits};
 
 use captions::{Consumes, NextLeft, State, Turned};

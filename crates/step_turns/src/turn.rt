@@ -3,15 +3,17 @@ ghost use Rattle.std.specs.Prelude.{◌≡◌, true, cond, ◌<◌};
 ghost use Rattle.words.specs.Words.{number_of};
 ghost use Rattle.reading.specs.Items.{plain};
 ghost use Rattle.captions.specs.Tables.{found_at};
-ghost use Rattle.captions.specs.Steps.{refused, ended, after_right, read_on, with_next, give_left, entered_at, swallows};
-ghost use Rattle.captions.specs.Steps.{entry_reads, find_within, turn_with, or_boundary, turn_at_end, turn_at_letter, turn};
+ghost use Rattle.captions.specs.Steps.{refused, ended, after_right, read_on, with_next, give_left, entered_at};
+ghost use Rattle.captions.specs.Steps.{swallows};
+ghost use Rattle.captions.specs.Steps.{entry_reads, find_within, turn_with, or_boundary, turn_at_end, turn_at_letter};
+ghost use Rattle.captions.specs.Steps.{turn};
 ghost use Rattle.captions.specs.Steps.{next_fits};
 
 use super::left::{
     after_right, gathered, give_left, is_character, left_consumed, left_place_of, read_on,
     with_next,
 };
-use captions::{Answer, Found, NextLeft, State, Step, Turned};
+use captions::{Answer, NextLeft, State, Step, Turned};
 use program_checks::is_letter;
 use table_find::find;
 use table_numbers::{number_at, record_fits};
@@ -101,14 +103,14 @@ fn turn_entered(pairs: &[i32], ops: &[i32], x: NextLeft, letter: bool, s: State,
 }
 
 // The pair of a left and a right; one of them above 255 is not looked up.
-fn find_within(pairs: &[i32], left: u32, right: u32) -> Found
+fn find_within(pairs: &[i32], left: u32, right: u32) -> Option<usize>
     ensures { result ≡ found_at (find_within pairs.now left right) }
 {
     if 256 < left {
-        return Found::Nothing;
+        return None;
     }
     if 255 < right {
-        return Found::Nothing;
+        return None;
     }
     find(pairs, left, right)
 }
@@ -120,8 +122,8 @@ fn turn_with(pairs: &[i32], ops: &[i32], x: NextLeft, letter: bool, y: u32, s: S
 {
     let left = left_place_of(x);
     match find_within(pairs, left, y) {
-        Found::Nothing => turn_free(x, letter, y, s),
-        Found::At(k) => turn_entered(pairs, ops, x, letter, s, k),
+        None => turn_free(x, letter, y, s),
+        Some(k) => turn_entered(pairs, ops, x, letter, s, k),
     }
 }
 

@@ -6,7 +6,6 @@ ghost use Rattle.std.specs.Prelude.{◌≡◌, ◌+◌, ◌%◌};
 ghost use Rattle.captions.specs.Tables.{key_by, key_at, found_at};
 ghost use Rattle.captions.specs.Tables as tables;
 
-use captions::Found;
 use table_numbers::number_at;
 
 // A left by its 32 bits: -1 is 0, and c is 1 + c.
@@ -26,7 +25,7 @@ pub fn key_at(pairs: &[i32], k: usize) -> u64
 }
 
 // The pair of a left (0 the boundary, else 1 + character) and a right character.
-pub fn find(pairs: &[i32], left: u32, right: u32) -> Found
+pub fn find(pairs: &[i32], left: u32, right: u32) -> Option<usize>
     ensures { result ≡ found_at (tables.find pairs.now (key_by left right)) }
 {
     let wanted = 4294967296 * (left as u64) + (right as u64);
@@ -43,8 +42,8 @@ pub fn find(pairs: &[i32], left: u32, right: u32) -> Found
     }
     if lo < n {
         if key_at(pairs, lo) == wanted {
-            return Found::At(lo);
+            return Some(lo);
         }
     }
-    Found::Nothing
+    None
 }

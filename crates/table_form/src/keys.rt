@@ -10,12 +10,10 @@ use crate::key_form;
 pub fn keys_form(pairs: &[i32]) -> bool
     ensures { result ≡ every (pair_count pairs.now) (key_form pairs.now) }
 {
-    let mut k = 0;
-    while k < pairs.len() / 6 {
+    for k in 0..pairs.len() / 6 {
         if !key_form(pairs, k) {
             return false;
         }
-        k += 1;
     }
     true
 }

@@ -66,8 +66,8 @@ fn pairs_form(pairs: &[i32], ops: &[i32]) -> bool
 {
     let mut least: u64 = 0;
     let mut at: usize = 0;
-    let mut p = 0;
-    while p < pairs.len() {
+    for k in 0..pairs.len() / 6 {
+        let p = 6 * k;
         let key = key_in(pairs, p);
         if key < least {
             return false;
@@ -77,7 +77,6 @@ fn pairs_form(pairs: &[i32], ops: &[i32]) -> bool
         }
         least = key + 1;
         at = at + (word_of(pairs[p + 5]) as usize);
-        p += 6;
     }
     at == ops.len() / 2
 }

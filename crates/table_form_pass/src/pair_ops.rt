@@ -26,12 +26,10 @@ fn later_pass(ops: &[i32], start: usize, end: usize) -> bool
     requires { end ≤ op_count ops.now }
     ensures { LaterPass ops.now start end result }
 {
-    let mut i = start;
-    while i < end {
+    for i in start..end {
         if !op_passes(4294967295, word_of(ops[2 * i]), word_of(ops[2 * i + 1])) {
             return false;
         }
-        i += 1;
     }
     true
 }
@@ -42,8 +40,7 @@ fn all_pass(ops: &[i32], left: u32, flag: u32, start: usize, end: usize) -> bool
     requires { end ≤ op_count ops.now }
     ensures { OpsPass ops.now (left_by left) (eqb flag 1) start end result }
 {
-    let mut i = start;
-    while i < end {
+    for i in start..end {
         let kind = word_of(ops[2 * i]);
         if kind != 2 {
             if !op_passes(left, kind, word_of(ops[2 * i + 1])) {
@@ -51,7 +48,6 @@ fn all_pass(ops: &[i32], left: u32, flag: u32, start: usize, end: usize) -> bool
             }
             return later_pass(ops, i + 1, end);
         }
-        i += 1;
     }
     left == 4294967295 || flag == 1
 }

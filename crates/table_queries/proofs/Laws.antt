@@ -1,9 +1,8 @@
 -- What else a host asks: by the tests of the code.
 -- Assumes nothing.
-use mathlib.Core.Path.{◌≡◌, refl, ap, ◌∙◌}
-use mathlib.Core.Bool.{true, false}
+use mathlib.Core.Path.{◌≡◌, ap, ◌∙◌}
+use mathlib.Core.Bool.{false}
 use mathlib.Core.List.{List, []}
-use mathlib.Core.Option.{Option, none, some}
 use Prim.Native.Nat.{ℕ, ◌+◌, ◌-◌, ◌%◌, ◌^◌, ◌<◌, ◌≤◌}
 use native.Mathlib.Omega.{arith}
 use lib.IntN.{ℤ}
@@ -12,8 +11,7 @@ use borrow.Author.Tests.{le-leb, lt-leb, eq-eqb, ne_eqb}
 use Rattle.words.specs.Words.{Word}
 use Rattle.words.proofs.Bits.{read_pos, read_neg}
 use Rattle.captions.specs.declared.State.{State}
-use Rattle.captions.specs.declared.Found.TheVariants.{At, Nothing}
-use Rattle.captions.specs.Tables.{key_by, left_place, find, found_at}
+use Rattle.captions.specs.Tables.{key_by, left_place, find}
 use Rattle.captions.specs.Steps.{right_item}
 use Rattle.captions.specs.Queries.{not_ligature, is_separation_point, original_of, is_found, has_entry}
 
@@ -32,16 +30,6 @@ original_outside word start n h = rw (lt-leb (start + n) (length word) h)
 
 pub original_inside : (word : List ℕ) (start n : ℕ) → start + n ≤ length word → take (start + n - start) (drop start word) ≡ original_of word start n
 original_inside word start n h = let e : start + n - start ≡ n = omega arith in rw (e, le-leb (start + n) (length word) h)
-
--- ---- a pair that is found
-
-pub found_some : (o : Option ℕ) {k : ℕ} → found_at o ≡ At k → true ≡ is_found o
-found_some none e = cc
-found_some (some k) e = refl
-
-pub found_none : (o : Option ℕ) → found_at o ≡ Nothing → false ≡ is_found o
-found_none none e = refl
-found_none (some k) e = cc
 
 -- ---- an entry, from the words of the left, the right and the boundary
 

@@ -24,10 +24,7 @@ pub(crate) fn write_keys(pairs: &[i32], out: &mut [i32])
     ensures { out.new ≡ keys_of pairs.now
         ++ drop (2 * pair_count pairs.now) out.old }
 {
-    let n = 2 * (pairs.len() / 6);
-    let mut j = 0;
-    while j < n {
+    for j in 0..2 * (pairs.len() / 6) {
         words::i32s::put_word(out, j, number_at(pairs, j / 2, (j % 2) as u8));
-        j += 1;
     }
 }

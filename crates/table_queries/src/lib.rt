@@ -9,12 +9,13 @@ ghost use Rattle.captions.specs.Tables.{key_by};
 ghost use Rattle.captions.specs.Tables as tables;
 ghost use Rattle.captions.specs.Replies.{told_reply};
 ghost use Rattle.captions.specs.Steps.{right_item};
-ghost use Rattle.captions.specs.Queries.{not_ligature, is_separation_point, original_of, is_found, has_entry, has_refusal};
+ghost use Rattle.captions.specs.Queries.{not_ligature, is_separation_point, original_of, is_found, has_entry};
+ghost use Rattle.captions.specs.Queries.{has_refusal};
 ghost use Rattle.captions.specs.Queries.{has_reply, ListsPairs};
 
 mod keys;
 
-use captions::{Found, NextLeft, State, Told};
+use captions::{NextLeft, State, Told};
 use keys::{keys_refusal, write_keys};
 use lang::Written;
 use program_checks::absent_refusal;
@@ -60,10 +61,7 @@ pub fn original(word: &[u32], start: usize, length: usize) -> &[u32]
 fn has_pair(pairs: &[i32], left: u32, right: u32) -> bool
     ensures { result ≡ is_found (tables.find pairs.now (key_by left right)) }
 {
-    match find(pairs, left, right) {
-        Found::At(_) => true,
-        Found::Nothing => false,
-    }
+    find(pairs, left, right).is_some()
 }
 
 // The same of a left and a right that is the boundary character where it is -1.
@@ -116,7 +114,7 @@ pub fn has_replacement(pairs: &[i32], boundary: i32, left: i32, right: i32) -> T
 pub fn all_pairs_with_replacements(pairs: &[i32], out: &mut [i32]) -> Written
     ensures { ListsPairs pairs.now out.old result out.new }
 {
-    words::i32s::zero_i32(out);
+    words::slices::zero_all(out);
     let refusal = keys_refusal(pairs, out.len());
     if refusal != 0 {
         return Written::Refused(refusal);

@@ -30,12 +30,10 @@ fn ops_are_seven_bit(ops: &[i32], first: usize, count: usize) -> bool
     requires { first + count ≤ op_count ops.now }
     ensures { result ≡ every count (λ i. op_is_seven_bit ops.now (first + i)) }
 {
-    let mut i = 0;
-    while i < count {
+    for i in 0..count {
         if !op_is_seven_bit(ops, first + i) {
             return false;
         }
-        i += 1;
     }
     true
 }
@@ -75,12 +73,10 @@ fn all_are_safe(pairs: &[i32], ops: &[i32]) -> bool
     ensures { result ≡ every (pair_count pairs.now)
         (pair_is_safe pairs.now ops.now) }
 {
-    let mut k = 0;
-    while k < pairs.len() / 6 {
+    for k in 0..pairs.len() / 6 {
         if !pair_is_safe(pairs, ops, k) {
             return false;
         }
-        k += 1;
     }
     true
 }

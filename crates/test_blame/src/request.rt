@@ -10,7 +10,8 @@ use test_requests::answer::{put_count, put_one};
 use test_requests::request::{after, front, items, number_at};
 use test_requests::write::put_line;
 use words::i32s::word_at;
-use words::u32s::put_u32;
+use words::slices::put_item;
+use words::word_of;
 
 // The number, and the two values.
 fn print(rt: &impl Print, number: u32, found: usize, index: usize) {
@@ -32,10 +33,8 @@ fn put_blamed(rt: &impl Print, answer: Blamed) {
 }
 
 fn copy_letters(list: &[i32], word: &mut [u32]) {
-    let mut i = 0;
-    while i < list.len() {
-        put_u32(word, i, word_at(list, i));
-        i += 1;
+    for (i, number) in list.iter().enumerate() {
+        put_item(word, i, word_of(*number));
     }
 }
 

@@ -9,7 +9,7 @@ ghost use Rattle.std.specs.Prelude.{◌≡◌, length};
 use file_fill::fill_front;
 use test_requests::read::{line_end, numbers_of};
 use test_requests::request::{front, part};
-use words::u8s::u8_at;
+use words::slices::item_at;
 
 mod scenario;
 
@@ -23,7 +23,7 @@ fn room() -> [u8; 262144]
 fn answer(rt: &impl Print, line: &[u8]) {
     let mut numbers = [0i32; 16384];
     let n = numbers_of(line, &mut numbers);
-    if u8_at(line, 0) == b'K' {
+    if item_at(line, 0) == b'K' {
         scenario::answer_callers(rt, part(&numbers, 0, n));
         return;
     }

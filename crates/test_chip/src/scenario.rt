@@ -44,7 +44,7 @@ fn answer_from(rt: &impl Print, numbers: &[i32], counts: [u32; 8], callers: bool
     let pairs = items(numbers, 1, 6);
     let ops = items(numbers, after(numbers, 1, 6), 2);
     let commands = rest(numbers, after(numbers, after(numbers, 1, 6), 2));
-    if pairs.len() == 0 {
+    if pairs.is_empty() {
         let mut short = [170u8; 15];
         turns(
             rt, pairs, ops, boundary, commands, counts, callers, &mut short,
@@ -64,15 +64,6 @@ pub(crate) fn answer(rt: &impl Print, numbers: &[i32]) {
 
 // From a chip with the counts that stand first.
 pub(crate) fn answer_callers(rt: &impl Print, numbers: &[i32]) {
-    let counts = [
-        word_at(numbers, 0),
-        word_at(numbers, 1),
-        word_at(numbers, 2),
-        word_at(numbers, 3),
-        word_at(numbers, 4),
-        word_at(numbers, 5),
-        word_at(numbers, 6),
-        word_at(numbers, 7),
-    ];
+    let counts: [u32; 8] = std::array::from_fn(|i| word_at(numbers, i));
     answer_from(rt, rest(numbers, 8), counts, true);
 }

@@ -15,15 +15,13 @@ use test_requests::answer::put_one;
 use test_requests::request::front;
 use test_requests::write::put_line;
 use words::i32s::word_at;
-use words::u8s::{put_u8, u8_at};
+use words::slices::{item_at, put_item};
 
 // A number, and the bytes of a block.
 fn put_block(out: &mut [i32], number: u32, block: &[u8]) -> usize {
     let mut at = put_one(out, 0, number);
-    let mut i = 0;
-    while i < block.len() {
-        at = put_one(out, at, u8_at(block, i) as u32);
-        i += 1;
+    for b in block {
+        at = put_one(out, at, *b as u32);
     }
     at
 }
@@ -50,19 +48,14 @@ fn host_byte(four: &[i32], i: usize, old: u8) -> u8 {
 }
 
 fn put_command(block: &mut [u8], four: &[i32]) {
-    let mut i = 0;
-    while i < 16 {
-        put_u8(block, i, host_byte(four, i, u8_at(block, i)));
-        i += 1;
+    for i in 0..16 {
+        put_item(block, i, host_byte(four, i, item_at(block, i)));
     }
 }
 
 // The letters of a word, of which there are no more than are lent.
 fn letters(word: &[u32], n: usize) -> &[u32] {
-    if word.len() < n {
-        return word;
-    }
-    &word[..n]
+    &word[..n.min(word.len())]
 }
 
 // What `step` gives from a chip's state.

@@ -8,8 +8,7 @@ use lang::Written;
 use test_requests::answer::put_one;
 use test_requests::request::front;
 use test_requests::write::put_line;
-use words::u8s::u8_at;
-use words::u32s::u32_at;
+use words::slices::item_at;
 
 #[derive(Clone, Copy)]
 pub struct Counted {
@@ -19,10 +18,10 @@ pub struct Counted {
 
 // After a command that was taken, of which `block` has the first bytes.
 fn counted_on(block: &[u8], before: Counted) -> Counted {
-    let command = u8_at(block, 0);
+    let command = item_at(block, 0);
     let mut after = before;
     if command == 1 {
-        after.caller = (u8_at(block, 1) % 8) as usize;
+        after.caller = (item_at(block, 1) % 8) as usize;
     }
     if command == 3 {
         let mut counts = after.counts;
@@ -35,8 +34,8 @@ fn counted_on(block: &[u8], before: Counted) -> Counted {
 
 // The number that bytes 4 to 7 of a block show.
 fn shown(block: &[u8]) -> u32 {
-    let high = (u8_at(block, 4) as u32) * 256 + (u8_at(block, 5) as u32);
-    let low = (u8_at(block, 6) as u32) * 256 + (u8_at(block, 7) as u32);
+    let high = (item_at(block, 4) as u32) * 256 + (item_at(block, 5) as u32);
+    let low = (item_at(block, 6) as u32) * 256 + (item_at(block, 7) as u32);
     high * 65536 + low
 }
 
@@ -53,7 +52,7 @@ fn print(rt: &impl Print, count: u32, same: u32) {
 // What is counted for the caller.
 fn own(counted: Counted) -> u32 {
     let counts = counted.counts;
-    u32_at(&counts, counted.caller)
+    item_at(&counts, counted.caller)
 }
 
 fn same(a: u32, b: u32) -> u32 {

@@ -62,12 +62,9 @@ fn head_of(line: &[u8]) -> Head {
 
 // What the program reads of a text: as much as there is room for. Answers how much.
 fn read_front(text: &[u8], read: &mut [u8]) -> usize {
-    let mut i = 0;
-    while i < text.len() && i < read.len() {
-        read[i] = text[i];
-        i += 1;
-    }
-    i
+    let n = text.len().min(read.len());
+    read[..n].copy_from_slice(&text[..n]);
+    n
 }
 
 // Writes what the program prints.

@@ -13,7 +13,6 @@ use test_requests::request::{
     entries_of, from_end, front, instructions_of, kerns_of, number_at, part, rest,
 };
 use test_requests::write::put_line;
-use words::sizes::smaller;
 
 // Room for the lines.
 fn room() -> [u8; 131072]
@@ -50,7 +49,7 @@ fn print(rt: &impl Print, written: Written, text: &[u8]) {
 fn answer_font(rt: &impl Print, numbers: &[i32], text: &mut [u8]) {
     let font = rest(numbers, 1);
     let end = from_end(font, 2);
-    let n = smaller(words::i32s::word_at(numbers, 0) as usize, text.len());
+    let n = (words::i32s::word_at(numbers, 0) as usize).min(text.len());
     let written = display(
         instructions_of(font),
         kerns_of(font),

@@ -1,13 +1,13 @@
 -- Bytes written as numbers from the front of a list, one after another.
 -- Assumes nothing.
-use mathlib.Core.Path.{◌≡◌, refl, ap, ◌∙◌}
+use mathlib.Core.Path.{◌≡◌, ◌∙◌}
 use mathlib.Core.List.{List, map, map-append}
 use Prim.Native.Nat.{ℕ, ◌+◌, ◌<◌, ◌≤◌, ◌^◌}
 use native.Mathlib.Numerals.{add-one}
 use native.Mathlib.Omega.{arith}
 use lib.IntN.{ℤ, pos}
 use lib.ListN.{length, get_or, set, take, length-map, length-take}
-use lib.Seq.{sets, length-sets, take-suc, take_all}
+use lib.Seq.{sets, take-suc}
 use Rattle.words.specs.Words.{number_of}
 use Rattle.words.proofs.Bits.{number_pos}
 use Rattle.words.proofs.Lists.{sets_append}
@@ -18,9 +18,6 @@ pub record Widened (bytes : List ℕ) (d₀ d : List ℤ) (i : ℕ) : Type 0 whe
   pub is : d ≡ sets d₀ 0 (map pos (take i bytes))
 
 module _ {bytes : List ℕ} {d₀ d : List ℤ} {i : ℕ} (w : Widened bytes d₀ d i) where
-  pub widened_length : length d ≡ length d₀
-  widened_length = ap length w.is ∙ length-sets d₀ 0 (map pos (take i bytes))
-
   pub widened_more : (d' : List ℤ) (b : ℕ) → i < length bytes → b ≡ get_or bytes i 0 → b < 2 ^ 8 → d' ≡ set d i (number_of b) → Widened bytes d₀ d' (i + 1)
   widened_more d' b h e l s =
       let k : 0 + length (map pos (take i bytes)) ≡ i = simp (length-map, length-take) (omega arith) in
@@ -28,9 +25,3 @@ module _ {bytes : List ℕ} {d₀ d : List ℤ} {i : ℕ} (w : Widened bytes d�
         within = omega arith;
         is = s ∙ rw (number_pos b (omega arith), w.is, add-one, take-suc bytes i 0 h, map-append, sets_append, k, e);
       }
-
-  pub widened_all : length bytes ≤ i → d ≡ sets d₀ 0 (map pos bytes)
-  widened_all h = w.is ∙ rw (take_all i bytes h)
-
-pub widened_none : (bytes : List ℕ) (d : List ℤ) → Widened bytes d d 0
-widened_none bytes d = record { within = omega arith; is = refl }

@@ -6,14 +6,12 @@ use crate::rooms::number_room;
 use crate::runs::unroll;
 use test_requests::request::part;
 use words::i32s::{put_word, word_at};
-use words::u8s::{put_u8, u8_at};
+use words::slices::put_item;
 
 // Numbers as bytes.
 fn narrow(list: &[i32], bytes: &mut [u8]) {
-    let mut i = 0;
-    while i < list.len() {
-        put_u8(bytes, i, (word_at(list, i) % 256) as u8);
-        i += 1;
+    for i in 0..list.len() {
+        put_item(bytes, i, (word_at(list, i) % 256) as u8);
     }
 }
 
@@ -21,10 +19,8 @@ fn narrow(list: &[i32], bytes: &mut [u8]) {
 pub fn widen(bytes: &[u8], list: &mut [i32])
     ensures { list.new ≡ sets list.old 0 (map pos bytes.now) }
 {
-    let mut i = 0;
-    while i < bytes.len() {
-        put_word(list, i, u8_at(bytes, i) as u32);
-        i += 1;
+    for (i, b) in bytes.iter().enumerate() {
+        put_word(list, i, *b as u32);
     }
 }
 

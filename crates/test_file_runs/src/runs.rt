@@ -10,10 +10,8 @@ fn put_times(list: &mut [i32], at: usize, times: u32, word: u32) -> usize
     ensures { at ≤ length list.old → (at ≤ result) × (result ≤ length list.new) }
 {
     let mut next = at;
-    let mut k: u32 = 0;
-    while k < times {
+    for _ in 0..times {
         next = put_one(list, next, word);
-        k += 1;
     }
     next
 }
@@ -23,10 +21,8 @@ pub fn unroll(runs: &[i32], list: &mut [i32]) -> usize
     ensures { result ≤ length list.new }
 {
     let mut next = 0;
-    let mut i = 0;
-    while i < runs.len() / 2 {
+    for i in 0..runs.len() / 2 {
         next = put_times(list, next, word_at(runs, 2 * i), word_at(runs, 2 * i + 1));
-        i += 1;
     }
     next
 }
@@ -37,14 +33,12 @@ fn run_end(list: &[i32], i: usize) -> usize
     ensures { (i < result) × (result ≤ length list.now) }
 {
     let word = word_at(list, i);
-    let mut k = i + 1;
-    while k < list.len() {
+    for k in i + 1..list.len() {
         if word_at(list, k) != word {
             return k;
         }
-        k += 1;
     }
-    k
+    list.len()
 }
 
 // A run. The place after it.
@@ -97,10 +91,8 @@ fn one_if(is: bool) -> usize
 // How many numbers of a list are not 0.
 fn not_zero(list: &[i32]) -> usize {
     let mut count = 0;
-    let mut i = 0;
-    while i < list.len() {
+    for i in 0..list.len() {
         count += one_if(word_at(list, i) != 0);
-        i += 1;
     }
     count
 }

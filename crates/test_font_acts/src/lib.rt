@@ -13,8 +13,8 @@ use test_requests::answer::put_one;
 use test_requests::request::{after, front, items, number_at, rest};
 use test_requests::write::put_line;
 use words::i32s::word_at;
-use words::u32s::put_u32;
-use words::u64s::u64_at;
+use words::slices::item_at;
+use words::word_of;
 
 // What stands after the first font.
 fn past(numbers: &[i32]) -> &[i32]
@@ -43,7 +43,7 @@ fn ops(font: &[i32]) -> &[i32] {
 
 // The low 32 bits of a number of the run.
 fn low(run: &[u64], i: usize) -> u32 {
-    (u64_at(run, i) % 4294967296) as u32
+    (item_at(run, i) % 4294967296) as u32
 }
 
 // A line: the number, the fonts in force and asked for, and the item of a step.
@@ -61,29 +61,22 @@ fn print(rt: &impl Print, letter: u8, number: u32, run: &[u64], item: &[i32]) {
 
 fn put_item(out: &mut [i32], at: usize, item: &[i32]) -> usize {
     let mut next = at;
-    let mut i = 0;
-    while i < item.len() {
-        next = put_one(out, next, word_at(item, i));
-        i += 1;
+    for number in item {
+        next = put_one(out, next, word_of(*number));
     }
     next
 }
 
 // The letters of an act.
 fn copy_letters(act: &[i32], letters: &mut [u32]) {
-    let mut i = 0;
-    while i < 8 {
-        put_u32(letters, i, word_at(act, i + 4));
-        i += 1;
+    for i in 0..8 {
+        words::slices::put_item(letters, i, word_at(act, i + 4));
     }
 }
 
 // The first n of them, or all.
 fn first(letters: &[u32], n: usize) -> &[u32] {
-    if letters.len() < n {
-        return letters;
-    }
-    &letters[..n]
+    &letters[..n.min(letters.len())]
 }
 
 fn ask(rt: &impl Print, numbers: &[i32], act: &[i32], run: &mut [u64]) {
@@ -95,8 +88,8 @@ fn ask(rt: &impl Print, numbers: &[i32], act: &[i32], run: &mut [u64]) {
 }
 
 fn start(rt: &impl Print, numbers: &[i32], act: &[i32], word: &[u32], run: &mut [u64]) {
-    let f = font(numbers, u64_at(run, 9));
-    let g = font(numbers, u64_at(run, 11));
+    let f = font(numbers, item_at(run, 9));
+    let g = font(numbers, item_at(run, 11));
     let refusal = ligkern_start_word(
         pairs(f),
         ops(f),
@@ -115,8 +108,8 @@ fn start(rt: &impl Print, numbers: &[i32], act: &[i32], word: &[u32], run: &mut 
 
 fn step(rt: &impl Print, numbers: &[i32], act: &[i32], word: &[u32], run: &mut [u64]) {
     let mut item = [0i32; 7];
-    let f = font(numbers, u64_at(run, 9));
-    let g = font(numbers, u64_at(run, 11));
+    let f = font(numbers, item_at(run, 9));
+    let g = font(numbers, item_at(run, 11));
     let refusal = ligkern_font_step(
         pairs(f),
         ops(f),

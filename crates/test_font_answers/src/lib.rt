@@ -31,10 +31,8 @@ fn put_pair(out: &mut [i32], at: usize, pair: &[i32], ops: &[i32]) -> usize {
 // The pairs of a table.
 fn put_pairs(out: &mut [i32], at: usize, pairs: &[i32], ops: &[i32]) -> usize {
     let mut next = at;
-    let mut i = 0;
-    while i < pairs.len() {
+    for i in (0..pairs.len()).step_by(6) {
         next = put_pair(out, next, part(pairs, i, i + 6), ops);
-        i += 6;
     }
     next
 }

@@ -45,10 +45,8 @@ pub(crate) fn put_instructions(
     n: usize,
 ) -> usize {
     let mut next = put_count(out, at, n);
-    let mut i = 0;
-    while i < n {
+    for i in 0..n {
         next = put_instruction(out, next, instructions, i);
-        i += 1;
     }
     next
 }

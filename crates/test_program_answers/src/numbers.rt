@@ -3,14 +3,12 @@ use lang::Written;
 use lang::operation::{Operation, PostLigOperation, lig_kern_operation_from_bytes};
 use test_requests::answer::{bit, put_one};
 use test_requests::request::number_at;
-use tfm::{Char, FixWord, ScaledAt};
+use tfm::{Char, FixWord, ScalingError};
 
-fn put_scaled(scaled: ScaledAt, out: &mut [i32]) -> Written {
+fn put_scaled(scaled: Result<i32, ScalingError>, out: &mut [i32]) -> Written {
     match scaled {
-        ScaledAt::Scaled(v) => Written::Count(put_one(out, 0, words::word_of(v))),
-        ScaledAt::NegativeDesignSize => Written::Refused(5),
-        ScaledAt::TooLarge => Written::Refused(13),
-        ScaledAt::SizeOutOfRange => Written::Refused(19),
+        Ok(v) => Written::Count(put_one(out, 0, words::word_of(v))),
+        Err(error) => Written::Refused(error.number()),
     }
 }
 

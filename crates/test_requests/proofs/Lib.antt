@@ -1,3 +1,2 @@
--- Laws of crate test_requests: Parts (the definitions by the tests that the code makes), Marking (sets of indices).
+-- Laws of crate test_requests: Parts (the definitions by the tests that the code makes, and numbers written in turn).
 pub mod Parts
-mod Marking

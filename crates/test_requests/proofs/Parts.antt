@@ -1,8 +1,7 @@
 -- The definitions of specs/Requests and specs/Answers by the tests that the code makes, over plain values.
-use Rattle.std.proofs.Common.{◌≡◌, ℕ, ◌+◌, ◌-◌, ◌*◌, ◌^◌, ◌<◌, ◌≤◌, Bool, true, false, cond, ltb, List, [], length, take, drop, set, ℤ, refl, ap, ◌∙◌, mul-le-mul, arith, length-set, ltb-true, le-ltb, lt-ltb, le-leb}
+use Rattle.std.proofs.Common.{◌≡◌, ℕ, ◌+◌, ◌-◌, ◌*◌, ◌<◌, ◌≤◌, Bool, true, false, cond, ltb, List, [], length, take, drop, ℤ, refl, ap, ◌∙◌, arith, length-set, ltb-true, le-ltb, lt-ltb, le-leb}
 use borrow.Author.Tests.{lt-leb}
-use Rattle.words.specs.Words.{word_of, number_of, Word}
-use Rattle.words.proofs.Bits.{number_is, read_lt, word_number}
+use Rattle.words.specs.Words.{word_of}
 use Rattle.test_requests.specs.Requests.{part_of, after_of, items_of, number_at}
 use Rattle.test_requests.specs.Answers.{Put}
 
@@ -22,12 +21,6 @@ module _ (s : List ℤ) (a e : ℕ) where
   part_is h k = rw (le-ltb e a h, le-ltb (length s) e k)
 
 -- ---- a list among the numbers
-
-pub byte_times_word : (a b : ℕ) → a < 2 ^ 8 → b < 2 ^ 32 → a * b < 2 ^ 64
-byte_times_word a b h k =
-    let h' : a ≤ 255 = omega arith in
-    let k' : b ≤ 4294967295 = omega arith in
-    omega (arith, mul-le-mul h' k')
 
 module _ (w : ℕ) (s : List ℤ) (i : ℕ) where
   pub after_none : length s ≤ i → length s ≡ after_of w s i
@@ -50,22 +43,7 @@ module _ (w : ℕ) (s : List ℤ) (i : ℕ) where
   unfolding items_of
   items_are r e h p q = rw (lt-leb (length s) i h, ← p, q)
 
--- ---- a number that was read
-
-pub number_read : {z y : ℤ} {w : ℕ} → Word z w → y ≡ number_of w → number_of (word_of y) ≡ z
-number_read {z} {y} {w} h e = rw (e, word_number w (read_lt h)) (number_is h)
-
 -- ---- numbers written one after another
-
-module _ (d₀ : List ℤ) (i w : ℕ) (d : List ℤ) (e : d ≡ set d₀ i (number_of w)) where
-  same : length d ≡ length d₀
-  same = ap length e ∙ simp length-set
-
-  pub put_next : i < length d → Put d₀ i w (i + 1) d
-  put_next h = record { is = e; next = rw (lt-ltb i (length d₀) (omega (arith, same))) }
-
-  pub put_stays : length d ≤ i → Put d₀ i w i d
-  put_stays h = record { is = e; next = rw (le-ltb i (length d₀) (omega (arith, same))) }
 
 -- the place is not before where it was, and within the list if it was; the length stays
 pub record Kept (at : ℕ) (d₀ d : List ℤ) (next : ℕ) : Type 0 where

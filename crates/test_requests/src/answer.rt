@@ -8,7 +8,7 @@ use lang::Written;
 pub fn bit(is: bool) -> u32
     ensures { result ≡ bit_of is }
 {
-    if is { 1 } else { 0 }
+    u32::from(is)
 }
 
 // A number, by its bits. The place after it.
@@ -31,10 +31,8 @@ pub fn put_list(out: &mut [i32], at: usize, list: &[i32]) -> usize
     ensures { at ≤ length out.old → (at ≤ result) × (result ≤ length out.new) }
 {
     let mut next = at;
-    let mut i = 0;
-    while i < list.len() {
-        next = put_one(out, next, words::i32s::word_at(list, i));
-        i += 1;
+    for number in list {
+        next = put_one(out, next, words::word_of(*number));
     }
     next
 }
@@ -44,10 +42,8 @@ pub fn put_words(out: &mut [i32], at: usize, list: &[u32], n: usize) -> usize
     ensures { at ≤ length out.old → (at ≤ result) × (result ≤ length out.new) }
 {
     let mut next = at;
-    let mut i = 0;
-    while i < n {
-        next = put_one(out, next, words::u32s::u32_at(list, i));
-        i += 1;
+    for i in 0..n {
+        next = put_one(out, next, words::slices::item_at(list, i));
     }
     next
 }

@@ -12,34 +12,28 @@ struct Number {
 pub fn line_end(text: &[u8], at: usize) -> usize
     ensures { at ≤ length text.now → (at ≤ result) × (result ≤ length text.now) }
 {
-    let mut i = at;
-    while i < text.len() {
+    for i in at..text.len() {
         if text[i] == b'\n' {
             return i;
         }
-        i += 1;
     }
-    i
+    at.max(text.len())
 }
 
 fn is_digit(c: u8) -> bool {
-    if c < b'0' {
-        return false;
-    }
-    c <= b'9'
+    c.is_ascii_digit()
 }
 
 fn with_digit(value: u32, c: u8) -> u32 {
-    (((value as u64) * 10 + ((c % 48) as u64)) % 4294967296) as u32
+    value.wrapping_mul(10).wrapping_add(u32::from(c % 48))
 }
 
 // The digits from `at` on, as a number.
 fn digits(text: &[u8], at: usize) -> Number
     ensures { at ≤ result.next }
 {
-    let mut i = at;
     let mut value: u32 = 0;
-    while i < text.len() {
+    for i in at..text.len() {
         let c = text[i];
         if !is_digit(c) {
             return Number {
@@ -48,11 +42,10 @@ fn digits(text: &[u8], at: usize) -> Number
             };
         }
         value = with_digit(value, c);
-        i += 1;
     }
     Number {
         word: value,
-        next: i,
+        next: at.max(text.len()),
     }
 }
 
@@ -62,10 +55,10 @@ fn read_number(text: &[u8], at: usize) -> Number
     ensures { at < result.next }
 {
     let from = at + 1;
-    if words::u8s::u8_at(text, from) == b'-' {
+    if words::slices::item_at(text, from) == b'-' {
         let n = digits(text, from + 1);
         return Number {
-            word: std::num::wrapping_sub_u32(0, n.word),
+            word: n.word.wrapping_neg(),
             next: n.next,
         };
     }

@@ -80,18 +80,12 @@ pub fn entries_of(font: &[i32]) -> &[i32]
 pub fn from_end(numbers: &[i32], k: usize) -> usize
     ensures { result ≡ length numbers.now - k }
 {
-    if numbers.len() < k {
-        return 0;
-    }
-    numbers.len() - k
+    numbers.len().saturating_sub(k)
 }
 
 // The first n bytes, or all where there are fewer.
 pub fn front(bytes: &[u8], n: usize) -> &[u8]
     ensures { result.now ≡ take n bytes.now }
 {
-    if bytes.len() < n {
-        return bytes;
-    }
-    &bytes[..n]
+    &bytes[..n.min(bytes.len())]
 }

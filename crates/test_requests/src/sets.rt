@@ -10,10 +10,8 @@ pub fn mark(listed: &[i32], marks: &mut [u8])
     ensures { marks.new ≡ marked (length listed.now) listed.now
         marks.old }
 {
-    let mut i = 0;
-    while i < listed.len() {
-        words::u8s::put_u8(marks, words::i32s::word_at(listed, i) as usize, 1);
-        i += 1;
+    for i in 0..listed.len() {
+        words::slices::put_item(marks, words::i32s::word_at(listed, i) as usize, 1);
     }
 }
 
@@ -32,10 +30,8 @@ fn put_marked(out: &mut [i32], at: usize, marks: &[u8]) -> usize
     ensures { (at ≤ result) × (at ≤ length out.old → result ≤ length out.new) }
 {
     let mut next = at;
-    let mut i = 0;
-    while i < marks.len() {
-        next = put_if_set(out, next, marks[i], i);
-        i += 1;
+    for (i, mark) in marks.iter().enumerate() {
+        next = put_if_set(out, next, *mark, i);
     }
     next
 }

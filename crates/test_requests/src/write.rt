@@ -21,10 +21,8 @@ fn put_bytes(line: &mut [u8], k: usize, bytes: &[u8]) -> usize
     ensures { result ≤ length line.new }
 {
     let mut at = k;
-    let mut i = 0;
-    while i < bytes.len() {
-        at = put_byte(line, at, bytes[i]);
-        i += 1;
+    for b in bytes {
+        at = put_byte(line, at, *b);
     }
     at
 }
@@ -65,7 +63,7 @@ fn put_number(line: &mut [u8], k: usize, word: u32) -> usize
 {
     let a = put_byte(line, k, b' ');
     if 2147483648 <= word {
-        let size = std::num::wrapping_sub_u32(0, word);
+        let size = word.wrapping_neg();
         let b = put_byte(line, a, b'-');
         return put_digits(line, b, size, top_place(size));
     }
@@ -78,10 +76,8 @@ fn put_numbers(line: &mut [u8], k: usize, numbers: &[i32], n: usize) -> usize
     ensures { result ≤ length line.new }
 {
     let mut at = k;
-    let mut i = 0;
-    while i < n {
+    for i in 0..n {
         at = put_number(line, at, words::i32s::word_at(numbers, i));
-        i += 1;
     }
     at
 }

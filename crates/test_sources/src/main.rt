@@ -14,8 +14,7 @@ use test_requests::read::{line_end, numbers_of};
 use test_requests::request::{front, part};
 use test_requests::write::put_line;
 use words::i32s::word_at;
-use words::sizes::{minus, smaller};
-use words::u8s::{put_u8, u8_at};
+use words::slices::{item_at, put_item};
 use words::word_of;
 
 // Room for the texts.
@@ -29,14 +28,12 @@ fn room() -> [u8; 131072]
 fn text_end(text: &[u8], at: usize) -> usize
     ensures { at ≤ length text.now → (at ≤ result) × (result ≤ length text.now) }
 {
-    let mut i = at;
-    while i < text.len() {
+    for i in at..text.len() {
         if text[i] == b'~' {
             return i;
         }
-        i += 1;
     }
-    i
+    at.max(text.len())
 }
 
 // The numbers of an answer. The place after them.
@@ -55,7 +52,7 @@ fn put_listed(out: &mut [i32], listed: Listed) -> usize {
 
 // How many kerns there are, and their list, where it has a place. The place after them.
 fn put_kerns(out: &mut [i32], at: usize, listed: Listed, kerns: &[i32]) -> usize {
-    if kerns.len() == 0 {
+    if kerns.is_empty() {
         return at;
     }
     match listed {
@@ -88,9 +85,9 @@ fn read_within(
     kerns: &mut [i32],
     entries: &mut [i32],
 ) {
-    let n = smaller(word_at(rooms, 0) as usize, instructions.len());
-    let e = smaller(word_at(rooms, 1) as usize, entries.len());
-    let k = smaller(word_at(rooms, 2) as usize, kerns.len());
+    let n = (word_at(rooms, 0) as usize).min(instructions.len());
+    let e = (word_at(rooms, 1) as usize).min(entries.len());
+    let k = (word_at(rooms, 2) as usize).min(kerns.len());
     let listed = from_pl_source_code(
         text,
         &mut instructions[..n],
@@ -115,16 +112,18 @@ fn long_room() -> [u8; 300000]
 
 // The first ten bytes of a text, those after them over and over, and a parenthesis at the end: m bytes.
 fn stretch(text: &[u8], m: usize, out: &mut [u8]) {
-    let rest = minus(text.len(), 10);
+    let rest = text.len().saturating_sub(10);
     if rest == 0 {
         return;
     }
-    let mut k = 0;
-    while k < m {
-        put_u8(out, k, u8_at(text, smaller(k, 10) + minus(k, 10) % rest));
-        k += 1;
+    for k in 0..m {
+        put_item(
+            out,
+            k,
+            item_at(text, k.min(10) + k.saturating_sub(10) % rest),
+        );
     }
-    put_u8(out, minus(m, 1), b')');
+    put_item(out, m.saturating_sub(1), b')');
 }
 
 // A text stretched to so many bytes.
@@ -176,7 +175,7 @@ fn answer_all(rt: &impl Print, text: &[u8]) {
     let mut at = 0;
     while at < text.len() {
         let body = line_end(text, at);
-        let from = smaller(body + 1, text.len());
+        let from = (body + 1).min(text.len());
         let end = text_end(text, from);
         answer(rt, &text[at..body], &text[from..end]);
         at = end + 2;

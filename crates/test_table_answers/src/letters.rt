@@ -4,10 +4,8 @@ use test_requests::request::part;
 
 // The place after a letter that the word has at this place. Where it has another there, or none, a place past the word.
 fn after_letter(word: &[u32], at: usize, letter: u32) -> usize {
-    if at < word.len() {
-        if word[at] == letter {
-            return at + 1;
-        }
+    if word.get(at) == Some(&letter) {
+        return at + 1;
     }
     word.len() + 1
 }
@@ -15,10 +13,8 @@ fn after_letter(word: &[u32], at: usize, letter: u32) -> usize {
 // The same of several letters.
 fn after_letters(word: &[u32], at: usize, letters: &[u32]) -> usize {
     let mut next = at;
-    let mut i = 0;
-    while i < letters.len() {
-        next = after_letter(word, next, words::u32s::u32_at(letters, i));
-        i += 1;
+    for letter in letters {
+        next = after_letter(word, next, *letter);
     }
     next
 }
@@ -40,10 +36,8 @@ fn after_item(word: &[u32], at: usize, item: &[i32]) -> usize {
 // The letters of items, six numbers each, are the word: every letter once, and in order.
 pub(crate) fn are_the_word(word: &[u32], items: &[i32]) -> bool {
     let mut at = 0;
-    let mut i = 0;
-    while i < items.len() {
+    for i in (0..items.len()).step_by(6) {
         at = after_item(word, at, part(items, i, i + 6));
-        i += 6;
     }
     at == word.len()
 }

@@ -17,14 +17,12 @@ fn is_so(answer: Told) -> u32 {
 
 // Every pair of a list has a replacement.
 fn are_replaced(pairs: &[i32], boundary: i32, keys: &[i32]) -> bool {
-    let mut i = 0;
-    while i < keys.len() {
+    for i in (0..keys.len()).step_by(2) {
         let left = number_at(keys, i);
         let right = number_at(keys, i + 1);
         if is_so(has_replacement(pairs, boundary, left, right)) == 0 {
             return false;
         }
-        i += 2;
     }
     true
 }

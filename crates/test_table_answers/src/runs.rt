@@ -56,8 +56,7 @@ fn run(
     calls: &mut [i32],
 ) -> Written {
     let mut s = state;
-    let mut n = 0;
-    while n < 1024 {
+    for n in 0..1024 {
         let step = caption_run::steps::step(pairs, ops, boundary, word, options, s);
         let answer = step.answer;
         let item = item_of(word, answer);
@@ -66,7 +65,6 @@ fn run(
             return ended(n, item[0], item[1]);
         }
         s = step.state;
-        n += 1;
     }
     Written::Refused(15)
 }
@@ -111,19 +109,14 @@ fn put_run(out: &mut [i32], answer: Written, word: &[u32], calls: &[i32]) -> Wri
 
 // Letters from the numbers of a request.
 fn copy_letters(list: &[i32], word: &mut [u32]) {
-    let mut i = 0;
-    while i < list.len() {
-        words::u32s::put_u32(word, i, words::i32s::word_at(list, i));
-        i += 1;
+    for (i, number) in list.iter().enumerate() {
+        words::slices::put_item(word, i, words::word_of(*number));
     }
 }
 
 // The first n letters.
 fn first(word: &[u32], n: usize) -> &[u32] {
-    if n <= word.len() {
-        return &word[..n];
-    }
-    word
+    &word[..n.min(word.len())]
 }
 
 // The options that the numbers begin with: whether the left boundary is used, and the override.

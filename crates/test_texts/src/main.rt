@@ -75,12 +75,9 @@ fn head_of(line: &[u8]) -> Head {
 
 // What the program reads of a text: as much as there is room for. Answers how much.
 fn read_front(text: &[u8], read: &mut [u8]) -> usize {
-    let mut i = 0;
-    while i < text.len() && i < read.len() {
-        read[i] = text[i];
-        i += 1;
-    }
-    i
+    let n = text.len().min(read.len());
+    read[..n].copy_from_slice(&text[..n]);
+    n
 }
 
 // Writes what the program prints.
@@ -94,14 +91,7 @@ fn print(rt: &impl Print, text: &[u8]) {
 
 // The second list begins with the first.
 fn begins(a: &[u8], b: &[u8]) -> bool {
-    let mut i = 0;
-    while i < a.len() {
-        if b.len() <= i || a[i] != b[i] {
-            return false;
-        }
-        i += 1;
-    }
-    true
+    b.starts_with(a)
 }
 
 // What came of a text that `ligcols_convert` refused with z, where `ligcols` answered w: 1 for 16; 2 for the number of

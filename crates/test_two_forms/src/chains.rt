@@ -7,7 +7,6 @@ ghost use Rattle.program_records.specs.RecordChains.{record_at, WalksRecords};
 use crate::{font, print};
 use lang::Written;
 use lang::instruction::Instruction;
-use program_chain::FoundRule;
 
 // The records come by value and are lent as a slice, here and in the next function.
 fn chain_of_records(program: [Instruction; 6], entry: i32, out: &mut [u32]) -> Written
@@ -16,7 +15,7 @@ fn chain_of_records(program: [Instruction; 6], entry: i32, out: &mut [u32]) -> W
     program_records::instructions_for_entrypoint(&program, entry, out)
 }
 
-fn rule_of_records(program: [Instruction; 6], entry: usize, right: u8) -> FoundRule
+fn rule_of_records(program: [Instruction; 6], entry: usize, right: u8) -> Option<usize>
     ensures { result ≡ found (rule_index (length program) (record_at program) entry right) }
 {
     program_records::rule_index(&program, entry, right)

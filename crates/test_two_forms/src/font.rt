@@ -5,7 +5,7 @@
 // f enters at 0, so that its chain is 0, 1, 3, 4; 200, which f i becomes, at 2; the left boundary at 4.
 ghost use Rattle.std.specs.Prelude.{◌≤◌};
 
-use lang::instruction::{Instruction, NextInstruction};
+use lang::instruction::Instruction;
 use lang::operation::{Operation, PostLigOperation};
 use tfm::{Char, FixWord};
 
@@ -17,7 +17,7 @@ pub(crate) const LEFT_ENTRY: i32 = 4;
 // 10 points, at which a kern of 131,072 is 81,920 scaled points.
 pub(crate) const DESIGN_SIZE: i32 = 10485760;
 
-fn instruction(next: NextInstruction, right: u8, operation: Operation) -> Instruction {
+fn instruction(next: Option<u8>, right: u8, operation: Operation) -> Instruction {
     Instruction {
         next_instruction: next,
         right_char: Char(right),
@@ -32,37 +32,25 @@ fn lig(right: u8, inserted: u8) -> Instruction {
         post_lig_operation: PostLigOperation::RetainNeitherMoveToInserted,
         post_lig_tag_invalid: false,
     };
-    instruction(NextInstruction::Skip(0), right, operation)
+    instruction(Some(0), right, operation)
 }
 
 // The kern at an index; skips the next instruction.
 fn kern_at(right: u8, index: u16) -> Instruction {
-    instruction(
-        NextInstruction::Skip(1),
-        right,
-        Operation::KernAtIndex(index),
-    )
+    instruction(Some(1), right, Operation::KernAtIndex(index))
 }
 
 fn kern(right: u8, size: i32) -> Instruction {
-    instruction(
-        NextInstruction::Skip(0),
-        right,
-        Operation::Kern(FixWord(size)),
-    )
+    instruction(Some(0), right, Operation::Kern(FixWord(size)))
 }
 
 // A kern that stops the chain.
 fn last_kern(right: u8, size: i32) -> Instruction {
-    instruction(NextInstruction::Stop, right, Operation::Kern(FixWord(size)))
+    instruction(None, right, Operation::Kern(FixWord(size)))
 }
 
 fn redirect(right: u8, target: u16) -> Instruction {
-    instruction(
-        NextInstruction::Skip(0),
-        right,
-        Operation::EntrypointRedirect(target, false),
-    )
+    instruction(Some(0), right, Operation::EntrypointRedirect(target, false))
 }
 
 // The program as records. The redirect's target, 1,481, is 256 times op byte 5 and 201: as a rule it would be LIG/> to

@@ -3,7 +3,6 @@ ghost use Rattle.std.specs.Prelude.{◌<◌};
 
 use captions::Answer;
 use lang::Written;
-use program_chain::FoundRule;
 
 pub(crate) fn text(rt: &impl Print, s: &[u8]) {
     let _ = rt.write_all(s);
@@ -45,7 +44,7 @@ pub(crate) fn refused(rt: &impl Print, n: u32) {
 // The first n indices of a list.
 fn indices(rt: &impl Print, list: &[u32], n: usize) {
     for i in 0..n {
-        spaced(rt, words::u32s::u32_at(list, i) as u64);
+        spaced(rt, words::slices::item_at(list, i) as u64);
     }
 }
 
@@ -58,12 +57,12 @@ pub(crate) fn chain(rt: &impl Print, written: Written, list: &[u32]) {
 }
 
 // The rule of a right character.
-pub(crate) fn rule(rt: &impl Print, right: u8, found: FoundRule) {
+pub(crate) fn rule(rt: &impl Print, right: u8, found: Option<usize>) {
     text(rt, b";");
     said(rt, b"rule of", right as u64);
     match found {
-        FoundRule::Rule(i) => said(rt, b"at", i as u64),
-        FoundRule::Nothing => text(rt, b" nowhere"),
+        Some(i) => said(rt, b"at", i as u64),
+        None => text(rt, b" nowhere"),
     }
 }
 

@@ -41,7 +41,7 @@ fn answer(rt: &impl Print, request: &[u8]) {
     if request.len() == 0 {
         return;
     }
-    let letter = words::u8s::u8_at(request, 0);
+    let letter = words::slices::item_at(request, 0);
     let mut numbers = [0i32; 16384];
     let mut out = [0i32; 32768];
     let mut line = [0u8; 65536];

@@ -20,11 +20,9 @@ fn put_ligature(list: &mut [i32], i: usize, next: u32, right: u32, operand: u32)
 fn put_own(list: &mut [i32], from: usize, right: u32, onward: u32)
     requires { (from ≤ 383) × (onward ≤ 2) }
 {
-    let mut j: u32 = 0;
-    while j < 128 {
+    for j in 0u32..128 {
         let operand = 256 + (onward + 2 * j) % 256;
         put_ligature(list, from + (j as usize), 127 - j, right, operand);
-        j += 1;
     }
 }
 
@@ -36,8 +34,7 @@ fn next_shared(j: u32) -> u32 {
 fn put_shared(list: &mut [i32], from: usize, right: u32, inserted: u32)
     requires { (from ≤ 511) × (right ≤ 1) × (inserted ≤ 1) }
 {
-    let mut j: u32 = 0;
-    while j < 255 {
+    for j in 0u32..255 {
         let operand = 512 + inserted + j;
         put_ligature(
             list,
@@ -46,7 +43,6 @@ fn put_shared(list: &mut [i32], from: usize, right: u32, inserted: u32)
             right + j,
             operand,
         );
-        j += 1;
     }
 }
 
@@ -71,11 +67,9 @@ fn entry_of(c: u32) -> u32
 
 // An entry for each character.
 pub(crate) fn put_entries(list: &mut [i32]) {
-    let mut c: u32 = 0;
-    while c < 256 {
+    for c in 0u32..256 {
         let at = 2 * (c as usize);
         words::i32s::put_word(list, at, c);
         words::i32s::put_word(list, at + 1, entry_of(c));
-        c += 1;
     }
 }

@@ -9,6 +9,7 @@ use test_requests::answer::{put_one, put_words};
 use test_requests::request::{after, front, items, number_at, rest};
 use test_requests::write::put_line;
 use words::i32s::word_at;
+use words::word_of;
 
 // A line of the first numbers of a list.
 fn print(rt: &impl Print, letter: u8, numbers: &[i32], n: usize) {
@@ -93,11 +94,9 @@ fn with_letter(set: [u64; 4], c: u32) -> [u64; 4] {
 // The set of listed characters.
 fn set_of(list: &[i32]) -> [u64; 4] {
     let mut set = [0u64; 4];
-    let mut i = 0;
-    while i < list.len() {
-        let more = with_letter(set, word_at(list, i));
+    for number in list {
+        let more = with_letter(set, word_of(*number));
         set = more;
-        i += 1;
     }
     set
 }

@@ -31,7 +31,6 @@ use Rattle.word_set.specs.Setting.{items_from, after_begin}
 use Rattle.word_set.proofs.Bounds.{or_else_few}
 use Rattle.word_set.proofs.Few.{items_few}
 use Rattle.columns.specs.declared.TextHeads.{TextHeads}
-use Rattle.columns.specs.declared.TextRead.TheVariants as text
 use Rattle.columns.specs.Texts.{Text, read_text, shared_text, font_as_it_stands, font_of_text}
 use Rattle.columns.specs.Scanned.{length_of_word, shared_read}
 use Rattle.columns.specs.Replying.{reply_bytes, reply_refusal}

@@ -7,13 +7,12 @@ ghost use Rattle.columns.specs.Ligcols.{number_of_text, bytes_of_text, AnswersTe
 ghost use Rattle.columns.specs.Texts.{read_text};
 ghost use Rattle.text_font_reply.specs.Answering.{AnswersBytes};
 
-use columns::TextRead;
 use lang::Written;
 use text_font_reply::answer_font;
 use text_lists::{entry_list, instruction_list, kern_list, letter_list, letters_in};
 use text_shared::read_shared;
 use words::number_of;
-use words::u8s::zero_u8;
+use words::slices::zero_all;
 
 // A text read, and then answered.
 fn answer(text: &[u8], reply: &mut [u8]) -> Written
@@ -24,30 +23,27 @@ fn answer(text: &[u8], reply: &mut [u8]) -> Written
     let mut kerns = kern_list();
     let mut entries = entry_list();
     let mut word = letter_list();
-    match read_shared(text, &mut instructions, &mut kerns, &mut entries, &mut word) {
-        TextRead::Unreadable => {
-            zero_u8(reply);
-            Written::Refused(16)
-        }
-        TextRead::Text(heads) => {
-            let i = heads.instructions;
-            let k = heads.kerns;
-            let e = heads.entries;
-            let letters = heads.letters;
-            let n = letters_in(letters);
-            answer_font(
-                &instructions[..i],
-                &kerns[..k],
-                &entries[..e],
-                heads.boundary,
-                heads.left,
-                heads.design,
-                letters,
-                &word[..n],
-                reply,
-            )
-        }
-    }
+    let Some(heads) = read_shared(text, &mut instructions, &mut kerns, &mut entries, &mut word)
+    else {
+        zero_all(reply);
+        return Written::Refused(16);
+    };
+    let i = heads.instructions;
+    let k = heads.kerns;
+    let e = heads.entries;
+    let letters = heads.letters;
+    let n = letters_in(letters);
+    answer_font(
+        &instructions[..i],
+        &kerns[..k],
+        &entries[..e],
+        heads.boundary,
+        heads.left,
+        heads.design,
+        letters,
+        &word[..n],
+        reply,
+    )
 }
 
 // A text and its reply: the reply's length, or minus the number, with zeros after the reply and everywhere on a

@@ -27,7 +27,7 @@ use Rattle.fonts.specs.Fonts.{Font, font_of}
 use Rattle.fonts.specs.Compiled.{font_refusal}
 use Rattle.captions.specs.Begin.{letters_refusal}
 use Rattle.columns.specs.declared.TextHeads.{TextHeads}
-use Rattle.columns.specs.declared.TextRead.TheVariants as text
+use Rattle.std.specs.Prelude as rust
 use Rattle.columns.specs.Lines.{lines_of}
 use Rattle.columns.specs.Texts.{Text, or_absent, read_lines, read_text, shared_text, font_of_text}
 use Rattle.columns.specs.Scanned.{letters_in, head_numbers, text_heads, ReadsText, ReadsTextAs}
@@ -92,11 +92,11 @@ pub record Meant (bytes : List ℕ) (h : TextHeads) (m : ℕ) (is ks es : List �
   pub few : (h.instructions ≤ 2048) × (m ≤ 1024) × (h.entries ≤ 5040) × (letters_in h.letters ≤ 64)
   pub long : (length is ≡ 2048) × (length ks ≡ 1024) × (length es ≡ 5040) × (length ws ≡ 64)
 
-pub meant : (bytes : List ℕ) {h : TextHeads} {is own es : List ℤ} {ws : List ℕ} → ReadsText bytes (text.Text h) is own es ws → {m : ℕ} {is' ks : List ℤ} →
+pub meant : (bytes : List ℕ) {h : TextHeads} {is own es : List ℤ} {ws : List ℕ} → ReadsText bytes (rust.Some h) is own es ws → {m : ℕ} {is' ks : List ℤ} →
     SharesText h.instructions h.kerns is own m is' ks → Meant bytes h m is' ks es ws
 meant bytes {h} {is} {own} {es} {ws} a {m} {is'} {ks} g = by (read_text bytes) refl a
   where
-    by : (o : Option Text) → read_text bytes ≡ o → ReadsTextAs o 512 (text.Text h) is own es ws → Meant bytes h m is' ks es ws
+    by : (o : Option Text) → read_text bytes ≡ o → ReadsTextAs o 512 (rust.Some h) is own es ws → Meant bytes h m is' ks es ws
     by none e a = absurd (let s = text_said a in none_some s.read)
     by (some t) e a =
         let v : head_numbers h ≡ text_heads t = ap (λ (r : Reply). r.values) a.answer in

@@ -14,7 +14,6 @@ ghost use Rattle.text_font_reply.specs.Answering.{AnswersBytes};
 ghost use Rattle.text_convert.specs.Lengths.{LengthKnown};
 
 use caption_run::begin::letters_refusal;
-use columns::TextRead;
 use lang::Written;
 use text_convert_lines::put_converted;
 use text_convert_refusal::{convert_refusal, said_refusal};
@@ -22,7 +21,7 @@ use text_lists::{entry_list, instruction_list, kern_list, letter_list, letters_i
 use text_scan::read_text;
 use text_shared::share_text;
 use words::number_of;
-use words::u8s::zero_u8;
+use words::slices::zero_all;
 
 // A text whose first k kerns are its own and whose kern values are shared, written anew; `bad` is the number of its
 // font and of the signs of its letters.
@@ -46,7 +45,7 @@ fn convert_shared(
     let n = text.len() + 14 * (kerns.len() - k);
     let number = convert_refusal(kerns.len(), n, bad, letters_refusal(word), out.len());
     if number != 0 {
-        zero_u8(out);
+        zero_all(out);
         return Written::Refused(number);
     }
     Written::Count(put_converted(text, instructions, &kerns[k..], out))
@@ -64,20 +63,16 @@ fn convert(text: &[u8], out: &mut [u8]) -> Written
     let mut all = kern_list();
     let mut entries = entry_list();
     let mut word = letter_list();
-    match read_text(text, &mut program, &mut own, &mut entries, &mut word) {
-        TextRead::Unreadable => {
-            zero_u8(out);
-            Written::Refused(16)
-        }
-        TextRead::Text(said) => {
-            let m = share_text(said.instructions, said.kerns, &mut program, &own, &mut all);
-            let shared = &program[..said.instructions];
-            let kerns = &all[..m];
-            let letters = &word[..letters_in(said.letters)];
-            let bad = said_refusal(said, shared, kerns, &entries[..said.entries], letters);
-            convert_shared(text, said.kerns, shared, kerns, bad, letters, out)
-        }
-    }
+    let Some(said) = read_text(text, &mut program, &mut own, &mut entries, &mut word) else {
+        zero_all(out);
+        return Written::Refused(16);
+    };
+    let m = share_text(said.instructions, said.kerns, &mut program, &own, &mut all);
+    let shared = &program[..said.instructions];
+    let kerns = &all[..m];
+    let letters = &word[..letters_in(said.letters)];
+    let bad = said_refusal(said, shared, kerns, &entries[..said.entries], letters);
+    convert_shared(text, said.kerns, shared, kerns, bad, letters, out)
 }
 
 // A text without kern values: its length, or minus the number, with zeros after it and everywhere on a refusal.

@@ -4,7 +4,7 @@ use mathlib.Core.Bool.{Bool, true, false, not, cond}
 use mathlib.Core.List.{List, [], ◌∷◌, ◌++◌, append_assoc}
 use mathlib.Core.Logic.{◌⊎◌, inl, inr}
 use mathlib.Core.Option.{Option, none, some}
-use Prim.Native.Nat.{ℕ, suc, ◌+◌, ◌-◌, ◌*◌, ◌/◌, ◌^◌, ◌<◌, ◌≤◌, min}
+use Prim.Native.Nat.{ℕ, suc, ◌+◌, ◌-◌, ◌*◌, ◌/◌, ◌^◌, ◌<◌, ◌≤◌}
 use native.Mathlib.Omega.{arith}
 use lib.IntN.{ℤ}
 use lib.Dec.{leb, eqb, ltb}
@@ -13,7 +13,7 @@ use lib.Seq.{sets, take_all, drop-drop, drop_at, get_or-drop}
 use borrow.Author.Tests.{le-leb, lt-leb, ltb-true, ltb-false}
 use Rattle.words.proofs.Lists.{sets_front, drop_replicate}
 use Rattle.words.proofs.Tests.{less_or_not}
-use Rattle.lang.specs.Answers.{padded, list_of, room_refusal}
+use Rattle.lang.specs.Answers.{list_of}
 use Rattle.columns.specs.Lines.{lines_of, text_of}
 use Rattle.columns.specs.Replying.{bytes_of}
 use Rattle.columns.specs.Converting.{begins_with, instruction_line, kern_lines, converted_lines}

@@ -5,12 +5,13 @@
 ghost use Rattle.std.specs.Prelude.{◌≡◌, [], ◌∷◌, ◌++◌, ◌*◌, ◌≤◌, length, take, drop};
 ghost use Rattle.columns.specs.Converting.{instruction_line, kern_lines};
 ghost use Rattle.columns.specs.Lines.{lines_of, text_of};
-ghost use Rattle.text_convert_lines.specs.Anew.{line_length, is_whole_lines, is_before_word, instructions_in, line_anew};
+ghost use Rattle.text_convert_lines.specs.Anew.{line_length, is_whole_lines, is_before_word, instructions_in};
+ghost use Rattle.text_convert_lines.specs.Anew.{line_anew};
 ghost use Rattle.text_convert_lines.specs.Anew.{lines_anew, PutsNext, PutsEnd, PutsAnew};
 
 use pl_put::bytes::put_bytes;
 use text_lines::put_lines;
-use words::u8s::{u8_at, zero_u8};
+use words::slices::{item_at, zero_all};
 
 // A text is lines: nothing stands after the last line feed.
 fn is_whole_lines(text: &[u8]) -> bool
@@ -26,14 +27,12 @@ fn is_whole_lines(text: &[u8]) -> bool
 fn line_length(text: &[u8]) -> usize
     ensures { result ≡ line_length text.now }
 {
-    let mut n = 0;
-    while n < text.len() {
-        if text[n] == 10 {
+    for (n, b) in text.iter().enumerate() {
+        if *b == 10 {
             return n + 1;
         }
-        n += 1;
     }
-    n
+    text.len()
 }
 
 // A line begins at a place, and it is not W's.
@@ -51,7 +50,7 @@ fn is_before_word(text: &[u8], at: usize) -> bool
 fn instructions_in(text: &[u8], at: usize) -> usize
     ensures { result ≡ instructions_in text.now at }
 {
-    if u8_at(text, at) == 73 { 1 } else { 0 }
+    if item_at(text, at) == 73 { 1 } else { 0 }
 }
 
 // The line of instruction i. Answers the place after it; the place behind the end where there is no room.
@@ -95,7 +94,7 @@ fn put_end(text: &[u8], added: &[i32], out: &mut [u8], to: usize) -> usize
 {
     let room = out.len() - to;
     if room < text.len() || (room - text.len()) / 14 < added.len() {
-        zero_u8(out);
+        zero_all(out);
         return 0;
     }
     let next = put_lines(75, added, 0, added.len(), 1, out, to);
@@ -108,7 +107,7 @@ pub fn put_converted(text: &[u8], instructions: &[i32], added: &[i32], out: &mut
     ensures { PutsAnew (lines_anew instructions.now added.now (lines_of text.now))
         out.old result out.new }
 {
-    zero_u8(out);
+    zero_all(out);
     if !is_whole_lines(text) {
         return 0;
     }
@@ -119,7 +118,7 @@ pub fn put_converted(text: &[u8], instructions: &[i32], added: &[i32], out: &mut
         let n = line_length(&text[at..]);
         to = put_next(&text[at..], n, instructions, i, out, to);
         if out.len() < to {
-            zero_u8(out);
+            zero_all(out);
             return 0;
         }
         i += instructions_in(text, at);

@@ -32,12 +32,10 @@ pub(crate) fn blanks_end(text: &[u8], from: usize, end: usize) -> usize
     requires { (from ≤ end) × (end ≤ length text.now) }
     ensures { BlanksEnd text.now from end result }
 {
-    let mut i = from;
-    while i < end {
+    for i in from..end {
         if text[i] != 32 {
             return i;
         }
-        i += 1;
     }
-    i
+    end
 }

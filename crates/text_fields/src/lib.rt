@@ -9,7 +9,6 @@ ghost use Rattle.columns.specs.Scanned.{field_reply, number_reply, field_at};
 ghost use Rattle.text_fields.specs.Steps.{WithinText, Unblank};
 
 use blanks::{blanks_end, eight_blanks};
-use columns::FieldRead;
 use numbers::{unsigned, with_sign, without_sign};
 use short::read_last;
 
@@ -18,12 +17,12 @@ mod numbers;
 mod short;
 
 // What stands from a place on, where no blank is.
-fn read_number(text: &[u8], from: usize, end: usize) -> FieldRead
+fn read_number(text: &[u8], from: usize, end: usize) -> Option<i32>
     requires { Unblank text.now from end }
     ensures { field_reply result ≡ number_reply (read_field (slice from end text.now)) }
 {
     if from == end {
-        return FieldRead::Unreadable;
+        return None;
     }
     if text[from] == 45 {
         return with_sign(unsigned(text, from + 1, end));
@@ -32,19 +31,19 @@ fn read_number(text: &[u8], from: usize, end: usize) -> FieldRead
 }
 
 // The number in a part of a field: blanks, and what stands after them.
-fn read_part(text: &[u8], from: usize, end: usize) -> FieldRead
+fn read_part(text: &[u8], from: usize, end: usize) -> Option<i32>
     requires { WithinText text.now from end }
     ensures { field_reply result ≡ number_reply (read_field (slice from end text.now)) }
 {
     read_number(text, blanks_end(text, from, end), end)
 }
 
-// The number in the field of 12 columns from a place on; where the text ends before that, in what is left of it.
-pub fn read_field(text: &[u8], at: usize) -> FieldRead
+// The number in the field of 12 columns from a place on, or none (16); where the text ends before, in what is left.
+pub fn read_field(text: &[u8], at: usize) -> Option<i32>
     ensures { field_reply result ≡ field_at text.now at }
 {
     if text.len() <= at {
-        return FieldRead::Unreadable;
+        return None;
     }
     if text.len() - at < 12 {
         return read_part(text, at, text.len());

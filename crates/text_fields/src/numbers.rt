@@ -5,7 +5,6 @@ ghost use Rattle.columns.specs.Numbers.{more_digits, unsigned, with_sign, withou
 ghost use Rattle.columns.specs.Scanned.{field_reply, number_reply};
 ghost use Rattle.text_fields.specs.Steps.{digits_of, WithinText};
 
-use columns::FieldRead;
 use words::number_of;
 
 // The value of digits, or that there are others.
@@ -35,8 +34,7 @@ fn digits(text: &[u8], from: usize, end: usize) -> Decimal
     ensures { digits_of result ≡ more_digits 0 (slice from end text.now) }
 {
     let mut n: u64 = 0;
-    let mut i = from;
-    while i < end {
+    for i in from..end {
         let b = text[i];
         if b < 48 {
             return Decimal::Nothing;
@@ -45,7 +43,6 @@ fn digits(text: &[u8], from: usize, end: usize) -> Decimal
             return Decimal::Nothing;
         }
         n = with_digit(n, b);
-        i += 1;
     }
     Decimal::Value(n)
 }
@@ -68,30 +65,30 @@ pub(crate) fn unsigned(text: &[u8], from: usize, end: usize) -> Decimal
 }
 
 // An i32 after a minus sign.
-pub(crate) fn with_sign(digits: Decimal) -> FieldRead
+pub(crate) fn with_sign(digits: Decimal) -> Option<i32>
     ensures { field_reply result ≡ number_reply (with_sign (digits_of digits)) }
 {
     let Decimal::Value(n) = digits else {
-        return FieldRead::Unreadable;
+        return None;
     };
     if n == 0 {
-        return FieldRead::Unreadable;
+        return None;
     }
     if 2147483648 < n {
-        return FieldRead::Unreadable;
+        return None;
     }
-    FieldRead::Number(number_of((4294967296 - n) as u32))
+    Some(number_of((4294967296 - n) as u32))
 }
 
 // An i32 with no sign.
-pub(crate) fn without_sign(digits: Decimal) -> FieldRead
+pub(crate) fn without_sign(digits: Decimal) -> Option<i32>
     ensures { field_reply result ≡ number_reply (without_sign (digits_of digits)) }
 {
     let Decimal::Value(n) = digits else {
-        return FieldRead::Unreadable;
+        return None;
     };
     if 2147483647 < n {
-        return FieldRead::Unreadable;
+        return None;
     }
-    FieldRead::Number(number_of(n as u32))
+    Some(number_of(n as u32))
 }

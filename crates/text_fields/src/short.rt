@@ -8,7 +8,6 @@ ghost use Rattle.columns.specs.Scanned.{field_reply, number_reply};
 use crate::blanks::two;
 use crate::numbers::{Decimal, with_digit, without_sign};
 use crate::read_part;
-use columns::FieldRead;
 
 // A byte is a digit, and no lower one than `least`.
 fn digit_from(least: u8, b: u8) -> bool
@@ -17,7 +16,7 @@ fn digit_from(least: u8, b: u8) -> bool
     least <= b && b <= 57
 }
 
-fn one_digit(text: &[u8], from: usize, end: usize) -> FieldRead
+fn one_digit(text: &[u8], from: usize, end: usize) -> Option<i32>
     requires { (from + 1 ≡ end) × (end ≤ length text.now) }
     ensures { field_reply result ≡ number_reply (read_field (slice from end text.now)) }
 {
@@ -28,7 +27,7 @@ fn one_digit(text: &[u8], from: usize, end: usize) -> FieldRead
     read_part(text, from, end)
 }
 
-fn two_digits(text: &[u8], from: usize, end: usize) -> FieldRead
+fn two_digits(text: &[u8], from: usize, end: usize) -> Option<i32>
     requires { (from + 2 ≡ end) × (end ≤ length text.now) }
     ensures { field_reply result ≡ number_reply (read_field (slice from end text.now)) }
 {
@@ -42,7 +41,7 @@ fn two_digits(text: &[u8], from: usize, end: usize) -> FieldRead
     read_part(text, from, end)
 }
 
-fn three_digits(text: &[u8], from: usize, end: usize) -> FieldRead
+fn three_digits(text: &[u8], from: usize, end: usize) -> Option<i32>
     requires { (from + 3 ≡ end) × (end ≤ length text.now) }
     ensures { field_reply result ≡ number_reply (read_field (slice from end text.now)) }
 {
@@ -61,7 +60,7 @@ fn three_digits(text: &[u8], from: usize, end: usize) -> FieldRead
 }
 
 // The number in the last four columns of a field.
-pub(crate) fn read_last(text: &[u8], from: usize, end: usize) -> FieldRead
+pub(crate) fn read_last(text: &[u8], from: usize, end: usize) -> Option<i32>
     requires { (from + 4 ≡ end) × (end ≤ length text.now) }
     ensures { field_reply result ≡ number_reply (read_field (slice from end text.now)) }
 {

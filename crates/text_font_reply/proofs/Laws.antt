@@ -1,16 +1,15 @@
 -- From the parts of a text's answer to the whole: a refusal, a table with its items, a font with its word, a text. Over plain values.
 -- Assumes nothing.
 use mathlib.Core.Path.{◌≡◌, refl, sym, ap, subst, subst₃, ◌∙◌}
-use mathlib.Core.Bool.{Bool, true, false, cond}
+use mathlib.Core.Bool.{true}
 use mathlib.Core.List.{List, [], ◌∷◌}
 use mathlib.Core.Logic.{◌⊎◌, inl, inr}
-use Prim.Native.Nat.{ℕ, zero, suc, ◌+◌, ◌-◌, ◌*◌, ◌/◌, ◌<◌, ◌≤◌}
+use Prim.Native.Nat.{ℕ, zero, suc, ◌*◌, ◌/◌, ◌<◌, ◌≤◌}
 use native.Mathlib.Omega.{arith}
 use lib.IntN.{ℤ, pos, negsuc}
-use lib.Dec.{leb, ltb}
-use lib.ListN.{length, get_or, replicate, take, length-append, length-replicate}
-use lib.Seq.{take_at}
-use borrow.Author.Tests.{le-leb, lt-leb, le-ltb}
+use lib.Dec.{ltb}
+use lib.ListN.{length, get_or, replicate, take}
+use borrow.Author.Tests.{lt-leb, le-ltb}
 use Rattle.words.specs.Words.{Word}
 use Rattle.words.proofs.Bits.{read_pos, read_neg}
 use Rattle.words.proofs.Tests.{less_or_not}

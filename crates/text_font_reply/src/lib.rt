@@ -17,7 +17,7 @@ use lang::Written;
 use program_checks::lower_of;
 use text_reply::write_reply;
 use word_set::set_fresh;
-use words::u8s::zero_u8;
+use words::slices::zero_all;
 use words::word_of;
 
 // Room for what compiling writes: six numbers a pair, two an op, two a loop, and sixteen numbers of work a pair.
@@ -57,7 +57,7 @@ fn refuse(reply: &mut [u8], number: u32) -> Written
     requires { 0 < number }
     ensures { AnswersBytes number [] reply.old result reply.new }
 {
-    zero_u8(reply);
+    zero_all(reply);
     Written::Refused(number)
 }
 
@@ -95,12 +95,10 @@ fn answer_table(
 pub fn signs_refusal(word: &[u32]) -> u32
     ensures { result ≡ signs_refusal word.now }
 {
-    let mut i = 0;
-    while i < word.len() {
-        if 2147483648 <= word[i] {
+    for letter in word {
+        if 2147483648 <= *letter {
             return 4;
         }
-        i += 1;
     }
     0
 }

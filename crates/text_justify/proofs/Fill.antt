@@ -74,18 +74,12 @@ module _ (l : List ℕ) (at : ℕ) where
       spelt
       ∙ ap (λ (t : List ℕ). sets l at (t ++ rest)) one
 
-  -- .. of a list: none, one more, and all
+  -- .. of a list: none, and one more
   pub fields_none : (numbers : List ℤ) (from n : ℕ) {d : List ℕ} → d ≡ sets l at (replicate (12 * n) 32) → d ≡ filled l at (numbers_from numbers from 0) (n - 0)
   unfolding tabulate
   fields_none numbers from n e =
       let o : n ≡ n - 0 = omega arith in
       e ∙ filled_none n ∙ ap (filled l at []) o
-
-  pub fields_all : (numbers : List ℤ) (from n j : ℕ) {d : List ℕ} → j ≡ n → d ≡ filled l at (numbers_from numbers from j) (n - j) →
-      d ≡ sets l at (fields_of (numbers_from numbers from n))
-  fields_all numbers from n j q e =
-      let o : n - j ≡ 0 = omega arith in
-      e ∙ (λ x. filled l at (numbers_from numbers from (q x)) (o x)) ∙ filled_all (numbers_from numbers from n)
 
   pub fields_more : (numbers : List ℤ) (from n j : ℕ) → j < n → {d d' : List ℕ} {w next : ℕ} → next ≡ at + 12 * j →
       d ≡ filled l at (numbers_from numbers from j) (n - j) → Word (get_or numbers (from + j) (pos 0)) w → d' ≡ spells d next w →

@@ -41,11 +41,9 @@ pub fn put_fields(numbers: &[i32], from: usize, n: usize, out: &mut [u8], at: us
     }
     put_blanks(out, at, 12 * n);
     let mut next = at;
-    let mut j = 0;
-    while j < n {
+    for j in 0..n {
         put_number(out, next, word_at(numbers, from + j));
         next += 12;
-        j += 1;
     }
 }
 

@@ -11,10 +11,8 @@ pub(crate) fn put_blanks(out: &mut [u8], at: usize, n: usize)
     requires { at + n ≤ length out.old }
     ensures { out.new ≡ sets out.old at (replicate n 32) }
 {
-    let mut i = 0;
-    while i < n {
+    for i in 0..n {
         out[at + i] = 32;
-        i += 1;
     }
 }
 

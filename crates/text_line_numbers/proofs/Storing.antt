@@ -10,7 +10,7 @@ use native.Mathlib.Omega.{arith}
 use lib.IntN.{ℤ, pos, negsuc}
 use lib.Dec.{leb, ltb, eqb}
 use lib.ListN.{length, get_or, take, drop, set, length-drop, length-map}
-use lib.Seq.{sets, length-sets, drop-drop, get_or-drop}
+use lib.Seq.{sets, drop-drop, get_or-drop}
 use mir.Syntax.{w32}
 use mir.Val.{SFits}
 use borrow.Author.Tests.{lt-ltb, le-ltb, le-leb, lt-leb, leb-true, leb-false, ltb-true}
@@ -24,7 +24,7 @@ use Rattle.columns.specs.Lines.{read_fields}
 use Rattle.columns.specs.Scanned.{number_reply, field_at}
 use Rattle.columns.proofs.Options.{none_some, cond_some, and_some}
 use Rattle.text_line_numbers.specs.LineNumbers.{line_ends, numbers_on, numbers_in, numbers_at, words_of}
-use Rattle.text_line_numbers.specs.LineNumbers.{leading_fields, leading_on, leading_in, leading_at, Stores}
+use Rattle.text_line_numbers.specs.LineNumbers.{leading_fields, leading_in, leading_at, Stores}
 
 -- ---- as many numbers as fields
 
@@ -237,9 +237,6 @@ module _ {A : Type 0} (f : List ℤ → List A) (g : ℤ → A) (one : (zs : Lis
   unfolding read_fields
   storing_none e = record { numbers = []; reads = refl; stored = rw e }
 
-  storing_length : {list : List A} {j : ℕ} → Storing f bs list₀ list place j → length list ≡ length list₀
-  storing_length s = rw s.stored (length-sets list₀ place (f s.numbers))
-
   storing_more : {list : List A} {j : ℕ} (z : ℤ) → Storing f bs list₀ list place j → read_field (take 12 (drop (12 * j) bs)) ≡ some z →
       Storing f bs list₀ (set list (place + j) (g z)) place (j + 1)
   storing_more {list} {j} z s e =
@@ -261,9 +258,6 @@ worded zs = map word_of zs
 module _ (bs : List ℕ) (list₀ : List ℤ) (place : ℕ) where
   pub numbers_none : Storing plain bs list₀ list₀ place 0
   numbers_none = storing_none plain (λ z. z) (λ zs z. refl) (λ zs. refl) bs list₀ place refl
-
-  pub numbers_length : {list : List ℤ} {j : ℕ} → Storing plain bs list₀ list place j → length list ≡ length list₀
-  numbers_length s = storing_length plain (λ z. z) (λ zs z. refl) (λ zs. refl) bs list₀ place s
 
   pub numbers_more : {list : List ℤ} {j : ℕ} (z : ℤ) → Storing plain bs list₀ list place j → read_field (take 12 (drop (12 * j) bs)) ≡ some z →
       Storing plain bs list₀ (set list (place + j) (number_of (word_of z))) place (j + 1)
@@ -291,9 +285,6 @@ module _ (bs : List ℕ) (word₀ : List ℕ) where
 
   pub letters_none : Storing worded bs word₀ word₀ 0 0
   letters_none = storing_none worded word_of last same bs word₀ 0 refl
-
-  pub letters_length : {word : List ℕ} {j : ℕ} → Storing worded bs word₀ word 0 j → length word ≡ length word₀
-  letters_length s = storing_length worded word_of last same bs word₀ 0 s
 
   pub letters_more : {word : List ℕ} {j : ℕ} (z : ℤ) (w : ℕ) → Storing worded bs word₀ word 0 j → read_field (take 12 (drop (12 * j) bs)) ≡ some z →
       w ≡ word_of (number_of (word_of z)) → Storing worded bs word₀ (set word j w) 0 (j + 1)

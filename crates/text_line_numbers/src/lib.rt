@@ -9,7 +9,6 @@ ghost use Rattle.columns.specs.Scanned.{field_reply, number_reply};
 ghost use Rattle.text_line_numbers.specs.LineNumbers.{line_ends, number_on, numbers_in, numbers_at, words_of};
 ghost use Rattle.text_line_numbers.specs.LineNumbers.{leading_fields, leading_in, leading_at, Stores};
 
-use columns::FieldRead;
 use text_fields::read_field;
 use words::word_of;
 
@@ -32,13 +31,11 @@ fn read_fields(text: &[u8], at: usize, n: usize, list: &mut [i32], place: usize)
     ensures { Stores (read_fields n (drop at text.now))
         (leading_fields n (drop at text.now)) list.old place result list.new }
 {
-    let mut j = 0;
-    while j < n {
-        let FieldRead::Number(z) = read_field(text, at + 12 * j) else {
+    for j in 0..n {
+        let Some(z) = read_field(text, at + 12 * j) else {
             return false;
         };
         list[place + j] = z;
-        j += 1;
     }
     true
 }
@@ -49,13 +46,11 @@ fn read_words(text: &[u8], at: usize, n: usize, word: &mut [u32]) -> bool
     ensures { Stores (words_of (read_fields n (drop at text.now)))
         (map word_of (leading_fields n (drop at text.now))) word.old 0 result word.new }
 {
-    let mut j = 0;
-    while j < n {
-        let FieldRead::Number(z) = read_field(text, at + 12 * j) else {
+    for j in 0..n {
+        let Some(z) = read_field(text, at + 12 * j) else {
             return false;
         };
         word[j] = word_of(z);
-        j += 1;
     }
     true
 }
@@ -93,12 +88,12 @@ pub fn read_letters(text: &[u8], at: usize, n: usize, word: &mut [u32]) -> bool
     read_words(text, at, n, word)
 }
 
-// The one number of a line.
-pub fn read_number(text: &[u8], at: usize) -> FieldRead
+// The one number of a line, or none (16).
+pub fn read_number(text: &[u8], at: usize) -> Option<i32>
     ensures { field_reply result ≡ number_reply (number_on (drop at text.now)) }
 {
     if !line_ends(text, at, 1) {
-        return FieldRead::Unreadable;
+        return None;
     }
     read_field(text, at)
 }

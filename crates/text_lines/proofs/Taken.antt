@@ -4,7 +4,7 @@ use mathlib.Core.Path.{◌≡◌, sym, ap, ◌∙◌}
 use mathlib.Core.Bool.{Bool, true, false, cond}
 use mathlib.Core.List.{List}
 use Prim.Native.Nat.{ℕ, ◌+◌, ◌-◌, ◌*◌, ◌/◌, ◌^◌, ◌<◌, ◌≤◌}
-use native.Mathlib.Nat.{le_of_lt, le-mul_of_pos_right, mul-le-mul, mul-add, mul_comm, le-div_iff_mul-le}
+use native.Mathlib.Nat.{le_of_lt, mul-le-mul, mul-add, mul_comm, le-div_iff_mul-le}
 use native.Mathlib.Omega.{arith}
 use lib.IntN.{ℤ}
 use lib.Dec.{leb}
@@ -58,9 +58,6 @@ module _ (letter n : ℕ) (numbers : List ℤ) (k count : ℕ) (l : List ℕ) (a
         p.next,
         puts_length p,
       )
-
-  pub index_fits : length l < 2 ^ 63 → (i : ℕ) → i < count → k + i < 2 ^ 64
-  index_fits f i h = let q : count ≤ count * (12 * n + 2) = le-mul_of_pos_right count (omega arith) in omega (arith, fit.first, fit.all)
 
   pub six_numbers : n ≤ 6
   six_numbers = fit.six

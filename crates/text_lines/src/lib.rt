@@ -70,10 +70,8 @@ pub fn put_lines(
         return at;
     }
     let mut next = at;
-    let mut i = 0;
-    while i < count {
+    for i in 0..count {
         next = put_line(letter, numbers, n * (k + i), n, out, next);
-        i += 1;
     }
     next
 }

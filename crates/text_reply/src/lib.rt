@@ -9,7 +9,7 @@ ghost use Rattle.columns.specs.Replying.{reply_bytes, WritesReply};
 use crate::parts::put_reply;
 use crate::size::reply_size;
 use lang::Written;
-use words::u8s::zero_u8;
+use words::slices::zero_all;
 use words::word_of;
 
 mod parts;
@@ -39,10 +39,10 @@ pub fn write_reply(
     let word = word_of(letters);
     let size = reply_size(pairs, loops, word, items);
     if !has_room(size, reply.len()) {
-        zero_u8(reply);
+        zero_all(reply);
         return Written::Refused(15);
     }
     put_reply(pairs, ops, loops, word, items, reply);
-    zero_u8(&mut reply[size..]);
+    zero_all(&mut reply[size..]);
     Written::Count(size)
 }

@@ -17,13 +17,11 @@ fn put_table(pairs: &[i32], ops: &[i32], out: &mut [u8], at: usize) -> usize
         out.new }
 {
     let mut next = at;
-    let mut k = 0;
-    while k < pairs.len() / 6 {
+    for k in 0..pairs.len() / 6 {
         next = put_pair(pairs, k, out, next);
         let first = word_at(pairs, 6 * k + 4) as usize;
         let count = word_at(pairs, 6 * k + 5) as usize;
         next = put_lines(79, ops, first, count, 2, out, next);
-        k += 1;
     }
     next
 }

@@ -23,13 +23,11 @@ fn table_size(pairs: &[i32]) -> usize
     ensures { (ops : List ℤ) → result ≡ capped_size (length (table_bytes pairs.now ops)) }
 {
     let mut size = 0;
-    let mut k = 0;
-    while k < pairs.len() / 6 {
+    for k in 0..pairs.len() / 6 {
         size += 62 + 26 * (word_at(pairs, 6 * k + 5) as usize);
         if 65536 < size {
             return 65537;
         }
-        k += 1;
     }
     size
 }

@@ -10,8 +10,8 @@ use borrow.Author.Tests.{lt-leb}
 use Rattle.words.specs.Words.{number_of}
 use Rattle.words.proofs.Lists.{appending_none}
 use Rattle.lang.specs.Answers.{list_of}
-use Rattle.columns.specs.declared.TextRead.{TextRead}
-use Rattle.columns.specs.declared.TextRead.TheVariants as whole
+use Rattle.columns.specs.declared.TextHeads.{TextHeads}
+use Rattle.std.specs.Prelude as rust
 use Rattle.columns.specs.Texts.{opened, read_text}
 use Rattle.columns.specs.Scanned.{text_refusal, ReadsText}
 use Rattle.text_scan.specs.declared.progress.TextProgress.{TextProgress}
@@ -44,7 +44,7 @@ starts text p instructions kerns entries word z t =
       in_entries = rw z.no_entries (appending_none (zeros (pos 0) 5040));
     }
 
-pub clears : (text : List ℕ) (read : TextRead) (instructions kerns entries : List ℤ) (word : List ℕ) → read ≡ whole.Unreadable → read_text text ≡ none →
+pub clears : (text : List ℕ) (read : rust.Option TextHeads) (instructions kerns entries : List ℤ) (word : List ℕ) → read ≡ rust.None → read_text text ≡ none →
     Zeroed instructions kerns entries word → ReadsText text read instructions kerns entries word
 clears text read instructions kerns entries word u e z =
     let r : text_refusal (read_text text) ≡ 16 = ap text_refusal e in

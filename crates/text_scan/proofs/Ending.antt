@@ -16,8 +16,7 @@ use Rattle.words.specs.Lists.{Appending}
 use Rattle.words.proofs.Lists.{appending_length, appending_rest, sets_front, drop_replicate}
 use Rattle.lang.specs.Answers.{Reply, reply_of, padded}
 use Rattle.columns.specs.declared.TextHeads.{TextHeads}
-use Rattle.columns.specs.declared.TextRead.{TextRead}
-use Rattle.columns.specs.declared.TextRead.TheVariants as whole
+use Rattle.std.specs.Prelude as rust
 use Rattle.columns.specs.Texts.{Text, or_absent, add_line, read_text}
 use Rattle.columns.specs.Scanned.{letters_of, head_numbers, text_read_reply, text_heads, ReadsText}
 use Rattle.columns.proofs.Options.{none_some, cond_some}
@@ -49,7 +48,7 @@ front_is n xs h =
 -- ---- where everything is read
 
 module _ (text : List ℕ) (t : Text) (is : read_text text ≡ some t) (instructions kerns entries : List ℤ) (word : List ℕ) where
-  said : (r : TextRead) → text_read_reply r ≡ reply_of 0 (text_heads t) → Appending t.instructions (zeros (pos 0) 2048) instructions →
+  said : (r : rust.Option TextHeads) → text_read_reply r ≡ reply_of 0 (text_heads t) → Appending t.instructions (zeros (pos 0) 2048) instructions →
       Appending t.kerns (zeros (pos 0) 512) kerns → Appending t.entries (zeros (pos 0) 5040) entries → length word ≡ 64 →
       word ≡ padded 0 64 (map word_of (letters_of t.word)) → ReadsText text r instructions kerns entries word
   said r a i k e l w =
@@ -62,16 +61,16 @@ module _ (text : List ℕ) (t : Text) (is : read_text text ≡ some t) (instruct
         word = rw is w;
       }
 
-  pub reads_all : (r : TextRead) → ReadsText text r instructions kerns entries word → (text_read_reply r).number ≡ 0 →
+  pub reads_all : (r : rust.Option TextHeads) → ReadsText text r instructions kerns entries word → (text_read_reply r).number ≡ 0 →
       ReadsLists text instructions kerns entries word r
-  reads_all whole.Unreadable s e = absurd (omega (arith, e))
-  reads_all (whole.Text h) s e = record { on = λ _ _. s; stuck = λ i. absurd (let o : ◌≡◌ {A = ℕ} 0 1 = cc in omega arith) }
+  reads_all rust.None s e = absurd (omega (arith, e))
+  reads_all (rust.Some h) s e = record { on = λ _ _. s; stuck = λ i. absurd (let o : ◌≡◌ {A = ℕ} 0 1 = cc in omega arith) }
 
-pub reads_none : (text : List ℕ) (instructions kerns entries : List ℤ) (word : List ℕ) (r : TextRead) → read_text text ≡ none → (text_read_reply r).number ≡ 16 →
+pub reads_none : (text : List ℕ) (instructions kerns entries : List ℤ) (word : List ℕ) (r : rust.Option TextHeads) → read_text text ≡ none → (text_read_reply r).number ≡ 16 →
     ReadsLists text instructions kerns entries word r
-reads_none text instructions kerns entries word whole.Unreadable n e =
+reads_none text instructions kerns entries word rust.None n e =
     record { on = λ h i. absurd (let o : ◌≡◌ {A = ℕ} 0 1 = cc in omega arith); stuck = λ _. n }
-reads_none text instructions kerns entries word (whole.Text h) n e = absurd (omega (arith, e))
+reads_none text instructions kerns entries word (rust.Some h) n e = absurd (omega (arith, e))
 
 -- the heads are those of the text
 heads_are : (text : List ℕ) (p : TextProgress) (t : Text) (l : ℤ) → TellsText text p t →
@@ -83,13 +82,13 @@ module _ (text : List ℕ) (p : TextProgress) (instructions kerns entries : List
   -- ---- without a word
 
   pub ends_plain : (h : TextHeads) (w : List ℕ) → length text ≤ p.at → head_numbers h ≡ heads_of p (number_of 4294967295) → w ≡ zeros 0 64 →
-      ReadsLists text instructions kerns entries w (whole.Text h)
+      ReadsLists text instructions kerns entries w (rust.Some h)
   ends_plain h w l e z =
       let t = s.says in
       let c = s.tells in
       let is : read_text text ≡ some t = sym c.rest ∙ ap (λ (bs : List ℕ). rest_of bs (some t)) (drop_of_length-le text {i = p.at} l) ∙ rest_none_left t in
-      reads_all text t is instructions kerns entries w (whole.Text h)
-      (said text t is instructions kerns entries w (whole.Text h)
+      reads_all text t is instructions kerns entries w (rust.Some h)
+      (said text t is instructions kerns entries w (rust.Some h)
       (ap (reply_of 0) (e ∙ heads_are text p t (negsuc 0) c) ∙ rw c.word) s.in_instructions s.in_kerns s.in_entries (ap length z ∙ zeros_long 0 64)
       (z ∙ zeros_are 0 64 ∙ rw c.word))
       refl
@@ -146,7 +145,7 @@ module _ (text : List ℕ) (p : TextProgress) (instructions kerns entries : List
         let l : length text ≤ p.at + (12 * n + 2) = omega (arith, length-drop (p.at + 1) text, before.inside) in
         (f, sym g ∙ ap (λ (cs : List ℕ). rest_of cs (some (worded zs))) (drop_of_length-le text {i = p.at + (12 * n + 2)} l) ∙ rest_none_left (worded zs))
 
-    by_word : (v : Option (List ℤ)) → word_on bs ≡ v → (r : TextRead) (w w' : List ℕ) → w ≡ zeros 0 64 → text_read_reply r ≡ word_reply p v →
+    by_word : (v : Option (List ℤ)) → word_on bs ≡ v → (r : rust.Option TextHeads) (w w' : List ℕ) → w ≡ zeros 0 64 → text_read_reply r ≡ word_reply p v →
         ((zs : List ℤ) → v ≡ some zs → w' ≡ sets w 0 (map word_of zs)) → ReadsLists text instructions kerns entries w' r
     by_word none i r w w' z a k = reads_none text instructions kerns entries w' r (word_none i) (ap (λ (x : Reply). x.number) a)
     by_word (some zs) i r w w' z a k =
@@ -160,5 +159,5 @@ module _ (text : List ℕ) (p : TextProgress) (instructions kerns entries : List
         (said text (worded zs) x.1 instructions kerns entries w' r (a ∙ heads) s.in_instructions s.in_kerns s.in_entries long front)
         (ap (λ (y : Reply). y.number) a)
 
-    pub ends_word_lem : (r : TextRead) (w w' : List ℕ) → w ≡ zeros 0 64 → EndsWord (word_on bs) p w r w' → ReadsLists text instructions kerns entries w' r
+    pub ends_word_lem : (r : rust.Option TextHeads) (w w' : List ℕ) → w ≡ zeros 0 64 → EndsWord (word_on bs) p w r w' → ReadsLists text instructions kerns entries w' r
     ends_word_lem r w w' z e = by_word (word_on bs) refl r w w' z e.answer e.stored

@@ -6,8 +6,7 @@ use Rattle.words.specs.Words.{word_of, number_of}
 use Rattle.words.specs.Lists.{Appending}
 use Rattle.lang.specs.Answers.{Reply, reply_of}
 use Rattle.columns.specs.declared.TextHeads.{TextHeads}
-use Rattle.columns.specs.declared.TextRead.{TextRead}
-use Rattle.columns.specs.declared.TextRead.TheVariants as whole
+use Rattle.std.specs.Prelude as rust
 use Rattle.columns.specs.Texts.{Text, opened, read_text, or_absent}
 use Rattle.columns.specs.Scanned.{text_read_reply, ReadsText}
 use Rattle.text_scan.specs.declared.progress.TextProgress.{TextProgress}
@@ -126,14 +125,14 @@ word_reply p none = reply_of 16 []
 word_reply p (some zs) = reply_of 0 (heads_of p (pos (length zs)))
 
 -- W read: what is answered, and the characters stored from the front of their list
-pub record EndsWord (o : Option (List ℤ)) (p : TextProgress) (word : List ℕ) (r : TextRead) (word' : List ℕ) : Type 0 where
+pub record EndsWord (o : Option (List ℤ)) (p : TextProgress) (word : List ℕ) (r : rust.Option TextHeads) (word' : List ℕ) : Type 0 where
   pub answer : text_read_reply r ≡ word_reply p o
   pub stored : (zs : List ℤ) → o ≡ some zs → word' ≡ sets word 0 (map word_of zs)
 
 -- the whole read: its numbers in every list; or the text is unreadable
-pub record ReadsLists (text : List ℕ) (instructions kerns entries : List ℤ) (word : List ℕ) (r : TextRead) : Type 0 where
-  pub on : (h : TextHeads) → r ≡ whole.Text h → ReadsText text r instructions kerns entries word
-  pub stuck : r ≡ whole.Unreadable → read_text text ≡ none
+pub record ReadsLists (text : List ℕ) (instructions kerns entries : List ℤ) (word : List ℕ) (r : rust.Option TextHeads) : Type 0 where
+  pub on : (h : TextHeads) → r ≡ rust.Some h → ReadsText text r instructions kerns entries word
+  pub stuck : r ≡ rust.None → read_text text ≡ none
 
 -- zeros in every list
 pub record Zeroed (instructions kerns entries : List ℤ) (word : List ℕ) : Type 0 where

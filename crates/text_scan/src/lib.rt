@@ -5,11 +5,10 @@
 ghost use Rattle.columns.specs.Scanned.{ReadsText};
 ghost use Rattle.text_scan.specs.Standing.{Zeroed, ReadsLists};
 
-use columns::TextRead;
+use columns::TextHeads;
 use progress::NextLine;
 use whole::{first_line, read_lines};
-use words::i32s::zero_i32;
-use words::u32s::zero_u32;
+use words::slices::zero_all;
 
 mod lines;
 mod progress;
@@ -24,10 +23,10 @@ fn zero_lists(
     ensures { Zeroed instructions.new kerns.new entries.new
         word.new }
 {
-    zero_i32(instructions);
-    zero_i32(kerns);
-    zero_i32(entries);
-    zero_u32(word);
+    zero_all(instructions);
+    zero_all(kerns);
+    zero_all(entries);
+    zero_all(word);
 }
 
 // A text read to lists of zeros.
@@ -37,36 +36,36 @@ fn read_zeroed(
     kerns: &mut [i32; 512],
     entries: &mut [i32; 5040],
     word: &mut [u32; 64],
-) -> TextRead
+) -> Option<TextHeads>
     requires { Zeroed instructions.old kerns.old entries.old word.old }
     ensures { ReadsLists text.now instructions.new kerns.new
         entries.new word.new result }
 {
     if 65536 < text.len() {
-        return TextRead::Unreadable;
+        return None;
     }
     let NextLine::At(first) = first_line(text) else {
-        return TextRead::Unreadable;
+        return None;
     };
     read_lines(text, first, instructions, kerns, entries, word)
 }
 
-// What a text says: its heads, and its numbers in the lists, with zeros after them; or 16, and zeros.
+// What a text says: its heads, and its numbers in the lists, with zeros after them; or none (16), and zeros.
 pub fn read_text(
     text: &[u8],
     instructions: &mut [i32; 2048],
     kerns: &mut [i32; 512],
     entries: &mut [i32; 5040],
     word: &mut [u32; 64],
-) -> TextRead
+) -> Option<TextHeads>
     ensures { ReadsText text.now result instructions.new kerns.new
         entries.new word.new }
 {
     zero_lists(instructions, kerns, entries, word);
     let read = read_zeroed(text, instructions, kerns, entries, word);
     match read {
-        TextRead::Text(_) => read,
-        TextRead::Unreadable => {
+        Some(_) => read,
+        None => {
             zero_lists(instructions, kerns, entries, word);
             read
         }

@@ -6,7 +6,6 @@ ghost use Rattle.text_scan.specs.Standing.{Scanning, Before, TakesLine, Goes, pa
 ghost use Rattle.text_scan.specs.Standing.{past_entry, past_boundary, past_left, head_line};
 
 use crate::progress::{NextLine, TextProgress};
-use columns::FieldRead;
 use text_line_numbers::{read_number, read_numbers};
 use words::word_of;
 
@@ -66,7 +65,7 @@ fn boundary_line(text: &[u8], p: TextProgress) -> NextLine
     if p.bounded {
         return NextLine::Unreadable;
     }
-    let FieldRead::Number(z) = read_number(text, p.at + 1) else {
+    let Some(z) = read_number(text, p.at + 1) else {
         return NextLine::Unreadable;
     };
     let mut q = p;
@@ -84,7 +83,7 @@ fn left_line(text: &[u8], p: TextProgress) -> NextLine
     if p.entered {
         return NextLine::Unreadable;
     }
-    let FieldRead::Number(z) = read_number(text, p.at + 1) else {
+    let Some(z) = read_number(text, p.at + 1) else {
         return NextLine::Unreadable;
     };
     let mut q = p;

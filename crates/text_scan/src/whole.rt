@@ -5,9 +5,9 @@ ghost use Rattle.text_scan.specs.Standing.{zeros, Scanning, Before, Opens, EndsW
 
 use crate::lines::next_line;
 use crate::progress::{NextLine, TextProgress, heads_of};
-use columns::{FieldRead, TextRead};
+use columns::TextHeads;
 use text_line_numbers::{read_letters, read_number};
-use words::u8s::u8_at;
+use words::slices::item_at;
 use words::word_of;
 
 // D: one number.
@@ -15,10 +15,10 @@ pub(crate) fn first_line(text: &[u8]) -> NextLine
     requires { length text.now ≤ 65536 }
     ensures { Opens text.now result }
 {
-    if u8_at(text, 0) != 68 {
+    if item_at(text, 0) != 68 {
         return NextLine::Unreadable;
     }
-    let FieldRead::Number(z) = read_number(text, 1) else {
+    let Some(z) = read_number(text, 1) else {
         return NextLine::Unreadable;
     };
     NextLine::At(TextProgress {
@@ -35,7 +35,7 @@ pub(crate) fn first_line(text: &[u8]) -> NextLine
 }
 
 // W: as many numbers as there are up to the end of the text.
-fn word_line(text: &[u8], p: TextProgress, word: &mut [u32; 64]) -> TextRead
+fn word_line(text: &[u8], p: TextProgress, word: &mut [u32; 64]) -> Option<TextHeads>
     requires { Before text.now p }
     ensures { EndsWord (word_on (drop (p.at + 1) text.now)) p word.old result
         word.new }
@@ -43,13 +43,13 @@ fn word_line(text: &[u8], p: TextProgress, word: &mut [u32; 64]) -> TextRead
     let at = p.at + 1;
     let rest = text.len() - at;
     if rest % 12 != 1 {
-        return TextRead::Unreadable;
+        return None;
     }
     let n = rest / 12;
     if !read_letters(text, at, n, word) {
-        return TextRead::Unreadable;
+        return None;
     }
-    TextRead::Text(heads_of(p, n as u32))
+    Some(heads_of(p, n as u32))
 }
 
 // The lines after D, to lists of zeros.
@@ -60,7 +60,7 @@ pub(crate) fn read_lines(
     kerns: &mut [i32; 512],
     entries: &mut [i32; 5040],
     word: &mut [u32; 64],
-) -> TextRead
+) -> Option<TextHeads>
     requires text_len_bound { (length text.now ≤ 65536) × (word.old ≡ zeros 0 64) }
     requires scanning { Scanning text.now first instructions.old kerns.old entries.old }
     ensures { ReadsLists text.now instructions.new kerns.new
@@ -73,9 +73,9 @@ pub(crate) fn read_lines(
             return word_line(text, p, word);
         }
         let NextLine::At(q) = next_line(text, p, instructions, kerns, entries) else {
-            return TextRead::Unreadable;
+            return None;
         };
         p = q;
     }
-    TextRead::Text(heads_of(p, 4294967295))
+    Some(heads_of(p, 4294967295))
 }

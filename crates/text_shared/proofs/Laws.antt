@@ -1,54 +1,36 @@
--- A list copied to the front of another; a program shared in front of a list; a text read and shared. Assumes nothing.
+-- A program shared in front of a list; a text read and shared. Assumes nothing.
 use mathlib.Core.Path.{◌≡◌, refl, sym, ap, ◌∙◌}
 use mathlib.Core.Bool.{Bool, true, false, cond}
-use mathlib.Core.List.{List, [], ◌∷◌, ◌++◌}
+use mathlib.Core.List.{List, ◌++◌}
 use mathlib.Core.Logic.{◌⊎◌, inl, inr}
 use mathlib.Core.Option.{Option, none, some}
-use Prim.Native.Nat.{ℕ, suc, ◌+◌, ◌-◌, ◌<◌, ◌≤◌}
-use native.Mathlib.Numerals.{add-one}
+use Prim.Native.Nat.{ℕ, ◌+◌, ◌-◌, ◌<◌, ◌≤◌}
 use native.Mathlib.Omega.{arith}
 use lib.IntN.{ℤ, pos}
 use lib.Dec.{leb}
-use lib.ListN.{length, get_or, set, take, drop, replicate, length-append, length-replicate, length-drop}
-use lib.Seq.{take-suc, take_at, drop_at, drop-append-add, length-take-le}
+use lib.ListN.{length, take, drop, replicate, length-append, length-replicate}
+use lib.Seq.{take_at, drop_at, drop-append-add, length-take-le}
 use borrow.Author.Tests.{le-leb, lt-leb}
-use Rattle.words.specs.Lists.{Appending}
 use Rattle.lang.specs.Records.{count}
 use Rattle.lang.specs.Every.{both}
 use Rattle.lang.specs.Answers.{Reply, reply_of, padded, list_of}
 use Rattle.columns.specs.declared.TextHeads.{TextHeads}
-use Rattle.columns.specs.declared.TextRead.TheVariants as text
+use Rattle.std.specs.Prelude as rust
 use Rattle.columns.specs.Texts.{Text, or_absent, shared_text}
 use Rattle.columns.specs.Scanned.{length_of_word, head_numbers, text_heads, shared_read, ReadsTextAs}
 use Rattle.columns.proofs.Saying.{front, room_known, not_read}
 use Rattle.program_kerns.proofs.SharedKerns.{kerns_few, kerns_least, shared_length}
-use Rattle.program_kerns.specs.SharedKerns.{all_kerns, share_kerns, has_kern_room, SharesKerns}
+use Rattle.program_kerns.specs.SharedKerns.{all_kerns, share_kerns, has_kern_room}
 use Rattle.text_shared.specs.Fronts.{SharesFront, within_text, SharesText, heads_with}
-use Rattle.words.proofs.Lists.{appending_one, appending_length, drop_replicate}
-
--- ---- copied one by one
-
-module _ (from to₀ : List ℤ) (k : ℕ) (h : k ≤ length from) where
-  pub copying_more : {d d₁ : List ℤ} {j : ℕ} {v : ℤ} → j < k → k ≤ length to₀ → Appending (take j from) to₀ d → d₁ ≡ set d j v → v ≡ get_or from j (pos 0) →
-      Appending (take (j + 1) from) to₀ d₁
-  copying_more {d} {d₁} {j} {v} l o a e f =
-      let n : length (take j from) ≡ j = length-take-le j from (omega arith) in
-      let m : take (j + 1) from ≡ take j from ++ (v ∷ []) = rw (add-one j, f) (take-suc from j (pos 0) (omega arith)) in
-      let p : d₁ ≡ set d (length (take j from)) v = rw n e in
-      rw (m, p) (appending_one to₀ v a (omega (arith, n, appending_length to₀ a)))
-
-  pub copying_all : {d : List ℤ} {j : ℕ} → j ≡ k → Appending (take j from) to₀ d → d ≡ take k from ++ drop k to₀
-  copying_all {d} {j} e a =
-      let n : length (take j from) ≡ k = length-take-le j from (omega arith) ∙ e in
-      a.appended ∙ (λ i. take (e i) from ++ drop (n i) to₀)
+use Rattle.words.proofs.Lists.{drop_replicate}
 
 -- ---- a text that is not read
 
 pub blank_of : (l l' : List ℤ) (n : ℕ) → length l ≡ n → l' ≡ replicate (length l) (pos 0) → l' ≡ replicate n (pos 0)
 blank_of l l' n e z = rw e at z
 
-pub shared_none : (o : Option Text) {is own ks es : List ℤ} {ws : List ℕ} → ReadsTextAs o 512 text.Unreadable is own es ws → ks ≡ replicate 1024 (pos 0) →
-    length ks ≡ 1024 → ReadsTextAs (shared_read o) 1024 text.Unreadable is ks es ws
+pub shared_none : (o : Option Text) {is own ks es : List ℤ} {ws : List ℕ} → ReadsTextAs o 512 rust.None is own es ws → ks ≡ replicate 1024 (pos 0) →
+    length ks ≡ 1024 → ReadsTextAs (shared_read o) 1024 rust.None is ks es ws
 shared_none none a e l =
     record {
       answer = a.answer;
@@ -142,7 +124,7 @@ module _ (i k : ℕ) (s own : List ℤ) where
             }
 
 -- .. of a text that was read
-module _ (t : Text) {h : TextHeads} {is own es : List ℤ} {ws : List ℕ} (a : ReadsTextAs (some t) 512 (text.Text h) is own es ws) where
+module _ (t : Text) {h : TextHeads} {is own es : List ℤ} {ws : List ℕ} (a : ReadsTextAs (some t) 512 (rust.Some h) is own es ws) where
   abbrev T : List ℤ
   T = t.instructions
 
@@ -198,7 +180,7 @@ module _ (t : Text) {h : TextHeads} {is own es : List ℤ} {ws : List ℕ} (a : 
         let i : h.instructions ≡ length (share_kerns T U) = heads_i ∙ sym (shared_length T U) in
         rw (d, b, l, e, w, i, many)
 
-    pub shared_read_lem : ReadsTextAs (some (shared_text t)) 1024 (text.Text (heads_with h m)) is' ks es ws
+    pub shared_read_lem : ReadsTextAs (some (shared_text t)) 1024 (rust.Some (heads_with h m)) is' ks es ws
     shared_read_lem =
         record {
           answer = ap (reply_of 0) heads_are;
@@ -217,7 +199,7 @@ module _ (t : Text) {h : TextHeads} {is own es : List ℤ} {ws : List ℕ} (a : 
 -- ---- whatever was read
 
 module _ {h : TextHeads} {is own es : List ℤ} {ws : List ℕ} where
-  pub read_and_shared : (o : Option Text) → ReadsTextAs o 512 (text.Text h) is own es ws → {m : ℕ} {is' ks : List ℤ} →
-      SharesText h.instructions h.kerns is own m is' ks → ReadsTextAs (shared_read o) 1024 (text.Text (heads_with h m)) is' ks es ws
+  pub read_and_shared : (o : Option Text) → ReadsTextAs o 512 (rust.Some h) is own es ws → {m : ℕ} {is' ks : List ℤ} →
+      SharesText h.instructions h.kerns is own m is' ks → ReadsTextAs (shared_read o) 1024 (rust.Some (heads_with h m)) is' ks es ws
   read_and_shared none a g = absurd (let e : ◌≡◌ {A = ℕ} 0 16 = ap (λ (r : Reply). r.number) a.answer in omega arith)
   read_and_shared (some t) a g = shared_read_lem t a g

@@ -6,22 +6,18 @@ ghost use Rattle.std.specs.Prelude.{◌≡◌, ◌++◌, ◌≤◌, length, take
 ghost use Rattle.columns.specs.Scanned.{ReadsShared};
 ghost use Rattle.text_shared.specs.Fronts.{SharesFront, SharesText, heads_with};
 
-use columns::{TextHeads, TextRead};
+use columns::TextHeads;
 use kern_share::share_kerns;
 use text_lists::line_kerns;
 use text_scan::read_text;
-use words::i32s::{put_word, word_at, zero_i32};
+use words::slices::zero_all;
 
 // The first k numbers of a list copied to the front of another.
 fn copy_front(from: &[i32], k: usize, to: &mut [i32])
     requires { (k ≤ length from.now) × (k ≤ length to.old) }
     ensures { to.new ≡ take k from.now ++ drop k to.old }
 {
-    let mut j = 0;
-    while j < k {
-        put_word(to, j, word_at(from, j));
-        j += 1;
-    }
+    to[..k].copy_from_slice(&from[..k]);
 }
 
 // The heads of a text with so many kerns.
@@ -60,7 +56,7 @@ pub fn share_text(
     ensures { SharesText i k instructions.old own.now result instructions.new
         kerns.new }
 {
-    zero_i32(kerns);
+    zero_all(kerns);
     if 2048 < i || 512 < k {
         return 0;
     }
@@ -68,26 +64,22 @@ pub fn share_text(
     share_front(instructions, i, kerns, k)
 }
 
-// A text read, with its kern values shared; or 16, and zeros.
+// A text read, with its kern values shared; or none (16), and zeros.
 pub fn read_shared(
     text: &[u8],
     instructions: &mut [i32; 2048],
     kerns: &mut [i32; 1024],
     entries: &mut [i32; 5040],
     word: &mut [u32; 64],
-) -> TextRead
+) -> Option<TextHeads>
     ensures { ReadsShared text.now result instructions.new kerns.new
         entries.new word.new }
 {
     let mut own = line_kerns();
-    match read_text(text, instructions, &mut own, entries, word) {
-        TextRead::Unreadable => {
-            zero_i32(kerns);
-            TextRead::Unreadable
-        }
-        TextRead::Text(heads) => {
-            let m = share_text(heads.instructions, heads.kerns, instructions, &own, kerns);
-            TextRead::Text(with_kerns(heads, m))
-        }
-    }
+    let Some(heads) = read_text(text, instructions, &mut own, entries, word) else {
+        zero_all(kerns);
+        return None;
+    };
+    let m = share_text(heads.instructions, heads.kerns, instructions, &own, kerns);
+    Some(with_kerns(heads, m))
 }

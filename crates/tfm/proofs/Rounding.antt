@@ -7,10 +7,10 @@ use native.Mathlib.Nat.{mul_assoc, mul_comm, mul_left_comm, add-mul, mul-sub, ad
 use native.Mathlib.Omega.{arith}
 use lib.IntN.{ℤ, pos, ◌-ℤ◌, ◌*ℤ◌}
 use lib.Signed.{shr_z}
+use Rattle.std.specs.Prelude.{Ok}
 use Rattle.words.specs.Words.{number_of}
 use Rattle.words.proofs.Bits.{number_pos, number_neg}
 use Rattle.tfm.specs.declared.Multiplier.{Multiplier}
-use Rattle.tfm.specs.declared.ToScaled.TheVariants.{Scaled}
 use Rattle.tfm.specs.Scaled.{multiplier, beta, scaled_from}
 use Rattle.tfm.proofs.Halving.{Halved, multiplier_halved}
 use Rattle.tfm.proofs.Products.{beta_pos}
@@ -62,7 +62,7 @@ module _ (m : Multiplier) (h : Halved m) where
       rw (negative_times m.z w e, ← top_times m.z m.alpha (beta m) h.whole, low_is w)
       (sym (shr_sub (w % 16777216 * m.z) (m.alpha * m.z) (65536 * beta m) (omega (arith, beta_pos m h.below))))
 
-pub rounded_down : (w z : ℕ) → w < 2 ^ 32 → z < 2 ^ 27 → (v : ℤ) → scaled_from z w ≡ Scaled v →
+pub rounded_down : (w z : ℕ) → w < 2 ^ 32 → z < 2 ^ 27 → (v : ℤ) → scaled_from z w ≡ Ok v →
     v ≡ shr_z (number_of w *ℤ pos (multiplier z).z) (65536 * beta (multiplier z))
 rounded_down w z hw hz v s = by (ℕ_discrete (w / 16777216) 0) (ℕ_discrete (w / 16777216) 255)
   where

@@ -9,9 +9,10 @@ use lib.Dec.{leb, eqb}
 use mir.Syntax.{w32}
 use mir.Val.{SFits}
 use borrow.Author.Tests.{le-leb, lt-leb, leb-true, ne_eqb}
+use Rattle.std.specs.Prelude.{Ok, Err}
 use Rattle.words.specs.Words.{word_of, number_of}
 use Rattle.words.proofs.Bits.{number_word}
-use Rattle.tfm.specs.declared.ToScaled.TheVariants.{Scaled, TooLarge}
+use Rattle.tfm.specs.declared.ScalingError.TheVariants.{TooLarge}
 use Rattle.tfm.specs.Scaled.{z_of_design, scaled_from, to_scaled, z_refusal, magnified, words_refusal, z_at, sized, is_asked, design_of, design_word}
 use Rattle.tfm.specs.Scaled.{asked_refusal, scaled_at, design_at}
 
@@ -146,7 +147,7 @@ pub same_top : (n z z' w : ℕ) → sized (suc n) (scaled_from z w) ≡ sized (s
 same_top n z z' w = by (eqb (w / 16777216) 0) (eqb (w / 16777216) 255) _ _ _ _
   where
     by : (t u : Bool) (x y x' y' : ℤ) →
-        sized (suc n) (cond t (Scaled x) (cond u (Scaled y) TooLarge)) ≡ sized (suc n) (cond t (Scaled x') (cond u (Scaled y') TooLarge))
+        sized (suc n) (cond t (Ok x) (cond u (Ok y) (Err TooLarge))) ≡ sized (suc n) (cond t (Ok x') (cond u (Ok y') (Err TooLarge)))
     by true u x y x' y' = refl
     by false true x y x' y' = refl
     by false false x y x' y' = refl

@@ -1,7 +1,7 @@
 -- What is proved of scaling at another size (proofs/Theorems). No contract cites this.
 use Rattle.std.specs.Prelude.{◌≡◌, ℕ, ◌*◌, ◌^◌, ◌<◌, ◌≤◌, ℤ, pos}
 use Rattle.words.specs.Words.{word_of}
-use Rattle.tfm.specs.Scaled.{scaled_reply, scaled_from, to_scaled, scaled_at_reply, asked_refusal, scaled_at, design_at}
+use Rattle.tfm.specs.Scaled.{scaled_reply, scaled_from, to_scaled, asked_refusal, scaled_at, design_at}
 
 -- scaling from z below 2 ^ 27 is scaling at the design size 16 z, which is an i32 (R357)
 pub record Scales (kern : ℤ) (z : ℕ) : Type 0 where
@@ -15,11 +15,11 @@ SixteenTimes = (kern : ℤ) (z : ℕ) → z < 2 ^ 27 → Scales kern z
 abbrev pub AtItsDesignSize : Type 0
 AtItsDesignSize =
     (kern design size magnification : ℤ) → asked_refusal design size magnification ≡ 0 →
-    scaled_at_reply (scaled_at kern design size magnification) ≡ scaled_reply (to_scaled kern (design_at design size magnification))
+    scaled_reply (scaled_at kern design size magnification) ≡ scaled_reply (to_scaled kern (design_at design size magnification))
 
 -- with neither asked for, scaling is what it was: at the design size (R350)
 abbrev pub NotAsked : Type 0
-NotAsked = (kern design : ℤ) → scaled_at_reply (scaled_at kern design (pos 0) (pos 0)) ≡ scaled_reply (to_scaled kern design)
+NotAsked = (kern design : ℤ) → scaled_reply (scaled_at kern design (pos 0) (pos 0)) ≡ scaled_reply (to_scaled kern design)
 
 -- a magnification of 1,000 is the design size, where that is 16 or more (R352)
 abbrev pub OneThousand : Type 0

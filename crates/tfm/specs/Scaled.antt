@@ -1,26 +1,22 @@
 -- The scaled kern: a fix_word times the design size, as TeX computes it (R48 to R54), or times another size (R350 to R357). TeX 568, 571
 -- and 572. A fix_word is given by its four bytes a, b, c, d, that is by its 32 bits.
-use Rattle.std.specs.Prelude.{Bool, true, false, cond, ◌&&◌, [], ◌∷◌, ℕ, zero, suc, ◌+◌, ◌*◌, ◌/◌, ◌%◌, ◌<◌, ◌≤◌, ℤ, pos, negsuc, ◌-ℤ◌, leb, ltb, eqb}
+use Rattle.std.specs.Prelude.{Bool, true, false, cond, ◌&&◌, [], ◌∷◌, ℕ, zero, suc, ◌+◌, ◌*◌, ◌/◌, ◌%◌, ◌<◌, ◌≤◌, ℤ, pos, negsuc, ◌-ℤ◌, leb, ltb, eqb, Result, Ok, Err}
 use Rattle.words.specs.Words.{word_of}
 use Rattle.words.specs.Replies.{Reply, reply_of}
 use Rattle.tfm.specs.declared.Multiplier.{Multiplier}
-use Rattle.tfm.specs.declared.ToScaled.{ToScaled}
-use Rattle.tfm.specs.declared.ToScaled.TheVariants.{Scaled, NegativeDesignSize, TooLarge}
-use Rattle.tfm.specs.declared.ScaledAt.{ScaledAt}
-use Rattle.tfm.specs.declared.ScaledAt.TheVariants as At
+use Rattle.tfm.specs.declared.ScalingError.{ScalingError}
+use Rattle.tfm.specs.declared.ScalingError.TheVariants.{NegativeDesignSize, TooLarge, SizeOutOfRange}
 
--- an answer as a number and values (R285): 5 (R234) of the design size, 13 (R242) of the top byte
-abbrev pub scaled_reply : ToScaled → Reply
-scaled_reply (Scaled v) = reply_of 0 (v ∷ [])
-scaled_reply NegativeDesignSize = reply_of 5 []
-scaled_reply TooLarge = reply_of 13 []
+-- the number of an error (R285): 5 (R234) of the design size, 13 (R242) of the top byte, 19 (R354) of the size
+abbrev pub scaling_number : ScalingError → ℕ
+scaling_number NegativeDesignSize = 5
+scaling_number TooLarge = 13
+scaling_number SizeOutOfRange = 19
 
--- the same of scaling at a size: 19 (R354) of the size
-abbrev pub scaled_at_reply : ScaledAt → Reply
-scaled_at_reply (At.Scaled v) = reply_of 0 (v ∷ [])
-scaled_at_reply At.NegativeDesignSize = reply_of 5 []
-scaled_at_reply At.TooLarge = reply_of 13 []
-scaled_at_reply At.SizeOutOfRange = reply_of 19 []
+-- an answer as a number and values (R285)
+abbrev pub scaled_reply : Result ℤ ScalingError → Reply
+scaled_reply (Ok v) = reply_of 0 (v ∷ [])
+scaled_reply (Err e) = reply_of (scaling_number e) []
 
 -- R48, TeX 568: z from a design size, which has four bits more of fraction
 abbrev pub z_of_design : ℕ → ℕ
@@ -50,18 +46,18 @@ abbrev pub low_bytes : Multiplier → ℕ → ℕ → ℕ → ℕ
 low_bytes m b c d = ((d * m.z / 256 + c * m.z) / 256 + b * m.z) / beta m
 
 -- R52, TeX 571: by the top byte a
-abbrev pub store_scaled : Multiplier → ℕ → ℕ → ℕ → ℕ → ToScaled
+abbrev pub store_scaled : Multiplier → ℕ → ℕ → ℕ → ℕ → Result ℤ ScalingError
 store_scaled m a b c d =
-    cond (eqb a 0) (Scaled (pos (low_bytes m b c d)))
-    (cond (eqb a 255) (Scaled (pos (low_bytes m b c d) -ℤ pos (m.alpha * m.z))) TooLarge)
+    cond (eqb a 0) (Ok (pos (low_bytes m b c d)))
+    (cond (eqb a 255) (Ok (pos (low_bytes m b c d) -ℤ pos (m.alpha * m.z))) (Err TooLarge))
 
 -- scaling the number with these 32 bits from a given z (R288)
-abbrev pub scaled_from : ℕ → ℕ → ToScaled
+abbrev pub scaled_from : ℕ → ℕ → Result ℤ ScalingError
 scaled_from z w = store_scaled (multiplier z) (w / 16777216) (w / 65536 % 256) (w / 256 % 256) (w % 256)
 
 -- scaling a number at a design size, any two i32; at a negative one it is 5 (R54)
-unfoldable pub to_scaled : ℤ → ℤ → ToScaled
-to_scaled kern (negsuc n) = NegativeDesignSize
+unfoldable pub to_scaled : ℤ → ℤ → Result ℤ ScalingError
+to_scaled kern (negsuc n) = Err NegativeDesignSize
 to_scaled kern (pos design) = scaled_from (z_of_design design) (word_of kern)
 
 -- ---- at another size: a size in scaled points, or a magnification in thousandths; 0 is not asked for (R350)
@@ -97,15 +93,14 @@ z_at design (suc size) magnification = suc size
 z_at design zero (suc magnification) = magnified design (suc magnification)
 
 -- by the size's number (R355): 13 comes before it
-abbrev pub sized : ℕ → ToScaled → ScaledAt
-sized n NegativeDesignSize = At.NegativeDesignSize
-sized n TooLarge = At.TooLarge
-sized zero (Scaled v) = At.Scaled v
-sized (suc n) (Scaled v) = At.SizeOutOfRange
+abbrev pub sized : ℕ → Result ℤ ScalingError → Result ℤ ScalingError
+sized n (Err e) = Err e
+sized zero (Ok v) = Ok v
+sized (suc n) (Ok v) = Err SizeOutOfRange
 
 -- scaling a number at a design size, a size and a magnification, any four i32; the lowest of 5, 13 and 19 (R355)
-unfoldable pub scaled_at : ℤ → ℤ → ℤ → ℤ → ScaledAt
-scaled_at kern (negsuc n) size magnification = At.NegativeDesignSize
+unfoldable pub scaled_at : ℤ → ℤ → ℤ → ℤ → Result ℤ ScalingError
+scaled_at kern (negsuc n) size magnification = Err NegativeDesignSize
 scaled_at kern (pos design) size magnification =
     sized (asked_refusal (pos design) size magnification)
     (scaled_from (z_at design (word_of size) (word_of magnification)) (word_of kern))

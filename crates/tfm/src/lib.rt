@@ -3,28 +3,18 @@
 #![tactic(auto)]
 
 ghost use Rattle.std.specs.Prelude.{◌≡◌, ◌<◌, ◌^◌, ◌/◌, ◌%◌, leb};
-ghost use Rattle.tfm.specs.Scaled.{scaled_reply, to_scaled, z_of_design, multiplier, Below, low_bytes, scaled_from};
+ghost use Rattle.tfm.specs.Scaled.{scaling_number, scaled_reply, to_scaled, z_of_design, multiplier, Below};
+ghost use Rattle.tfm.specs.Scaled.{low_bytes, scaled_from};
 ghost use Rattle.tfm.specs.Scaled.{z_refusal, magnified, words_refusal, z_at, is_asked, design_word};
-ghost use Rattle.tfm.specs.Scaled.{asked_refusal, design_at, sized, scaled_at, scaled_at_reply};
+ghost use Rattle.tfm.specs.Scaled.{asked_refusal, design_at, sized, scaled_at};
 
 // A fix_word: a number in units of 2^-20.
 #[derive(Clone, Copy)]
 pub struct FixWord(pub i32);
 
-// What scaling answers: the scaled value, or why there is none.
+// Why a number is not scaled.
 #[derive(Clone, Copy)]
-pub enum ToScaled {
-    Scaled(i32),
-    // The design size is negative.
-    NegativeDesignSize,
-    // The top byte of the number is neither 0 nor 255.
-    TooLarge,
-}
-
-// What scaling at a size answers: the scaled value, or why there is none.
-#[derive(Clone, Copy)]
-pub enum ScaledAt {
-    Scaled(i32),
+pub enum ScalingError {
     // The design size is negative.
     NegativeDesignSize,
     // The top byte of the number is neither 0 nor 255.
@@ -33,26 +23,44 @@ pub enum ScaledAt {
     SizeOutOfRange,
 }
 
+impl ScalingError {
+    // The number of its refusal.
+    pub fn number(self) -> u32
+        ensures { result ≡ scaling_number self }
+    {
+        match self {
+            ScalingError::NegativeDesignSize => 5,
+            ScalingError::TooLarge => 13,
+            ScalingError::SizeOutOfRange => 19,
+        }
+    }
+}
+
 impl FixWord {
     pub const ZERO: FixWord = FixWord(0);
 
     pub const ONE: FixWord = FixWord(1048576);
 
     // This number times the design size, in scaled points.
-    pub fn at_design_size(self, design_size: FixWord) -> ToScaled
+    pub fn at_design_size(self, design_size: FixWord) -> Result<i32, ScalingError>
         ensures { scaled_reply result ≡ scaled_reply (to_scaled self.0 design_size.0) }
     {
         let design = words::word_of(design_size.0);
         if 2147483648 <= design {
-            return ToScaled::NegativeDesignSize;
+            return Err(ScalingError::NegativeDesignSize);
         }
         let word = words::word_of(self.0);
         scaled_from(z_of_design(design), word)
     }
 
     // This number times a size, or times the design size magnified, in scaled points; zero is not asked for.
-    pub fn to_scaled(self, design_size: FixWord, size: i32, magnification: i32) -> ScaledAt
-        ensures { scaled_at_reply result ≡ scaled_at_reply (scaled_at self.0 design_size.0 size magnification) }
+    pub fn to_scaled(
+        self,
+        design_size: FixWord,
+        size: i32,
+        magnification: i32,
+    ) -> Result<i32, ScalingError>
+        ensures { scaled_reply result ≡ scaled_reply (scaled_at self.0 design_size.0 size magnification) }
     {
         let at = FixWord(design_at(design_size.0, size, magnification));
         let number = asked_refusal(design_size.0, size, magnification);
@@ -61,19 +69,14 @@ impl FixWord {
 }
 
 // What was scaled, unless the size's number refuses it; 13 comes before that.
-fn size_scaled(number: u32, scaled: ToScaled) -> ScaledAt
+fn size_scaled(number: u32, scaled: Result<i32, ScalingError>) -> Result<i32, ScalingError>
     ensures { result ≡ sized number scaled }
 {
-    match scaled {
-        ToScaled::NegativeDesignSize => ScaledAt::NegativeDesignSize,
-        ToScaled::TooLarge => ScaledAt::TooLarge,
-        ToScaled::Scaled(v) => {
-            if number == 0 {
-                ScaledAt::Scaled(v)
-            } else {
-                ScaledAt::SizeOutOfRange
-            }
-        }
+    let v = scaled?;
+    if number == 0 {
+        Ok(v)
+    } else {
+        Err(ScalingError::SizeOutOfRange)
     }
 }
 
@@ -207,7 +210,7 @@ fn low_bytes(m: Multiplier, word: u32) -> u32
 }
 
 // The number with these 32 bits, scaled from z.
-fn scaled_from(z: u32, word: u32) -> ToScaled
+fn scaled_from(z: u32, word: u32) -> Result<i32, ScalingError>
     requires { z < 2 ^ 27 }
     ensures { result ≡ scaled_from z word }
 {
@@ -216,15 +219,15 @@ fn scaled_from(z: u32, word: u32) -> ToScaled
     let top = word / 16777216;
     if top == 0 {
         let v = low as i32;
-        return ToScaled::Scaled(v);
+        return Ok(v);
     }
     if top == 255 {
         // The top byte 255 stands for -16.
         let sixteen = m.alpha * m.z;
         let v = (low as i32) - (sixteen as i32);
-        return ToScaled::Scaled(v);
+        return Ok(v);
     }
-    ToScaled::TooLarge
+    Err(ScalingError::TooLarge)
 }
 
 // A character of a TFM file: one byte.

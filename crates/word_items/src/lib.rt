@@ -11,7 +11,7 @@ ghost use Rattle.word_items.specs.ItemLists.{is_item, Small, is_small, item_at, 
 use captions::Answer;
 use lang::Written;
 use word_plain_letters::put_six;
-use words::i32s::zero_i32;
+use words::slices::zero_all;
 use words::word_of;
 
 // Neither the end nor a refusal.
@@ -88,7 +88,7 @@ pub fn stopped(items: &mut [i32], k: usize, answer: Answer) -> Written
         Answer::Kern(_) => Written::Count(k),
         Answer::End => Written::Count(k),
         Answer::Refused(n) => {
-            zero_i32(items);
+            zero_all(items);
             Written::Refused(n)
         }
     }

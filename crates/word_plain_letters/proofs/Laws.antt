@@ -1,6 +1,6 @@
 -- Letters given by a loop, one after the other, by any step that keeps the laws of specs/Purpose: the state and the list that the loop leaves.
 -- Assumes nothing.
-use Rattle.std.proofs.Common.{◌≡◌, ℕ, zero, suc, ◌+◌, ◌-◌, ◌*◌, ◌/◌, ◌%◌, ◌^◌, ◌<◌, ◌≤◌, Bool, true, false, cond, ltb, leb, List, [], ◌∷◌, length, get_or, ℤ, pos, sym, refl, ap, ◌∙◌, subst, ap₂, add-one, arith, lt-ltb, ne_eqb, le-leb, leb-true}
+use Rattle.std.proofs.Common.{◌≡◌, ℕ, suc, ◌+◌, ◌-◌, ◌*◌, ◌/◌, ◌%◌, ◌^◌, ◌<◌, ◌≤◌, Bool, true, false, leb, List, [], ◌∷◌, length, get_or, ℤ, pos, sym, refl, ap, ◌∙◌, subst, ap₂, add-one, arith, lt-ltb, ne_eqb, le-leb, leb-true}
 use lib.Seq.{sets, length-sets}
 use Rattle.words.specs.Words.{Word, word_of, number_of}
 use Rattle.words.proofs.Bits.{number_pos, number_is}
@@ -10,21 +10,20 @@ use Rattle.captions.specs.declared.NextLeft.{NextLeft}
 use Rattle.captions.specs.declared.NextLeft.TheVariants as next
 use Rattle.captions.specs.declared.Consumes.TheVariants as consumes
 use Rattle.captions.specs.declared.State.{State}
-use Rattle.captions.specs.declared.Answer.{Answer}
 use Rattle.captions.specs.declared.Answer.TheVariants.{Char, Kern}
 use Rattle.captions.specs.declared.Step.{Step}
 use Rattle.captions.specs.Replies.{answer_reply}
 use Rattle.captions.specs.Tables.{pair_count, op_count, number, op_value, first_op, count_of, last_code, last_flag}
 use Rattle.captions.specs.Begin.{edges_refusal, word_refusal}
-use Rattle.captions.specs.Steps.{refused, after_op, after_right}
+use Rattle.captions.specs.Steps.{after_right}
 use Rattle.reading.specs.Items.{item}
-use Rattle.step_quick.specs.Quick.{plain_code, next_letter, is_quick, moved_on, given_plain, given_first, given_kern}
+use Rattle.step_quick.specs.Quick.{plain_code, next_letter, is_quick, given_plain, given_first, given_kern}
 use Rattle.step_quick.proofs.Theorems.{quick_is, quick_moves}
 use Rattle.step_quick_pair.specs.KernPairs.{is_kern_pair, amid_pair, after_pair}
 use Rattle.step_quick_pair.proofs.Laws.{Pair, pair_is}
 use Rattle.step_quick_pair.proofs.Theorems.{pair_kerns, pair_moves}
 use Rattle.word_plain_letters.specs.PlainLetters.{plain_left, is_given, GivesItems, nothing, more, letter_item, kern_six, GivesPair}
-use Rattle.word_plain_letters.specs.PlainLetters.{stops, kerns, MayStand, Stand, none_stand, one_stands, letters_moved, letters_end}
+use Rattle.word_plain_letters.specs.PlainLetters.{stops, kerns, Stand, none_stand, one_stands, letters_moved, letters_end}
 use Rattle.word_plain_letters.specs.declared.LettersGiven.{LettersGiven}
 use Rattle.word_plain_letters.specs.Purpose.{StepsQuickly}
 

@@ -1,5 +1,5 @@
 -- The run's step keeps the laws of specs/Purpose. Assumes nothing.
-use Rattle.std.proofs.Common.{◌≡◌, ℕ, ◌<◌, ◌≤◌, List, ℤ, sym, refl, ◌∙◌, arith}
+use Rattle.std.proofs.Common.{◌≡◌, ℕ, ◌<◌, List, ℤ, refl, ◌∙◌, arith}
 use mathlib.Core.Option.{Option, none, some}
 use Rattle.captions.specs.Tables.{pair_count, key_by, find}
 use Rattle.captions.proofs.Finding.{find_inside}

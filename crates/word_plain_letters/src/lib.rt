@@ -19,7 +19,6 @@ use step_quick_find::found_place;
 use step_quick_pair::kern_op;
 use words::i32s::word_at;
 use words::number_of;
-use words::sizes::{minus, smaller};
 
 // What is given of a kern pair: the op after its two items, and the code that is then next; 0 where nothing is.
 #[derive(Clone, Copy)]
@@ -141,7 +140,7 @@ pub fn give_pair(
     if q == 0 {
         return PairGiven { op: 0, next: 0 };
     }
-    if minus(items.len(), at) < 12 {
+    if items.len().saturating_sub(at) < 12 {
         return PairGiven { op: 0, next: 0 };
     }
     write_six(items, at, 0, word_at(ops, 2 * (q - 1) + 1), start, 1, 0, 0);
@@ -171,8 +170,7 @@ fn give_plain(
 {
     let none = pairs.len() / 6;
     let mut l = left;
-    let mut i = 0;
-    while i < n {
+    for i in 0..n {
         let y = word[read + i];
         if 255 < y {
             return PlainEnd {
@@ -191,11 +189,10 @@ fn give_plain(
         }
         write_six(items, 6 * (k + i), 0, l - 1, (given + i) as u32, 1, 0, 0);
         l = y + 1;
-        i += 1;
     }
     PlainEnd {
         left: l,
-        count: i,
+        count: n,
         pair: none,
     }
 }
@@ -249,9 +246,9 @@ pub fn give_letters(
     let mut op = s.op;
     let mut i = 0;
     let mut m = 0;
-    let n = minus(word.len(), s.read);
+    let n = word.len().saturating_sub(s.read);
     while i < n {
-        let most = smaller(items.len() / 6 - (k + m), n - i);
+        let most = (items.len() / 6 - (k + m)).min(n - i);
         let plain = give_plain(
             pairs,
             word,

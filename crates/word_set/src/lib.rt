@@ -16,7 +16,7 @@ use lang::Written;
 use step_quick_op::{is_ready, quick_step};
 use word_items::{is_item, put_item, stopped};
 use word_plain_letters::give_letters;
-use words::i32s::zero_i32;
+use words::slices::zero_all;
 
 // The step from a state in which letters ended, and the pair that stopped them if there is one: its first op at once,
 // or a last kern, and else by turns.
@@ -93,7 +93,7 @@ pub fn set_fresh(
         (length items.old / 6) (fresh_state word.now options)) items.old result
         items.new }
 {
-    zero_i32(items);
+    zero_all(items);
     let fresh = fresh_state(word, options);
     set_from(pairs, ops, boundary, word, options, fresh, items)
 }
@@ -111,7 +111,7 @@ pub fn set_word(
     ensures { Sets pairs.now ops.now boundary word.now options
         items.old result items.new }
 {
-    zero_i32(items);
+    zero_all(items);
     match begin(pairs, ops, boundary, word, options) {
         Begun::Run(state) => set_from(pairs, ops, boundary, word, options, state, items),
         Begun::Refused(n) => Written::Refused(n),

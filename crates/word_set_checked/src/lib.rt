@@ -12,7 +12,7 @@ use caption_run::edges::{edges_refusal, override_refusal, word_refusal};
 use captions::RunOptions;
 use lang::Written;
 use word_set::set_fresh;
-use words::i32s::zero_i32;
+use words::slices::zero_all;
 
 // 4, 6 or 20, the lowest that holds: begin's numbers but that of the table's form.
 pub fn checked_refusal(boundary: i32, word: &[u32], options: RunOptions) -> u32
@@ -49,7 +49,7 @@ pub fn set_checked_word(
 {
     let refusal = checked_refusal(boundary, word, options);
     if refusal != 0 {
-        zero_i32(items);
+        zero_all(items);
         return Written::Refused(refusal);
     }
     set_fresh(pairs, ops, boundary, word, options, items)

@@ -1,5 +1,5 @@
-// A slice of i32: an element read and stored as its 32 bits, and zeroing.
-ghost use Rattle.std.specs.Prelude.{◌≡◌, length, get_or, set, replicate, pos};
+// A slice of i32: an element read and stored as its 32 bits.
+ghost use Rattle.std.specs.Prelude.{◌≡◌, get_or, set, pos};
 ghost use Rattle.words.specs.Words.{number_of, Word};
 
 use super::{number_of, word_of};
@@ -23,16 +23,5 @@ pub fn put_word(s: &mut [i32], i: usize, w: u32)
     let x = number_of(w);
     if i < s.len() {
         s[i] = x;
-    }
-}
-
-// Every element becomes 0.
-pub fn zero_i32(s: &mut [i32])
-    ensures { s.new ≡ replicate (length s.old) (pos 0) }
-{
-    let mut i = 0;
-    while i < s.len() {
-        s[i] = 0;
-        i += 1;
     }
 }

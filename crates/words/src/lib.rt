@@ -1,16 +1,14 @@
-// Numbers as they are lent: i32 as its 32 bits and back, and slices, a file for each type of element. Nothing here has
-// a `requires`: an index past the end reads 0, and a store there does nothing.
-//   i32s, u32s, u64s, u8s   an element read, stored, and zeroing      sizes   the smaller of two, and what is left
+// Numbers as they are lent: i32 as its 32 bits and back, and slices. Nothing here has a `requires`: an index past the
+// end reads 0, and a store there does nothing.
+//   i32s     an element of i32 read and stored as its 32 bits
+//   slices   an element of any type of numbers read and stored, and zeroing
 #![tactic(auto)]
 
 ghost use Rattle.std.specs.Prelude.{◌≡◌};
 ghost use Rattle.words.specs.Words.{word_of, number_of};
 
 pub mod i32s;
-pub mod sizes;
-pub mod u32s;
-pub mod u64s;
-pub mod u8s;
+pub mod slices;
 
 // The 32 bits of x, two's complement.
 pub fn word_of(x: i32) -> u32

@@ -12,10 +12,10 @@ use Rattle.blame_given.specs.Given.{blamed_in}
 use Rattle.blame_cut.proofs.answer_cut.Statement.{statement}
 use Rattle.blame_cut.proofs.answer_cut.Tie as tie
 
-smaller-requires : tie.Need-smaller-p-requires
+smaller-requires : tie.Need-min-p-requires
 smaller-requires c κs = search rules
 
-smaller-requires-2 : tie.Need-smaller-o-requires
+smaller-requires-2 : tie.Need-min-o-requires
 smaller-requires-2 c κs = search rules
 
 slice-relend-prefix-answer-given : tie.Need-slice_bounds-answer_given-end
@@ -23,28 +23,28 @@ slice-relend-prefix-answer-given c = search rules
 
 slice-aggregate-answer-given : tie.Need-slice_bounds-answer_given-end-2
 slice-aggregate-answer-given c =
-    sym (length-take-le c.smaller-p.result c.args.pairs.now (omega (arith, c.smaller-p.ensures)))
+    sym (length-take-le c.min-p.result c.args.pairs.now (omega (arith, c.min-p.ensures)))
 
 slice-relend-prefix-answer-given-2 : tie.Need-slice_bounds-answer_given-end-3
 slice-relend-prefix-answer-given-2 c = search rules
 
 slice-aggregate-answer-given-2 : tie.Need-slice_bounds-answer_given-end-4
 slice-aggregate-answer-given-2 c =
-    sym (length-take-le c.smaller-o.result c.args.ops.now (omega (arith, c.smaller-o.ensures)))
+    sym (length-take-le c.min-o.result c.args.ops.now (omega (arith, c.min-o.ensures)))
 
 slice-relend-prefix-answer-given-3 : tie.Need-slice_bounds-answer_given-end-5
 slice-relend-prefix-answer-given-3 c = search rules
 
 slice-aggregate-answer-given-3 : tie.Need-slice_bounds-answer_given-end-6
 slice-aggregate-answer-given-3 c =
-    sym (length-take-le c.smaller-p.result c.args.pairs_without.now (omega (arith, c.smaller-p.ensures)))
+    sym (length-take-le c.min-p.result c.args.pairs_without.now (omega (arith, c.min-p.ensures)))
 
 slice-relend-prefix-answer-given-4 : tie.Need-slice_bounds-answer_given-end-7
 slice-relend-prefix-answer-given-4 c = search rules
 
 slice-aggregate-answer-given-4 : tie.Need-slice_bounds-answer_given-end-8
 slice-aggregate-answer-given-4 c =
-    sym (length-take-le c.smaller-o.result c.args.ops_without.now (omega (arith, c.smaller-o.ensures)))
+    sym (length-take-le c.min-o.result c.args.ops_without.now (omega (arith, c.min-o.ensures)))
 
 answer-given-requires : tie.Need-answer_given-requires
 answer-given-requires c κs = search rules
@@ -72,10 +72,10 @@ returns c =
     let a = c.args in
     c.answer_given.ensures
     ∙ (λ j. blamed_in (font_at a.instructions.now a.kerns.now a.entries.now a.numbers)
-    (room_of ((length-take-le c.smaller-p.result a.pairs.now (omega (arith, c.smaller-p.ensures)) ∙ c.smaller-p.ensures) j)
-    ((length-take-le c.smaller-o.result a.ops.now (omega (arith, c.smaller-o.ensures)) ∙ c.smaller-o.ensures) j) 0 (length a.work.now))
-    (room_of ((length-take-le c.smaller-p.result a.pairs_without.now (omega (arith, c.smaller-p.ensures)) ∙ c.smaller-p.ensures) j)
-    ((length-take-le c.smaller-o.result a.ops_without.now (omega (arith, c.smaller-o.ensures)) ∙ c.smaller-o.ensures) j) 0 (length a.work.now))
+    (room_of ((length-take-le c.min-p.result a.pairs.now (omega (arith, c.min-p.ensures)) ∙ c.min-p.ensures) j)
+    ((length-take-le c.min-o.result a.ops.now (omega (arith, c.min-o.ensures)) ∙ c.min-o.ensures) j) 0 (length a.work.now))
+    (room_of ((length-take-le c.min-p.result a.pairs_without.now (omega (arith, c.min-p.ensures)) ∙ c.min-p.ensures) j)
+    ((length-take-le c.min-o.result a.ops_without.now (omega (arith, c.min-o.ensures)) ∙ c.min-o.ensures) j) 0 (length a.work.now))
     (size_number a.numbers) a.word.now a.options (length a.edited.now))
 
 pub answer_cut_spec : {M : Type 1} → statement M

@@ -21,11 +21,11 @@ answer-compiled-requires c κs =
     tables_fit (font_at a.edited.now a.kerns.now a.entries.now a.numbers) (size_number a.numbers) a.pairs_without.now
     a.ops_without.now c.compile_loopless-compiled.new.pairs c.compile_loopless-compiled.new.ops a.work.now c.compile_loopless-compiled.new.work c.compile_loopless-compiled.result c.compile_loopless-compiled.ensures
 
-zero-i32-requires : tie.Need-zero_i32-requires
-zero-i32-requires c κs = search rules
+zero-all-requires : tie.Need-zero_all-requires
+zero-all-requires c κs = search rules
 
-zero-i32-requires-2 : tie.Need-zero_i32-requires-2
-zero-i32-requires-2 c κs = search rules
+zero-all-requires-2 : tie.Need-zero_all-requires-2
+zero-all-requires-2 c κs = search rules
 
 same_length : tie.Need-shape_of-pairs_without
 same_length c = search rules
@@ -47,8 +47,8 @@ returns c =
           ∙ compiled_is (font_at a.edited.now a.kerns.now a.entries.now a.numbers) (size_number a.numbers) a.pairs_without.now
           a.ops_without.now c.compile_loopless-compiled.new.pairs c.compile_loopless-compiled.new.ops a.work.now c.compile_loopless-compiled.new.work a.i a.word.now a.options a.pairs.now a.ops.now
           c.compile_loopless-compiled.result c.compile_loopless-compiled.ensures;
-      table = c.zero_i32.ensures ∙ ap (λ (m : ℕ). replicate m (pos 0)) c.compile_loopless-compiled.auto.pairs;
-      ops_table_lem = c.zero_i32-2.ensures ∙ ap (λ (m : ℕ). replicate m (pos 0)) c.compile_loopless-compiled.auto.ops;
+      table = c.zero_all.ensures ∙ ap (λ (m : ℕ). replicate m (pos 0)) c.compile_loopless-compiled.auto.pairs;
+      ops_table_lem = c.zero_all-2.ensures ∙ ap (λ (m : ℕ). replicate m (pos 0)) c.compile_loopless-compiled.auto.ops;
       cleared = c.compile_loopless-compiled.ensures.cleared;
     }
 
@@ -58,8 +58,8 @@ answer_edited_spec =
     (tie.spec
     compile-loopless-requires
     answer-compiled-requires
-    zero-i32-requires
-    zero-i32-requires-2
+    zero-all-requires
+    zero-all-requires-2
     same_length
     same-length-2
     same-length-3

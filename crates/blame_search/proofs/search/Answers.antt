@@ -1,7 +1,7 @@
 -- `blame_search::search` meets its contract.
 -- Assumes nothing.
 use Rattle.std.proofs.Common.{◌+◌, sym, ◌∙◌, arith}
-use Rattle.blame_search.proofs.Searching.{standing_none, standing_more, standing_found, standing_all}
+use Rattle.blame_search.proofs.Searching.{standing_none, standing_more, standing_found}
 use Rattle.blame_search.proofs.search.Goals as goal
 
 pub loop-i-init : goal.loop-i-init

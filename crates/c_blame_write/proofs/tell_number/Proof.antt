@@ -7,8 +7,8 @@ use Rattle.c_blame_write.proofs.Laws.{told_number_lem}
 use Rattle.c_blame_write.proofs.tell_number.Statement.{statement}
 use Rattle.c_blame_write.proofs.tell_number.Tie as tie
 
-zero-u64-requires : tie.Need-zero_u64-requires
-zero-u64-requires c κs = search rules
+zero-all-requires : tie.Need-zero_all-requires
+zero-all-requires c κs = search rules
 
 room-refusal-requires : tie.Need-room_refusal-requires
 room-refusal-requires c κs = search rules
@@ -22,13 +22,13 @@ same_length c = search rules
 returns : tie.Need-returns
 returns c =
     let a = c.args in
-    told_number_lem a.values.now c.zero_u64.ensures a.number _ (c.lower_of.ensures ∙ ap (lower a.number) c.room_refusal.ensures)
+    told_number_lem a.values.now c.zero_all.ensures a.number _ (c.lower_of.ensures ∙ ap (lower a.number) c.room_refusal.ensures)
 
 pub tell_number_spec : {M : Type 1} → statement M
 tell_number_spec =
     tie.close
     (tie.spec
-    zero-u64-requires
+    zero-all-requires
     room-refusal-requires
     lower-of-requires
     same_length

@@ -6,8 +6,8 @@ use Rattle.c_blame_write.proofs.Laws.{told_short, told_two}
 use Rattle.c_blame_write.proofs.tell_two.Statement.{statement}
 use Rattle.c_blame_write.proofs.tell_two.Tie as tie
 
-zero-u64-requires : tie.Need-zero_u64-requires
-zero-u64-requires c κs = search rules
+zero-all-requires : tie.Need-zero_all-requires
+zero-all-requires c κs = search rules
 
 same_length : tie.Need-shape_of-values-then-values-lt2
 same_length c = search rules
@@ -15,7 +15,7 @@ same_length c = search rules
 returns : tie.Need-returns-then-values-lt2
 returns c =
     let a = c.args in
-    told_short a.values.now c.zero_u64.ensures a.found a.index c.if-values-lt2.true
+    told_short a.values.now c.zero_all.ensures a.found a.index c.if-values-lt2.true
 
 slice-write-values : tie.Need-bounds-values-0
 slice-write-values c = search rules
@@ -29,13 +29,13 @@ same-length-2 c = search rules
 returns-2 : tie.Need-returns
 returns-2 c =
     let a = c.args in
-    told_two a.values.now c.zero_u64.ensures a.found a.index c.if-values-lt2.false refl
+    told_two a.values.now c.zero_all.ensures a.found a.index c.if-values-lt2.false refl
 
 pub tell_two_spec : {M : Type 1} → statement M
 tell_two_spec =
     tie.close
     (tie.spec
-    zero-u64-requires
+    zero-all-requires
     same_length
     returns
     slice-write-values

@@ -15,24 +15,24 @@ use borrow.Author.Rules.{rules}
 use Rattle.c_chip.proofs.ligkern_chip.Statement.{statement}
 use Rattle.c_chip.proofs.ligkern_chip.Tie as tie
 
-u8-at-requires : tie.Need-u8_at-requires
-u8-at-requires c κs = search rules
+item-at-requires : tie.Need-item_at-requires
+item-at-requires c κs = search rules
 
 begin-in-requires : tie.Need-begin_in-requires
 begin-in-requires c κs = search rules
 
-same_length : tie.Need-shape_of-block-then-u8_at-eq1
+same_length : tie.Need-shape_of-block-then-item_at-eq1
 same_length c = search rules
 
-same-length-2 : tie.Need-shape_of-chip-then-u8_at-eq1
+same-length-2 : tie.Need-shape_of-chip-then-item_at-eq1
 same-length-2 c = search rules
 
-returns : tie.Need-returns-then-u8_at-eq1
+returns : tie.Need-returns-then-item_at-eq1
 returns c =
     let a = c.args in
     let block = a.block.now in
     let ns = a.chip.now in
-    begin_told a.pairs.now a.ops.now a.boundary block ns (sym c.u8_at.ensures ∙ c.if-u8_at-eq1.true)
+    begin_told a.pairs.now a.ops.now a.boundary block ns (sym c.item_at.ensures ∙ c.if-item_at-eq1.true)
     (subst (λ (z : ℤ). MovesChip (after_early z (chip_read ns) (length block)
     (or_else (table_refusal a.pairs.now a.ops.now) (in_turn (may_begin (block_caller block) (chip_read ns)) (caller_refusal (block_caller block)))))
     (chip_begun (block_caller block) (chip_read ns)) block ns c.begin_in.result c.begin_in.new.block c.begin_in.new.list)
@@ -52,7 +52,7 @@ returns-2 c =
     let a = c.args in
     let block = a.block.now in
     let ns = a.chip.now in
-    turn_told a.pairs.now a.ops.now a.boundary block ns (λ e. c.if-u8_at-eq1.false (c.u8_at.ensures ∙ e))
+    turn_told a.pairs.now a.ops.now a.boundary block ns (λ e. c.if-item_at-eq1.false (c.item_at.ensures ∙ e))
     (subst (λ (z : ℤ). MovesChip (after_early z (chip_read ns) (length block) (other_refusal a.pairs.now a.ops.now z block (chip_read ns)))
     (chip_after a.pairs.now a.ops.now z block (chip_read ns)) block ns c.turn_in.result c.turn_in.new.block
     c.turn_in.new.list)
@@ -62,7 +62,7 @@ pub ligkern_chip_spec : {M : Type 1} → statement M
 ligkern_chip_spec =
     tie.close
     (tie.spec
-    u8-at-requires
+    item-at-requires
     begin-in-requires
     same_length
     same-length-2

@@ -56,8 +56,8 @@ part-state-in-end c = search rules
 state-in-requires : tie.Need-state_in-state-requires
 state-in-requires c κs = search rules
 
-u8-at-requires : tie.Need-u8_at-requires
-u8-at-requires c κs = search rules
+item-at-requires : tie.Need-item_at-requires
+item-at-requires c κs = search rules
 
 cast-list : tie.Need-overflow_cast-list
 cast-list c = search rules
@@ -79,7 +79,7 @@ add-list-2 c = search rules
 slice-write-list-2 : tie.Need-bounds-list-1-2
 slice-write-list-2 c =
     let ns = c.args.list.now in
-    omega (arith, chip_long ns c.requires.1, length-set ns (18 + get_or ns 1 0) c.u8_at.result)
+    omega (arith, chip_long ns c.requires.1, length-set ns (18 + get_or ns 1 0) c.item_at.result)
 
 show-changes-requires : tie.Need-show_changes-requires
 show-changes-requires c κs = search rules
@@ -91,7 +91,7 @@ same-length-2 : tie.Need-shape_of-list
 same-length-2 c =
     let ns = c.args.list.now in
     let n = get_or ns 1 0 in
-    let v = c.u8_at.result in
+    let v = c.item_at.result in
     let k : length c.show_changes.new.list ≡ length (set (set ns (18 + n) v) 1 (n + 1)) = search rules in
     k ∙ length-set (set ns (18 + n) v) 1 (n + 1) ∙ length-set ns (18 + n) v
 
@@ -106,7 +106,7 @@ returns-3 c =
     altered_moves (letter_altered ns c.requires.1 c.requires.2 y room) true End c.state_in-state.result block c.requires.0
     (may_add_lem ns c.requires.1 c.requires.2 y room o)
     (added_is ns c.requires.1 c.requires.2 y room o c.state_in-state.result (c.state_in-state.ensures ∙ state_given ns c.requires.1))
-    (subst (λ (v : ℕ). ShowsChanges true End c.state_in-state.result block (set (set ns (18 + n) v) 1 (n + 1)) c.show_changes.new.block c.show_changes.new.list) c.u8_at.ensures
+    (subst (λ (v : ℕ). ShowsChanges true End c.state_in-state.result block (set (set ns (18 + n) v) 1 (n + 1)) c.show_changes.new.block c.show_changes.new.list) c.item_at.ensures
     c.show_changes.ensures)
 
 pub add_letter_spec : {M : Type 1} → statement M
@@ -122,7 +122,7 @@ add_letter_spec =
     part-state-in-start
     part-state-in-end
     state-in-requires
-    u8-at-requires
+    item-at-requires
     cast-list
     add-list
     mul-list

@@ -27,17 +27,17 @@ module _ (c : tie.After-may_begin) where
   ns = c.args.list.now
 
   turn : c.may_begin.result ≡ may_begin (get_or block 1 0) (chip_at ns)
-  turn = c.may_begin.ensures ∙ ap (λ (x : ℕ). may_begin x (chip_at ns)) c.u8_at-caller.ensures
+  turn = c.may_begin.ensures ∙ ap (λ (x : ℕ). may_begin x (chip_at ns)) c.item_at-caller.ensures
 
 -- the list keeps its length
 list-kept : (c : tie.After-show_changes) →
     length c.show_changes.new.list ≡ length c.args.list.now
 list-kept c =
-    let l : c.u8_at-caller.result ≤ 7 = omega (arith, c.if-caller-gt7.false) in
-    opened_long c.args.list.now c.u8_at-caller.result c.requires.1 l c.args.state c.args.block.now c.show_changes.ensures
+    let l : c.item_at-caller.result ≤ 7 = omega (arith, c.if-caller-gt7.false) in
+    opened_long c.args.list.now c.item_at-caller.result c.requires.1 l c.args.state c.args.block.now c.show_changes.ensures
 
-u8-at-requires : tie.Need-u8_at-caller-requires
-u8-at-requires c κs = search rules
+item-at-requires : tie.Need-item_at-caller-requires
+item-at-requires c κs = search rules
 
 may-begin-requires : tie.Need-may_begin-requires
 may-begin-requires c κs = chip_long c.args.list.now c.requires.1
@@ -64,7 +64,7 @@ returns-2 : tie.Need-returns-then-caller-gt7
 returns-2 c =
     let caller = get_or (block (c.before.before)) 1 0 in
     let m : may_begin caller (chip_at (ns (c.before.before))) ≡ true = sym (turn (c.before.before)) ∙ c.if-not-may_begin.false in
-    let l : 7 < caller = omega (arith, c.u8_at-caller.ensures, c.if-caller-gt7.true) in
+    let l : 7 < caller = omega (arith, c.item_at-caller.ensures, c.if-caller-gt7.true) in
     refused_moves (chip_begun caller (chip_at (ns (c.before.before)))) (block (c.before.before)) (ns (c.before.before)) (rw (m, lt-leb caller 7 l)) (λ z. omega (arith, z))
 
 cast-list : tie.Need-overflow_cast-list
@@ -94,15 +94,15 @@ returns-3 c =
     let b = c.args.block.now in
     let caller = get_or b 1 0 in
     let m : may_begin caller (chip_at l) ≡ true = sym (turn (c.before.before.before.before.before.before.before.before.before)) ∙ c.if-not-may_begin.false in
-    let low : caller ≤ 7 = omega (arith, c.u8_at-caller.ensures, c.if-caller-gt7.false) in
+    let low : caller ≤ 7 = omega (arith, c.item_at-caller.ensures, c.if-caller-gt7.false) in
     opened_moves l caller c.requires.1 low c.args.state c.requires.3 (sym (ready_is l) ∙ all_taken caller (chip_at l) m) b c.requires.0 m
-    (subst (λ (x : ℕ). ShowsChanges true End c.args.state b (set l 90 x) c.show_changes.new.block c.show_changes.new.list) c.u8_at-caller.ensures c.show_changes.ensures)
+    (subst (λ (x : ℕ). ShowsChanges true End c.args.state b (set l 90 x) c.show_changes.new.block c.show_changes.new.list) c.item_at-caller.ensures c.show_changes.ensures)
 
 pub open_word_spec : {M : Type 1} → statement M
 open_word_spec =
     tie.close
     (tie.spec
-    u8-at-requires
+    item-at-requires
     may-begin-requires
     same_length
     same-length-2

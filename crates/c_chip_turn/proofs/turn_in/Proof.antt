@@ -23,7 +23,7 @@ use Rattle.c_chip_turn.proofs.turn_in.Statement.{statement}
 use Rattle.c_chip_turn.proofs.turn_in.Tie as tie
 
 -- what is lent, and what each call leaves, by the boundary character
-module _ (c : tie.After-u8_at) where
+module _ (c : tie.After-item_at) where
   abbrev pairs : List ℤ
   pairs = c.args.pairs.now
 
@@ -67,17 +67,17 @@ module _ (c : tie.After-u8_at) where
       MovesChip (after_early boundary chip (length block) number) after block ns r block ns
   refused e h = early_moves boundary ns block number after (e ∙ ap early lent) h
 
-  none : {r : ℕ} → r ≡ early (number_of (word_of boundary)) → r ≡ 0 → NoneOf (Unit {0}) c.u8_at.result (2 ∷ 3 ∷ 4 ∷ []) →
+  none : {r : ℕ} → r ≡ early (number_of (word_of boundary)) → r ≡ 0 → NoneOf (Unit {0}) c.item_at.result (2 ∷ 3 ∷ 4 ∷ []) →
       MovesChip (after_early boundary chip (length block) number) after block ns 21 block ns
   none e z n =
       let t = stood boundary ns (length block) (sym (e ∙ ap early lent) ∙ z) in
       let m : NoneOf (Unit {0}) (block_command block) (2 ∷ 3 ∷ 4 ∷ []) =
-      subst (λ (v : ℕ). NoneOf (Unit {0}) v (2 ∷ 3 ∷ 4 ∷ [])) c.u8_at.ensures n in
+      subst (λ (v : ℕ). NoneOf (Unit {0}) v (2 ∷ 3 ∷ 4 ∷ [])) c.item_at.ensures n in
       refused_moves after block ns
       (sym (after_is boundary ns (length block) number t ∙ none_does pairs ops boundary block chip m)) (λ q. omega (arith, q))
 
-u8-at-requires : tie.Need-u8_at-requires
-u8-at-requires c κs = search rules
+item-at-requires : tie.Need-item_at-requires
+item-at-requires c κs = search rules
 
 add-in-requires : tie.Need-add_in-requires
 add-in-requires c κs = search rules
@@ -109,7 +109,7 @@ same-length-4 c = search rules
 
 returns-2 : tie.Need-returns-in-2
 returns-2 c =
-    adds (pairs (c.before.before.before.before.before.before.before.before)) (ops (c.before.before.before.before.before.before.before.before)) (boundary (c.before.before.before.before.before.before.before.before)) (block (c.before.before.before.before.before.before.before.before)) (chip (c.before.before.before.before.before.before.before.before)) (sym c.u8_at.ensures ∙ c.in-2.is)
+    adds (pairs (c.before.before.before.before.before.before.before.before)) (ops (c.before.before.before.before.before.before.before.before)) (boundary (c.before.before.before.before.before.before.before.before)) (block (c.before.before.before.before.before.before.before.before)) (chip (c.before.before.before.before.before.before.before.before)) (sym c.item_at.ensures ∙ c.in-2.is)
     (subst (λ (z : ℤ). AddLeaves (c.before.before.before.before.before.before.before.before) z c.add_in.result c.add_in.new.block c.add_in.new.list) (lent (c.before.before.before.before.before.before.before.before)) c.add_in.ensures)
 
 same-length-5 : tie.Need-shape_of-block-in-3
@@ -120,7 +120,7 @@ same-length-6 c = search rules
 
 returns-3 : tie.Need-returns-in-3
 returns-3 c =
-    ends (pairs (c.before.before.before.before.before.before.before.before)) (ops (c.before.before.before.before.before.before.before.before)) (boundary (c.before.before.before.before.before.before.before.before)) (block (c.before.before.before.before.before.before.before.before)) (chip (c.before.before.before.before.before.before.before.before)) (sym c.u8_at.ensures ∙ c.in-3.is)
+    ends (pairs (c.before.before.before.before.before.before.before.before)) (ops (c.before.before.before.before.before.before.before.before)) (boundary (c.before.before.before.before.before.before.before.before)) (block (c.before.before.before.before.before.before.before.before)) (chip (c.before.before.before.before.before.before.before.before)) (sym c.item_at.ensures ∙ c.in-3.is)
     (subst (λ (z : ℤ). StepLeaves (c.before.before.before.before.before.before.before.before) true z c.step_turn.result c.step_turn.new.block c.step_turn.new.list) (lent (c.before.before.before.before.before.before.before.before)) c.step_turn.ensures)
 
 same-length-7 : tie.Need-shape_of-block-in-4
@@ -131,7 +131,7 @@ same-length-8 c = search rules
 
 returns-4 : tie.Need-returns-in-4
 returns-4 c =
-    takes (pairs (c.before.before.before.before.before.before.before.before)) (ops (c.before.before.before.before.before.before.before.before)) (boundary (c.before.before.before.before.before.before.before.before)) (block (c.before.before.before.before.before.before.before.before)) (chip (c.before.before.before.before.before.before.before.before)) (sym c.u8_at.ensures ∙ c.in-4.is)
+    takes (pairs (c.before.before.before.before.before.before.before.before)) (ops (c.before.before.before.before.before.before.before.before)) (boundary (c.before.before.before.before.before.before.before.before)) (block (c.before.before.before.before.before.before.before.before)) (chip (c.before.before.before.before.before.before.before.before)) (sym c.item_at.ensures ∙ c.in-4.is)
     (subst (λ (z : ℤ). StepLeaves (c.before.before.before.before.before.before.before.before) false z c.step_turn-in-4.result c.step_turn-in-4.new.block c.step_turn-in-4.new.list) (lent (c.before.before.before.before.before.before.before.before)) c.step_turn-in-4.ensures)
 
 same-length-9 : tie.Need-shape_of-block-else-refusal-ne0
@@ -148,7 +148,7 @@ pub turn_in_spec : {M : Type 1} → statement M
 turn_in_spec =
     tie.close
     (tie.spec
-    u8-at-requires
+    item-at-requires
     add-in-requires
     step-turn-requires
     step-turn-requires-2

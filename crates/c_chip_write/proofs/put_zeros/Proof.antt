@@ -8,24 +8,24 @@ use Rattle.c_chip_write.proofs.put_zeros.Tie as tie
 mul-zero-u64 : tie.Need-offset_bounds-list-from
 mul-zero-u64 c = search rules
 
-sub-zero-u64 : tie.Need-slice_bounds-zero_u64-count
+sub-zero-u64 : tie.Need-slice_bounds-zero_all-count
 sub-zero-u64 c = search rules
 
-part-zero-u64-start : tie.Need-slice_bounds-zero_u64-start
+part-zero-u64-start : tie.Need-slice_bounds-zero_all-start
 part-zero-u64-start c = search rules
 
-part-zero-u64-end : tie.Need-slice_bounds-zero_u64-end
+part-zero-u64-end : tie.Need-slice_bounds-zero_all-end
 part-zero-u64-end c = search rules
 
-zero-u64-requires : tie.Need-zero_u64-requires
-zero-u64-requires c κs = search rules
+zero-all-requires : tie.Need-zero_all-requires
+zero-all-requires c κs = search rules
 
 same_length : tie.Need-shape_of-list
 same_length c = search rules
 
 returns : tie.Need-returns
 returns c =
-    zeros_put c.args.list.now c.zero_u64.new.s c.args.from c.requires.0 c.requires.1 c.zero_u64.ensures
+    zeros_put c.args.list.now c.zero_all.new.s c.args.from c.requires.0 c.requires.1 c.zero_all.ensures
 
 pub put_zeros_spec : {M : Type 1} → statement M
 put_zeros_spec =
@@ -35,6 +35,6 @@ put_zeros_spec =
     sub-zero-u64
     part-zero-u64-start
     part-zero-u64-end
-    zero-u64-requires
+    zero-all-requires
     same_length
     returns)

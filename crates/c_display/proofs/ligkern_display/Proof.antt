@@ -21,8 +21,8 @@ room-refusal-requires c κs = search rules
 lower-of-requires : tie.Need-lower_of-number-requires
 lower-of-requires c κs = search rules
 
-keep-u8-requires : tie.Need-keep_u8-requires
-keep-u8-requires c κs = search rules
+keep-list-requires : tie.Need-keep_list-requires
+keep-list-requires c κs = search rules
 
 same_length : tie.Need-shape_of-text
 same_length c = search rules
@@ -34,11 +34,11 @@ returns : tie.Need-returns
 returns c =
     lent_two
     (λ (x y : ℤ). HostDisplays c.args.instructions.now c.args.kerns.now c.args.entries.now x y c.args.text.now
-    c.args.values.now c.lower_of-number.result c.keep_u8.new.out c.tell-told.new.values)
+    c.args.values.now c.lower_of-number.result c.keep_list.new.out c.tell-told.new.values)
     (number_word c.args.boundary c.ranges.boundary) (number_word c.args.left_entry c.ranges.left_entry)
     (host_displays c.args.instructions.now c.args.kerns.now c.args.entries.now (number_of (word_of c.args.boundary)) (number_of
     (word_of c.args.left_entry)) c.args.text.now c.args.values.now c.display-written.ensures c.tell-told.ensures
-    c.display-written.auto.text c.tell-told.auto.values c.room_refusal.ensures c.lower_of-number.ensures c.keep_u8.ensures)
+    c.display-written.auto.text c.tell-told.auto.values c.room_refusal.ensures c.lower_of-number.ensures c.keep_list.ensures)
 
 pub ligkern_display_spec : {M : Type 1} → statement M
 ligkern_display_spec =
@@ -48,7 +48,7 @@ ligkern_display_spec =
     tell-requires
     room-refusal-requires
     lower-of-requires
-    keep-u8-requires
+    keep-list-requires
     same_length
     same-length-2
     returns)

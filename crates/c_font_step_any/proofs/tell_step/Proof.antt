@@ -6,8 +6,8 @@ use borrow.Author.Rules.{rules}
 use Rattle.c_font_step_any.proofs.tell_step.Statement.{statement}
 use Rattle.c_font_step_any.proofs.tell_step.Tie as tie
 
-zero-i32-requires : tie.Need-zero_i32-requires
-zero-i32-requires c κs = search rules
+zero-all-requires : tie.Need-zero_all-requires
+zero-all-requires c κs = search rules
 
 refusal-of-requires : tie.Need-refusal_of-number-requires
 refusal-of-requires c κs = search rules
@@ -24,7 +24,7 @@ same_length c = search rules
 returns : tie.Need-returns-then-refusal-ne0
 returns c =
     let a = c.args in
-    step_refused a.stepped a.run.now a.item.now c.zero_i32.new.s c.zero_i32.ensures c.refusal_of-number.ensures c.room_refusal-room.ensures
+    step_refused a.stepped a.run.now a.item.now c.zero_all.new.s c.zero_all.ensures c.refusal_of-number.ensures c.room_refusal-room.ensures
     c.lower_of-refusal.ensures c.if-refusal-ne0.true
 
 tell-requires : tie.Need-tell-requires
@@ -42,19 +42,19 @@ same-length-3 c = search rules
 returns-2 : tie.Need-returns
 returns-2 c =
     let a = c.args in
-    let e = step_answered a.stepped a.run.now a.item.now c.zero_i32.new.s c.zero_i32.ensures c.refusal_of-number.ensures
+    let e = step_answered a.stepped a.run.now a.item.now c.zero_all.new.s c.zero_all.ensures c.refusal_of-number.ensures
     c.room_refusal-room.ensures c.lower_of-refusal.ensures c.if-refusal-ne0.false in
-    let h = has_room a.stepped a.run.now a.item.now c.zero_i32.new.s c.zero_i32.ensures c.refusal_of-number.ensures
+    let h = has_room a.stepped a.run.now a.item.now c.zero_all.new.s c.zero_all.ensures c.refusal_of-number.ensures
     c.room_refusal-room.ensures c.lower_of-refusal.ensures c.if-refusal-ne0.false in
-    step_taken a.stepped a.run.now a.item.now c.zero_i32.new.s c.zero_i32.ensures c.refusal_of-number.ensures c.room_refusal-room.ensures
+    step_taken a.stepped a.run.now a.item.now c.zero_all.new.s c.zero_all.ensures c.refusal_of-number.ensures c.room_refusal-room.ensures
     c.lower_of-refusal.ensures c.if-refusal-ne0.false (c.requires.1 e)
-    (told_sets c.zero_i32.new.s c.tell.new.item a.stepped.answer c.requires.0 h c.tell.ensures) c.put_run.ensures
+    (told_sets c.zero_all.new.s c.tell.new.item a.stepped.answer c.requires.0 h c.tell.ensures) c.put_run.ensures
 
 pub tell_step_spec : {M : Type 1} → statement M
 tell_step_spec =
     tie.close
     (tie.spec
-    zero-i32-requires
+    zero-all-requires
     refusal-of-requires
     room-refusal-requires
     lower-of-requires

@@ -10,14 +10,14 @@ from-pl-source-code-requires c κs = search rules
 tell-list-requires : tie.Need-tell_list-number-requires
 tell-list-requires c κs = search rules
 
-keep-i32-requires : tie.Need-keep_i32-requires
-keep-i32-requires c κs = search rules
+keep-list-requires : tie.Need-keep_list-requires
+keep-list-requires c κs = search rules
 
-keep-i32-requires-2 : tie.Need-keep_i32-requires-2
-keep-i32-requires-2 c κs = search rules
+keep-list-requires-2 : tie.Need-keep_list-requires-2
+keep-list-requires-2 c κs = search rules
 
-keep-i32-requires-3 : tie.Need-keep_i32-requires-3
-keep-i32-requires-3 c κs = search rules
+keep-list-requires-3 : tie.Need-keep_list-requires-3
+keep-list-requires-3 c κs = search rules
 
 same_length : tie.Need-shape_of-instructions
 same_length c = search rules
@@ -39,7 +39,7 @@ returns c =
     let a = c.args in
     host_reads a.text.now a.instructions.now a.kerns.now a.entries.now a.edges.now a.counts.now c.from_pl_source_code-font.ensures
     c.tell_list-number.ensures c.from_pl_source_code-font.auto.instructions c.from_pl_source_code-font.auto.kerns c.from_pl_source_code-font.auto.entries
-    c.keep_i32.ensures c.keep_i32-2.ensures c.keep_i32-3.ensures
+    c.keep_list.ensures c.keep_list-2.ensures c.keep_list-3.ensures
 
 pub ligkern_from_pl_source_code_spec : {M : Type 1} → statement M
 ligkern_from_pl_source_code_spec =
@@ -47,9 +47,9 @@ ligkern_from_pl_source_code_spec =
     (tie.spec
     from-pl-source-code-requires
     tell-list-requires
-    keep-i32-requires
-    keep-i32-requires-2
-    keep-i32-requires-3
+    keep-list-requires
+    keep-list-requires-2
+    keep-list-requires-3
     same_length
     same-length-2
     same-length-3

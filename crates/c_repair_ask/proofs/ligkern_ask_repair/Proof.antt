@@ -21,8 +21,8 @@ ask-repair-requires c κs = search rules
 tell-requires : tie.Need-tell-number-requires
 tell-requires c κs = search rules
 
-keep-i32-requires : tie.Need-keep_i32-requires
-keep-i32-requires c κs = search rules
+keep-list-requires : tie.Need-keep_list-requires
+keep-list-requires c κs = search rules
 
 same_length : tie.Need-shape_of-warnings
 same_length c = search rules
@@ -40,14 +40,14 @@ returns c =
     let font : ℤ → ℤ → ℤ → Damaged = (λ x y z. damaged_of a.instructions.now a.kerns.now a.entries.now x y z e a.passthrough.now) in
     let d = font (number_of (word_of a.boundary)) (number_of (word_of a.left_entry)) (number_of (word_of a.replacement)) in
     lent_three
-    (λ (x y z : ℤ). HostAsks (font x y z) a.warnings.now a.work.now a.values.now c.tell-number.result c.keep_i32.new.out
+    (λ (x y z : ℤ). HostAsks (font x y z) a.warnings.now a.work.now a.values.now c.tell-number.result c.keep_list.new.out
     c.ask_repair-written.new.work c.tell-number.new.values) (number_word a.boundary c.ranges.boundary)
     (number_word a.left_entry c.ranges.left_entry) (number_word a.replacement c.ranges.replacement)
     (record {
       gives =
           gives (pos 0) (ask_refusal d (length a.warnings.now) (length a.work.now)) (pos (length (warnings_of d) / 4) ∷ []) (warnings_of d)
           a.warnings.now a.values.now c.ask_repair-written.ensures.answer c.tell-number.ensures c.ask_repair-written.ensures.warned
-          c.ask_repair-written.auto.warnings c.keep_i32.ensures;
+          c.ask_repair-written.auto.warnings c.keep_list.ensures;
       cleared = c.ask_repair-written.ensures.cleared;
     })
 
@@ -57,7 +57,7 @@ ligkern_ask_repair_spec =
     (tie.spec
     ask-repair-requires
     tell-requires
-    keep-i32-requires
+    keep-list-requires
     same_length
     same-length-2
     same-length-3

@@ -18,10 +18,10 @@ commit-repair-requires c κs = search rules
 tell-left-requires : tie.Need-tell_left-number-requires
 tell-left-requires c κs = search rules
 
-keep-i32-requires : tie.Need-keep_i32-requires
+keep-i32-requires : tie.Need-keep_list-requires
 keep-i32-requires c κs = search rules
 
-keep-u8-requires : tie.Need-keep_u8-requires
+keep-u8-requires : tie.Need-keep_list-requires-2
 keep-u8-requires c κs = search rules
 
 same_length : tie.Need-shape_of-fixed
@@ -46,13 +46,13 @@ returns c =
     let font : ℤ → ℤ → ℤ → Damaged = (λ x y z. damaged_of a.instructions.now a.kerns.now a.entries.now x y z e a.passthrough.now) in
     lent_three
     (λ (x y z : ℤ). HostCommits (font x y z) a.warnings.now a.fixed.now a.through.now a.found.now a.work.now a.left.now
-    c.tell_left-number.result c.keep_i32.new.out c.keep_u8.new.out c.commit_repair-committed.new.found
+    c.tell_left-number.result c.keep_list.new.out c.keep_list-2.new.out c.commit_repair-committed.new.found
     c.commit_repair-committed.new.work c.tell_left-number.new.left) (number_word a.boundary c.ranges.boundary)
     (number_word a.left_entry c.ranges.left_entry) (number_word a.replacement c.ranges.replacement)
     (host_commits (font (number_of (word_of a.boundary)) (number_of (word_of a.left_entry)) (number_of (word_of a.replacement))) a.warnings.now
     a.fixed.now a.through.now a.found.now a.work.now a.left.now c.commit_repair-committed.ensures
     c.commit_repair-committed.auto.fixed c.commit_repair-committed.auto.through c.tell_left-number.ensures
-    c.keep_i32.ensures c.keep_u8.ensures)
+    c.keep_list.ensures c.keep_list-2.ensures)
 
 pub ligkern_commit_repair_spec : {M : Type 1} → statement M
 ligkern_commit_repair_spec =

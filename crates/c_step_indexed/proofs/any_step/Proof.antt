@@ -26,8 +26,8 @@ stepped c =
     (c.state_in-from.ensures j))
     ∙ indexed_from a.index.now a.pairs.now a.ops.now a.boundary a.word.now a.options (state_read a.state.now)
 
-zero-i32-requires : tie.Need-zero_i32-requires
-zero-i32-requires c κs = search rules
+zero-all-requires : tie.Need-zero_all-requires
+zero-all-requires c κs = search rules
 
 state-in-requires : tie.Need-state_in-from-requires
 state-in-requires c κs = search rules
@@ -53,7 +53,7 @@ same-length-2 c = search rules
 returns : tie.Need-returns-then-number-ne0
 returns c =
     let a = c.args in
-    steps_refused a.state.now a.item.now c.zero_i32.new.s c.zero_i32.ensures
+    steps_refused a.state.now a.item.now c.zero_all.new.s c.zero_all.ensures
     (indexed_step_in a.index.now a.pairs.now a.ops.now a.boundary a.word.now a.options a.state.now) c.step_indexed-stepped.result
     (stepped (c.before.before.before.before)) c.refusal_of-number.result c.refusal_of-number.ensures c.if-number-ne0.true c.lower_of.result
     (c.lower_of.ensures ∙ ap (lower c.refusal_of-number.result) c.room_refusal.ensures)
@@ -67,7 +67,7 @@ same-length-4 c = search rules
 returns-2 : tie.Need-returns-then-item-lt7
 returns-2 c =
     let a = c.args in
-    steps_short a.state.now a.item.now c.zero_i32.new.s c.zero_i32.ensures
+    steps_short a.state.now a.item.now c.zero_all.new.s c.zero_all.ensures
     (indexed_step_in a.index.now a.pairs.now a.ops.now a.boundary a.word.now a.options a.state.now) c.step_indexed-stepped.result
     (stepped (c.before.before.before)) c.refusal_of-number.result c.refusal_of-number.ensures c.if-number-ne0.false (omega (arith, c.if-item-lt7.true))
 
@@ -86,11 +86,11 @@ same-length-6 c = search rules
 returns-3 : tie.Need-returns
 returns-3 c =
     let a = c.args in
-    steps_taken a.state.now a.item.now c.zero_i32.new.s c.zero_i32.ensures
+    steps_taken a.state.now a.item.now c.zero_all.new.s c.zero_all.ensures
     (indexed_step_in a.index.now a.pairs.now a.ops.now a.boundary a.word.now a.options a.state.now) c.step_indexed-stepped.result
     (stepped (c.before.before.before.before.before.before.before.before.before.before.before)) c.refusal_of-number.result c.refusal_of-number.ensures c.if-number-ne0.false
     (indexed_long a.index.now a.pairs.now a.ops.now a.boundary a.word.now a.options a.state.now) c.if-item-lt7.false c.tell.new.item
-    (told_sets c.zero_i32.new.s c.tell.new.item c.step_indexed-stepped.result.answer
+    (told_sets c.zero_all.new.s c.tell.new.item c.step_indexed-stepped.result.answer
     (indexed_given_small a.index.now a.pairs.now a.ops.now a.boundary a.word.now a.options a.state.now c.step_indexed-stepped.result
     (stepped (c.before.before.before.before.before.before.before.before.before.before.before))) c.if-item-lt7.false
     c.tell.ensures) c.put_state.result
@@ -100,7 +100,7 @@ pub any_step_spec : {M : Type 1} → statement M
 any_step_spec =
     tie.close
     (tie.spec
-    zero-i32-requires
+    zero-all-requires
     state-in-requires
     step-indexed-requires
     refusal-of-requires

@@ -102,8 +102,8 @@ returns-3 c =
     (omega (arith, c.if-item-ne7.false)) c.tell.ensures)
     c.put_state.result c.put_state.new.list c.put_state.ensures)
 
-u32-at-requires : tie.Need-u32_at-requires
-u32-at-requires c κs = search rules
+item-at-requires : tie.Need-item_at-requires
+item-at-requires c κs = search rules
 
 place-by-requires : tie.Need-place_by-k-requires
 place-by-requires c κs = search rules
@@ -160,10 +160,10 @@ returns-6 c =
     let options = options_of a.disable_left_boundary (number_of (word_of a.right_boundary_override)) in
     let t : c.quick_step-stepped.result ≡ indexed_step_in a.index.now a.pairs.now a.ops.now b a.word.now options a.state.now =
     quick_told a.index.now a.pairs.now a.ops.now b a.word.now options a.state.now c.state_in-from.ensures c.quick_left-left.ensures
-    c.if-left-eq0.false c.u32_at.ensures c.place_by-k.ensures c.if-pairs-k.false c.is_ready.ensures (c.if-not-is_ready.false)
+    c.if-left-eq0.false c.item_at.ensures c.place_by-k.ensures c.if-pairs-k.false c.is_ready.ensures (c.if-not-is_ready.false)
     c.quick_step-stepped.ensures in
     let told = quick_item a.index.now a.pairs.now a.ops.now b a.word.now options a.state.now c.state_in-from.ensures c.quick_left-left.ensures
-    c.if-left-eq0.false c.u32_at.ensures c.place_by-k.ensures c.if-pairs-k.false c.is_ready.ensures (c.if-not-is_ready.false)
+    c.if-left-eq0.false c.item_at.ensures c.place_by-k.ensures c.if-pairs-k.false c.is_ready.ensures (c.if-not-is_ready.false)
     c.quick_step-stepped.ensures in
     as_lent (c.before.before.before.before.before.before.before.before.before.before.before.before.before.before.before.before.before.before.before.before.before)
     (told_at_once a.state.now a.item.now (indexed_step_in a.index.now a.pairs.now a.ops.now b a.word.now options a.state.now)
@@ -195,7 +195,7 @@ ligkern_step_indexed_spec =
     same-length-5
     same-length-6
     returns-3
-    u32-at-requires
+    item-at-requires
     place-by-requires
     any-step-requires-3
     same-length-7

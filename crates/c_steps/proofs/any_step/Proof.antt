@@ -16,7 +16,7 @@ use Rattle.c_steps.proofs.any_step.Statement.{statement}
 use Rattle.c_steps.proofs.any_step.Tie as tie
 
 -- the step is handed the state that stands in the list, and the boundary character as it was lent
-abbrev entered : tie.After-zero_i32 → tie.After-state_in-from
+abbrev entered : tie.After-zero_all → tie.After-state_in-from
 entered z = z.before.before.before.before
 
 abbrev start : tie.After-state_in-from → tie.Start
@@ -73,8 +73,8 @@ returns c =
     (omega (arith, c.if-item-eq7.true)) c.tell.ensures)
     c.put_state.result c.put_state.new.list c.put_state.ensures)
 
-zero-i32-requires : tie.Need-zero_i32-requires
-zero-i32-requires c κs = search rules
+zero-all-requires : tie.Need-zero_all-requires
+zero-all-requires c κs = search rules
 
 kern-step-requires : tie.Need-kern_step-stepped-requires
 kern-step-requires c κs = search rules
@@ -97,7 +97,7 @@ same-length-4 c = search rules
 returns-2 : tie.Need-returns-then-number-ne0
 returns-2 c =
     let a = (start (entered c.before.before.before.before.before.before)).args in
-    steps_refused a.state.now a.item.now c.zero_i32.new.s c.zero_i32.ensures
+    steps_refused a.state.now a.item.now c.zero_all.new.s c.zero_all.ensures
     (step_in a.pairs.now a.ops.now a.boundary a.word.now a.options a.state.now) c.kern_step-stepped.result (stepped (c.before.before.before.before)) c.refusal_of-number.result
     c.refusal_of-number.ensures c.if-number-ne0.true c.lower_of.result
     (c.lower_of.ensures ∙ ap (lower c.refusal_of-number.result) c.room_refusal.ensures)
@@ -111,7 +111,7 @@ same-length-6 c = search rules
 returns-3 : tie.Need-returns-then-item-lt7
 returns-3 c =
     let a = (start (entered c.before.before.before.before.before)).args in
-    steps_short a.state.now a.item.now c.zero_i32.new.s c.zero_i32.ensures
+    steps_short a.state.now a.item.now c.zero_all.new.s c.zero_all.ensures
     (step_in a.pairs.now a.ops.now a.boundary a.word.now a.options a.state.now) c.kern_step-stepped.result (stepped (c.before.before.before)) c.refusal_of-number.result
     c.refusal_of-number.ensures c.if-number-ne0.false (omega (arith, c.if-item-lt7.true))
 
@@ -130,11 +130,11 @@ same-length-8 c = search rules
 returns-4 : tie.Need-returns
 returns-4 c =
     let a = (start (entered c.before.before.before.before.before.before.before.before.before.before.before.before.before)).args in
-    steps_taken a.state.now a.item.now c.zero_i32.new.s c.zero_i32.ensures
+    steps_taken a.state.now a.item.now c.zero_all.new.s c.zero_all.ensures
     (step_in a.pairs.now a.ops.now a.boundary a.word.now a.options a.state.now) c.kern_step-stepped.result (stepped (c.before.before.before.before.before.before.before.before.before.before.before)) c.refusal_of-number.result
     c.refusal_of-number.ensures c.if-number-ne0.false
     (given_long a.pairs.now a.ops.now a.boundary a.word.now a.options a.state.now) c.if-item-lt7.false c.tell-2.new.item
-    (told_sets c.zero_i32.new.s c.tell-2.new.item c.kern_step-stepped.result.answer
+    (told_sets c.zero_all.new.s c.tell-2.new.item c.kern_step-stepped.result.answer
     (given_small a.pairs.now a.ops.now a.boundary a.word.now a.options a.state.now c.kern_step-stepped.result (stepped (c.before.before.before.before.before.before.before.before.before.before.before))) c.if-item-lt7.false
     c.tell-2.ensures) c.put_state-2.result
     c.put_state-2.new.list c.put_state-2.ensures
@@ -151,7 +151,7 @@ any_step_spec =
     same_length
     same-length-2
     returns
-    zero-i32-requires
+    zero-all-requires
     kern-step-requires
     refusal-of-requires
     room-refusal-requires

@@ -65,8 +65,8 @@ returns-2 : tie.Need-returns-then-left-eq0
 returns-2 c =
     as_lent c.before.before.before.before.before.before.before.before.before.before.before.before c.any_step-then-left-eq0.ensures
 
-u32-at-requires : tie.Need-u32_at-requires
-u32-at-requires c κs = search rules
+item-at-requires : tie.Need-item_at-requires
+item-at-requires c κs = search rules
 
 found-place-requires : tie.Need-found_place-k-requires
 found-place-requires c κs = search rules
@@ -95,7 +95,7 @@ tell-character-requires c κs =
     let a = c.args in
     told_asks a.pairs.now a.ops.now (number_of (word_of a.boundary)) a.word.now
     (options_of a.disable_left_boundary (number_of (word_of a.right_boundary_override))) a.state.now c.state_in-from.ensures
-    c.quick_left-left.ensures c.if-left-eq0.false c.u32_at.ensures c.found_place-k.ensures (ready (c.before)) c.quick_step-stepped.ensures a.item.now
+    c.quick_left-left.ensures c.if-left-eq0.false c.item_at.ensures c.found_place-k.ensures (ready (c.before)) c.quick_step-stepped.ensures a.item.now
     c.if-item-ne7.false
 
 put-state-requires : tie.Need-put_state-requires
@@ -113,7 +113,7 @@ returns-4 c =
     as_lent c.before.before.before.before.before.before.before.before.before.before.before.before.before.before.before.before.before.before.before
     (steps_told a.pairs.now a.ops.now (number_of (word_of a.boundary)) a.word.now
     (options_of a.disable_left_boundary (number_of (word_of a.right_boundary_override))) a.state.now c.state_in-from.ensures
-    c.quick_left-left.ensures c.if-left-eq0.false c.u32_at.ensures c.found_place-k.ensures (ready (c.before.before.before.before.before.before.before.before)) c.quick_step-stepped.ensures
+    c.quick_left-left.ensures c.if-left-eq0.false c.item_at.ensures c.found_place-k.ensures (ready (c.before.before.before.before.before.before.before.before)) c.quick_step-stepped.ensures
     a.item.now c.if-item-ne7.false c.tell_character.new.item c.tell_character.ensures c.put_state.result c.put_state.new.list
     c.put_state.ensures)
 
@@ -131,7 +131,7 @@ ligkern_step_spec =
     same-length-3
     same-length-4
     returns-2
-    u32-at-requires
+    item-at-requires
     found-place-requires
     is-ready-requires
     any-step-requires-3

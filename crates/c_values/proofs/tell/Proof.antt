@@ -9,8 +9,8 @@ use borrow.Author.Rules.{rules}
 use Rattle.c_values.proofs.tell.Statement.{statement}
 use Rattle.c_values.proofs.tell.Tie as tie
 
-zero-u64-requires : tie.Need-zero_u64-requires
-zero-u64-requires c κs = search rules
+zero-all-requires : tie.Need-zero_all-requires
+zero-all-requires c κs = search rules
 
 enum-known-written : tie.Need-enum_known-written
 enum-known-written c = search rules
@@ -24,8 +24,8 @@ same_length c = search rules
 returns : tie.Need-returns-then-values-eq0
 returns c =
     rw c.in-Count.is
-    (tells_short (pos c.in-Count.n ∷ []) c.args.values.now (omega (arith, c.if-values-eq0.true, c.zero_u64.auto.s))
-    c.zero_u64.ensures)
+    (tells_short (pos c.in-Count.n ∷ []) c.args.values.now (omega (arith, c.if-values-eq0.true, c.zero_all.auto.s))
+    c.zero_all.ensures)
 
 slice-write-values : tie.Need-bounds-values-0
 slice-write-values c = search rules
@@ -35,7 +35,7 @@ same-length-2 c = search rules
 
 returns-2 : tie.Need-returns-in-Refused
 returns-2 c =
-    rw c.in-Refused.is (tells_refused c.in-Refused.n c.args.values.now c.zero_u64.ensures)
+    rw c.in-Refused.is (tells_refused c.in-Refused.n c.args.values.now c.zero_all.ensures)
 
 same-length-3 : tie.Need-shape_of-values-else-values-eq0
 same-length-3 c = search rules
@@ -43,14 +43,14 @@ same-length-3 c = search rules
 returns-3 : tie.Need-returns-else-values-eq0
 returns-3 c =
     rw c.in-Count.is
-    (tells_taken (pos c.in-Count.n ∷ []) c.args.values.now (omega (arith, c.if-values-eq0.false, c.zero_u64.auto.s))
-    c.zero_u64.ensures refl)
+    (tells_taken (pos c.in-Count.n ∷ []) c.args.values.now (omega (arith, c.if-values-eq0.false, c.zero_all.auto.s))
+    c.zero_all.ensures refl)
 
 pub tell_spec : {M : Type 1} → statement M
 tell_spec =
     tie.close
     (tie.spec
-    zero-u64-requires
+    zero-all-requires
     enum-known-written
     enum-known-written-2
     same_length

@@ -12,8 +12,8 @@ use borrow.Author.Rules.{rules}
 use Rattle.c_word_count.proofs.ligkern_count_words.Statement.{statement}
 use Rattle.c_word_count.proofs.ligkern_count_words.Tie as tie
 
-zero-u64-requires : tie.Need-zero_u64-requires
-zero-u64-requires c κs = search rules
+zero-all-requires : tie.Need-zero_all-requires
+zero-all-requires c κs = search rules
 
 same_length : tie.Need-shape_of-values-then-values-lt2
 same_length c = search rules
@@ -22,7 +22,7 @@ returns : tie.Need-returns-then-values-lt2
 returns c =
     let a = c.args in
     let l = a.from_0 ∷ a.from_64 ∷ a.from_128 ∷ a.from_192 ∷ [] in
-    tells_short (pos (alphabet_size l) ∷ pos (word_count (alphabet_size l)) ∷ []) a.values.now (omega (arith, c.if-values-lt2.true, c.zero_u64.auto.s)) c.zero_u64.ensures
+    tells_short (pos (alphabet_size l) ∷ pos (word_count (alphabet_size l)) ∷ []) a.values.now (omega (arith, c.if-values-lt2.true, c.zero_all.auto.s)) c.zero_all.ensures
 
 alphabet-size-requires : tie.Need-alphabet_size-requires
 alphabet-size-requires c κs = search rules
@@ -47,14 +47,14 @@ returns-2 c =
     let a = c.args in
     let l = a.from_0 ∷ a.from_64 ∷ a.from_128 ∷ a.from_192 ∷ [] in
     tells_taken (pos (alphabet_size l) ∷ pos (word_count (alphabet_size l)) ∷ []) a.values.now
-    (omega (arith, c.if-values-lt2.false, c.zero_u64.auto.s)) c.zero_u64.ensures
-    (ap₂ (λ (m n : ℕ). set (set c.zero_u64.new.s 0 m) 1 n) c.alphabet_size.ensures c.word_count.ensures)
+    (omega (arith, c.if-values-lt2.false, c.zero_all.auto.s)) c.zero_all.ensures
+    (ap₂ (λ (m n : ℕ). set (set c.zero_all.new.s 0 m) 1 n) c.alphabet_size.ensures c.word_count.ensures)
 
 pub ligkern_count_words_spec : {M : Type 1} → statement M
 ligkern_count_words_spec =
     tie.close
     (tie.spec
-    zero-u64-requires
+    zero-all-requires
     same_length
     returns
     alphabet-size-requires

@@ -8,13 +8,13 @@ use Rattle.c_word_write.proofs.write_next.Statement.{statement}
 use Rattle.c_word_write.proofs.write_next.Tie as tie
 
 -- the places of the calls
-abbrev kept_at : tie.After-items-1 → tie.After-keep_i32
+abbrev kept_at : tie.After-items-1 → tie.After-keep_list
 kept_at e = e.before
 
-abbrev values-at : tie.After-items-1 → tie.After-zero_u64
+abbrev values-at : tie.After-items-1 → tie.After-zero_all-2
 values-at e = e.before.before.before.before.before.before.before.before.before.before
 
-abbrev next_at : tie.After-items-1 → tie.After-zero_u32
+abbrev next_at : tie.After-items-1 → tie.After-zero_all
 next_at e = (values-at e).before.before.before.before
 
 abbrev start : tie.After-items-1 → tie.Start
@@ -22,24 +22,24 @@ start e = (next_at e).before.before.before.before
 
 course : (e : tie.After-items-1) →
     Course (start e).args.told (start e).args.next.now (start e).args.items.now (start e).args.values.now
-    (next_at e).zero_u32.new.s (values-at e).zero_u64.new.s (kept_at e).keep_i32.new.out e.lower_of-number.result
+    (next_at e).zero_all.new.s (values-at e).zero_all-2.new.s (kept_at e).keep_list.new.out e.lower_of-number.result
 course e =
     record {
-      zero_next = (next_at e).zero_u32.ensures;
-      zero_values = (values-at e).zero_u64.ensures;
+      zero_next = (next_at e).zero_all.ensures;
+      zero_values = (values-at e).zero_all-2.ensures;
       number_is =
           e.lower_of-number.ensures
           ∙ ap₂ lower e.answer_refusal.ensures
           (e.lower_of-room.ensures
           ∙ ap₂ lower e.room_refusal.ensures
           e.room_refusal-2.ensures);
-      kept_items_lem = (kept_at e).keep_i32.ensures;
+      kept_items_lem = (kept_at e).keep_list.ensures;
     }
 
-zero-u32-requires : tie.Need-zero_u32-requires
+zero-u32-requires : tie.Need-zero_all-requires
 zero-u32-requires c κs = search rules
 
-zero-u64-requires : tie.Need-zero_u64-requires
+zero-u64-requires : tie.Need-zero_all-requires-2
 zero-u64-requires c κs = search rules
 
 room-refusal-requires : tie.Need-room_refusal-requires
@@ -57,7 +57,7 @@ answer-refusal-requires c κs = search rules
 lower-of-requires-2 : tie.Need-lower_of-number-requires
 lower-of-requires-2 c κs = search rules
 
-keep-i32-requires : tie.Need-keep_i32-requires
+keep-i32-requires : tie.Need-keep_list-requires
 keep-i32-requires c κs = search rules
 
 same_length : tie.Need-shape_of-next-then-number-ne0
@@ -72,8 +72,8 @@ same-length-3 c = search rules
 returns : tie.Need-returns-then-number-ne0
 returns c =
     let a = (start (c.before)).args in
-    next_refused a.told a.next.now a.items.now a.values.now (next_at (c.before)).zero_u32.new.s (values-at (c.before)).zero_u64.new.s
-    (kept_at (c.before)).keep_i32.new.out c.lower_of-number.result (course (c.before)) c.if-number-ne0.true
+    next_refused a.told a.next.now a.items.now a.values.now (next_at (c.before)).zero_all.new.s (values-at (c.before)).zero_all-2.new.s
+    (kept_at (c.before)).keep_list.new.out c.lower_of-number.result (course (c.before)) c.if-number-ne0.true
 
 put-letters-requires : tie.Need-put_letters-requires
 put-letters-requires c κs = search rules
@@ -81,8 +81,8 @@ put-letters-requires c κs = search rules
 put-values-requires : tie.Need-put_values-requires
 put-values-requires c κs =
     let a = (start (c.before.before.before.before.before.before.before)).args in
-    room_for_values a.told a.next.now a.items.now a.values.now (next_at (c.before.before.before.before.before.before.before)).zero_u32.new.s (values-at (c.before.before.before.before.before.before.before)).zero_u64.new.s
-    (kept_at (c.before.before.before.before.before.before.before)).keep_i32.new.out c.lower_of-number.result (course (c.before.before.before.before.before.before.before)) c.if-number-ne0.false
+    room_for_values a.told a.next.now a.items.now a.values.now (next_at (c.before.before.before.before.before.before.before)).zero_all.new.s (values-at (c.before.before.before.before.before.before.before)).zero_all-2.new.s
+    (kept_at (c.before.before.before.before.before.before.before)).keep_list.new.out c.lower_of-number.result (course (c.before.before.before.before.before.before.before)) c.if-number-ne0.false
 
 same-length-4 : tie.Need-shape_of-next
 same-length-4 c = search rules
@@ -96,8 +96,8 @@ same-length-6 c = search rules
 returns-2 : tie.Need-returns
 returns-2 c =
     let a = (start (c.before.before.before.before.before.before.before.before.before.before)).args in
-    next_taken a.told a.next.now a.items.now a.values.now (next_at (c.before.before.before.before.before.before.before.before.before.before)).zero_u32.new.s (values-at (c.before.before.before.before.before.before.before.before.before.before)).zero_u64.new.s
-    (kept_at (c.before.before.before.before.before.before.before.before.before.before)).keep_i32.new.out c.lower_of-number.result (course (c.before.before.before.before.before.before.before.before.before.before)) c.if-number-ne0.false
+    next_taken a.told a.next.now a.items.now a.values.now (next_at (c.before.before.before.before.before.before.before.before.before.before)).zero_all.new.s (values-at (c.before.before.before.before.before.before.before.before.before.before)).zero_all-2.new.s
+    (kept_at (c.before.before.before.before.before.before.before.before.before.before)).keep_list.new.out c.lower_of-number.result (course (c.before.before.before.before.before.before.before.before.before.before)) c.if-number-ne0.false
     c.put_letters.ensures c.put_values.ensures
 
 pub write_next_spec : {M : Type 1} → statement M

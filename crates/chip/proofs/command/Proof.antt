@@ -20,13 +20,13 @@ done c =
     let a = c.args in
     c.commanded-done.ensures
     ∙ (λ j. commanded_of a.pairs.now a.ops.now (number_word a.boundary c.ranges.boundary j) (length a.block.now)
-    (c.u8_at.ensures j ∷ c.u8_at-letter.ensures j ∷ []) a.chip)
+    (c.item_at.ensures j ∷ c.item_at-letter.ensures j ∷ []) a.chip)
 
-u8-at-requires : tie.Need-u8_at-letter-requires
-u8-at-requires c κs = search rules
+item-at-requires : tie.Need-item_at-letter-requires
+item-at-requires c κs = search rules
 
-u8-at-requires-2 : tie.Need-u8_at-requires
-u8-at-requires-2 c κs = search rules
+item-at-requires-2 : tie.Need-item_at-requires
+item-at-requires-2 c κs = search rules
 
 commanded-requires : tie.Need-commanded-done-requires
 commanded-requires c κs = search rules
@@ -62,8 +62,8 @@ pub command_spec : {M : Type 1} → statement M
 command_spec =
     tie.close
     (tie.spec
-    u8-at-requires
-    u8-at-requires-2
+    item-at-requires
+    item-at-requires-2
     commanded-requires
     same_length
     returns

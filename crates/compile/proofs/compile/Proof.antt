@@ -44,16 +44,16 @@ design-at-requires c κs = search rules
 font-refusal-requires : tie.Need-font_refusal-number-requires
 font-refusal-requires c κs = search rules
 
-zero-i32-requires : tie.Need-zero_i32-requires
+zero-i32-requires : tie.Need-zero_all-requires
 zero-i32-requires c κs = search rules
 
-zero-i32-requires-2 : tie.Need-zero_i32-requires-then-number-ne0
+zero-i32-requires-2 : tie.Need-zero_all-requires-then-number-ne0
 zero-i32-requires-2 c κs = search rules
 
-zero-i32-requires-3 : tie.Need-zero_i32-requires-then-number-ne0-2
+zero-i32-requires-3 : tie.Need-zero_all-requires-then-number-ne0-2
 zero-i32-requires-3 c κs = search rules
 
-zero-u32-requires : tie.Need-zero_u32-requires
+zero-u32-requires : tie.Need-zero_all-requires-then-number-ne0-3
 zero-u32-requires c κs = search rules
 
 same_length : tie.Need-shape_of-pairs-then-number-ne0
@@ -73,7 +73,7 @@ unfolding font late
 returns c =
     let a = c.args in
     refused (font (c.before.before.before.before.before.before.before.before.before.before.before.before.before.before.before.before.before)) (late (c.before.before.before.before.before.before.before.before.before.before.before.before.before.before.before.before.before)) a.pairs.now a.ops.now a.loops.now a.work.now c.font_refusal-number.result (early (c.before.before.before.before.before.before.before.before.before.before.before.before.before.before)) c.if-number-ne0.true
-    c.zero_i32.new.s c.zero_i32-then-number-ne0.new.s c.zero_i32-then-number-ne0-2.new.s c.zero_u32.new.s c.zero_i32.ensures c.zero_i32-then-number-ne0.ensures c.zero_i32-then-number-ne0-2.ensures c.zero_u32.ensures
+    c.zero_all.new.s c.zero_all-then-number-ne0.new.s c.zero_all-then-number-ne0-2.new.s c.zero_all-then-number-ne0-3.new.s c.zero_all.ensures c.zero_all-then-number-ne0.ensures c.zero_all-then-number-ne0-2.ensures c.zero_all-then-number-ne0-3.ensures
 
 write-lists-requires : tie.Need-write_lists-compiled-requires
 write-lists-requires c κs = search rules
@@ -81,13 +81,13 @@ write-lists-requires c κs = search rules
 asked-refusal-requires : tie.Need-asked_refusal-late-requires
 asked-refusal-requires c κs = search rules
 
-keep-i32-requires : tie.Need-keep_i32-requires
+keep-i32-requires : tie.Need-keep_list-requires
 keep-i32-requires c κs = search rules
 
-keep-i32-requires-2 : tie.Need-keep_i32-requires-2
+keep-i32-requires-2 : tie.Need-keep_list-requires-2
 keep-i32-requires-2 c κs = search rules
 
-keep-i32-requires-3 : tie.Need-keep_i32-requires-3
+keep-i32-requires-3 : tie.Need-keep_list-requires-3
 keep-i32-requires-3 c κs = search rules
 
 late-answer-requires : tie.Need-late_answer-requires
@@ -120,9 +120,9 @@ returns-2 c =
     compiled (font (c.before.before.before.before.before.before.before.before.before.before.before.before.before.before.before.before.before.before.before.before.before.before.before.before.before)) (late (c.before.before.before.before.before.before.before.before.before.before.before.before.before.before.before.before.before.before.before.before.before.before.before.before.before)) a.pairs.now a.ops.now a.loops.now a.work.now c.write_lists-compiled.result c.write_lists-compiled.new.pairs c.write_lists-compiled.new.ops c.write_lists-compiled.new.loops
     c.write_lists-compiled.auto.pairs c.write_lists-compiled.auto.ops c.write_lists-compiled.auto.loops c.write_lists-compiled.new.work (sym c.if-number-ne0.false ∙ early c.before.before.before.before.before.before.before.before.before.before.before.before.before.before.before.before.before.before.before.before.before.before) b c.late_answer.result
     (c.late_answer.ensures ∙ ap (λ (j : ℕ). late_answer j c.write_lists-compiled.result) n)
-    c.keep_i32.new.out c.keep_i32-2.new.out c.keep_i32-3.new.out
-    (c.keep_i32.ensures ∙ ap (λ (j : ℕ). kept j (pos 0) c.write_lists-compiled.new.pairs) n) (c.keep_i32-2.ensures ∙ ap (λ (j : ℕ). kept j (pos 0) c.write_lists-compiled.new.ops) n)
-    (c.keep_i32-3.ensures ∙ ap (λ (j : ℕ). kept j (pos 0) c.write_lists-compiled.new.loops) n)
+    c.keep_list.new.out c.keep_list-2.new.out c.keep_list-3.new.out
+    (c.keep_list.ensures ∙ ap (λ (j : ℕ). kept j (pos 0) c.write_lists-compiled.new.pairs) n) (c.keep_list-2.ensures ∙ ap (λ (j : ℕ). kept j (pos 0) c.write_lists-compiled.new.ops) n)
+    (c.keep_list-3.ensures ∙ ap (λ (j : ℕ). kept j (pos 0) c.write_lists-compiled.new.loops) n)
 
 pub compile_spec : {M : Type 1} → statement M
 compile_spec =

@@ -12,10 +12,10 @@ use borrow.Author.Rules.{rules}
 use Rattle.compile_lists.proofs.write_lists.Statement.{statement}
 use Rattle.compile_lists.proofs.write_lists.Tie as tie
 
-zero-i32-requires : tie.Need-zero_i32-requires
+zero-i32-requires : tie.Need-zero_all-requires
 zero-i32-requires c κs = search rules
 
-zero-i32-requires-2 : tie.Need-zero_i32-requires-2
+zero-i32-requires-2 : tie.Need-zero_all-requires-2
 zero-i32-requires-2 c κs = search rules
 
 write-ops-requires : tie.Need-write_ops-requires
@@ -32,13 +32,13 @@ write-pairs-requires c κs =
     let a = c.args in
     let u = c.write_ops.new in
     let f = font_of a.instructions.now a.kerns.now a.entries.now (pos 0) a.left_entry a.design_size in
-    let p = lent_as (λ (x : Font) (r : CountedFont). WritesOps x (length c.zero_i32.new.s) (length c.zero_i32-2.new.s) a.ops.now a.work.now u.ops u.work r)
+    let p = lent_as (λ (x : Font) (r : CountedFont). WritesOps x (length c.zero_all.new.s) (length c.zero_all-2.new.s) a.ops.now a.work.now u.ops u.work r)
     a.instructions.now a.kerns.now a.entries.now (pos 0) _ a.left_entry _ a.design_size c.write_ops.result _
     (c.write_ops.ensures (pos 0)) c.in-Sizes.is (number_word a.left_entry c.ranges.left_entry) (number_word a.design_size c.ranges.design_size)
     in (
       p.rows.4.ready,
       p.rows.3,
-      pairs_blank f a.pairs.now a.ops.now a.loops.now c.zero_i32.new.s c.zero_i32-2.new.s a.work.now u.work c.zero_i32.ensures c.zero_i32-2.ensures u.ops,
+      pairs_blank f a.pairs.now a.ops.now a.loops.now c.zero_all.new.s c.zero_all-2.new.s a.work.now u.work c.zero_all.ensures c.zero_all-2.ensures u.ops,
     )
 
 write-loops-requires : tie.Need-write_loops-requires
@@ -46,19 +46,19 @@ write-loops-requires c κs =
     let a = c.args in
     let u = c.write_ops.new in
     let f = font_of a.instructions.now a.kerns.now a.entries.now (pos 0) a.left_entry a.design_size in
-    let p = lent_as (λ (x : Font) (r : CountedFont). WritesOps x (length c.zero_i32.new.s) (length c.zero_i32-2.new.s) a.ops.now a.work.now u.ops u.work r)
+    let p = lent_as (λ (x : Font) (r : CountedFont). WritesOps x (length c.zero_all.new.s) (length c.zero_all-2.new.s) a.ops.now a.work.now u.ops u.work r)
     a.instructions.now a.kerns.now a.entries.now (pos 0) _ a.left_entry _ a.design_size c.write_ops.result _
     (c.write_ops.ensures (pos 0)) c.in-Sizes.is (number_word a.left_entry c.ranges.left_entry) (number_word a.design_size c.ranges.design_size)
     in (
-      few f a.pairs.now a.ops.now a.loops.now c.zero_i32.new.s c.zero_i32-2.new.s a.work.now u.work c.zero_i32.ensures c.zero_i32-2.ensures u.ops c.in-Sizes.n
+      few f a.pairs.now a.ops.now a.loops.now c.zero_all.new.s c.zero_all-2.new.s a.work.now u.work c.zero_all.ensures c.zero_all-2.ensures u.ops c.in-Sizes.n
           c.in-Sizes.m c.in-Sizes.total c.in-Sizes.r p,
-      loop_room f a.pairs.now a.ops.now a.loops.now c.zero_i32.new.s c.zero_i32-2.new.s a.work.now u.work c.zero_i32.ensures c.zero_i32-2.ensures u.ops
+      loop_room f a.pairs.now a.ops.now a.loops.now c.zero_all.new.s c.zero_all-2.new.s a.work.now u.work c.zero_all.ensures c.zero_all-2.ensures u.ops
           c.in-Sizes.n c.in-Sizes.m c.in-Sizes.total c.in-Sizes.r p,
-      loops_blank f a.pairs.now a.ops.now a.loops.now c.zero_i32.new.s c.zero_i32-2.new.s a.work.now u.work c.zero_i32.ensures c.zero_i32-2.ensures u.ops,
+      loops_blank f a.pairs.now a.ops.now a.loops.now c.zero_all.new.s c.zero_all-2.new.s a.work.now u.work c.zero_all.ensures c.zero_all-2.ensures u.ops,
       p.rows.4.listing,
     )
 
-zero-u32-requires : tie.Need-zero_u32-requires
+zero-u32-requires : tie.Need-zero_all-requires-in-Sizes
 zero-u32-requires c κs = search rules
 
 cast-t41 : tie.Need-overflow_cast-result
@@ -81,10 +81,10 @@ returns c = λ b.
     let a = c.args in
     let u = c.write_ops.new in
     let f = font_of a.instructions.now a.kerns.now a.entries.now b a.left_entry a.design_size in
-    let p = lent_as (λ (x : Font) (r : CountedFont). WritesOps x (length c.zero_i32.new.s) (length c.zero_i32-2.new.s) a.ops.now a.work.now u.ops u.work r)
+    let p = lent_as (λ (x : Font) (r : CountedFont). WritesOps x (length c.zero_all.new.s) (length c.zero_all-2.new.s) a.ops.now a.work.now u.ops u.work r)
     a.instructions.now a.kerns.now a.entries.now b _ a.left_entry _ a.design_size c.write_ops.result _ (c.write_ops.ensures b)
     c.in-Refused.is (number_word a.left_entry c.ranges.left_entry) (number_word a.design_size c.ranges.design_size) in
-    unfit f a.pairs.now a.ops.now a.loops.now c.zero_i32.new.s c.zero_i32-2.new.s a.work.now u.work c.zero_i32.ensures c.zero_i32-2.ensures u.ops c.in-Refused.number p
+    unfit f a.pairs.now a.ops.now a.loops.now c.zero_all.new.s c.zero_all-2.new.s a.work.now u.work c.zero_all.ensures c.zero_all-2.ensures u.ops c.in-Refused.number p
 
 same-length-5 : tie.Need-shape_of-pairs-in-Sizes
 same-length-5 c = search rules
@@ -103,12 +103,12 @@ returns-2 c = λ b.
     let a = c.args in
     let u = c.write_ops.new in
     let f = font_of a.instructions.now a.kerns.now a.entries.now b a.left_entry a.design_size in
-    let p = lent_as (λ (x : Font) (r : CountedFont). WritesOps x (length c.zero_i32.new.s) (length c.zero_i32-2.new.s) a.ops.now a.work.now u.ops u.work r)
+    let p = lent_as (λ (x : Font) (r : CountedFont). WritesOps x (length c.zero_all.new.s) (length c.zero_all-2.new.s) a.ops.now a.work.now u.ops u.work r)
     a.instructions.now a.kerns.now a.entries.now b _ a.left_entry _ a.design_size c.write_ops.result _ (c.write_ops.ensures b)
     c.in-Sizes.is (number_word a.left_entry c.ranges.left_entry) (number_word a.design_size c.ranges.design_size) in
-    built f a.pairs.now a.ops.now a.loops.now c.zero_i32.new.s c.zero_i32-2.new.s a.work.now u.work c.zero_i32.ensures c.zero_i32-2.ensures u.ops c.in-Sizes.n
-    c.in-Sizes.m c.in-Sizes.total c.in-Sizes.r p c.write_pairs-numbers.result c.write_pairs-numbers.new.pairs c.write_loops.new.out c.zero_u32.new.s c.write_pairs-numbers.ensures.0 c.write_pairs-numbers.ensures.1
-    c.write_loops.ensures c.zero_u32.ensures
+    built f a.pairs.now a.ops.now a.loops.now c.zero_all.new.s c.zero_all-2.new.s a.work.now u.work c.zero_all.ensures c.zero_all-2.ensures u.ops c.in-Sizes.n
+    c.in-Sizes.m c.in-Sizes.total c.in-Sizes.r p c.write_pairs-numbers.result c.write_pairs-numbers.new.pairs c.write_loops.new.out c.zero_all-in-Sizes.new.s c.write_pairs-numbers.ensures.0 c.write_pairs-numbers.ensures.1
+    c.write_loops.ensures c.zero_all-in-Sizes.ensures
 
 pub write_lists_spec : {M : Type 1} → statement M
 write_lists_spec =

@@ -14,8 +14,8 @@ count-ops-requires c κs = search rules
 sizes-refusal-requires : tie.Need-sizes_refusal-number-requires
 sizes-refusal-requires c κs = search rules
 
-zero-u32-requires : tie.Need-zero_u32-requires
-zero-u32-requires c κs = search rules
+zero-all-requires : tie.Need-zero_all-requires
+zero-all-requires c κs = search rules
 
 same_length : tie.Need-shape_of-work-then-number-ne0
 same_length c = search rules
@@ -23,8 +23,8 @@ same_length c = search rules
 returns : tie.Need-returns-then-number-ne0
 returns c = λ f g.
     let a = c.args in
-    refused f a.n a.m a.r a.work.now g c.count_ops-total.result c.count_ops-total.new.work c.count_ops-total.ensures a.scaled a.op_room a.loop_room c.sizes_refusal-number.result c.zero_u32.new.s
-    c.sizes_refusal-number.ensures c.if-number-ne0.true (c.zero_u32.ensures ∙ ap (λ (n : ℕ). replicate n 0) c.count_ops-total.auto.work)
+    refused f a.n a.m a.r a.work.now g c.count_ops-total.result c.count_ops-total.new.work c.count_ops-total.ensures a.scaled a.op_room a.loop_room c.sizes_refusal-number.result c.zero_all.new.s
+    c.sizes_refusal-number.ensures c.if-number-ne0.true (c.zero_all.ensures ∙ ap (λ (n : ℕ). replicate n 0) c.count_ops-total.auto.work)
 
 first-ops-requires : tie.Need-first_ops-requires
 first-ops-requires c κs =
@@ -53,7 +53,7 @@ measure_spec =
     (tie.spec
     count-ops-requires
     sizes-refusal-requires
-    zero-u32-requires
+    zero-all-requires
     same_length
     returns
     first-ops-requires

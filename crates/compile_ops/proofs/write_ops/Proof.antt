@@ -13,8 +13,8 @@ use borrow.Author.Rules.{rules}
 use Rattle.compile_ops.proofs.write_ops.Statement.{statement}
 use Rattle.compile_ops.proofs.write_ops.Tie as tie
 
-zero-i32-requires : tie.Need-zero_i32-requires
-zero-i32-requires c κs = search rules
+zero-all-requires : tie.Need-zero_all-requires
+zero-all-requires c κs = search rules
 
 count-requires : tie.Need-count-requires
 count-requires c κs = search rules
@@ -32,14 +32,14 @@ write-rows-requires c κs =
     let f = font_of a.instructions.now a.kerns.now a.entries.now (pos 0) a.left_entry a.design_size in
     let p =
     (lent_as
-    (λ (x : Font) (r : CountedFont). CountsFont x (room_of a.pair_room (length c.zero_i32.new.s) a.loop_room (length a.work.now))
+    (λ (x : Font) (r : CountedFont). CountsFont x (room_of a.pair_room (length c.zero_all.new.s) a.loop_room (length a.work.now))
     a.work.now w r) a.instructions.now a.kerns.now a.entries.now (pos 0) _ a.left_entry _ a.design_size
     c.count.result _ (c.count.ensures (pos 0)) c.in-Sizes.is (number_word a.left_entry c.ranges.left_entry)
     (number_word a.design_size c.ranges.design_size)).rows in (
       p.4.ready,
-      op_room f a.pair_room a.loop_room a.ops.now c.zero_i32.new.s a.work.now w c.zero_i32.ensures c.in-Sizes.n c.in-Sizes.m c.in-Sizes.total
+      op_room f a.pair_room a.loop_room a.ops.now c.zero_all.new.s a.work.now w c.zero_all.ensures c.in-Sizes.n c.in-Sizes.m c.in-Sizes.total
           c.in-Sizes.r p,
-      blank_still f a.pair_room a.loop_room a.ops.now c.zero_i32.new.s a.work.now w c.zero_i32.ensures c.in-Sizes.n c.in-Sizes.m c.in-Sizes.total
+      blank_still f a.pair_room a.loop_room a.ops.now c.zero_all.new.s a.work.now w c.zero_all.ensures c.in-Sizes.n c.in-Sizes.m c.in-Sizes.total
           c.in-Sizes.r p,
     )
 
@@ -55,12 +55,12 @@ returns c = λ b.
     let w = c.count.new.work in
     let p =
     (lent_as
-    (λ (x : Font) (r : CountedFont). CountsFont x (room_of a.pair_room (length c.zero_i32.new.s) a.loop_room (length a.work.now))
+    (λ (x : Font) (r : CountedFont). CountsFont x (room_of a.pair_room (length c.zero_all.new.s) a.loop_room (length a.work.now))
     a.work.now w r) a.instructions.now a.kerns.now a.entries.now b _ a.left_entry _ a.design_size c.count.result _
     (c.count.ensures b) c.in-Refused.is (number_word a.left_entry c.ranges.left_entry) (number_word a.design_size c.ranges.design_size)).rows
     in
     unfit (font_of a.instructions.now a.kerns.now a.entries.now b a.left_entry a.design_size) a.pair_room a.loop_room
-    a.ops.now c.zero_i32.new.s a.work.now w c.zero_i32.ensures c.in-Refused.number p
+    a.ops.now c.zero_all.new.s a.work.now w c.zero_all.ensures c.in-Refused.number p
 
 same-length-3 : tie.Need-shape_of-ops-in-Sizes
 same-length-3 c = search rules
@@ -74,18 +74,18 @@ returns-2 c = λ b.
     let w = c.count.new.work in
     let p =
     (lent_as
-    (λ (x : Font) (r : CountedFont). CountsFont x (room_of a.pair_room (length c.zero_i32.new.s) a.loop_room (length a.work.now))
+    (λ (x : Font) (r : CountedFont). CountsFont x (room_of a.pair_room (length c.zero_all.new.s) a.loop_room (length a.work.now))
     a.work.now w r) a.instructions.now a.kerns.now a.entries.now b _ a.left_entry _ a.design_size c.count.result _
     (c.count.ensures b) c.in-Sizes.is (number_word a.left_entry c.ranges.left_entry) (number_word a.design_size c.ranges.design_size)).rows
     in
     written (font_of a.instructions.now a.kerns.now a.entries.now b a.left_entry a.design_size) a.pair_room a.loop_room
-    a.ops.now c.zero_i32.new.s a.work.now w c.zero_i32.ensures c.in-Sizes.n c.in-Sizes.m c.in-Sizes.total c.in-Sizes.r p c.write_rows.new.ops c.write_rows.ensures
+    a.ops.now c.zero_all.new.s a.work.now w c.zero_all.ensures c.in-Sizes.n c.in-Sizes.m c.in-Sizes.total c.in-Sizes.r p c.write_rows.new.ops c.write_rows.ensures
 
 pub write_ops_spec : {M : Type 1} → statement M
 write_ops_spec =
     tie.close
     (tie.spec
-    zero-i32-requires
+    zero-all-requires
     count-requires
     enum-known-number
     enum-known-n

@@ -12,18 +12,18 @@ use Rattle.compile_settle.proofs.last_of.Statement.{statement}
 use Rattle.compile_settle.proofs.last_of.Tie as tie
 
 -- the row that was found
-found-row : (c : tie.In-Found) →
-    row_of c.args.work.now c.args.n c.args.left c.args.right ≡ some c.in-Found.j
+found-row : (c : tie.In-Some) →
+    row_of c.args.work.now c.args.n c.args.left c.args.right ≡ some c.in-Some.j
 found-row c =
-    found_is (row_of c.args.work.now c.args.n c.args.left c.args.right) c.find.result c.in-Found.j
-    (c.find.ensures ∙ ap found_row (search_row_lem c.args.n c.args.work.now c.requires.0.encoded.ascending c.args.left c.args.right c.requires.2)) c.in-Found.is
+    found_is (row_of c.args.work.now c.args.n c.args.left c.args.right) c.find.result c.in-Some.j
+    (c.find.ensures ∙ ap found_row (search_row_lem c.args.n c.args.work.now c.requires.0.encoded.ascending c.args.left c.args.right c.requires.2)) c.in-Some.is
 
-row_few : (c : tie.In-Found) → c.in-Found.j < 65792
+row_few : (c : tie.In-Some) → c.in-Some.j < 65792
 row_few c =
     omega (
       arith,
       c.requires.0.encoded.ascending.few,
-      found_less c.args.n c.args.work.now c.requires.0.encoded.ascending c.args.left c.args.right c.in-Found.j
+      found_less c.args.n c.args.work.now c.requires.0.encoded.ascending c.args.left c.args.right c.in-Some.j
           (found-row c),
     )
 
@@ -54,13 +54,13 @@ get-requires-3 c κs = search rules
 returns-2 : tie.Need-returns-then-get-eq2
 returns-2 c =
     rw (c.get-code.ensures, c.get-flag.ensures)
-    (says_done c.args.n c.args.work.now c.requires.0.encoded.ascending c.args.left c.args.right c.in-Found.j (found-row (c.before.before.before.before))
+    (says_done c.args.n c.args.work.now c.requires.0.encoded.ascending c.args.left c.args.right c.in-Some.j (found-row (c.before.before.before.before))
     c.requires.0
     (sym c.get.ensures ∙ c.if-get-eq2.true))
 
 returns-3 : tie.Need-returns-else-get-eq2
 returns-3 c =
-    says_open c.args.n c.args.work.now c.requires.0.encoded.ascending c.args.left c.args.right c.in-Found.j (found-row (c.before.before))
+    says_open c.args.n c.args.work.now c.requires.0.encoded.ascending c.args.left c.args.right c.in-Some.j (found-row (c.before.before))
     (λ e. c.if-get-eq2.false (c.get.ensures ∙ e))
 
 pub last_of_spec : {M : Type 1} → statement M

@@ -17,7 +17,7 @@ abbrev start : tie.After-unpack_refusal-refusal → tie.Start
 start r = r.before.before.before.before.before.before.before
 
 abbrev zeros : tie.After-unpack_refusal-refusal → List ℕ
-zeros r = r.zero_u8.new.s
+zeros r = r.zero_all.new.s
 
 asked : (r : tie.After-unpack_refusal-refusal) →
     r.unpack_refusal-refusal.result ≡ unpack_refusal (start r).args.instructions.now (start r).args.entry (start r).args.passthrough.now (length (zeros r))
@@ -27,8 +27,8 @@ asked r =
     ∙ ap (λ (z : ℤ). unpack_refusal s.args.instructions.now z s.args.passthrough.now (length (zeros r)))
     (number_word s.args.entry s.ranges.entry)
 
-zero-u8-requires : tie.Need-zero_u8-requires
-zero-u8-requires c κs = search rules
+zero-all-requires : tie.Need-zero_all-requires
+zero-all-requires c κs = search rules
 
 unpack-refusal-requires : tie.Need-unpack_refusal-refusal-requires
 unpack-refusal-requires c κs = search rules
@@ -42,7 +42,7 @@ same_length c = search rules
 returns : tie.Need-returns-then-refusal-ne0
 returns c =
     let a = (start (c.before.before)).args in
-    unpacks_refused a.instructions.now a.entry a.passthrough.now a.out.now (zeros (c.before.before)) c.zero_u8.ensures
+    unpacks_refused a.instructions.now a.entry a.passthrough.now a.out.now (zeros (c.before.before)) c.zero_all.ensures
     (asked (c.before.before)) c.if-refusal-ne0.true c.refused.result c.refused.ensures
 
 word-of-requires : tie.Need-word_of-place-requires
@@ -54,7 +54,7 @@ cast-place c = search rules
 put-passthrough-requires : tie.Need-put_passthrough-requires
 put-passthrough-requires c κs =
     let a = (start (c.before.before.before)).args in
-    unpacks_room a.instructions.now a.entry a.passthrough.now a.out.now (zeros (c.before.before.before)) c.zero_u8.ensures (asked (c.before.before.before))
+    unpacks_room a.instructions.now a.entry a.passthrough.now a.out.now (zeros (c.before.before.before)) c.zero_all.ensures (asked (c.before.before.before))
     c.if-refusal-ne0.false
 
 stands-for-requires : tie.Need-stands_for-requires
@@ -67,14 +67,14 @@ returns-2 : tie.Need-returns
 returns-2 c =
     let s = start (c.before.before.before.before.before.before.before) in
     let a = s.args in
-    unpacks_entry a.instructions.now a.entry a.passthrough.now a.out.now (zeros (c.before.before.before.before.before.before.before)) c.zero_u8.ensures (asked (c.before.before.before.before.before.before.before))
+    unpacks_entry a.instructions.now a.entry a.passthrough.now a.out.now (zeros (c.before.before.before.before.before.before.before)) c.zero_all.ensures (asked (c.before.before.before.before.before.before.before))
     c.if-refusal-ne0.false (c.word_of-place.ensures ∙ ap word_of (number_word a.entry s.ranges.entry)) c.put_passthrough.ensures c.stands_for.ensures
 
 pub unpack_entrypoint_spec : {M : Type 1} → statement M
 unpack_entrypoint_spec =
     tie.close
     (tie.spec
-    zero-u8-requires
+    zero-all-requires
     unpack-refusal-requires
     refused-requires
     same_length

@@ -12,8 +12,8 @@ use Rattle.file_chars.proofs.char_word.Tie as tie
 mul-u8-at : tie.Need-overflow_mul-w
 mul-u8-at c = search rules
 
-u8-at-requires : tie.Need-u8_at-first-requires
-u8-at-requires c κs = search rules
+item-at-requires : tie.Need-item_at-first-requires
+item-at-requires c κs = search rules
 
 cast-first : tie.Need-overflow_cast-first
 cast-first c = search rules
@@ -24,8 +24,8 @@ mul-u8-at-2 c = search rules
 add-u8-at : tie.Need-overflow_add-w
 add-u8-at c = search rules
 
-u8-at-requires-2 : tie.Need-u8_at-second-requires
-u8-at-requires-2 c κs = search rules
+item-at-requires-2 : tie.Need-item_at-second-requires
+item-at-requires-2 c κs = search rules
 
 cast-second : tie.Need-overflow_cast-second
 cast-second c = search rules
@@ -64,20 +64,20 @@ returns : tie.Need-returns
 returns c =
     let a = c.args in
     let e : 4 * a.w ≡ 4 * a.w + 0 = omega arith in
-    joined_bytes c.u8_at-first.result c.u8_at-second.result c.tag_byte-third.result c.remainder_byte.result (omega arith) (omega arith) (omega arith)
+    joined_bytes c.item_at-first.result c.item_at-second.result c.tag_byte-third.result c.remainder_byte.result (omega arith) (omega arith) (omega arith)
     (omega arith)
-    ∙ rw (c.u8_at-first.ensures ∙ ap (λ (k : ℕ). get_or a.old.now k 0) e, c.u8_at-second.ensures, c.tag_byte-third.ensures, c.remainder_byte.ensures)
+    ∙ rw (c.item_at-first.ensures ∙ ap (λ (k : ℕ). get_or a.old.now k 0) e, c.item_at-second.ensures, c.tag_byte-third.ensures, c.remainder_byte.ensures)
 
 pub char_word_spec : {M : Type 1} → statement M
 char_word_spec =
     tie.close
     (tie.spec
     mul-u8-at
-    u8-at-requires
+    item-at-requires
     cast-first
     mul-u8-at-2
     add-u8-at
-    u8-at-requires-2
+    item-at-requires-2
     cast-second
     tag-byte-requires
     cast-third

@@ -19,29 +19,29 @@ mul-u8-at c = search rules
 add-u8-at : tie.Need-overflow_add-w
 add-u8-at c = search rules
 
-u8-at-requires : tie.Need-u8_at-requires
-u8-at-requires c κs = search rules
+item-at-requires : tie.Need-item_at-requires
+item-at-requires c κs = search rules
 
-mul-u8-at-2 : tie.Need-overflow_mul-w-else-u8_at-eq1
+mul-u8-at-2 : tie.Need-overflow_mul-w-else-item_at-eq1
 mul-u8-at-2 c = search rules
 
-add-u8-at-2 : tie.Need-overflow_add-w-else-u8_at-eq1
+add-u8-at-2 : tie.Need-overflow_add-w-else-item_at-eq1
 add-u8-at-2 c = search rules
 
-u8-at-requires-2 : tie.Need-u8_at-requires-else-u8_at-eq1
-u8-at-requires-2 c κs = search rules
+item-at-requires-2 : tie.Need-item_at-requires-else-item_at-eq1
+item-at-requires-2 c κs = search rules
 
-returns-2 : tie.Need-returns-then-u8_at-eq1
+returns-2 : tie.Need-returns-then-item_at-eq1
 returns-2 c =
-    rw (number_neg c.args.entry c.if-entry-lt2147483648.false, ← c.u8_at.ensures, c.if-u8_at-eq1.true)
+    rw (number_neg c.args.entry c.if-entry-lt2147483648.false, ← c.item_at.ensures, c.if-item_at-eq1.true)
 
-returns-3 : tie.Need-returns-else-u8_at-eq1
+returns-3 : tie.Need-returns-else-item_at-eq1
 returns-3 c =
     rw (
       number_neg c.args.entry c.if-entry-lt2147483648.false,
-      ← c.u8_at.ensures,
-      ne_eqb (c.u8_at.result % 4) 1 c.if-u8_at-eq1.false,
-      c.u8_at-else-u8_at-eq1.ensures,
+      ← c.item_at.ensures,
+      ne_eqb (c.item_at.result % 4) 1 c.if-item_at-eq1.false,
+      c.item_at-else-item_at-eq1.ensures,
     )
 
 pub remainder_byte_spec : {M : Type 1} → statement M
@@ -52,9 +52,9 @@ remainder_byte_spec =
     returns
     mul-u8-at
     add-u8-at
-    u8-at-requires
+    item-at-requires
     mul-u8-at-2
     add-u8-at-2
-    u8-at-requires-2
+    item-at-requires-2
     returns-2
     returns-3)

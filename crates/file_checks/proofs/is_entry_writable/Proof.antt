@@ -1,7 +1,6 @@
 -- `file_checks::is_entry_writable` meets its contract: the tests of the words that were read are those of the numbers.
 -- Assumes nothing.
 use mathlib.Core.Path.{sym, ap, ◌∙◌}
-use borrow.Author.Tests.{not-true, not-false}
 use Rattle.files.specs.Writing.{is_in_file}
 use borrow.Author.Rules.{rules}
 use Rattle.file_checks.proofs.is_entry_writable.Statement.{statement}

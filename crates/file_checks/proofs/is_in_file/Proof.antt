@@ -42,15 +42,15 @@ add-w c = search rules
 mul-u8-at : tie.Need-overflow_mul-w
 mul-u8-at c = search rules
 
-u8-at-requires : tie.Need-u8_at-requires
-u8-at-requires c κs = search rules
+item-at-requires : tie.Need-item_at-requires
+item-at-requires c κs = search rules
 
 returns-3 : tie.Need-returns
 returns-3 c =
     let a = c.args in
     let l = a.lengths in
     let p : 4 * (c.char_start.result + (a.c - l.bc)) ≡ 4 * (char_start l + (a.c - l.bc)) + 0 = omega (arith, c.char_start.ensures) in
-    ap (λ (b : ℕ). not (eqb b 0)) (c.u8_at.ensures ∙ ap (λ (k : ℕ). get_or a.old.now k 0) p)
+    ap (λ (b : ℕ). not (eqb b 0)) (c.item_at.ensures ∙ ap (λ (k : ℕ). get_or a.old.now k 0) p)
     ∙ rw (le-leb l.bc a.c c.if-c-lengths.false, le-leb a.c l.ec c.if-lengths-c.false) at (ap (inFile a.old.now a.c) c.requires)
 
 pub is_in_file_spec : {M : Type 1} → statement M
@@ -63,5 +63,5 @@ is_in_file_spec =
     cast-w
     add-w
     mul-u8-at
-    u8-at-requires
+    item-at-requires
     returns-3)

@@ -1,6 +1,6 @@
 -- `file_checks::is_writable` meets its contract: the three tests of the words that were read are those of the numbers.
 -- Assumes nothing.
-use borrow.Author.Tests.{not-true, not-false, ne_eqb}
+use borrow.Author.Tests.{ne_eqb}
 use Rattle.lang.specs.Records.{absent_or}
 use Rattle.lang.proofs.Records.{tested}
 use borrow.Author.Rules.{rules}

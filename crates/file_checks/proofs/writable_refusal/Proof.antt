@@ -3,7 +3,6 @@
 use mathlib.Core.Path.{sym, ap, ◌∙◌}
 use lib.Dec.{leb}
 use lib.IntN.{ℤ}
-use borrow.Author.Tests.{not-true, not-false}
 use Rattle.lang.specs.Records.{count}
 use Rattle.lang.proofs.Records.{tested, word_passed}
 use Rattle.files.specs.declared.FileLengths.{FileLengths}

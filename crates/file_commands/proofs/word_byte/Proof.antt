@@ -19,8 +19,8 @@ mul-u8-at c = search rules
 add-u8-at : tie.Need-overflow_add-w
 add-u8-at c = search rules
 
-u8-at-requires : tie.Need-u8_at-requires
-u8-at-requires c κs = search rules
+item-at-requires : tie.Need-item_at-requires
+item-at-requires c κs = search rules
 
 returns-2 : tie.Need-returns
 returns-2 c = search rules
@@ -32,5 +32,5 @@ word_byte_spec =
     returns
     mul-u8-at
     add-u8-at
-    u8-at-requires
+    item-at-requires
     returns-2)

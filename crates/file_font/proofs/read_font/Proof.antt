@@ -17,10 +17,10 @@ reading v = v.before.before.before.before
 abbrev list : tie.After-deserialize → tie.After-packed_list-packed
 list d = d.before.before.before.before
 
-abbrev lost-zeroed : tie.After-deserialize → tie.After-zero_i32-2
+abbrev lost-zeroed : tie.After-deserialize → tie.After-zero_all-2
 lost-zeroed d = (list d).before.before
 
-abbrev entries-zeroed : tie.After-deserialize → tie.After-zero_i32
+abbrev entries-zeroed : tie.After-deserialize → tie.After-zero_all
 entries-zeroed d = (lost-zeroed d).before.before.before
 
 abbrev start : tie.After-deserialize → tie.Start
@@ -29,12 +29,12 @@ start d = (entries-zeroed d).before.before.before
 -- what stood then
 zeroed : (d : tie.After-deserialize) → let a = (start d).args in
     Zeroed a.file.now a.instructions.now a.kerns.now a.entries.now a.lost.now (list d).packed_list-packed.result
-    (entries-zeroed d).zero_i32.new.s (lost-zeroed d).zero_i32-2.new.s
+    (entries-zeroed d).zero_all.new.s (lost-zeroed d).zero_all-2.new.s
 zeroed d =
     record {
       long = (list d).packed_list-packed.ensures;
-      entries = (entries-zeroed d).zero_i32.ensures;
-      lost = (lost-zeroed d).zero_i32-2.ensures;
+      entries = (entries-zeroed d).zero_all.ensures;
+      lost = (lost-zeroed d).zero_all-2.ensures;
     }
 
 -- what was read
@@ -45,11 +45,11 @@ read : (v : tie.In-Font) → let d = reading v in
     d.deserialize.new.entries
 read v = font_read (reading v).deserialize.ensures v.in-Font.is
 
-zero-i32-requires : tie.Need-zero_i32-requires
-zero-i32-requires c κs = search rules
+zero-all-requires : tie.Need-zero_all-requires
+zero-all-requires c κs = search rules
 
-zero-i32-requires-2 : tie.Need-zero_i32-requires-2
-zero-i32-requires-2 c κs = search rules
+zero-all-requires-2 : tie.Need-zero_all-requires-2
+zero-all-requires-2 c κs = search rules
 
 packed-list-requires : tie.Need-packed_list-packed-requires
 packed-list-requires c κs = search rules
@@ -103,11 +103,11 @@ file-design-requires c κs = search rules
 enum-known-number-2 : tie.Need-enum_known-number-in-Refused-unpack_within
 enum-known-number-2 c = search rules
 
-zero-i32-requires-3 : tie.Need-zero_i32-requires-in-Refused-unpack_within
-zero-i32-requires-3 c κs = search rules
+zero-all-requires-3 : tie.Need-zero_all-requires-in-Refused-unpack_within
+zero-all-requires-3 c κs = search rules
 
-zero-i32-requires-4 : tie.Need-zero_i32-requires-in-Refused-unpack_within-2
-zero-i32-requires-4 c κs = search rules
+zero-all-requires-4 : tie.Need-zero_all-requires-in-Refused-unpack_within-2
+zero-all-requires-4 c κs = search rules
 
 same_length : tie.Need-shape_of-instructions-in-Refused
 same_length c = search rules
@@ -162,14 +162,14 @@ returns-3 : tie.Need-returns-in-Refused-unpack_within
 returns-3 c =
     let d = reading (c.before.before.before.before.before.before.before.before.before.before.before.before.before) in
     font_short (zeroed d) (read (c.before.before.before.before.before.before.before.before.before.before.before.before.before)) c.unpack_within.ensures c.in-Refused-unpack_within.is d.deserialize.auto.instructions
-    d.deserialize.auto.kerns c.zero_i32-in-Refused-unpack_within.ensures c.zero_i32-in-Refused-unpack_within-2.ensures
+    d.deserialize.auto.kerns c.zero_all-in-Refused-unpack_within.ensures c.zero_all-in-Refused-unpack_within-2.ensures
 
 pub read_font_spec : {M : Type 1} → statement M
 read_font_spec =
     tie.close
     (tie.spec
-    zero-i32-requires
-    zero-i32-requires-2
+    zero-all-requires
+    zero-all-requires-2
     packed-list-requires
     slice-aggregate-deserialize
     deserialize-requires
@@ -186,8 +186,8 @@ read_font_spec =
     sub-t41
     file-design-requires
     enum-known-number-2
-    zero-i32-requires-3
-    zero-i32-requires-4
+    zero-all-requires-3
+    zero-all-requires-4
     same_length
     same-length-2
     same-length-3

@@ -1,6 +1,6 @@
 -- `file_lengths::lengths_fit` meets its contract: its tests are those of the definition.
 -- Assumes nothing.
-use Prim.Native.Nat.{suc, ◌+◌}
+use Prim.Native.Nat.{suc}
 use native.Mathlib.Omega.{arith}
 use borrow.Author.Tests.{le-leb, lt-leb}
 use borrow.Author.Rules.{rules}

@@ -1,9 +1,9 @@
 -- `file_lengths::lengths_refusal` meets its contract: its tests are those of the definition, in the same order.
 -- Assumes nothing.
-use mathlib.Core.Path.{◌≡◌, sym, ap, ◌∙◌}
+use mathlib.Core.Path.{sym, ap, ◌∙◌}
 use Prim.Native.Nat.{◌*◌}
 use lib.ListN.{length}
-use borrow.Author.Tests.{not-true, not-false, eq-eqb, ne_eqb}
+use borrow.Author.Tests.{eq-eqb, ne_eqb}
 use borrow.Author.Rules.{rules}
 use Rattle.files.specs.declared.FileLengths.{FileLengths}
 use Rattle.files.specs.Lengths.{lengths_of, lengths_fit}

@@ -22,14 +22,14 @@ asked r =
 font-refusal-requires : tie.Need-font_refusal-refusal-requires
 font-refusal-requires c κs = search rules
 
-zero-i32-requires : tie.Need-zero_i32-requires
-zero-i32-requires c κs = search rules
+zero-all-requires : tie.Need-zero_all-requires
+zero-all-requires c κs = search rules
 
-zero-i32-requires-2 : tie.Need-zero_i32-requires-then-refusal-ne0
-zero-i32-requires-2 c κs = search rules
+zero-all-requires-2 : tie.Need-zero_all-requires-then-refusal-ne0
+zero-all-requires-2 c κs = search rules
 
-zero-i32-requires-3 : tie.Need-zero_i32-requires-then-refusal-ne0-2
-zero-i32-requires-3 c κs = search rules
+zero-all-requires-3 : tie.Need-zero_all-requires-then-refusal-ne0-2
+zero-all-requires-3 c κs = search rules
 
 same_length : tie.Need-shape_of-out-then-refusal-ne0
 same_length c = search rules
@@ -43,8 +43,8 @@ same-length-3 c = search rules
 returns : tie.Need-returns-then-refusal-ne0
 returns c =
     let a = c.args in
-    font_refused (font c.before.before.before.before.before.before.before.before.before.before.before) a.out.now a.kerns_out.now a.entries_out.now (asked (c.before.before.before.before.before.before.before.before.before.before)) c.if-refusal-ne0.true c.zero_i32.ensures
-    c.zero_i32-then-refusal-ne0.ensures c.zero_i32-then-refusal-ne0-2.ensures
+    font_refused (font c.before.before.before.before.before.before.before.before.before.before.before) a.out.now a.kerns_out.now a.entries_out.now (asked (c.before.before.before.before.before.before.before.before.before.before)) c.if-refusal-ne0.true c.zero_all.ensures
+    c.zero_all-then-refusal-ne0.ensures c.zero_all-then-refusal-ne0-2.ensures
 
 slice-aggregate-pack-taken : tie.Need-slice_bounds-pack_taken-end
 slice-aggregate-pack-taken c = search rules
@@ -70,9 +70,9 @@ pack_font_spec =
     tie.close
     (tie.spec
     font-refusal-requires
-    zero-i32-requires
-    zero-i32-requires-2
-    zero-i32-requires-3
+    zero-all-requires
+    zero-all-requires-2
+    zero-all-requires-3
     same_length
     same-length-2
     same-length-3

@@ -15,16 +15,16 @@ start r = r.before.before.before.before.before.before.before.before.before.befor
 asked : (r : tie.After-deserialize_refusal-refusal) → let a = (start r).args in
     r.deserialize_refusal-refusal.result ≡ deserialize_refusal a.file.now (length a.instructions.now) (length a.kerns.now) (length a.entries.now)
 asked r =
-    r.deserialize_refusal-refusal.ensures ∙ rw (r.zero_i32.auto.s, r.zero_i32-2.auto.s, r.zero_i32-3.auto.s)
+    r.deserialize_refusal-refusal.ensures ∙ rw (r.zero_all.auto.s, r.zero_all-2.auto.s, r.zero_all-3.auto.s)
 
-zero-i32-requires : tie.Need-zero_i32-requires
-zero-i32-requires c κs = search rules
+zero-all-requires : tie.Need-zero_all-requires
+zero-all-requires c κs = search rules
 
-zero-i32-requires-2 : tie.Need-zero_i32-requires-2
-zero-i32-requires-2 c κs = search rules
+zero-all-requires-2 : tie.Need-zero_all-requires-2
+zero-all-requires-2 c κs = search rules
 
-zero-i32-requires-3 : tie.Need-zero_i32-requires-3
-zero-i32-requires-3 c κs = search rules
+zero-all-requires-3 : tie.Need-zero_all-requires-3
+zero-all-requires-3 c κs = search rules
 
 deserialize-refusal-requires : tie.Need-deserialize_refusal-refusal-requires
 deserialize-refusal-requires c κs = search rules
@@ -40,7 +40,7 @@ same-length-3 c = search rules
 
 returns : tie.Need-returns-then-refusal-ne0
 returns c =
-    reads_refused c.zero_i32.ensures c.zero_i32-2.ensures c.zero_i32-3.ensures (asked (c.before)) c.if-refusal-ne0.true
+    reads_refused c.zero_all.ensures c.zero_all-2.ensures c.zero_all-3.ensures (asked (c.before)) c.if-refusal-ne0.true
 
 write-font-requires : tie.Need-write_font-requires
 write-font-requires c κs = sym c.deserialize_refusal-refusal.ensures ∙ c.if-refusal-ne0.false
@@ -56,15 +56,15 @@ same-length-6 c = search rules
 
 returns-2 : tie.Need-returns
 returns-2 c =
-    reads_taken c.zero_i32.ensures c.zero_i32-2.ensures c.zero_i32-3.ensures (sym (asked (c.before.before.before.before.before.before.before.before)) ∙ c.if-refusal-ne0.false) c.write_font.ensures
+    reads_taken c.zero_all.ensures c.zero_all-2.ensures c.zero_all-3.ensures (sym (asked (c.before.before.before.before.before.before.before.before)) ∙ c.if-refusal-ne0.false) c.write_font.ensures
 
 pub deserialize_spec : {M : Type 1} → statement M
 deserialize_spec =
     tie.close
     (tie.spec
-    zero-i32-requires
-    zero-i32-requires-2
-    zero-i32-requires-3
+    zero-all-requires
+    zero-all-requires-2
+    zero-all-requires-3
     deserialize-refusal-requires
     same_length
     same-length-2

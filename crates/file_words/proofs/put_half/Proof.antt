@@ -12,8 +12,8 @@ use Rattle.file_words.proofs.put_half.Tie as tie
 cast-put-u8 : tie.Need-overflow_cast-n
 cast-put-u8 c = search rules
 
-put-u8-requires : tie.Need-put_u8-requires
-put-u8-requires c κs = search rules
+put-item-requires : tie.Need-put_item-requires
+put-item-requires c κs = search rules
 
 add-put-u8 : tie.Need-overflow_add-at
 add-put-u8 c = search rules
@@ -21,15 +21,15 @@ add-put-u8 c = search rules
 cast-put-u8-2 : tie.Need-overflow_cast-n-then-at-out
 cast-put-u8-2 c = search rules
 
-put-u8-requires-2 : tie.Need-put_u8-requires-then-at-out
-put-u8-requires-2 c κs = search rules
+put-item-requires-2 : tie.Need-put_item-requires-then-at-out
+put-item-requires-2 c κs = search rules
 
 same_length : tie.Need-shape_of-out
 same_length c = search rules
 
 returns : tie.Need-returns-then-at-out
 returns c =
-    c.put_u8-then-at-out.ensures ∙ rw (c.put_u8.ensures, add-one)
+    c.put_item-then-at-out.ensures ∙ rw (c.put_item.ensures, add-one)
 
 returns-2 : tie.Need-returns-else-at-out
 returns-2 c =
@@ -41,10 +41,10 @@ put_half_spec =
     tie.close
     (tie.spec
     cast-put-u8
-    put-u8-requires
+    put-item-requires
     add-put-u8
     cast-put-u8-2
-    put-u8-requires-2
+    put-item-requires-2
     same_length
     returns
     returns-2)

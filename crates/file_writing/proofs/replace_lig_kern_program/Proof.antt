@@ -14,7 +14,7 @@ use Rattle.file_writing.proofs.replace_lig_kern_program.Statement.{statement}
 use Rattle.file_writing.proofs.replace_lig_kern_program.Tie as tie
 
 -- where the bytes are zeroed, and the function's start, seen from where the font is packed
-abbrev zeroed : tie.After-pack_font → tie.After-zero_u8
+abbrev zeroed : tie.After-pack_font → tie.After-zero_all
 zeroed p = p.before.before.before.before.before.before.before.before.before
 
 abbrev start : tie.After-pack_font → tie.Start
@@ -45,8 +45,8 @@ kerns_long p = omega (arith, p.kern_list-shared.ensures)
 entries_long : (p : tie.After-pack_font) → 512 ≤ length p.entry_list-packed.result
 entries_long p = omega (arith, p.entry_list-packed.ensures)
 
-zero-u8-requires : tie.Need-zero_u8-requires
-zero-u8-requires c κs = search rules
+zero-all-requires : tie.Need-zero_all-requires
+zero-all-requires c κs = search rules
 
 program-list-requires : tie.Need-program_list-program-requires
 program-list-requires c κs = search rules
@@ -92,7 +92,7 @@ write-packed-requires c κs =
           (λ (r : PackedFont). PacksFont (font (start (c.before.before.before.before.before.before.before.before))) c.program_list-program.result c.kern_list-shared.result c.entry_list-packed.result r
           c.pack_font.new.out c.pack_font.new.kerns_out c.pack_font.new.entries_out)
           c.in-Sizes.is c.pack_font.ensures) c.pack_font.auto.out c.pack_font.auto.kerns_out c.pack_font.auto.entries_out,
-      zeros_long (length (start (c.before.before.before.before.before.before.before.before)).args.out.now) z.zero_u8.ensures,
+      zeros_long (length (start (c.before.before.before.before.before.before.before.before)).args.out.now) z.zero_all.ensures,
     )
 
 same_length : tie.Need-shape_of-out-in-Refused
@@ -108,7 +108,7 @@ returns c =
     c.in-Refused.is c.pack_font.ensures) in
     file_refused s.args.old.now (lent s) s.args.out.now c.in-Refused.number
     (pack_number s.args.old.now (lent s) s.args.out.now c.in-Refused.number (q.0 ∙ ap pack_font_refusal (font-is s)) q.1) q.1
-    (zeroed (c.before.before.before.before)).zero_u8.ensures
+    (zeroed (c.before.before.before.before)).zero_all.ensures
 
 same-length-2 : tie.Need-shape_of-out-in-Sizes
 same-length-2 c = search rules
@@ -116,14 +116,14 @@ same-length-2 c = search rules
 returns-2 : tie.Need-returns-in-Sizes
 returns-2 c =
     let s = start (c.before.before.before.before.before.before.before.before.before.before.before) in
-    replaced_same s.args.old.now (lent s) s.args.out.now (font s) (zeroed (c.before.before.before.before.before.before.before.before.before.before.before)).zero_u8.new.s (font-is s) (zeroed (c.before.before.before.before.before.before.before.before.before.before.before)).zero_u8.auto.s
+    replaced_same s.args.old.now (lent s) s.args.out.now (font s) (zeroed (c.before.before.before.before.before.before.before.before.before.before.before)).zero_all.new.s (font-is s) (zeroed (c.before.before.before.before.before.before.before.before.before.before.before)).zero_all.auto.s
     c.write_packed.ensures
 
 pub replace_lig_kern_program_spec : {M : Type 1} → statement M
 replace_lig_kern_program_spec =
     tie.close
     (tie.spec
-    zero-u8-requires
+    zero-all-requires
     program-list-requires
     kern-list-requires
     entry-list-requires

@@ -20,13 +20,13 @@ start f = f.before.before.before.before.before.before.before
 abbrev taken : tie.After-checked_font → tie.After-compile_read
 taken c = c.before.before.before.before.before.before.before
 
-abbrev entries-zeroed : tie.After-lost-in-Refused-1 → tie.After-zero_i32-in-Refused-2
+abbrev entries-zeroed : tie.After-lost-in-Refused-1 → tie.After-zero_all-in-Refused-2
 entries-zeroed c = c.before.before.before.before
 
-abbrev kerns-zeroed : tie.After-lost-in-Refused-1 → tie.After-zero_i32-in-Refused
+abbrev kerns-zeroed : tie.After-lost-in-Refused-1 → tie.After-zero_all-in-Refused
 kerns-zeroed c = (entries-zeroed c).before.before.before
 
-abbrev program-zeroed : tie.After-lost-in-Refused-1 → tie.After-zero_i32
+abbrev program-zeroed : tie.After-lost-in-Refused-1 → tie.After-zero_all
 program-zeroed c = (kerns-zeroed c).before.before.before
 
 abbrev refused : tie.After-lost-in-Refused-1 → tie.After-compile_read
@@ -50,17 +50,17 @@ checked-font-requires c κs = search rules
 enum-known-refusal : tie.Need-enum_known-refusal
 enum-known-refusal c = search rules
 
-zero-i32-requires : tie.Need-zero_i32-requires
-zero-i32-requires c κs = search rules
+zero-all-requires : tie.Need-zero_all-requires
+zero-all-requires c κs = search rules
 
-zero-i32-requires-2 : tie.Need-zero_i32-requires-in-Refused
-zero-i32-requires-2 c κs = search rules
+zero-all-requires-2 : tie.Need-zero_all-requires-in-Refused
+zero-all-requires-2 c κs = search rules
 
-zero-i32-requires-3 : tie.Need-zero_i32-requires-in-Refused-2
-zero-i32-requires-3 c κs = search rules
+zero-all-requires-3 : tie.Need-zero_all-requires-in-Refused-2
+zero-all-requires-3 c κs = search rules
 
-zero-i32-requires-4 : tie.Need-zero_i32-requires-in-Refused-3
-zero-i32-requires-4 c κs = search rules
+zero-all-requires-4 : tie.Need-zero_all-requires-in-Refused-3
+zero-all-requires-4 c κs = search rules
 
 same_length : tie.Need-shape_of-instructions-in-Tables
 same_length c = (reading (taken c)).read_font-font.auto.instructions
@@ -131,11 +131,11 @@ returns-2 c =
     let k = f.read_font-font.auto in
     check_refused a.file.now a.instructions.now a.kerns.now a.entries.now a.lost.now f.read_font-font.new.instructions f.read_font-font.new.kerns f.read_font-font.new.entries f.read_font-font.new.lost
     a.pairs.now a.ops.now a.loops.now a.work.now x.compile_read.new.pairs x.compile_read.new.ops x.compile_read.new.loops x.compile_read.new.work
-    zi.zero_i32.new.s zk.zero_i32-in-Refused.new.s ze.zero_i32-in-Refused-2.new.s c.zero_i32-in-Refused-3.new.s
-    (zi.zero_i32.ensures ∙ ap (λ (m : ℕ). replicate m (pos 0)) k.instructions)
-    (zk.zero_i32-in-Refused.ensures ∙ ap (λ (m : ℕ). replicate m (pos 0)) k.kerns)
-    (ze.zero_i32-in-Refused-2.ensures ∙ ap (λ (m : ℕ). replicate m (pos 0)) k.entries)
-    (c.zero_i32-in-Refused-3.ensures ∙ ap (λ (m : ℕ). replicate m (pos 0)) k.lost) f.read_font-font.result
+    zi.zero_all.new.s zk.zero_all-in-Refused.new.s ze.zero_all-in-Refused-2.new.s c.zero_all-in-Refused-3.new.s
+    (zi.zero_all.ensures ∙ ap (λ (m : ℕ). replicate m (pos 0)) k.instructions)
+    (zk.zero_all-in-Refused.ensures ∙ ap (λ (m : ℕ). replicate m (pos 0)) k.kerns)
+    (ze.zero_all-in-Refused-2.ensures ∙ ap (λ (m : ℕ). replicate m (pos 0)) k.entries)
+    (c.zero_all-in-Refused-3.ensures ∙ ap (λ (m : ℕ). replicate m (pos 0)) k.lost) f.read_font-font.result
     f.read_font-font.ensures x.compile_read.result x.compile_read.ensures zi.in-Refused.refusal zi.in-Refused.is
 
 pub check_file_spec : {M : Type 1} → statement M
@@ -147,10 +147,10 @@ check_file_spec =
     enum-known-p
     checked-font-requires
     enum-known-refusal
-    zero-i32-requires
-    zero-i32-requires-2
-    zero-i32-requires-3
-    zero-i32-requires-4
+    zero-all-requires
+    zero-all-requires-2
+    zero-all-requires-3
+    zero-all-requires-4
     same_length
     same-length-2
     same-length-3

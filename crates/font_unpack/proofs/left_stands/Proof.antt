@@ -3,7 +3,6 @@
 use mathlib.Core.Path.{◌≡◌, sym, ap, ◌∙◌}
 use mathlib.Core.Bool.{Bool}
 use borrow.Author.Rules.{rules}
-use borrow.Author.Tests.{not-true, not-false}
 use Rattle.lang.specs.Every.{both}
 use Rattle.lang.specs.Records.{is_kind}
 use Rattle.font_unpackings.specs.Unpackings.{left_stands}

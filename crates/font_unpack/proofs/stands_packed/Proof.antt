@@ -3,7 +3,6 @@
 use mathlib.Core.Path.{sym, ◌∙◌}
 use native.Mathlib.Omega.{arith}
 use borrow.Author.Rules.{rules}
-use borrow.Author.Tests.{not-true, not-false}
 use Rattle.words.specs.Words.{number_of}
 use Rattle.font_unpackings.proofs.Ends.{start_le}
 use Rattle.font_unpack.proofs.Standing.{packed_not, packed_lost, packed_last}

@@ -24,16 +24,16 @@ start f = f.before.before.before.before.before.before.before.before
 
 -- the outputs once they are zeroed
 abbrev zeros : tie.After-find_part-own → List ℤ
-zeros f = f.zero_i32.new.s
+zeros f = f.zero_all.new.s
 
 abbrev zerosOut : tie.After-find_part-own → List ℤ
-zerosOut f = f.zero_i32-2.new.s
+zerosOut f = f.zero_all-2.new.s
 
 zeroed : (f : tie.After-find_part-own) → zeros f ≡ replicate (length (start f).args.out.now) (pos 0)
-zeroed f = f.zero_i32.ensures
+zeroed f = f.zero_all.ensures
 
 zeroedOut : (f : tie.After-find_part-own) → zerosOut f ≡ replicate (length (start f).args.entries_out.now) (pos 0)
-zeroedOut f = f.zero_i32-2.ensures
+zeroedOut f = f.zero_all-2.ensures
 
 -- the left entry, by its word
 lent : (f : tie.After-find_part-own) → number_of f.word_of-left.result ≡ (start f).args.left_entry
@@ -76,11 +76,11 @@ written w t h =
     r.front r.count w.put_own.new.out w.put_entries.new.out (none (w.before.before.before.before.before)) (part (w.before.before.before.before.before.before.before)).front (part (w.before.before.before.before.before.before.before)).own w.put_own.ensures
     w.put_entries.ensures h
 
-zero-i32-requires : tie.Need-zero_i32-requires
-zero-i32-requires c κs = search rules
+zero-all-requires : tie.Need-zero_all-requires
+zero-all-requires c κs = search rules
 
-zero-i32-requires-2 : tie.Need-zero_i32-requires-2
-zero-i32-requires-2 c κs = search rules
+zero-all-requires-2 : tie.Need-zero_all-requires-2
+zero-all-requires-2 c κs = search rules
 
 word-of-requires : tie.Need-word_of-left-requires
 word-of-requires c κs = search rules
@@ -153,8 +153,8 @@ pub unpacked_font_spec : {M : Type 1} → statement M
 unpacked_font_spec =
     tie.close
     (tie.spec
-    zero-i32-requires
-    zero-i32-requires-2
+    zero-all-requires
+    zero-all-requires-2
     word-of-requires
     find-part-requires
     unpack-refusal-requires

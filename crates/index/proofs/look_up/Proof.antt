@@ -2,7 +2,6 @@
 -- Assumes nothing.
 use mathlib.Core.Path.{sym, ◌∙◌}
 use native.Mathlib.Omega.{arith}
-use borrow.Author.Tests.{not-true, not-false}
 use Rattle.index.proofs.Looking.{bit_right, no_bit, past_pairs, stands, other_pair}
 use borrow.Author.Rules.{rules}
 use Rattle.index.proofs.look_up.Statement.{statement}

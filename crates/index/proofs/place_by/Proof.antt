@@ -1,6 +1,6 @@
 -- `index::place_by` meets its contract, by what the look_up answers.
 -- Assumes nothing.
-use mathlib.Core.Path.{◌≡◌, sym, ap, ◌∙◌}
+use mathlib.Core.Path.{sym, ap, ◌∙◌}
 use native.Mathlib.Numerals.{add-one}
 use Rattle.captions.specs.Tables.{pair_count}
 use Rattle.index.specs.Index.{looked_place}

@@ -62,11 +62,11 @@ module _ {pairs : List ℤ} {index z : List ℕ} {r : ℕ} (b : Begun pairs inde
               ∙ ap (λ (m : ℕ). list_of m 0 (length index) (index_of_table pairs)) (sym (sym number_is ∙ e));
         }
 
-begun : (c : tie.After-index_refusal-refusal) → Begun c.args.pairs.now c.args.index.now c.zero_u64.new.s c.index_refusal-refusal.result
-begun c = record { zeros = c.zero_u64.ensures; same = c.zero_u64.auto.s; refusal = c.index_refusal-refusal.ensures }
+begun : (c : tie.After-index_refusal-refusal) → Begun c.args.pairs.now c.args.index.now c.zero_all.new.s c.index_refusal-refusal.result
+begun c = record { zeros = c.zero_all.ensures; same = c.zero_all.auto.s; refusal = c.index_refusal-refusal.ensures }
 
-zero-u64-requires : tie.Need-zero_u64-requires
-zero-u64-requires c κs = search rules
+zero-all-requires : tie.Need-zero_all-requires
+zero-all-requires c κs = search rules
 
 index-refusal-requires : tie.Need-index_refusal-refusal-requires
 index-refusal-requires c κs = search rules
@@ -97,7 +97,7 @@ pub fill_index_spec : {M : Type 1} → statement M
 fill_index_spec =
     tie.close
     (tie.spec
-    zero-u64-requires
+    zero-all-requires
     index-refusal-requires
     set-bits-requires
     count-pairs-requires

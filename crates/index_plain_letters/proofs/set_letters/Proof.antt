@@ -1,9 +1,9 @@
 -- `index_plain_letters::set_letters` meets its contract. The loop's invariant: the letters so far are given, whatever the options, and `left` is the left that
 -- is next. The measure is what is left of the word. Assumes nothing.
-use mathlib.Core.Path.{◌≡◌, refl, sym, ap, subst, ◌∙◌}
+use mathlib.Core.Path.{◌≡◌, refl, sym, subst, ◌∙◌}
 use mathlib.Core.Bool.{true}
 use mathlib.Core.List.{List}
-use Prim.Native.Nat.{ℕ, ◌+◌, ◌-◌, ◌*◌, ◌/◌, ◌<◌, ◌≤◌}
+use Prim.Native.Nat.{◌+◌, ◌-◌, ◌<◌, ◌≤◌}
 use native.Mathlib.Omega.{arith}
 use lib.IntN.{ℤ}
 use lib.ListN.{length}
@@ -34,7 +34,7 @@ abbrev decreases-loop : tie.decreases-loop-i
 decreases-loop index pairs ops boundary word s items₀ k left₀ op₀ i₀ m₀ n items left op i m = n - i
 
 -- the state is quick, and the left is its own
-quick : (c : tie.After-minus-n invariant-loop decreases-loop) → let a = c.args in
+quick : (c : tie.After-saturating_sub-n invariant-loop decreases-loop) → let a = c.args in
     (is_quick a.ops.now (number_of (word_of a.boundary)) a.word.now a.options a.s ≡ true) ×
     (c.quick_left-left.result ≡ plain_left a.s)
 quick c =
@@ -62,11 +62,11 @@ long l =
     a.s a.items.now a.k (far l)
 
 -- the letters' starts are small
-starts : (l : tie.At-loop-i invariant-loop decreases-loop) → let a = l.args in a.s.given + l.minus-n.result ≤ 65535
+starts : (l : tie.At-loop-i invariant-loop decreases-loop) → let a = l.args in a.s.given + l.saturating_sub-n.result ≤ 65535
 starts l =
     let a = l.args in
     let h = quick_starts a.ops.now (number_of (word_of a.boundary)) a.word.now a.options a.s (quick l.before).0 in
-    omega (arith, h, l.minus-n.ensures)
+    omega (arith, h, l.saturating_sub-n.ensures)
 
 -- what is said of the bits of the boundary character is said of it as it was lent
 as_lent : (c : tie.Start invariant-loop decreases-loop) (r : LettersSet) {d : List ℤ} → let a = c.args in
@@ -116,7 +116,7 @@ there : (e : tie.Else-n-j invariant-loop decreases-loop) → let p = e.before.be
 there e =
     let p = e.before.before.before.before in
     let l = e.before.before.before.before.before.before.before.before.before.before in
-    omega (arith, e.if-n-j.false, e.minus-n.ensures)
+    omega (arith, e.if-n-j.false, e.saturating_sub-n.ensures)
 
 -- what is left of them
 left : (p : tie.After-set_plain-plain invariant-loop decreases-loop) (r : LettersSet) → let l = p.before.before.before.before.before.before in let a = p.args in
@@ -162,7 +162,7 @@ returns-2 c = nothing
 returns-3 : tie.Need-returns-then-index-lt1285 invariant-loop decreases-loop
 returns-3 c = nothing
 
-minus-requires : tie.Need-minus-n-requires invariant-loop decreases-loop
+minus-requires : tie.Need-saturating_sub-n-requires invariant-loop decreases-loop
 minus-requires c κs = tt
 
 loop-holds : tie.Need-loop-i-init invariant-loop decreases-loop
@@ -183,13 +183,13 @@ sub-smaller c = omega (arith, (far c.before).room)
 sub-smaller-2 : tie.Need-overflow_sub-n invariant-loop decreases-loop
 sub-smaller-2 c = omega (arith, c.loop-i-test.true)
 
-smaller-requires : tie.Need-smaller-most-requires invariant-loop decreases-loop
+smaller-requires : tie.Need-min-most-requires invariant-loop decreases-loop
 smaller-requires c κs = tt
 
 add-set-plain : tie.Need-overflow_add-s invariant-loop decreases-loop
 add-set-plain c =
     let b = c.well_formed in
-    omega (arith, c.loop-i-test.true, c.minus-n.ensures)
+    omega (arith, c.loop-i-test.true, c.saturating_sub-n.ensures)
 
 add-set-plain-2 : tie.Need-overflow_add-s-in-loop-i invariant-loop decreases-loop
 add-set-plain-2 c =
@@ -202,9 +202,9 @@ add-set-plain-3 c =
 
 set-plain-requires : tie.Need-set_plain-plain-requires invariant-loop decreases-loop
 set-plain-requires c κs =
-    let e = c.smaller-most.ensures in (
+    let e = c.min-most.ensures in (
       record {
-        letters = omega (arith, e, c.loop-i-test.true, c.minus-n.ensures);
+        letters = omega (arith, e, c.loop-i-test.true, c.saturating_sub-n.ensures);
         starts = omega (arith, e, c.loop-i-test.true, starts (c.before.before.before.before.before));
         room = omega (arith, e, (far (c.before.before.before.before.before)).room);
         some = omega (arith, (far (c.before.before.before.before.before)).left);
@@ -216,7 +216,7 @@ set-plain-requires c κs =
 add-j : tie.Need-overflow_add-j invariant-loop decreases-loop
 add-j c =
     let b = c.well_formed in
-    omega (arith, stand_inside (omega (arith, c.loop-i-test.true, c.minus-n.ensures)) c.set_plain-plain.ensures)
+    omega (arith, stand_inside (omega (arith, c.loop-i-test.true, c.saturating_sub-n.ensures)) c.set_plain-plain.ensures)
 
 add-c : tie.Need-overflow_add-c invariant-loop decreases-loop
 add-c c =
@@ -259,11 +259,11 @@ place-by-requires c κs = tt
 
 add-give-pair : tie.Need-overflow_add-s-in-loop-i-2 invariant-loop decreases-loop
 add-give-pair c =
-    omega (arith, starts (c.before.before.before.before.before.before.before.before.before.before.before.before.before.before.before), c.minus-n.ensures, there c.before.before.before.before.before)
+    omega (arith, starts (c.before.before.before.before.before.before.before.before.before.before.before.before.before.before.before), c.saturating_sub-n.ensures, there c.before.before.before.before.before)
 
 cast-give-pair : tie.Need-overflow_cast-s invariant-loop decreases-loop
 cast-give-pair c =
-    omega (arith, starts (c.before.before.before.before.before.before.before.before.before.before.before.before.before.before.before), c.minus-n.ensures, there c.before.before.before.before.before)
+    omega (arith, starts (c.before.before.before.before.before.before.before.before.before.before.before.before.before.before.before), c.saturating_sub-n.ensures, there c.before.before.before.before.before)
 
 add-give-pair-2 : tie.Need-overflow_add-k-in-loop-i-2 invariant-loop decreases-loop
 add-give-pair-2 c =

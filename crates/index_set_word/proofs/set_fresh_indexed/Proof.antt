@@ -15,15 +15,15 @@ use borrow.Author.Rules.{rules}
 use Rattle.index_set_word.proofs.set_fresh_indexed.Statement.{statement}
 use Rattle.index_set_word.proofs.set_fresh_indexed.Tie as tie
 
-zero-i32-requires : tie.Need-zero_i32-requires
-zero-i32-requires c κs = search rules
+zero-all-requires : tie.Need-zero_all-requires
+zero-all-requires c κs = search rules
 
 fresh-state-requires : tie.Need-fresh_state-fresh-requires
 fresh-state-requires c κs = search rules
 
 set-from-requires : tie.Need-set_from-requires
 set-from-requires c κs =
-    blank c.args.items.now c.zero_i32.new.s c.zero_i32.ensures
+    blank c.args.items.now c.zero_all.new.s c.zero_all.ensures
 
 same_length : tie.Need-shape_of-items
 same_length c = search rules
@@ -36,14 +36,14 @@ returns c =
     (fresh_state a.word.now a.options))
     a.items.now c.set_from.result c.set_from.new.items) (number_word a.boundary c.ranges.boundary)
     (tells_zeroed (indexed_step_of a.index.now a.pairs.now a.ops.now (number_of (word_of a.boundary)) a.word.now a.options) a.items.now
-    c.zero_i32.new.s c.fresh_state-fresh.result (fresh_state a.word.now a.options) c.fresh_state-fresh.ensures c.zero_i32.auto.s c.set_from.result
+    c.zero_all.new.s c.fresh_state-fresh.result (fresh_state a.word.now a.options) c.fresh_state-fresh.ensures c.zero_all.auto.s c.set_from.result
     c.set_from.new.items c.set_from.ensures)
 
 pub set_fresh_indexed_spec : {M : Type 1} → statement M
 set_fresh_indexed_spec =
     tie.close
     (tie.spec
-    zero-i32-requires
+    zero-all-requires
     fresh-state-requires
     set-from-requires
     same_length

@@ -38,8 +38,8 @@ returns c =
     (other_is a.index.now a.pairs.now a.ops.now (number_of (word_of a.boundary)) a.word.now a.options a.state
     c.quick_left-left.ensures c.if-left-eq0.true c.kern_step.ensures)
 
-u32-at-requires : tie.Need-u32_at-requires
-u32-at-requires c κs = search rules
+item-at-requires : tie.Need-item_at-requires
+item-at-requires c κs = search rules
 
 look-up-requires : tie.Need-look_up-requires
 look-up-requires c κs = search rules
@@ -64,7 +64,7 @@ returns-2 c =
     let a = c.args in
     finish (c.before.before.before.before.before.before.before.before.before.before)
     (first_is a.index.now a.pairs.now a.ops.now (number_of (word_of a.boundary)) a.word.now a.options a.state
-    c.quick_left-left.ensures c.if-left-eq0.false c.u32_at.ensures c.look_up.ensures
+    c.quick_left-left.ensures c.if-left-eq0.false c.item_at.ensures c.look_up.ensures
     c.in-At.k c.in-At.is c.is_ready.ensures c.if-is_ready.true c.quick_step-then-is_ready.ensures)
 
 step-requires : tie.Need-step-requires
@@ -78,7 +78,7 @@ returns-3 c =
     let a = c.args in
     finish (c.before.before.before.before.before.before.before.before)
     (missing_is a.index.now a.pairs.now a.ops.now (number_of (word_of a.boundary)) a.word.now a.options a.state
-    c.quick_left-left.ensures c.if-left-eq0.false c.u32_at.ensures c.look_up.ensures
+    c.quick_left-left.ensures c.if-left-eq0.false c.item_at.ensures c.look_up.ensures
     c.in-Missing.is c.quick_step.ensures)
 
 returns-4 : tie.Need-returns-else-is_ready
@@ -86,7 +86,7 @@ returns-4 c =
     let a = c.args in
     finish (c.before.before.before.before.before.before.before.before.before.before)
     (later_is a.index.now a.pairs.now a.ops.now (number_of (word_of a.boundary)) a.word.now a.options a.state
-    c.quick_left-left.ensures c.if-left-eq0.false c.u32_at.ensures c.look_up.ensures
+    c.quick_left-left.ensures c.if-left-eq0.false c.item_at.ensures c.look_up.ensures
     c.in-At.k c.in-At.is c.is_ready.ensures c.if-is_ready.false
     (stepped_is a.pairs.now a.ops.now (number_of (word_of a.boundary)) a.word.now a.options a.state c.step.ensures))
 
@@ -95,7 +95,7 @@ returns-5 c =
     let a = c.args in
     finish (c.before.before.before.before.before.before.before)
     (wrong_is a.index.now a.pairs.now a.ops.now (number_of (word_of a.boundary)) a.word.now a.options a.state
-    c.quick_left-left.ensures c.if-left-eq0.false c.u32_at.ensures c.look_up.ensures
+    c.quick_left-left.ensures c.if-left-eq0.false c.item_at.ensures c.look_up.ensures
     c.in-Wrong.is)
 
 pub step_indexed_spec : {M : Type 1} → statement M
@@ -105,7 +105,7 @@ step_indexed_spec =
     quick-left-requires
     kern-step-requires
     returns
-    u32-at-requires
+    item-at-requires
     look-up-requires
     enum_told
     quick-step-requires

@@ -11,8 +11,8 @@ returns c = let a = c.args in no_letter a.letters.now a.c (search rules)
 cast-u64-at : tie.Need-overflow_cast-c
 cast-u64-at c = search rules
 
-u64-at-requires : tie.Need-u64_at-number-requires
-u64-at-requires c κs = search rules
+item-at-requires : tie.Need-item_at-number-requires
+item-at-requires c κs = search rules
 
 cast-result : tie.Need-overflow_cast-result
 cast-result c = search rules
@@ -21,7 +21,7 @@ shr-result : tie.Need-overflow_shr-result
 shr-result c = search rules
 
 returns-2 : tie.Need-returns
-returns-2 c = let a = c.args in letter_is a.letters.now a.c c.u64_at-number.result (search rules) c.u64_at-number.ensures
+returns-2 c = let a = c.args in letter_is a.letters.now a.c c.item_at-number.result (search rules) c.item_at-number.ensures
 
 pub is_member_spec : {M : Type 1} → statement M
 is_member_spec =
@@ -29,7 +29,7 @@ is_member_spec =
     (tie.spec
     returns
     cast-u64-at
-    u64-at-requires
+    item-at-requires
     cast-result
     shr-result
     returns-2)

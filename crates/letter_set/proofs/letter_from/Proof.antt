@@ -22,8 +22,8 @@ loop-holds c = refl
 cast-u64-at : tie.Need-overflow_cast-at invariant-loop decreases-loop
 cast-u64-at c = search rules
 
-u64-at-requires : tie.Need-u64_at-requires invariant-loop decreases-loop
-u64-at-requires c κs = search rules
+item-at-requires : tie.Need-item_at-requires invariant-loop decreases-loop
+item-at-requires c κs = search rules
 
 cast-own : tie.Need-overflow_cast-own invariant-loop decreases-loop
 cast-own c = search rules
@@ -37,14 +37,14 @@ add-t14 c =
       fits =
           omega (
             arith,
-            zeros_inside c.args.letters.now c.loop-at.at c.u64_at.result c.loop-at-test.true c.u64_at.ensures c.u64_at.type_inv c.if-own-ne0.true,
+            zeros_inside c.args.letters.now c.loop-at.at c.item_at.result c.loop-at-test.true c.item_at.ensures c.item_at.type_inv c.if-own-ne0.true,
           );
     }
 
 returns : tie.Need-returns-then-own-ne0 invariant-loop decreases-loop
 returns c =
     ap letter_found
-    (sym (letter_here c.args.letters.now c.loop-at.at c.u64_at.result c.loop-at-test.true c.u64_at.ensures c.u64_at.type_inv c.if-own-ne0.true)
+    (sym (letter_here c.args.letters.now c.loop-at.at c.item_at.result c.loop-at-test.true c.item_at.ensures c.item_at.type_inv c.if-own-ne0.true)
     ∙ c.loop-at.invariant)
 
 mul_at : tie.Need-overflow_mul-at invariant-loop decreases-loop
@@ -58,7 +58,7 @@ loop-less c = omega (arith, c.loop-at-test.true)
 
 loop-again : tie.Need-loop-at-preserved invariant-loop decreases-loop
 loop-again c =
-    goes_on c.args.letters.now c.loop-at.at c.u64_at.result c.loop-at-test.true c.u64_at.ensures c.u64_at.type_inv c.if-own-ne0.false ∙ c.loop-at.invariant
+    goes_on c.args.letters.now c.loop-at.at c.item_at.result c.loop-at-test.true c.item_at.ensures c.item_at.type_inv c.if-own-ne0.false ∙ c.loop-at.invariant
 
 returns-2 : tie.Need-returns invariant-loop decreases-loop
 returns-2 c =
@@ -72,7 +72,7 @@ letter_from_spec =
     decreases-loop
     loop-holds
     cast-u64-at
-    u64-at-requires
+    item-at-requires
     cast-own
     shr-own
     add-t14

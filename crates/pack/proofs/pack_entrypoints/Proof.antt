@@ -20,16 +20,16 @@ start r = r.before.before.before.before.before.before.before
 
 -- the outputs once they are zeroed
 abbrev zeros : tie.After-packable_refusal-font → List ℤ
-zeros r = r.zero_i32.new.s
+zeros r = r.zero_all.new.s
 
 abbrev zerosOut : tie.After-packable_refusal-font → List ℤ
-zerosOut r = r.zero_i32-2.new.s
+zerosOut r = r.zero_all-2.new.s
 
 zeroed : (r : tie.After-packable_refusal-font) → zeros r ≡ replicate (length (start r).args.out.now) (pos 0)
-zeroed r = r.zero_i32.ensures
+zeroed r = r.zero_all.ensures
 
 zeroedOut : (r : tie.After-packable_refusal-font) → zerosOut r ≡ replicate (length (start r).args.entries_out.now) (pos 0)
-zeroedOut r = r.zero_i32-2.ensures
+zeroedOut r = r.zero_all-2.ensures
 
 asked : (r : tie.After-packable_refusal-font) → r.packable_refusal-font.result ≡ packable_refusal (font (start r))
 asked r =
@@ -47,11 +47,11 @@ same w =
     lent_font s.args.instructions.now s.args.entries.now (lent_number s.args.boundary s.ranges.boundary w.word_of-bound.ensures)
     (lent_number s.args.left_entry s.ranges.left_entry w.word_of-left.ensures)
 
-zero-i32-requires : tie.Need-zero_i32-requires
-zero-i32-requires c κs = search rules
+zero-all-requires : tie.Need-zero_all-requires
+zero-all-requires c κs = search rules
 
-zero-i32-requires-2 : tie.Need-zero_i32-requires-2
-zero-i32-requires-2 c κs = search rules
+zero-all-requires-2 : tie.Need-zero_all-requires-2
+zero-all-requires-2 c κs = search rules
 
 packable-refusal-requires : tie.Need-packable_refusal-font-requires
 packable-refusal-requires c κs = search rules
@@ -102,8 +102,8 @@ pub pack_entrypoints_spec : {M : Type 1} → statement M
 pack_entrypoints_spec =
     tie.close
     (tie.spec
-    zero-i32-requires
-    zero-i32-requires-2
+    zero-all-requires
+    zero-all-requires-2
     packable-refusal-requires
     same_length
     same-length-2

@@ -12,7 +12,6 @@ use Rattle.words.specs.Words.{number_of}
 use Rattle.property_lists.specs.ListReading.{applied}
 use Rattle.pl_apply.proofs.Laws.{small_number}
 use Rattle.property_lists.specs.declared.Property.TheVariants as property
-use Rattle.pl_progress.specs.declared.Change.TheVariants as change
 use Rattle.pl_apply.proofs.Applying.{arm_comment, arm_boundary, arm_table, arm_closed, arm_ended, arm_label, arm_stop, arm_skip, arm_step}
 use borrow.Author.Rules.{rules}
 use native.Mathlib.Omega.{arith}

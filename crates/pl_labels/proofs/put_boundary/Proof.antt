@@ -9,12 +9,12 @@ use Rattle.pl_labels.proofs.put_boundary.Tie as tie
 add-smaller : tie.Need-overflow_add-out
 add-smaller c = search rules
 
-smaller-requires : tie.Need-smaller-requires
+smaller-requires : tie.Need-min-requires
 smaller-requires c κs = search rules
 
 returns : tie.Need-returns-then-boundary-ge2147483648
 returns c =
-    absent_put c.args.out.now c.args.at c.args.boundary c.if-boundary-ge2147483648.true c.smaller.ensures
+    absent_put c.args.out.now c.args.at c.args.boundary c.if-boundary-ge2147483648.true c.min.ensures
 
 put-bytes-requires : tie.Need-put_bytes-first-requires
 put-bytes-requires c κs = search rules

@@ -8,12 +8,12 @@ use Rattle.pl_lines.proofs.put_next.Tie as tie
 add-smaller : tie.Need-overflow_add-out
 add-smaller c = search rules
 
-smaller-requires : tie.Need-smaller-requires
+smaller-requires : tie.Need-min-requires
 smaller-requires c κs = search rules
 
 returns : tie.Need-returns-then-next-eq0
 returns c =
-    none_put c.args.out.now c.args.at c.args.next c.if-next-eq0.true c.smaller.ensures
+    none_put c.args.out.now c.args.at c.args.next c.if-next-eq0.true c.min.ensures
 
 put-skip-requires : tie.Need-put_skip-requires
 put-skip-requires c κs = search rules

@@ -21,21 +21,21 @@ past-name-requires c κs = search rules
 enum-known-n : tie.Need-enum_known-n
 enum-known-n c = search rules
 
-enum-told-3 : tie.Need-enum_told-in-Refused-past_name
+enum-told-3 : tie.Need-enum_told-in-None
 enum-told-3 c = search rules
 
 returns : tie.Need-returns-in-Value
 returns c = search rules
 
-returns-2 : tie.Need-returns-in-At
+returns-2 : tie.Need-returns-in-Some
 returns-2 c =
     let pre = c.requires in
-    let k = known_at c.past_name.ensures c.in-At.is in
+    let k = known_at c.past_name.ensures c.in-Some.is in
     scanned_at _ (rw (c.in-Refused.is, k.0)) (λ h. omega (arith, k.1 h, pre.0)) k.2
 
-returns-3 : tie.Need-returns-in-Refused-past_name
+returns-3 : tie.Need-returns-in-None
 returns-3 c =
-    scanned_none _ (rw (c.in-Refused.is, known_none c.past_name.ensures c.in-Refused-past_name.is))
+    scanned_none _ (rw (c.in-Refused.is, known_none c.past_name.ensures c.in-None.is))
 
 pub or_named_spec : {M : Type 1} → statement M
 or_named_spec =

@@ -3,7 +3,6 @@
 use Prim.Native.Nat.{◌*◌}
 use borrow.Author.Tests.{lt-leb, le-leb}
 use Rattle.property_lists.specs.declared.Property.TheVariants as property
-use Rattle.pl_progress.specs.declared.Change.TheVariants as change
 use borrow.Author.Rules.{rules}
 use Rattle.pl_read.proofs.list_refusal.Statement.{statement}
 use Rattle.pl_read.proofs.list_refusal.Tie as tie

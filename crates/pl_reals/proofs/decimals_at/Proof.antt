@@ -35,7 +35,7 @@ add-smaller c = search rules
 sub-smaller : tie.Need-overflow_sub-end
 sub-smaller c = search rules
 
-smaller-requires : tie.Need-smaller-seven-requires
+smaller-requires : tie.Need-min-seven-requires
 smaller-requires c κs = search rules
 
 add-decimal-sum : tie.Need-overflow_add-at-then-text-at-eq46-2
@@ -60,7 +60,7 @@ returns c =
     let f = c.figures_end-end.ensures in
     let e : decimals_at (drop args.at t) ≡ slice (args.at + 1) c.figures_end-end.result t =
     rw (at_byte t args.at c.if-at-text.true, eq-eqb (get_or t args.at 0) 46 c.if-text-at-eq46.true) f.digits in
-    let s = first_seven t (args.at + 1) c.figures_end-end.result c.smaller-seven.result f.low f.high c.smaller-seven.ensures in
+    let s = first_seven t (args.at + 1) c.figures_end-end.result c.min-seven.result f.low f.high c.min-seven.ensures in
     record {
       value_is = rw (c.decimal_sum.ensures.0, e, s);
       rest = rw (at_byte t args.at c.if-at-text.true, eq-eqb (get_or t args.at 0) 46 c.if-text-at-eq46.true) (sym f.rest);

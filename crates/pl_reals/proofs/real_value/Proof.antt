@@ -25,11 +25,11 @@ returns c =
 
 typed-real-requires : tie.Need-typed_real-requires
 typed-real-requires c κs =
-    (known_at c.past_blanks.ensures c.in-At.is).2
+    (known_at c.past_blanks.ensures c.in-Some.is).2
 
 returns-2 : tie.Need-returns
 returns-2 c =
-    let k = known_at c.past_blanks.ensures c.in-At.is in
+    let k = known_at c.past_blanks.ensures c.in-Some.is in
     scanned_from c.typed_real.result c.typed_real.ensures (sym (ap (λ o. then_by o typed_real) k.0)) (λ h. (omega (arith, k.1 h), k.2))
 
 pub real_value_spec : {M : Type 1} → statement M

@@ -23,11 +23,11 @@ read-list-requires c κs = search rules
 enum-known-read : tie.Need-enum_known-read
 enum-known-read c = search rules
 
-zero-i32-requires : tie.Need-zero_i32-requires
-zero-i32-requires c κs = search rules
+zero-all-requires : tie.Need-zero_all-requires
+zero-all-requires c κs = search rules
 
-zero-i32-requires-2 : tie.Need-zero_i32-requires-in-Refused
-zero-i32-requires-2 c κs = search rules
+zero-all-requires-2 : tie.Need-zero_all-requires-in-Refused
+zero-all-requires-2 c κs = search rules
 
 enum-known-read-2 : tie.Need-enum_known-read-in-Font-1
 enum-known-read-2 c = search rules
@@ -71,8 +71,8 @@ unpack-kerns-requires c κs = search rules
 enum-known-shared : tie.Need-enum_known-shared
 enum-known-shared c = search rules
 
-zero-i32-requires-3 : tie.Need-zero_i32-requires-in-Refused-shared
-zero-i32-requires-3 c κs = search rules
+zero-all-requires-3 : tie.Need-zero_all-requires-in-Refused-shared
+zero-all-requires-3 c κs = search rules
 
 enum-known-shared-2 : tie.Need-enum_known-shared-in-Count-1
 enum-known-shared-2 c = search rules
@@ -90,7 +90,7 @@ returns : tie.Need-returns-in-Refused
 returns c =
     let a = c.args in
     read_refused a.text.now a.instructions.now a.kerns.now a.entries.now (omega (arith, c.step_places-steps.ensures)) c.read_list-read.ensures
-    c.in-Refused.is c.zero_i32.ensures c.zero_i32-in-Refused.ensures
+    c.in-Refused.is c.zero_all.ensures c.zero_all-in-Refused.ensures
 
 same-length-4 : tie.Need-shape_of-instructions-in-Refused-shared
 same-length-4 c = search rules
@@ -106,7 +106,7 @@ returns-2 c =
     let a = c.args in
     share_refused a.text.now a.instructions.now a.kerns.now a.entries.now (omega (arith, c.step_places-steps.ensures)) c.read_list-read.ensures
     c.in-Font.is c.unpack_kerns-shared.ensures c.in-Refused-shared.is
-    (c.zero_i32-in-Refused-shared.ensures ∙ ap (λ (n : ℕ). replicate n (pos 0)) c.read_list-read.auto.entries)
+    (c.zero_all-in-Refused-shared.ensures ∙ ap (λ (n : ℕ). replicate n (pos 0)) c.read_list-read.auto.entries)
 
 same-length-7 : tie.Need-shape_of-instructions-in-Count
 same-length-7 c = search rules
@@ -132,15 +132,15 @@ from_pl_source_code_spec =
     slice-aggregate-read-list
     read-list-requires
     enum-known-read
-    zero-i32-requires
-    zero-i32-requires-2
+    zero-all-requires
+    zero-all-requires-2
     enum-known-read-2
     mul-steps
     array-share-prefix-steps
     slice-aggregate-unpack-kerns
     unpack-kerns-requires
     enum-known-shared
-    zero-i32-requires-3
+    zero-all-requires-3
     enum-known-shared-2
     same_length
     same-length-2

@@ -29,8 +29,8 @@ returns-2 : tie.Need-returns-then-text-i
 returns-2 c =
     let args = c.args in
     let t = args.text.now in
-    let place = c.in-At.i in
-    let k = known_at c.past_blanks.ensures c.in-At.is in
+    let place = c.in-Some.i in
+    let k = known_at c.past_blanks.ensures c.in-Some.is in
     property_at_lem _ (rw (k.0, at_end_lem t place c.if-text-i.true)) (λ h. omega (arith, k.1 h)) k.2
 
 shared-slice-read-if2 : tie.Need-bounds-text-i
@@ -43,8 +43,8 @@ returns-3 : tie.Need-returns-then-text-i-eq41
 returns-3 c =
     let args = c.args in
     let t = args.text.now in
-    let place = c.in-At.i in
-    let k = known_at c.past_blanks.ensures c.in-At.is in
+    let place = c.in-Some.i in
+    let k = known_at c.past_blanks.ensures c.in-Some.is in
     property_at_lem _ (rw (k.0, at_byte t place c.if-text-i.false, eq-eqb (get_or t place 0) 41 c.if-text-i-eq41.true)) (λ h. omega (arith, k.1 h)) (omega (arith, c.if-text-i.false))
 
 shared-slice-read-if3 : tie.Need-bounds-text-i-2
@@ -54,8 +54,8 @@ returns-4 : tie.Need-returns-then-text-i-ne40
 returns-4 c =
     let args = c.args in
     let t = args.text.now in
-    let place = c.in-At.i in
-    let k = known_at c.past_blanks.ensures c.in-At.is in
+    let place = c.in-Some.i in
+    let k = known_at c.past_blanks.ensures c.in-Some.is in
     property_none _ (rw (k.0, at_byte t place c.if-text-i.false, ne_eqb (get_or t place 0) 41 c.if-text-i-eq41.false, ne_eqb (get_or t place 0) 40 c.if-text-i-ne40.true))
 
 add-past-blanks : tie.Need-overflow_add-i
@@ -74,22 +74,22 @@ returns-5 : tie.Need-returns-in_default-past_blanks
 returns-5 c =
     let args = c.args in
     let t = args.text.now in
-    let place = c.in-At.i in
-    let k = known_at c.past_blanks.ensures c.in-At.is in
+    let place = c.in-Some.i in
+    let k = known_at c.past_blanks.ensures c.in-Some.is in
     let n = known_none c.past_blanks-2.ensures c.in_default-past_blanks.is in
     property_none _ (rw (k.0, at_byte t place c.if-text-i.false, ne_eqb (get_or t place 0) 41 c.if-text-i-eq41.false, eq-eqb (get_or t place 0) 40 c.if-text-i-ne40.false, n))
 
 named-from-requires : tie.Need-named_from-requires
 named-from-requires c κs =
-    (known_at c.past_blanks-2.ensures c.in-At-past_blanks.is).2
+    (known_at c.past_blanks-2.ensures c.in-Some-past_blanks.is).2
 
 returns-6 : tie.Need-returns
 returns-6 c =
     let args = c.args in
     let t = args.text.now in
-    let place = c.in-At.i in
-    let k = known_at c.past_blanks.ensures c.in-At.is in
-    let n = known_at c.past_blanks-2.ensures c.in-At-past_blanks.is in
+    let place = c.in-Some.i in
+    let k = known_at c.past_blanks.ensures c.in-Some.is in
+    let n = known_at c.past_blanks-2.ensures c.in-Some-past_blanks.is in
     property_from_lem c.named_from.result c.named_from.ensures
     (sym (rw (k.0, at_byte t place c.if-text-i.false, ne_eqb (get_or t place 0) 41 c.if-text-i-eq41.false, eq-eqb (get_or t place 0) 40 c.if-text-i-ne40.false, n.0)))
     (λ h. (λ p. omega (arith, k.1 h, n.1 (omega (arith, c.if-text-i.false)), four_bytes p), n.2))

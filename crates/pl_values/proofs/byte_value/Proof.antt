@@ -27,8 +27,8 @@ returns c =
 returns-2 : tie.Need-returns-then-text-i
 returns-2 c =
     let args = c.args in
-    let k = known_at c.past_blanks.ensures c.in-At.is in
-    scanned_none _ (ap (λ o. then_by o (by_type typed_byte)) k.0 ∙ rw (at_end_lem args.text.now c.in-At.i c.if-text-i.true))
+    let k = known_at c.past_blanks.ensures c.in-Some.is in
+    scanned_none _ (ap (λ o. then_by o (by_type typed_byte)) k.0 ∙ rw (at_end_lem args.text.now c.in-Some.i c.if-text-i.true))
 
 shared-slice-read-upper-case : tie.Need-bounds-text-i
 shared-slice-read-upper-case c = search rules
@@ -51,22 +51,22 @@ enum-told-2 c = search rules
 returns-3 : tie.Need-returns-in_default-past_blanks
 returns-3 c =
     let args = c.args in
-    let k = known_at c.past_blanks.ensures c.in-At.is in
+    let k = known_at c.past_blanks.ensures c.in-Some.is in
     let n = known_none c.past_blanks-2.ensures c.in_default-past_blanks.is in
-    scanned_none _ (ap (λ o. then_by o (by_type typed_byte)) k.0 ∙ rw (at_byte args.text.now c.in-At.i c.if-text-i.false, n))
+    scanned_none _ (ap (λ o. then_by o (by_type typed_byte)) k.0 ∙ rw (at_byte args.text.now c.in-Some.i c.if-text-i.false, n))
 
 typed-byte-requires : tie.Need-typed_byte-requires
 typed-byte-requires c κs =
-    (known_at c.past_blanks-2.ensures c.in-At-past_blanks.is).2
+    (known_at c.past_blanks-2.ensures c.in-Some-past_blanks.is).2
 
 returns-4 : tie.Need-returns
 returns-4 c =
     let Typed-Byte = c.typed_byte in
     let args = c.args in
-    let k = known_at c.past_blanks.ensures c.in-At.is in
-    let n = known_at c.past_blanks-2.ensures c.in-At-past_blanks.is in
-    let e : byte_value (drop args.at args.text.now) ≡ typed_byte c.upper_case-t.result (drop c.in-At-past_blanks.j args.text.now) =
-    ap (λ o. then_by o (by_type typed_byte)) k.0 ∙ rw (at_byte args.text.now c.in-At.i c.if-text-i.false, n.0, c.upper_case-t.ensures) in
+    let k = known_at c.past_blanks.ensures c.in-Some.is in
+    let n = known_at c.past_blanks-2.ensures c.in-Some-past_blanks.is in
+    let e : byte_value (drop args.at args.text.now) ≡ typed_byte c.upper_case-t.result (drop c.in-Some-past_blanks.j args.text.now) =
+    ap (λ o. then_by o (by_type typed_byte)) k.0 ∙ rw (at_byte args.text.now c.in-Some.i c.if-text-i.false, n.0, c.upper_case-t.ensures) in
     scanned_from Typed-Byte.result Typed-Byte.ensures (sym e) (λ h. (omega (arith, k.1 h, n.1 (omega (arith, c.if-text-i.false))), n.2))
 
 pub byte_value_spec : {M : Type 1} → statement M

@@ -8,13 +8,13 @@ use Rattle.pl_write.proofs.put_table.Tie as tie
 add-smaller : tie.Need-overflow_add-out
 add-smaller c = search rules
 
-smaller-requires : tie.Need-smaller-requires
+smaller-requires : tie.Need-min-requires
 smaller-requires c κs = search rules
 
 returns : tie.Need-returns-then-instructions-eq0
 returns c =
     no_table c.args.instructions.now c.args.kerns.now c.args.table.now c.args.out.now c.args.at c.if-instructions-eq0.true
-    c.smaller.ensures
+    c.min.ensures
 
 put-bytes-requires : tie.Need-put_bytes-first-requires
 put-bytes-requires c κs = search rules

@@ -5,8 +5,8 @@ use borrow.Author.Rules.{rules}
 use Rattle.point_print.proofs.print_scaled.Statement.{statement}
 use Rattle.point_print.proofs.print_scaled.Tie as tie
 
-zero-u8-requires : tie.Need-zero_u8-requires
-zero-u8-requires c κs = search rules
+zero-all-requires : tie.Need-zero_all-requires
+zero-all-requires c κs = search rules
 
 word-of-requires : tie.Need-word_of-requires
 word-of-requires c κs = search rules
@@ -14,33 +14,33 @@ word-of-requires c κs = search rules
 put-value-requires : tie.Need-put_value-count-requires
 put-value-requires c κs = search rules
 
-zero-u8-requires-2 : tie.Need-zero_u8-requires-then-out-count
-zero-u8-requires-2 c κs = search rules
+zero-all-requires-2 : tie.Need-zero_all-requires-then-out-count
+zero-all-requires-2 c κs = search rules
 
 same_length : tie.Need-shape_of-out-then-out-count
 same_length c = search rules
 
 returns : tie.Need-returns-then-out-count
 returns c =
-    too_short c.args.value c.args.out.now c.zero_u8.new.s c.word_of.result c.put_value-count.result c.put_value-count.new.out
-    c.ranges.value c.zero_u8.ensures c.word_of.ensures c.put_value-count.ensures c.if-out-count.true c.zero_u8-then-out-count.ensures
+    too_short c.args.value c.args.out.now c.zero_all.new.s c.word_of.result c.put_value-count.result c.put_value-count.new.out
+    c.ranges.value c.zero_all.ensures c.word_of.ensures c.put_value-count.ensures c.if-out-count.true c.zero_all-then-out-count.ensures
 
 same-length-2 : tie.Need-shape_of-out
 same-length-2 c = search rules
 
 returns-2 : tie.Need-returns
 returns-2 c =
-    printed c.args.value c.args.out.now c.zero_u8.new.s c.word_of.result c.put_value-count.result c.put_value-count.new.out
-    c.ranges.value c.zero_u8.ensures c.word_of.ensures c.put_value-count.ensures c.if-out-count.false
+    printed c.args.value c.args.out.now c.zero_all.new.s c.word_of.result c.put_value-count.result c.put_value-count.new.out
+    c.ranges.value c.zero_all.ensures c.word_of.ensures c.put_value-count.ensures c.if-out-count.false
 
 pub print_scaled_spec : {M : Type 1} → statement M
 print_scaled_spec =
     tie.close
     (tie.spec
-    zero-u8-requires
+    zero-all-requires
     word-of-requires
     put-value-requires
-    zero-u8-requires-2
+    zero-all-requires-2
     same_length
     returns
     same-length-2

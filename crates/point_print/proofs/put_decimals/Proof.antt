@@ -33,8 +33,8 @@ cast-put-u8 c = omega (arith, turn_digit c.loop-s.invariant c.last_rounded-t.ens
 add-put-u8 : tie.Need-overflow_add-t invariant-loop decreases-loop
 add-put-u8 c = omega (arith, turn_digit c.loop-s.invariant c.last_rounded-t.ensures)
 
-put-u8-requires : tie.Need-put_u8-requires invariant-loop decreases-loop
-put-u8-requires c κs = search rules
+put-item-requires : tie.Need-put_item-requires invariant-loop decreases-loop
+put-item-requires c κs = search rules
 
 add-next : tie.Need-overflow_add-next invariant-loop decreases-loop
 add-next c =
@@ -48,18 +48,18 @@ mul-delta c = omega (arith, (turn_delta c.loop-s.invariant).1)
 
 same_length : tie.Need-shape_of-out-then-s-delta invariant-loop decreases-loop
 same_length c =
-    turn_kept c.loop-s.invariant c.last_rounded-t.ensures c.put_u8.ensures
+    turn_kept c.loop-s.invariant c.last_rounded-t.ensures c.put_item.ensures
 
 returns : tie.Need-returns-then-s-delta invariant-loop decreases-loop
 returns c =
-    turn_last c.loop-s.invariant c.last_rounded-t.ensures c.put_u8.ensures (omega (arith, c.if-s-delta.true))
+    turn_last c.loop-s.invariant c.last_rounded-t.ensures c.put_item.ensures (omega (arith, c.if-s-delta.true))
 
 loop-less : tie.Need-loop-s-smaller invariant-loop decreases-loop
 loop-less c = omega (arith, turn_delta c.loop-s.invariant)
 
 loop-again : tie.Need-loop-s-preserved invariant-loop decreases-loop
 loop-again c =
-    turn_more c.loop-s.invariant c.last_rounded-t.ensures c.put_u8.ensures (omega (arith, c.if-s-delta.false))
+    turn_more c.loop-s.invariant c.last_rounded-t.ensures c.put_item.ensures (omega (arith, c.if-s-delta.false))
 
 pub put_decimals_spec : {M : Type 1} → statement M
 put_decimals_spec =
@@ -73,7 +73,7 @@ put_decimals_spec =
     last-rounded-requires
     cast-put-u8
     add-put-u8
-    put-u8-requires
+    put-item-requires
     add-next
     mul-s-2
     mul-delta

@@ -14,8 +14,8 @@ cast-put-u8 c = search rules
 add-put-u8 : tie.Need-overflow_add-n
 add-put-u8 c = search rules
 
-put-u8-requires : tie.Need-put_u8-requires
-put-u8-requires c κs = search rules
+put-item-requires : tie.Need-put_item-requires
+put-item-requires c κs = search rules
 
 add-result : tie.Need-overflow_add-result
 add-result c = search rules
@@ -26,7 +26,7 @@ same_length c = search rules
 returns-2 : tie.Need-returns
 returns-2 c =
     let a = c.args in
-    leading_one a.out.now a.at a.n c.if-n-eq0.false c.put_u8.ensures
+    leading_one a.out.now a.at a.n c.if-n-eq0.false c.put_item.ensures
 
 pub put_leading_spec : {M : Type 1} → statement M
 put_leading_spec =
@@ -35,7 +35,7 @@ put_leading_spec =
     returns
     cast-put-u8
     add-put-u8
-    put-u8-requires
+    put-item-requires
     add-result
     same_length
     returns-2)

@@ -8,8 +8,8 @@ use Rattle.point_print.proofs.put_size.Tie as tie
 put-whole-requires : tie.Need-put_whole-point-requires
 put-whole-requires c κs = search rules
 
-put-u8-requires : tie.Need-put_u8-requires
-put-u8-requires c κs = search rules
+put-item-requires : tie.Need-put_item-requires
+put-item-requires c κs = search rules
 
 add-put-decimals : tie.Need-overflow_add-point
 add-put-decimals c = search rules
@@ -22,14 +22,14 @@ same_length c = search rules
 
 returns : tie.Need-returns
 returns c =
-    puts_size c.args.n c.put_whole-point.ensures.0 c.put_u8.ensures c.put_decimals.ensures
+    puts_size c.args.n c.put_whole-point.ensures.0 c.put_item.ensures c.put_decimals.ensures
 
 pub put_size_spec : {M : Type 1} → statement M
 put_size_spec =
     tie.close
     (tie.spec
     put-whole-requires
-    put-u8-requires
+    put-item-requires
     add-put-decimals
     put-decimals-requires
     same_length

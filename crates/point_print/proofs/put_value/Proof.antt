@@ -15,8 +15,8 @@ returns : tie.Need-returns-then-w-lt2147483648
 returns c =
     puts_positive c.args.w c.if-w-lt2147483648.true c.put_size.ensures
 
-put-u8-requires : tie.Need-put_u8-requires
-put-u8-requires c κs = search rules
+put-item-requires : tie.Need-put_item-requires
+put-item-requires c κs = search rules
 
 sub-put-size : tie.Need-overflow_sub-w
 sub-put-size c = search rules
@@ -32,7 +32,7 @@ same-length-2 c = search rules
 
 returns-2 : tie.Need-returns
 returns-2 c =
-    puts_negative c.args.w c.if-w-lt2147483648.false c.ranges.w.fits c.put_u8.ensures c.put_size-2.ensures
+    puts_negative c.args.w c.if-w-lt2147483648.false c.ranges.w.fits c.put_item.ensures c.put_size-2.ensures
 
 pub put_value_spec : {M : Type 1} → statement M
 put_value_spec =
@@ -41,7 +41,7 @@ put_value_spec =
     put-size-requires
     same_length
     returns
-    put-u8-requires
+    put-item-requires
     sub-put-size
     add-put-size
     put-size-requires-2

@@ -24,8 +24,8 @@ cast-put-u8 c = search rules
 add-put-u8 : tie.Need-overflow_add-n
 add-put-u8 c = search rules
 
-put-u8-requires : tie.Need-put_u8-requires
-put-u8-requires c κs = search rules
+put-item-requires : tie.Need-put_item-requires
+put-item-requires c κs = search rules
 
 add-result : tie.Need-overflow_add-result
 add-result c = search rules
@@ -37,7 +37,7 @@ returns : tie.Need-returns
 returns c =
     let a = c.args in (
       puts_whole a.n c.put_leading-second.ensures.0 c.put_leading-third.ensures.0 c.put_leading-fourth.ensures.0 c.put_leading-last.ensures.0
-          c.put_u8.ensures,
+          c.put_item.ensures,
       omega arith,
     )
 
@@ -51,7 +51,7 @@ put_whole_spec =
     put-leading-requires-4
     cast-put-u8
     add-put-u8
-    put-u8-requires
+    put-item-requires
     add-result
     same_length
     returns)

@@ -65,8 +65,8 @@ module _ (s : List ℤ) (entry : ℤ) (out zeroed : List ℕ) (f : SFits w32 ent
           list = rw nothing-refused (appending_rest zeroed 0 (length out) z (rw word_is at h));
         }
 
-zero-u32-requires : tie.Need-zero_u32-requires
-zero-u32-requires c κs = search rules
+zero-all-requires : tie.Need-zero_all-requires
+zero-all-requires c κs = search rules
 
 walk-refusal-requires : tie.Need-walk_refusal-refused-requires
 walk-refusal-requires c κs = search rules
@@ -76,7 +76,7 @@ same_length c = search rules
 
 returns : tie.Need-returns-then-refused-ne0
 returns c =
-    refused c.args.instructions.now c.args.entry c.args.out.now c.zero_u32.new.s c.ranges.entry c.zero_u32.ensures
+    refused c.args.instructions.now c.args.entry c.args.out.now c.zero_all.new.s c.ranges.entry c.zero_all.ensures
     c.walk_refusal-refused.result c.walk_refusal-refused.ensures c.if-refused-ne0.true
 
 word-of-requires : tie.Need-word_of-start-requires
@@ -87,7 +87,7 @@ cast-start c = search rules
 
 write-chain-requires : tie.Need-write_chain-requires
 write-chain-requires c κs =
-    ready c.args.instructions.now c.args.entry c.args.out.now c.zero_u32.new.s c.ranges.entry c.zero_u32.ensures
+    ready c.args.instructions.now c.args.entry c.args.out.now c.zero_all.new.s c.ranges.entry c.zero_all.ensures
     c.walk_refusal-refused.result c.walk_refusal-refused.ensures c.if-refused-ne0.false c.word_of-start.result c.word_of-start.ensures
 
 same-length-2 : tie.Need-shape_of-out
@@ -95,7 +95,7 @@ same-length-2 c = search rules
 
 returns-2 : tie.Need-returns
 returns-2 c =
-    written c.args.instructions.now c.args.entry c.args.out.now c.zero_u32.new.s c.ranges.entry c.zero_u32.ensures
+    written c.args.instructions.now c.args.entry c.args.out.now c.zero_all.new.s c.ranges.entry c.zero_all.ensures
     c.walk_refusal-refused.result c.walk_refusal-refused.ensures c.if-refused-ne0.false c.word_of-start.result c.word_of-start.ensures c.write_chain.result
     c.write_chain.new.out c.write_chain.ensures.0 c.write_chain.ensures.1
 
@@ -103,7 +103,7 @@ pub instructions_for_entrypoint_spec : {M : Type 1} → statement M
 instructions_for_entrypoint_spec =
     tie.close
     (tie.spec
-    zero-u32-requires
+    zero-all-requires
     walk-refusal-requires
     same_length
     returns

@@ -5,8 +5,8 @@ use mathlib.Core.Path.{ap}
 use Prim.Native.Nat.{◌%◌}
 use native.Mathlib.Omega.{arith}
 use borrow.Author.Tests.{le-ltb}
+use Rattle.std.specs.Prelude.{None, Some}
 use Rattle.words.proofs.Bits.{read_pos, read_neg}
-use Rattle.lang.specs.declared.instruction.NextInstruction.TheVariants.{Stop, Skip}
 use Rattle.lang.specs.Records.{count, next_of, instruction_at}
 use Rattle.program_chain.proofs.Walks.{step_to}
 use borrow.Author.Rules.{rules}
@@ -31,13 +31,13 @@ add-t11 c = search rules
 returns-2 : tie.Need-returns-then-word-lt2147483648
 returns-2 c =
     let a = c.args in
-    step_to (count a.instructions.now) (instruction_at a.instructions.now) a.at (Skip (c.field_at-word.result % 256))
+    step_to (count a.instructions.now) (instruction_at a.instructions.now) a.at (Some (c.field_at-word.result % 256))
     c.if-n-at.false (ap next_of (read_pos c.field_at-word.ensures c.if-word-lt2147483648.true))
 
 returns-3 : tie.Need-returns-else-word-lt2147483648
 returns-3 c =
     let a = c.args in
-    step_to (count a.instructions.now) (instruction_at a.instructions.now) a.at Stop c.if-n-at.false
+    step_to (count a.instructions.now) (instruction_at a.instructions.now) a.at None c.if-n-at.false
     (ap next_of (read_neg c.field_at-word.ensures c.if-word-lt2147483648.false))
 
 pub next_instruction_spec : {M : Type 1} → statement M

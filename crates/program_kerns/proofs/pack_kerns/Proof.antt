@@ -48,11 +48,11 @@ module _ {s kerns out z : List ℤ} {r : ℕ} (b : Begun s kerns out z r) where
 
 begun : (c : tie.After-pack_refusal-refusal) →
     Begun c.args.instructions.now c.args.kerns.now
-    c.args.out.now c.zero_i32.new.s c.pack_refusal-refusal.result
-begun c = record { zeros = c.zero_i32.ensures; same = c.zero_i32.auto.s; refusal = c.pack_refusal-refusal.ensures }
+    c.args.out.now c.zero_all.new.s c.pack_refusal-refusal.result
+begun c = record { zeros = c.zero_all.ensures; same = c.zero_all.auto.s; refusal = c.pack_refusal-refusal.ensures }
 
-zero-i32-requires : tie.Need-zero_i32-requires
-zero-i32-requires c κs = search rules
+zero-all-requires : tie.Need-zero_all-requires
+zero-all-requires c κs = search rules
 
 pack-refusal-requires : tie.Need-pack_refusal-refusal-requires
 pack-refusal-requires c κs = search rules
@@ -76,7 +76,7 @@ pub pack_kerns_spec : {M : Type 1} → statement M
 pack_kerns_spec =
     tie.close
     (tie.spec
-    zero-i32-requires
+    zero-all-requires
     pack-refusal-requires
     same_length
     returns

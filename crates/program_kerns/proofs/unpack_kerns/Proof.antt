@@ -96,19 +96,19 @@ module _ {s out kerns z y : List ℤ} {r : ℕ} (b : Begun s out kerns z y r) wh
               shares = rw (none, ← b.kerns-same) (appending_rest (replicate (length y) (pos 0)) (pos 0) (length y) refl all.stands);
             }
 
-begun : (c : tie.After-unpack_refusal-refusal) → Begun c.args.instructions.now c.args.out.now c.args.kerns.now c.zero_i32.new.s
-    c.zero_i32-2.new.s c.unpack_refusal-refusal.result
+begun : (c : tie.After-unpack_refusal-refusal) → Begun c.args.instructions.now c.args.out.now c.args.kerns.now c.zero_all.new.s
+    c.zero_all-2.new.s c.unpack_refusal-refusal.result
 begun c =
-    record { out-zeros = c.zero_i32.ensures; out-same = c.zero_i32.auto.s; kerns-zeros = c.zero_i32-2.ensures; kerns-same = c.zero_i32-2.auto.s; early = c.unpack_refusal-refusal.ensures }
+    record { out-zeros = c.zero_all.ensures; out-same = c.zero_all.auto.s; kerns-zeros = c.zero_all-2.ensures; kerns-same = c.zero_all-2.auto.s; early = c.unpack_refusal-refusal.ensures }
 
-ended : (c : tie.After-gather-m) → Ended c.args.instructions.now c.zero_i32-2.new.s c.gather-m.new.kerns c.gather-m.new.links c.gather-m.result
+ended : (c : tie.After-gather-m) → Ended c.args.instructions.now c.zero_all-2.new.s c.gather-m.new.kerns c.gather-m.new.links c.gather-m.result
 ended c = record { counted = c.gather-m.ensures; kept = c.gather-m.auto.kerns }
 
-zero-i32-requires : tie.Need-zero_i32-requires
-zero-i32-requires c κs = search rules
+zero-all-requires : tie.Need-zero_all-requires
+zero-all-requires c κs = search rules
 
-zero-i32-requires-2 : tie.Need-zero_i32-requires-2
-zero-i32-requires-2 c κs = search rules
+zero-all-requires-2 : tie.Need-zero_all-requires-2
+zero-all-requires-2 c κs = search rules
 
 unpack-refusal-requires : tie.Need-unpack_refusal-refusal-requires
 unpack-refusal-requires c κs = search rules
@@ -125,8 +125,8 @@ returns c = refused-early (begun c.before) c.if-refusal-ne0.true
 gather-requires : tie.Need-gather-m-requires
 gather-requires c κs = let b = begun c.before.before.before in (size b c.if-refusal-ne0.false, starts b c.if-refusal-ne0.false)
 
-zero-i32-requires-3 : tie.Need-zero_i32-requires-then-kerns-m
-zero-i32-requires-3 c κs = search rules
+zero-all-requires-3 : tie.Need-zero_all-requires-then-kerns-m
+zero-all-requires-3 c κs = search rules
 
 same-length-3 : tie.Need-shape_of-out-then-kerns-m
 same-length-3 c = search rules
@@ -137,7 +137,7 @@ same-length-4 c = search rules
 returns-2 : tie.Need-returns-then-kerns-m
 returns-2 c =
     refused-late (begun c.before.before.before.before.before.before.before.before.before) c.if-refusal-ne0.false (ended (c.before.before.before.before.before)) c.if-kerns-m.true
-    c.zero_i32-then-kerns-m.ensures
+    c.zero_all-then-kerns-m.ensures
 
 slice-reshare-prefix-write-unpacked : tie.Need-slice_bounds-write_unpacked-end
 slice-reshare-prefix-write-unpacked c = search rules
@@ -165,14 +165,14 @@ pub unpack_kerns_spec : {M : Type 1} → statement M
 unpack_kerns_spec =
     tie.close
     (tie.spec
-    zero-i32-requires
-    zero-i32-requires-2
+    zero-all-requires
+    zero-all-requires-2
     unpack-refusal-requires
     same_length
     same-length-2
     returns
     gather-requires
-    zero-i32-requires-3
+    zero-all-requires-3
     same-length-3
     same-length-4
     returns-2

@@ -1,6 +1,5 @@
 -- Each turn writes one more index, and the walk that is over meets the contract.
 use Rattle.std.proofs.Common.{◌≡◌, ℕ, ℤ, length, refl, sym, ap, ◌∙◌, subst, to_z, of_z, w32}
-use Rattle.program_chain.specs.declared.Next.{Next}
 use Rattle.words.proofs.Bits.{number_word}
 use Rattle.program_records.specs.RecordChains.{record_at, WalksRecords}
 use Rattle.program_records.proofs.RecordTurns.{walked_small, walked_more, walked_nearer, walked_ends}

@@ -17,7 +17,7 @@ enum-known-next c = search rules
 returns : tie.Need-returns-then-k-eq0
 returns c =
     let a = c.args in
-    skip_nothing (length a.marks.now) a.marks.now a.next c.in-Skip.k a.i c.in-Skip.is
+    skip_nothing (length a.marks.now) a.marks.now a.next c.in-Some.k a.i c.in-Some.is
     c.if-k-eq0.true
 
 add-if2 : tie.Need-overflow_add-i
@@ -26,7 +26,7 @@ add-if2 c = search rules
 cast-if2 : tie.Need-overflow_cast-k
 cast-if2 c = search rules
 
-add-if2-2 : tie.Need-overflow_add-i-in-Skip
+add-if2-2 : tie.Need-overflow_add-i-in-Some
 add-if2-2 c = search rules
 
 add-marks-from : tie.Need-overflow_add-i-then-i-k
@@ -38,21 +38,21 @@ marks-from-requires c κs = search rules
 returns-2 : tie.Need-returns-then-i-k
 returns-2 c =
     let a = c.args in
-    let k = c.in-Skip.k in
-    skip_counted (length a.marks.now) a.marks.now a.next k a.i _ c.in-Skip.is
-    c.if-k-eq0.false (let l : k < 256 = omega (arith, c.in-Skip.known_told-1-own.given) in l) c.if-i-k.true
+    let k = c.in-Some.k in
+    skip_counted (length a.marks.now) a.marks.now a.next k a.i _ c.in-Some.is
+    c.if-k-eq0.false (let l : k < 256 = omega (arith, c.in-Some.known_told-1-own.given) in l) c.if-i-k.true
     c.marks_from.ensures
 
-returns-3 : tie.Need-returns-in-Stop
+returns-3 : tie.Need-returns-in-None
 returns-3 c =
     let a = c.args in
-    skip_stops (length a.marks.now) a.marks.now a.next a.i c.in-Stop.is
+    skip_stops (length a.marks.now) a.marks.now a.next a.i c.in-None.is
 
 returns-4 : tie.Need-returns-else-i-k
 returns-4 c =
     let a = c.args in
-    skip_past (length a.marks.now) a.marks.now a.next c.in-Skip.k a.i
-    c.in-Skip.is c.if-i-k.false
+    skip_past (length a.marks.now) a.marks.now a.next c.in-Some.k a.i
+    c.in-Some.is c.if-i-k.false
 
 pub adjusted_skip_spec : {M : Type 1} → statement M
 adjusted_skip_spec =

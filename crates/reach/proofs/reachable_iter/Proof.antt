@@ -53,10 +53,10 @@ refusal_is : (c : tie.After-reach_refusal-refusal) → let a = c.args in
     c.reach_refusal-refusal.result ≡ reach_refusal a.instructions.now a.entries.now a.left_entry a.passthrough.now (length a.out.now)
 refusal_is c =
     same_refusal c.args.instructions.now c.args.entries.now c.args.left_entry (number_of (word_of c.args.left_entry))
-    c.args.passthrough.now (length c.args.out.now) (length c.zero_i32.new.s) _
+    c.args.passthrough.now (length c.args.out.now) (length c.zero_all.new.s) _
     c.reach_refusal-refusal.ensures
     (number_word c.args.left_entry c.ranges.left_entry)
-    c.zero_i32.auto.s
+    c.zero_all.auto.s
 
 none-holds : (c : tie.Else-refusal-ne0) → let a = c.args in
     reach_refusal a.instructions.now a.entries.now a.left_entry a.passthrough.now (length a.out.now) ≡ 0
@@ -85,8 +85,8 @@ front c =
     front_length (count c.args.instructions.now)
     c.reachable_array.new.marks c.places-marks.result (marks-length c)
 
-zero-i32-requires : tie.Need-zero_i32-requires
-zero-i32-requires c κs = search rules
+zero-all-requires : tie.Need-zero_all-requires
+zero-all-requires c κs = search rules
 
 reach-refusal-requires : tie.Need-reach_refusal-refusal-requires
 reach-refusal-requires c κs = search rules
@@ -102,7 +102,7 @@ returns c =
       answer = refused_answer (count a.instructions.now) e c.if-refusal-ne0.true;
       list =
           refused_list (pos 0) (length a.out.now) (reach_list a.instructions.now a.entries.now a.left_entry a.passthrough.now) e
-          c.if-refusal-ne0.true c.zero_i32.ensures;
+          c.if-refusal-ne0.true c.zero_all.ensures;
     }
 
 places-requires : tie.Need-places-marks-requires
@@ -139,7 +139,7 @@ write-reach-requires c κs =
       front c.before.before.before,
       omega (
         arith,
-        c.zero_i32.auto.s,
+        c.zero_all.auto.s,
         enough a.instructions.now a.entries.now a.left_entry a.passthrough.now (length a.out.now)
             (none-holds c.before.before.before.before.before.before),
       ),
@@ -163,7 +163,7 @@ returns-2 c =
           (length-take-le (count a.instructions.now) c.places-marks.result (places-enough c.before.before.before.before.before.before.before))
           c.reachable_array.ensures
           ∙ ap (λ (z : ℤ). reachable a.instructions.now a.entries.now z) (number_word a.left_entry c.ranges.left_entry))
-          c.zero_i32.ensures
+          c.zero_all.ensures
           c.write_reach.ensures;
     }
 
@@ -171,7 +171,7 @@ pub reachable_iter_spec : {M : Type 1} → statement M
 reachable_iter_spec =
     tie.close
     (tie.spec
-    zero-i32-requires
+    zero-all-requires
     reach-refusal-requires
     same_length
     returns

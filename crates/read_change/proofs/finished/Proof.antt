@@ -5,7 +5,7 @@ use borrow.Author.Rules.{rules}
 use Rattle.read_change.proofs.finished.Statement.{statement}
 use Rattle.read_change.proofs.finished.Tie as tie
 
-smaller-requires : tie.Need-smaller-gone-requires
+smaller-requires : tie.Need-min-gone-requires
 smaller-requires c κs = search rules
 
 sub-change-of : tie.Need-overflow_sub-done
@@ -20,7 +20,7 @@ change-of-requires c κs = search rules
 returns : tie.Need-returns-then-boundary
 returns c =
     let a = c.args in
-    finished_boundary a.boundary a.done c.change_of.result c.smaller-gone.result c.if-boundary.true c.smaller-gone.ensures c.change_of.ensures
+    finished_boundary a.boundary a.done c.change_of.result c.min-gone.result c.if-boundary.true c.min-gone.ensures c.change_of.ensures
 
 returns-2 : tie.Need-returns
 returns-2 c = search rules

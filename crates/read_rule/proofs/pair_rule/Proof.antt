@@ -51,17 +51,17 @@ operation-at-requires c κs = search rules
 rule-of-requires : tie.Need-rule_of-requires
 rule-of-requires c κs = search rules
 
-returns-2 : tie.Need-returns-in-Nothing
+returns-2 : tie.Need-returns-in-None
 returns-2 c = λ b.
     let a = c.args in
     rule_none (font c.before.before.before.before b) (left_as a.boundary a.left) a.right c.entry_of-entry.result (entry (c.before.before.before)) c.if-entry-ge2147483648.false c.rule_index.result
-    c.rule_index.ensures c.in-Nothing.is
+    c.rule_index.ensures c.in-None.is
 
-returns-3 : tie.Need-returns-in-Rule
+returns-3 : tie.Need-returns-in-Some
 returns-3 c = λ b.
     let a = c.args in
     rule_found (font (c.before.before.before.before.before.before) b) (left_as a.boundary a.left) a.right c.entry_of-entry.result (entry (c.before.before.before.before.before)) c.if-entry-ge2147483648.false c.rule_index.result
-    c.rule_index.ensures c.in-Rule.i _ c.operation_at.result (meant c.rule_of.result) c.in-Rule.is
+    c.rule_index.ensures c.in-Some.i _ c.operation_at.result (meant c.rule_of.result) c.in-Some.is
     (number_word a.design_size c.ranges.design_size) c.operation_at.ensures c.rule_of.ensures
 
 pub pair_rule_spec : {M : Type 1} → statement M

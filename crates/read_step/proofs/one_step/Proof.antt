@@ -29,8 +29,8 @@ returns c = λ b.
     a.instructions.now a.kerns.now a.entries.now b _ a.left_entry _ a.design_size c.step_standing.result c.step_standing.result
     (c.step_standing.ensures b) refl (number_word a.left_entry c.ranges.left_entry) (number_word a.design_size c.ranges.design_size)
 
-zero-i32-requires : tie.Need-zero_i32-requires
-zero-i32-requires c κs = search rules
+zero-all-requires : tie.Need-zero_all-requires
+zero-all-requires c κs = search rules
 
 same-length-2 : tie.Need-shape_of-items
 same-length-2 c = search rules
@@ -39,7 +39,7 @@ returns-2 : tie.Need-returns
 returns-2 c = λ b.
     let a = c.args in
     not_standing (rules_of (font_of a.instructions.now a.kerns.now a.entries.now b a.left_entry a.design_size)) a.items.now a.count
-    a.cursor c.zero_i32.new.s c.stands.result c.stands.ensures c.if-stands.false c.zero_i32.ensures
+    a.cursor c.zero_all.new.s c.stands.result c.stands.ensures c.if-stands.false c.zero_all.ensures
 
 pub one_step_spec : {M : Type 1} → statement M
 one_step_spec =
@@ -49,6 +49,6 @@ one_step_spec =
     step-standing-requires
     same_length
     returns
-    zero-i32-requires
+    zero-all-requires
     same-length-2
     returns-2)

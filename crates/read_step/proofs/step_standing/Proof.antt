@@ -65,8 +65,8 @@ count-after-requires c κs =
     let q = change c (pos 0) in
     omega (arith, q.left, q.right, c.requires, c.well_formed.1.1.1.1.1.0, c.if-count-cursor.false)
 
-zero-i32-requires : tie.Need-zero_i32-requires
-zero-i32-requires c κs = search rules
+zero-all-requires : tie.Need-zero_all-requires
+zero-all-requires c κs = search rules
 
 same-length-2 : tie.Need-shape_of-items-then-room-n
 same-length-2 c = search rules
@@ -74,8 +74,8 @@ same-length-2 c = search rules
 returns-2 : tie.Need-returns-then-room-n
 returns-2 c = λ b.
     let a = c.args in
-    too_long (font_rules (c.before.before.before.before.before.before.before) b) a.items.now a.count a.cursor c.zero_i32.new.s c.requires.0 c.requires.1 c.if-count-cursor.false c.change_at-change.result
-    (change (c.before.before.before.before.before) b) c.count_after-n.result c.count_after-n.ensures c.if-room-n.true c.zero_i32.ensures
+    too_long (font_rules (c.before.before.before.before.before.before.before) b) a.items.now a.count a.cursor c.zero_all.new.s c.requires.0 c.requires.1 c.if-count-cursor.false c.change_at-change.result
+    (change (c.before.before.before.before.before) b) c.count_after-n.result c.count_after-n.ensures c.if-room-n.true c.zero_all.ensures
 
 change-items-requires : tie.Need-change_items-requires
 change-items-requires c κs =
@@ -116,7 +116,7 @@ step_standing_spec =
     returns
     change-at-requires
     count-after-requires
-    zero-i32-requires
+    zero-all-requires
     same-length-2
     returns-2
     change-items-requires

@@ -41,7 +41,7 @@ module _ (c : tie.After-mend-mended) where
   abbrev places : ℕ
   places = placed.placed-n.result
 
-  abbrev blank : tie.After-zero_i32
+  abbrev blank : tie.After-zero_all
   blank = placed.before.before
 
   abbrev lent : tie.Start
@@ -82,7 +82,7 @@ module _ (c : tie.After-mend-mended) where
   -- of the font as it was lent
   abbrev Mended : Damaged → Type 0
   Mended d =
-      Mends d (mend_lists program-lent passed-lent blank.zero_i32.new.s lent.args.work.now) c.mend-mended.result
+      Mends d (mend_lists program-lent passed-lent blank.zero_all.new.s lent.args.work.now) c.mend-mended.result
       (mend_lists c.mend-mended.new.program c.mend-mended.new.through warnings work)
 
   mends : Mended damaged
@@ -94,7 +94,7 @@ module _ (c : tie.After-mend-mended) where
       ≡ damaged = (λ i. font (x i) (y i) (z i)) in
       subst Mended same c.mend-mended.ensures
 
-  abbrev left : Left damaged blank.zero_i32.new.s lent.args.work.now
+  abbrev left : Left damaged blank.zero_all.new.s lent.args.work.now
   left =
       record {
         program = program-lent;
@@ -106,8 +106,8 @@ module _ (c : tie.After-mend-mended) where
         mends = mends;
       }
 
-zero-i32-requires : tie.Need-zero_i32-requires
-zero-i32-requires c κs = search rules
+zero-all-requires : tie.Need-zero_all-requires
+zero-all-requires c κs = search rules
 
 placed-requires : tie.Need-placed-n-requires
 placed-requires c κs = search rules
@@ -142,8 +142,8 @@ told-requires c κs = search rules
 number-of-requires : tie.Need-number_of-requires
 number-of-requires c κs = search rules
 
-keep-i32-requires : tie.Need-keep_i32-requires
-keep-i32-requires c κs = search rules
+keep-list-requires : tie.Need-keep_list-requires
+keep-list-requires c κs = search rules
 
 same_length : tie.Need-shape_of-warnings
 same_length c = search rules
@@ -154,15 +154,15 @@ same-length-2 c = search rules
 returns : tie.Need-returns
 returns c =
     let a = (lent (c.before.before.before.before.before.before.before.before.before.before)).args in
-    asks (damaged (c.before.before.before.before.before.before.before.before.before.before)) a.warnings.now a.work.now (blank (c.before.before.before.before.before.before.before.before.before.before)).zero_i32.new.s (blank (c.before.before.before.before.before.before.before.before.before.before)).zero_i32.ensures
-    (left (c.before.before.before.before.before.before.before.before.before.before)) c.told-written.result c.keep_i32.new.out c.told-written.ensures
-    (c.keep_i32.ensures ∙ ap (λ (j : ℕ). kept j (pos 0) (warnings (c.before.before.before.before.before.before.before.before.before.before))) c.number_of.ensures)
+    asks (damaged (c.before.before.before.before.before.before.before.before.before.before)) a.warnings.now a.work.now (blank (c.before.before.before.before.before.before.before.before.before.before)).zero_all.new.s (blank (c.before.before.before.before.before.before.before.before.before.before)).zero_all.ensures
+    (left (c.before.before.before.before.before.before.before.before.before.before)) c.told-written.result c.keep_list.new.out c.told-written.ensures
+    (c.keep_list.ensures ∙ ap (λ (j : ℕ). kept j (pos 0) (warnings (c.before.before.before.before.before.before.before.before.before.before))) c.number_of.ensures)
 
 pub ask_repair_spec : {M : Type 1} → statement M
 ask_repair_spec =
     tie.close
     (tie.spec
-    zero-i32-requires
+    zero-all-requires
     placed-requires
     programs-requires
     places-requires
@@ -174,7 +174,7 @@ ask_repair_spec =
     mend-requires
     told-requires
     number-of-requires
-    keep-i32-requires
+    keep-list-requires
     same_length
     same-length-2
     returns)

@@ -139,7 +139,7 @@ passed-shared c = let m = mended-before c in ap length (front _ (passed m) (loca
 -- ---- the end
 
 module _ (f : tie.After-finished) where
-  abbrev emptied : tie.After-zero_i32
+  abbrev emptied : tie.After-zero_all
   emptied = f.before.before
 
   abbrev wrote : tie.After-write_repaired
@@ -177,8 +177,8 @@ module _ (f : tie.After-finished) where
         fixed' = fixed-last;
         through' = through-last;
         writes = writes;
-        found' = emptied.zero_i32.new.s;
-        emptied = emptied.zero_i32.ensures;
+        found' = emptied.zero_all.new.s;
+        emptied = emptied.zero_all.ensures;
         answer = f.finished.result;
         answers = f.finished.ensures;
       }
@@ -236,8 +236,8 @@ slice-aggregate-write-repaired-2 c = sym (passed-shared c.before.before)
 write-repaired-requires : tie.Need-write_repaired-requires
 write-repaired-requires c κs = search rules
 
-zero-i32-requires : tie.Need-zero_i32-requires
-zero-i32-requires c κs = search rules
+zero-all-requires : tie.Need-zero_all-requires
+zero-all-requires c κs = search rules
 
 finished-requires : tie.Need-finished-requires
 finished-requires c κs = search rules
@@ -280,7 +280,7 @@ commit_repair_spec =
     array-share-prefix-passed
     slice-aggregate-write-repaired-2
     write-repaired-requires
-    zero-i32-requires
+    zero-all-requires
     finished-requires
     same_length
     same-length-2

@@ -17,8 +17,8 @@ returns c =
 is-redirect-requires : tie.Need-is_redirect-requires
 is-redirect-requires c κs = search rules
 
-put-u8-requires : tie.Need-put_u8-requires
-put-u8-requires c κs = search rules
+put-item-requires : tie.Need-put_item-requires
+put-item-requires c κs = search rules
 
 same_length : tie.Need-shape_of-through
 same_length c = search rules
@@ -27,7 +27,7 @@ returns-2 : tie.Need-returns-then-is_redirect
 returns-2 c =
     let a = c.args in
     followed a.instructions.now a.entry a.through.now c.entry_refusal.ensures c.if-entry_refusal-ne0.false
-    (sym c.is_redirect.ensures ∙ c.if-is_redirect.true) c.put_u8.ensures
+    (sym c.is_redirect.ensures ∙ c.if-is_redirect.true) c.put_item.ensures
 
 returns-3 : tie.Need-returns-else-is_redirect
 returns-3 c =
@@ -41,7 +41,7 @@ pass_redirect_spec =
     entry-refusal-requires
     returns
     is-redirect-requires
-    put-u8-requires
+    put-item-requires
     same_length
     returns-2
     returns-3)

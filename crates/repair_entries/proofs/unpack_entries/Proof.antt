@@ -8,7 +8,7 @@ use lib.Dec.{leb}
 use lib.ListN.{length}
 use lib.Signed.{non_neg}
 use borrow.Author.Rules.{rules}
-use borrow.Author.Tests.{leb-true, not-true, not-false}
+use borrow.Author.Tests.{leb-true}
 use Rattle.words.specs.Words.{word_of}
 use Rattle.words.proofs.Bits.{number_word}
 use Rattle.lang.specs.Every.{both}

@@ -25,25 +25,25 @@ returns-2 c =
     redirect_followed a.instructions.now a.marks.now a.passthrough.now a.i c.field_at.ensures.is c.if-field_at-ne3.false
     c.field_at-2.ensures.is c.if-target-instructions.true
 
-u8-at-requires : tie.Need-u8_at-requires
-u8-at-requires c κs = search rules
+item-at-requires : tie.Need-item_at-requires
+item-at-requires c κs = search rules
 
-returns-3 : tie.Need-returns-then-u8_at-ne0
+returns-3 : tie.Need-returns-then-item_at-ne0
 returns-3 c =
     let a = c.args in
     redirect_reached a.instructions.now a.marks.now a.passthrough.now a.i c.field_at.ensures.is c.if-field_at-ne3.false
     c.field_at-2.ensures.is c.if-target-instructions.false
-    c.u8_at.ensures c.if-u8_at-ne0.true
+    c.item_at.ensures c.if-item_at-ne0.true
 
-u8-at-requires-2 : tie.Need-u8_at-requires-2
-u8-at-requires-2 c κs = search rules
+item-at-requires-2 : tie.Need-item_at-requires-2
+item-at-requires-2 c κs = search rules
 
 returns-4 : tie.Need-returns
 returns-4 c =
     let a = c.args in
     redirect_unreached a.instructions.now a.marks.now a.passthrough.now a.i c.field_at.ensures.is c.if-field_at-ne3.false
     c.field_at-2.ensures.is c.if-target-instructions.false
-    c.u8_at.ensures c.if-u8_at-ne0.false c.u8_at-2.ensures
+    c.item_at.ensures c.if-item_at-ne0.false c.item_at-2.ensures
 
 pub redirect_warns_spec : {M : Type 1} → statement M
 redirect_warns_spec =
@@ -54,7 +54,7 @@ redirect_warns_spec =
     field-at-requires-2
     cast-target
     returns-2
-    u8-at-requires
+    item-at-requires
     returns-3
-    u8-at-requires-2
+    item-at-requires-2
     returns-4)

@@ -5,13 +5,13 @@ use borrow.Author.Rules.{rules}
 use Rattle.repair_faults.proofs.skip_goes.Statement.{statement}
 use Rattle.repair_faults.proofs.skip_goes.Tie as tie
 
-u8-at-requires : tie.Need-u8_at-requires
-u8-at-requires c κs = search rules
+item-at-requires : tie.Need-item_at-requires
+item-at-requires c κs = search rules
 
-returns : tie.Need-returns-then-u8_at-eq0
+returns : tie.Need-returns-then-item_at-eq0
 returns c =
     let a = c.args in
-    skip_unreachable a.instructions.now a.marks.now a.i c.u8_at.ensures c.if-u8_at-eq0.true
+    skip_unreachable a.instructions.now a.marks.now a.i c.item_at.ensures c.if-item_at-eq0.true
 
 field-at-requires : tie.Need-field_at-next-requires
 field-at-requires c κs = search rules
@@ -19,12 +19,12 @@ field-at-requires c κs = search rules
 returns-2 : tie.Need-returns-then-next-gt2147483647
 returns-2 c =
     let a = c.args in
-    skip_none a.instructions.now a.marks.now a.i c.u8_at.ensures c.if-u8_at-eq0.false c.field_at-next.ensures c.if-next-gt2147483647.true
+    skip_none a.instructions.now a.marks.now a.i c.item_at.ensures c.if-item_at-eq0.false c.field_at-next.ensures c.if-next-gt2147483647.true
 
 returns-3 : tie.Need-returns-then-n-i
 returns-3 c =
     let a = c.args in
-    skip_past a.instructions.now a.marks.now a.i c.u8_at.ensures c.if-u8_at-eq0.false c.field_at-next.ensures c.if-next-gt2147483647.false
+    skip_past a.instructions.now a.marks.now a.i c.item_at.ensures c.if-item_at-eq0.false c.field_at-next.ensures c.if-next-gt2147483647.false
     c.if-n-i.true
 
 sub-result : tie.Need-overflow_sub-result
@@ -39,14 +39,14 @@ add-result c = search rules
 returns-4 : tie.Need-returns
 returns-4 c =
     let a = c.args in
-    skip_lands a.instructions.now a.marks.now a.i c.u8_at.ensures c.if-u8_at-eq0.false c.field_at-next.ensures c.if-next-gt2147483647.false
+    skip_lands a.instructions.now a.marks.now a.i c.item_at.ensures c.if-item_at-eq0.false c.field_at-next.ensures c.if-next-gt2147483647.false
     c.if-n-i.false
 
 pub skip_goes_spec : {M : Type 1} → statement M
 skip_goes_spec =
     tie.close
     (tie.spec
-    u8-at-requires
+    item-at-requires
     returns
     field-at-requires
     returns-2

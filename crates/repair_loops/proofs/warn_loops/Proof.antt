@@ -55,8 +55,8 @@ enum-known-number c = search rules
 enum-known-r : tie.Need-enum_known-r
 enum-known-r c = search rules
 
-zero-u32-requires : tie.Need-zero_u32-requires
-zero-u32-requires c κs = search rules
+zero-all-requires : tie.Need-zero_all-requires
+zero-all-requires c κs = search rules
 
 same_length : tie.Need-shape_of-work-then-n-gt2147483647
 same_length c = search rules
@@ -65,8 +65,8 @@ returns : tie.Need-returns-then-n-gt2147483647
 returns c = λ b.
     let k = searched c.before.before.before.before.before in
     let a = (start k).args in
-    too_many (font k b) a.n a.warnings.now a.work.now (rows k) _ _ _ _ (found k b c.in-Rows.is) c.zero_u32.new.s c.if-n-gt2147483647.true
-    c.zero_u32.ensures
+    too_many (font k b) a.n a.warnings.now a.work.now (rows k) _ _ _ _ (found k b c.in-Rows.is) c.zero_all.new.s c.if-n-gt2147483647.true
+    c.zero_all.ensures
 
 warn-rows-requires : tie.Need-warn_rows-count-requires
 warn-rows-requires c κs =
@@ -78,8 +78,8 @@ warn-rows-requires c κs =
       p.4.listing,
     )
 
-zero-u32-requires-2 : tie.Need-zero_u32-requires-in-Rows
-zero-u32-requires-2 c κs = search rules
+zero-all-requires-2 : tie.Need-zero_all-requires-in-Rows
+zero-all-requires-2 c κs = search rules
 
 same-length-2 : tie.Need-shape_of-work-in-Refused
 same-length-2 c = search rules
@@ -99,8 +99,8 @@ returns-3 : tie.Need-returns-else-n-gt2147483647
 returns-3 c = λ b.
     let k = searched c.before.before.before.before.before.before.before.before in
     let a = (start k).args in
-    listed (font k b) a.n a.warnings.now a.work.now (rows k) _ _ _ _ (found k b c.in-Rows.is) c.warn_rows-count.new.warnings c.zero_u32-in-Rows.new.s
-    c.warn_rows-count.result (omega (arith, c.if-n-gt2147483647.false)) c.warn_rows-count.ensures c.zero_u32-in-Rows.ensures
+    listed (font k b) a.n a.warnings.now a.work.now (rows k) _ _ _ _ (found k b c.in-Rows.is) c.warn_rows-count.new.warnings c.zero_all-in-Rows.new.s
+    c.warn_rows-count.result (omega (arith, c.if-n-gt2147483647.false)) c.warn_rows-count.ensures c.zero_all-in-Rows.ensures
 
 pub warn_loops_spec : {M : Type 1} → statement M
 warn_loops_spec =
@@ -110,11 +110,11 @@ warn_loops_spec =
     find-loops-requires
     enum-known-number
     enum-known-r
-    zero-u32-requires
+    zero-all-requires
     same_length
     returns
     warn-rows-requires
-    zero-u32-requires-2
+    zero-all-requires-2
     same-length-2
     returns-2
     same-length-3

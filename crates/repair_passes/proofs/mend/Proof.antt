@@ -191,8 +191,8 @@ damaged-refusal-requires c κs = search rules
 lent-refusal-requires : tie.Need-lent_refusal-number-requires
 lent-refusal-requires c κs = search rules
 
-zero-u32-requires : tie.Need-zero_u32-requires
-zero-u32-requires c κs = search rules
+zero-all-requires : tie.Need-zero_all-requires
+zero-all-requires c κs = search rules
 
 same_length : tie.Need-shape_of-work-then-number-ne0
 same_length c = search rules
@@ -200,7 +200,7 @@ same_length c = search rules
 returns : tie.Need-returns-then-number-ne0
 returns c =
     let s = asked c.before.before.before.before.before.before in
-    not_mended (font s) (lists s) c.lent_refusal-number.result c.zero_u32.new.s (refusal_is c.before.before.before.before.before) c.if-number-ne0.true c.zero_u32.ensures
+    not_mended (font s) (lists s) c.lent_refusal-number.result c.zero_all.new.s (refusal_is c.before.before.before.before.before) c.if-number-ne0.true c.zero_all.ensures
 
 entry-places-requires : tie.Need-entry_places-unpacked-requires
 entry-places-requires c κs = search rules
@@ -284,7 +284,7 @@ mend_spec =
     (tie.spec
     damaged-refusal-requires
     lent-refusal-requires
-    zero-u32-requires
+    zero-all-requires
     same_length
     returns
     entry-places-requires

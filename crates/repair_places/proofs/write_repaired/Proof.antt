@@ -5,10 +5,10 @@ use borrow.Author.Rules.{rules}
 use Rattle.repair_places.proofs.write_repaired.Statement.{statement}
 use Rattle.repair_places.proofs.write_repaired.Tie as tie
 
-zero-i32-requires : tie.Need-zero_i32-requires
+zero-i32-requires : tie.Need-zero_all-requires
 zero-i32-requires c κs = search rules
 
-zero-u8-requires : tie.Need-zero_u8-requires
+zero-u8-requires : tie.Need-zero_all-requires-2
 zero-u8-requires c κs = search rules
 
 same_length : tie.Need-shape_of-fixed-then-number-ne0
@@ -20,7 +20,7 @@ same-length-2 c = search rules
 returns : tie.Need-returns-then-number-ne0
 returns c =
     let a = c.args in
-    not_written a.number a.program.now a.passed.now a.fixed.now a.through.now c.zero_i32.ensures c.zero_u8.ensures c.if-number-ne0.true
+    not_written a.number a.program.now a.passed.now a.fixed.now a.through.now c.zero_all.ensures c.zero_all-2.ensures c.if-number-ne0.true
 
 copy-numbers-requires : tie.Need-copy_numbers-requires
 copy-numbers-requires c κs = search rules
@@ -37,7 +37,7 @@ same-length-4 c = search rules
 returns-2 : tie.Need-returns
 returns-2 c =
     let a = c.args in
-    written a.number a.program.now a.passed.now a.fixed.now a.through.now c.zero_i32.ensures c.zero_u8.ensures c.if-number-ne0.false
+    written a.number a.program.now a.passed.now a.fixed.now a.through.now c.zero_all.ensures c.zero_all-2.ensures c.if-number-ne0.false
     c.copy_numbers.ensures c.copy_bytes.ensures
 
 pub write_repaired_spec : {M : Type 1} → statement M

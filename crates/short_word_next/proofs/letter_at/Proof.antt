@@ -1,19 +1,18 @@
 -- `short_word_next::letter_at` meets its contract: a letter by its place.
 -- Assumes nothing.
 use mathlib.Core.Path.{◌∙◌}
-use native.Mathlib.Omega.{arith}
 use borrow.Author.Rules.{rules}
 use Rattle.short_word_next.proofs.Laws.{letter_kept, letter_there, letter_least, letter_past}
 use Rattle.short_word_next.proofs.letter_at.Statement.{statement}
 use Rattle.short_word_next.proofs.letter_at.Tie as tie
 
-u32-at-requires : tie.Need-u32_at-requires
-u32-at-requires c κs = search rules
+item-at-requires : tie.Need-item_at-requires
+item-at-requires c κs = search rules
 
 returns : tie.Need-returns-then-j-kept
 returns c =
     let a = c.args in
-    c.u32_at.ensures ∙ letter_kept a.word.now a.kept a.c a.least a.n a.j (search rules) (search rules)
+    c.item_at.ensures ∙ letter_kept a.word.now a.kept a.c a.least a.n a.j (search rules) (search rules)
 
 returns-2 : tie.Need-returns-then-j-kept-2
 returns-2 c =
@@ -34,7 +33,7 @@ pub letter_at_spec : {M : Type 1} → statement M
 letter_at_spec =
     tie.close
     (tie.spec
-    u32-at-requires
+    item-at-requires
     returns
     returns-2
     returns-3

@@ -26,7 +26,7 @@ number-in-requires-4 c κs = search rules
 after-letter-requires : tie.Need-after_letter-next-requires
 after-letter-requires c κs = search rules
 
-minus-requires : tie.Need-minus-more-requires
+minus-requires : tie.Need-saturating_sub-more-requires
 minus-requires c κs = search rules
 
 add-moved-on : tie.Need-overflow_add-first
@@ -49,7 +49,7 @@ returns c =
     rw (
       c.moved_on-moved.ensures,
       c.after_letter-next.ensures,
-      c.minus-more.ensures,
+      c.saturating_sub-more.ensures,
       add-one c.number_in-first.result,
       c.word_at.ensures.is,
       c.number_in-first.ensures.is,

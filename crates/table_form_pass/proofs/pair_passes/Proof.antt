@@ -5,7 +5,6 @@ use mathlib.Core.List.{List}
 use Prim.Native.Nat.{ℕ, ◌+◌, ◌/◌, ◌%◌}
 use native.Mathlib.Omega.{arith}
 use lib.IntN.{ℤ}
-use borrow.Author.Tests.{not-true, not-false}
 use Rattle.words.specs.Words.{Word}
 use Rattle.captions.specs.Tables.{number}
 use Rattle.table_form_pass.proofs.PairReads.{number_read, pair_codes, pair_gap, pair_over, pair_ops}

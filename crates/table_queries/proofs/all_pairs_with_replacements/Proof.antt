@@ -50,12 +50,12 @@ module _ {pairs out z : List ℤ} {r : ℕ} (b : Begun pairs out z r) where
       }
 
 begun : (c : tie.After-keys_refusal-refusal) →
-    Begun c.args.pairs.now c.args.out.now c.zero_i32.new.s
+    Begun c.args.pairs.now c.args.out.now c.zero_all.new.s
     c.keys_refusal-refusal.result
-begun c = record { zeros = c.zero_i32.ensures; same = c.zero_i32.auto.s; refusal = c.keys_refusal-refusal.ensures }
+begun c = record { zeros = c.zero_all.ensures; same = c.zero_all.auto.s; refusal = c.keys_refusal-refusal.ensures }
 
-zero-i32-requires : tie.Need-zero_i32-requires
-zero-i32-requires c κs = search rules
+zero-all-requires : tie.Need-zero_all-requires
+zero-all-requires c κs = search rules
 
 keys-refusal-requires : tie.Need-keys_refusal-refusal-requires
 keys-refusal-requires c κs = search rules
@@ -79,7 +79,7 @@ pub all_pairs_with_replacements_spec : {M : Type 1} → statement M
 all_pairs_with_replacements_spec =
     tie.close
     (tie.spec
-    zero-i32-requires
+    zero-all-requires
     keys-refusal-requires
     same_length
     returns

@@ -2,7 +2,6 @@
 -- Assumes nothing.
 use mathlib.Core.Path.{◌≡◌, sym, ◌∙◌}
 use lib.Dec.{ltb}
-use borrow.Author.Tests.{not-true, not-false}
 use Rattle.lang.specs.Every.{both}
 use Rattle.captions.specs.Tables.{last_code}
 use Rattle.captions.specs.Queries.{becomes_seven_bit}

@@ -11,15 +11,15 @@ use Rattle.columns.proofs.Saying.{Said, text_said}
 use Rattle.text_answer.proofs.TextLaws.{answers_as, said_answer}
 use Rattle.text_answer.proofs.answer.Goals as goal
 
-pub returns-in-Text : goal.returns-in-Text
-returns-in-Text c =
-    let h = c.in-Text.heads in
+pub returns : goal.returns
+returns c =
+    let h = c.in-Some.heads in
     let is = c.read_shared.new.instructions in
     let ks = c.read_shared.new.kerns in
     let es = c.read_shared.new.entries in
     let ws = c.read_shared.new.word in
     let m = length c.args.reply.now in
-    let w : Said (shared_read (read_text c.args.text.now)) 1024 h is ks es ws = text_said c.in-Text.ensures in
+    let w : Said (shared_read (read_text c.args.text.now)) 1024 h is ks es ws = text_said c.in-Some.ensures in
     let fd : SFits w32 h.design = search rules in
     let fb : SFits w32 h.boundary = search rules in
     let fl : SFits w32 h.left = search rules in

@@ -9,13 +9,13 @@ use Rattle.text_convert.proofs.Laws.{meant, bytes_are, length_known, number_is, 
 use Rattle.text_convert.proofs.convert.Goals as goal
 
 pub convert_shared-requires : goal.convert_shared-requires
-convert_shared-requires c = length_known (meant c.args.text.now c.in-Text.ensures c.share_text-m.ensures)
+convert_shared-requires c = length_known (meant c.args.text.now c.in-Some.ensures c.share_text-m.ensures)
 
-pub returns-in-Text : goal.returns-in-Text
-returns-in-Text c =
-    let h = c.in-Text.said in
+pub returns : goal.returns
+returns c =
+    let h = c.in-Some.said in
     let a = c.args in
-    let w = meant a.text.now c.in-Text.ensures c.share_text-m.ensures in
+    let w = meant a.text.now c.in-Some.ensures c.share_text-m.ensures in
     let is = c.share_text-m.new.instructions in
     let ks = c.share_text-m.new.kerns in
     let es = c.read_text.new.entries in

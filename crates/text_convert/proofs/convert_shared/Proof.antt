@@ -46,8 +46,8 @@ letters-refusal-requires c κs = search rules
 convert-refusal-requires : tie.Need-convert_refusal-number-requires
 convert-refusal-requires c κs = search rules
 
-zero-u8-requires : tie.Need-zero_u8-requires
-zero-u8-requires c κs = search rules
+zero-all-requires : tie.Need-zero_all-requires
+zero-all-requires c κs = search rules
 
 same_length : tie.Need-shape_of-out-then-number-ne0
 same_length c = search rules
@@ -56,7 +56,7 @@ returns : tie.Need-returns-then-number-ne0
 returns c =
     let a = (start (c.before.before.before.before.before)).args in
     number_answers c.convert_refusal-number.result (anew_refusal (length a.kerns.now) (length (lines (c.before.before.before.before.before))) a.bad (letters_refusal a.word.now) (length a.out.now)) (lines (c.before.before.before.before.before))
-    a.out.now c.zero_u8.new.s (told (c.before.before.before.before.before)) c.if-number-ne0.true c.zero_u8.ensures
+    a.out.now c.zero_all.new.s (told (c.before.before.before.before.before)) c.if-number-ne0.true c.zero_all.ensures
 
 mul-put-converted : tie.Need-offset_bounds-kerns-k
 mul-put-converted c = search rules
@@ -96,7 +96,7 @@ convert_shared_spec =
     add-n
     letters-refusal-requires
     convert-refusal-requires
-    zero-u8-requires
+    zero-all-requires
     same_length
     returns
     mul-put-converted

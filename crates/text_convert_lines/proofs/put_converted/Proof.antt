@@ -1,13 +1,12 @@
 -- `text_convert_lines::put_converted` meets its contract. The loop's invariant: the lines before the place are written, and what is left comes after them,
 -- whatever is added. The measure is what is left of the text. Assumes nothing.
 use mathlib.Core.Path.{◌≡◌, sym, ap, subst, ◌∙◌}
-use mathlib.Core.Bool.{true, false}
+use mathlib.Core.Bool.{true}
 use mathlib.Core.List.{List, ◌++◌}
 use Prim.Native.Nat.{ℕ, ◌+◌, ◌-◌, ◌<◌, ◌≤◌}
 use native.Mathlib.Omega.{arith}
-use lib.ListN.{length, take, drop, replicate, length-replicate}
+use lib.ListN.{length, drop, replicate, length-replicate}
 use borrow.Author.Rules.{rules}
-use borrow.Author.Tests.{not-true, not-false}
 use Rattle.columns.specs.Converting.{kern_lines}
 use Rattle.columns.specs.Lines.{lines_of, text_of}
 use Rattle.text_convert_lines.specs.Anew.{line_length, is_before_word, line_anew, lines_anew, PutsNext, PutsEnd}
@@ -23,7 +22,7 @@ invariant-loop text instructions added out₀ at₀ to₀ i₀ out at to i = Ane
 abbrev decreases-loop : tie.decreases-loop-n
 decreases-loop text instructions added out₀ at₀ to₀ i₀ out at to i = length text - at
 
-abbrev zeroed : tie.After-is_whole_lines invariant-loop decreases-loop → tie.After-zero_u8 invariant-loop decreases-loop
+abbrev zeroed : tie.After-is_whole_lines invariant-loop decreases-loop → tie.After-zero_all invariant-loop decreases-loop
 zeroed w = w.before.before.before
 
 abbrev begun : tie.After-is_whole_lines invariant-loop decreases-loop → tie.Start invariant-loop decreases-loop
@@ -33,8 +32,8 @@ abbrev start : tie.At-loop-n invariant-loop decreases-loop → tie.Start invaria
 start l = begun l.before.before
 
 -- the list of zeros is as long as what was lent
-zeros_long : (w : tie.After-is_whole_lines invariant-loop decreases-loop) → length (zeroed w).zero_u8.new.s ≡ length (begun w).args.out.now
-zeros_long w = ap length (zeroed w).zero_u8.ensures ∙ length-replicate (length (begun w).args.out.now) 0
+zeros_long : (w : tie.After-is_whole_lines invariant-loop decreases-loop) → length (zeroed w).zero_all.new.s ≡ length (begun w).args.out.now
+zeros_long w = ap length (zeroed w).zero_all.ensures ∙ length-replicate (length (begun w).args.out.now) 0
 
 -- a line begins
 going : (t : tie.In-loop-n invariant-loop decreases-loop) → is_before_word (start (t.before.before)).args.text.now t.loop-n.at ≡ true
@@ -59,8 +58,8 @@ put p =
     PutsNext (line_anew (start (p.before.before.before.before.before.before.before)).args.instructions.now p.loop-n.i bs p.line_length-n.result) p.loop-n.out p.loop-n.to p.put_next-to.result
     p.put_next-to.new.out) (left_is p.loop-n.at (start (p.before.before.before.before.before.before.before)).args.text.now) p.put_next-to.ensures
 
-zero-u8-requires : tie.Need-zero_u8-requires invariant-loop decreases-loop
-zero-u8-requires c κs = search rules
+zero-all-requires : tie.Need-zero_all-requires invariant-loop decreases-loop
+zero-all-requires c κs = search rules
 
 is-whole-lines-requires : tie.Need-is_whole_lines-requires invariant-loop decreases-loop
 is-whole-lines-requires c κs = search rules
@@ -71,13 +70,13 @@ same_length c = search rules
 returns : tie.Need-returns-then-not-is_whole_lines invariant-loop decreases-loop
 returns c =
     let a = (begun (c.before)).args in
-    none_anew a.instructions.now a.added.now a.text.now a.out.now (zeroed (c.before)).zero_u8.new.s
-    (lines_none a.text.now (sym c.is_whole_lines.ensures ∙ c.if-not-is_whole_lines.true)) (zeroed (c.before)).zero_u8.ensures
+    none_anew a.instructions.now a.added.now a.text.now a.out.now (zeroed (c.before)).zero_all.new.s
+    (lines_none a.text.now (sym c.is_whole_lines.ensures ∙ c.if-not-is_whole_lines.true)) (zeroed (c.before)).zero_all.ensures
 
 loop-holds : tie.Need-loop-n-init invariant-loop decreases-loop
 loop-holds c =
     let a = (begun (c.before)).args in
-    anew_none a.instructions.now a.text.now (zeroed (c.before)).zero_u8.new.s
+    anew_none a.instructions.now a.text.now (zeroed (c.before)).zero_all.new.s
     (lines_there a.text.now (sym c.is_whole_lines.ensures ∙ c.if-not-is_whole_lines.false))
 
 is-before-word-requires : tie.Need-is_before_word-requires invariant-loop decreases-loop
@@ -116,25 +115,25 @@ put-next-requires c κs =
       omega (arith, v.room, anew_length v),
     )
 
-zero-u8-requires-2 : tie.Need-zero_u8-requires-then-out-to invariant-loop decreases-loop
-zero-u8-requires-2 c κs = search rules
+zero-all-requires-2 : tie.Need-zero_all-requires-then-out-to invariant-loop decreases-loop
+zero-all-requires-2 c κs = search rules
 
 same-length-2 : tie.Need-shape_of-out-then-out-to invariant-loop decreases-loop
 same-length-2 c =
-    c.zero_u8-then-out-to.auto.s ∙ c.put_next-to.auto.out ∙ anew_length c.loop-n.invariant ∙ zeros_long c.before.before.before.before.before.before.before.before.before.before.before.before.before.before.before.before
+    c.zero_all-then-out-to.auto.s ∙ c.put_next-to.auto.out ∙ anew_length c.loop-n.invariant ∙ zeros_long c.before.before.before.before.before.before.before.before.before.before.before.before.before.before.before.before
 
 returns-2 : tie.Need-returns-then-out-to invariant-loop decreases-loop
 returns-2 c =
     let a = (start (c.before.before.before.before.before.before.before.before.before.before.before.before.before.before)).args in
     let v = c.loop-n.invariant in
     let k : length c.put_next-to.new.out ≡ length a.out.now = c.put_next-to.auto.out ∙ anew_length v ∙ zeros_long (c.before.before.before.before.before.before.before.before.before.before.before.before.before.before.before.before) in
-    short_anew (lines_anew a.instructions.now a.added.now (lines_of a.text.now)) a.out.now c.zero_u8-then-out-to.new.s
+    short_anew (lines_anew a.instructions.now a.added.now (lines_of a.text.now)) a.out.now c.zero_all-then-out-to.new.s
     (omega (
       arith,
       zeros_long (c.before.before.before.before.before.before.before.before.before.before.before.before.before.before.before.before),
       anew_short v (going (c.before.before.before.before.before.before.before.before.before.before.before.before)) c.line_length-n.result (measured (c.before.before.before.before.before.before.before.before.before.before)) (put (c.before.before.before.before.before.before.before)) (omega (arith, c.if-out-to.true, c.put_next-to.auto.out)) a.added.now,
     ))
-    (c.zero_u8-then-out-to.ensures ∙ ap (λ (m : ℕ). replicate m 0) k)
+    (c.zero_all-then-out-to.ensures ∙ ap (λ (m : ℕ). replicate m 0) k)
 
 instructions-in-requires : tie.Need-instructions_in-i-requires invariant-loop decreases-loop
 instructions-in-requires c κs = search rules
@@ -191,7 +190,7 @@ returns-3 : tie.Need-returns invariant-loop decreases-loop
 returns-3 c =
     let a = (start (c.before.before.before.before.before.before.before)).args in
     anew_end a.out.now a.added.now
-    (subst (λ (bs : List ℕ). Anew a.instructions.now a.text.now bs c.loop-n.out c.loop-n.at c.loop-n.to c.loop-n.i) (zeroed (c.before.before.before.before.before.before.before.before.before)).zero_u8.ensures
+    (subst (λ (bs : List ℕ). Anew a.instructions.now a.text.now bs c.loop-n.out c.loop-n.at c.loop-n.to c.loop-n.i) (zeroed (c.before.before.before.before.before.before.before.before.before)).zero_all.ensures
     c.loop-n.invariant) (sym c.is_before_word.ensures ∙ c.loop-n-test.false)
     (subst
     (λ (bs : List ℕ).
@@ -204,7 +203,7 @@ put_converted_spec =
     (tie.spec
     invariant-loop
     decreases-loop
-    zero-u8-requires
+    zero-all-requires
     is-whole-lines-requires
     same_length
     returns
@@ -218,7 +217,7 @@ put_converted_spec =
     part-put-next-start
     part-put-next-end
     put-next-requires
-    zero-u8-requires-2
+    zero-all-requires-2
     same-length-2
     returns-2
     instructions-in-requires

@@ -23,8 +23,8 @@ sub-room c = search rules
 sub-if2 : tie.Need-overflow_sub-room-else-room-text
 sub-if2 c = search rules
 
-zero-u8-requires : tie.Need-zero_u8-requires
-zero-u8-requires c κs = search rules
+zero-all-requires : tie.Need-zero_all-requires
+zero-all-requires c κs = search rules
 
 same_length : tie.Need-shape_of-out-then-room-text
 same_length c = search rules
@@ -32,7 +32,7 @@ same_length c = search rules
 returns : tie.Need-returns-then-room-text
 returns c =
     let a = c.args in
-    end_short a.added.now a.text.now a.out.now a.to c.requires (short (c.before.before.before.before)) c.zero_u8.ensures
+    end_short a.added.now a.text.now a.out.now a.to c.requires (short (c.before.before.before.before)) c.zero_all.ensures
 
 put-lines-requires : tie.Need-put_lines-next-requires
 put-lines-requires c κs = search rules
@@ -55,7 +55,7 @@ put_end_spec =
     (tie.spec
     sub-room
     sub-if2
-    zero-u8-requires
+    zero-all-requires
     same_length
     returns
     put-lines-requires

@@ -11,7 +11,7 @@ use Rattle.tfm.proofs.Sizes.{design_plain}
 use Rattle.lang.specs.Checks.{or_else, lower}
 use Rattle.lang.proofs.Refusals.{lower_some}
 use Rattle.fonts.specs.declared.Compiled.{Compiled}
-use Rattle.fonts.specs.Fonts.{Font, font_of}
+use Rattle.fonts.specs.Fonts.{font_of}
 use Rattle.fonts.specs.Compiled.{compile_refusal, Compiles}
 use Rattle.columns.proofs.FontBegins.{lists_of}
 use Rattle.columns.specs.Ligcols.{column_room, signs_refusal, word_number}

@@ -5,20 +5,20 @@ use Rattle.text_font_reply.proofs.Laws.{refused}
 use Rattle.text_font_reply.proofs.refuse.Statement.{statement}
 use Rattle.text_font_reply.proofs.refuse.Tie as tie
 
-zero-u8-requires : tie.Need-zero_u8-requires
-zero-u8-requires c κs = search rules
+zero-all-requires : tie.Need-zero_all-requires
+zero-all-requires c κs = search rules
 
 same_length : tie.Need-shape_of-reply
 same_length c = search rules
 
 returns : tie.Need-returns
 returns c =
-    refused c.args.number c.args.reply.now c.zero_u8.new.s c.requires c.zero_u8.ensures
+    refused c.args.number c.args.reply.now c.zero_all.new.s c.requires c.zero_all.ensures
 
 pub refuse_spec : {M : Type 1} → statement M
 refuse_spec =
     tie.close
     (tie.spec
-    zero-u8-requires
+    zero-all-requires
     same_length
     returns)

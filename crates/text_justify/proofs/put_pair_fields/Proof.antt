@@ -5,7 +5,6 @@ use mathlib.Core.Bool.{true, false}
 use Prim.Native.Nat.{◌+◌}
 use native.Mathlib.Omega.{arith}
 use lib.ListN.{length}
-use borrow.Author.Tests.{not-true, not-false}
 use Rattle.text_justify.specs.InFields.{numbers_from, five_from, fields_fit}
 use Rattle.text_justify.proofs.Fill.{five_parts}
 use Rattle.text_justify.proofs.Fit.{Fit, fit_of, fit_is, where_fits, where_misses, fits_where}

@@ -2,7 +2,6 @@
 use mathlib.Core.Path.{sym, ap, ◌∙◌}
 use native.Mathlib.Omega.{arith}
 use lib.ListN.{length, drop}
-use borrow.Author.Tests.{not-true, not-false}
 use Rattle.text_line_numbers.specs.LineNumbers.{numbers_in, leading_in, words_of}
 use Rattle.text_line_numbers.proofs.Storing.{ends_inside, in_short, in_unended, in_is, leading_short, leading_unended, leading_is}
 use Rattle.text_line_numbers.proofs.Storing.{worded, stores_nothing}

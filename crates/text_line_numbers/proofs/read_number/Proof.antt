@@ -1,6 +1,5 @@
 -- `text_line_numbers::read_number` meets its contract. Assumes nothing.
 use mathlib.Core.Path.{sym, ◌∙◌}
-use borrow.Author.Tests.{not-true, not-false}
 use borrow.Author.Rules.{rules}
 use Rattle.text_line_numbers.proofs.read_number.Statement.{statement}
 use Rattle.text_line_numbers.proofs.read_number.Tie as tie

@@ -3,7 +3,6 @@ use mathlib.Core.Path.{sym, ◌∙◌}
 use Prim.Native.Nat.{◌-◌}
 use native.Mathlib.Omega.{arith}
 use lib.ListN.{length, drop}
-use borrow.Author.Tests.{not-true, not-false}
 use Rattle.text_line_numbers.specs.LineNumbers.{numbers_at, leading_at}
 use Rattle.text_line_numbers.proofs.Storing.{ends_inside, at_past, at_room, in_unended, in_is, leading_past, leading_unended_at}
 use Rattle.text_line_numbers.proofs.Storing.{leading_is_at, stores_nothing}

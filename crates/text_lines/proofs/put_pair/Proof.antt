@@ -5,7 +5,6 @@ use mathlib.Core.Bool.{true, false}
 use Prim.Native.Nat.{◌+◌, ◌*◌, ◌^◌, ◌≤◌}
 use native.Mathlib.Omega.{arith}
 use lib.ListN.{length, set, length-set}
-use borrow.Author.Tests.{not-true, not-false}
 use Rattle.columns.specs.Replying.{pair_line}
 use Rattle.text_justify.specs.InFields.{five_from}
 use Rattle.text_justify.proofs.Fit.{fit_is, fits_where}

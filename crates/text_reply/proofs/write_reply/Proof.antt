@@ -6,7 +6,6 @@ use Prim.Native.Nat.{ℕ, ◌≤◌}
 use native.Mathlib.Omega.{arith}
 use lib.IntN.{ℤ}
 use lib.ListN.{length}
-use borrow.Author.Tests.{not-true, not-false}
 use Rattle.words.specs.Words.{number_of}
 use Rattle.words.proofs.Bits.{number_is}
 use Rattle.lang.specs.declared.Written.{Written}
@@ -51,8 +50,8 @@ reply-size-requires c κs = search rules
 has-room-requires : tie.Need-has_room-requires
 has-room-requires c κs = search rules
 
-zero-u8-requires : tie.Need-zero_u8-requires
-zero-u8-requires c κs = search rules
+zero-all-requires : tie.Need-zero_all-requires
+zero-all-requires c κs = search rules
 
 same_length : tie.Need-shape_of-reply-then-not-has_room
 same_length c = search rules
@@ -60,26 +59,26 @@ same_length c = search rules
 returns : tie.Need-returns-then-not-has_room
 returns c =
     let a = c.args in
-    said (c.before.before.before.before.before.before.before) (Refused 15) c.zero_u8.new.s
+    said (c.before.before.before.before.before.before.before) (Refused 15) c.zero_all.new.s
     (reply_refused (bytes (c.before.before.before.before.before.before.before)) a.reply.now c.reply_size-size.result (c.reply_size-size.ensures a.ops.now) c.has_room.result c.has_room.ensures
-    (c.if-not-has_room.true) c.zero_u8.new.s c.zero_u8.ensures)
+    (c.if-not-has_room.true) c.zero_all.new.s c.zero_all.ensures)
 
 put-reply-requires : tie.Need-put_reply-requires
 put-reply-requires c κs = (roomy c.before).0
 
-sub-zero-u8 : tie.Need-slice_bounds-zero_u8-count
+sub-zero-u8 : tie.Need-slice_bounds-zero_all-count
 sub-zero-u8 c =
     omega (arith, roomy (c.before.before.before.before), c.put_reply.auto.out)
 
-part-zero-u8-start : tie.Need-slice_bounds-zero_u8-start
+part-zero-u8-start : tie.Need-slice_bounds-zero_all-start
 part-zero-u8-start c =
     omega (arith, roomy (c.before.before.before.before), c.put_reply.auto.out)
 
-part-zero-u8-end : tie.Need-slice_bounds-zero_u8-end
+part-zero-u8-end : tie.Need-slice_bounds-zero_all-end
 part-zero-u8-end c = search rules
 
-zero-u8-requires-2 : tie.Need-zero_u8-requires-2
-zero-u8-requires-2 c κs = search rules
+zero-all-requires-2 : tie.Need-zero_all-requires-2
+zero-all-requires-2 c κs = search rules
 
 same-length-2 : tie.Need-shape_of-reply
 same-length-2 c = search rules
@@ -88,8 +87,8 @@ returns-2 : tie.Need-returns
 returns-2 c =
     let a = c.args in
     let m = roomy (c.before.before.before.before.before.before.before.before) in
-    let d = rest_zeroed (bytes (c.before.before.before.before.before.before.before.before.before.before.before)) a.reply.now c.put_reply.new.out c.zero_u8-2.new.s c.reply_size-size.result m.0 m.1
-    c.put_reply.ensures c.zero_u8-2.ensures in
+    let d = rest_zeroed (bytes (c.before.before.before.before.before.before.before.before.before.before.before)) a.reply.now c.put_reply.new.out c.zero_all-2.new.s c.reply_size-size.result m.0 m.1
+    c.put_reply.ensures c.zero_all-2.ensures in
     said (c.before.before.before.before.before.before.before.before.before.before.before) (Count c.reply_size-size.result) _
     (reply_taken (bytes (c.before.before.before.before.before.before.before.before.before.before.before)) a.reply.now c.reply_size-size.result (c.reply_size-size.ensures a.ops.now) c.has_room.result c.has_room.ensures
     (c.if-not-has_room.false) _ d)
@@ -101,13 +100,13 @@ write_reply_spec =
     word-of-requires
     reply-size-requires
     has-room-requires
-    zero-u8-requires
+    zero-all-requires
     same_length
     returns
     put-reply-requires
     sub-zero-u8
     part-zero-u8-start
     part-zero-u8-end
-    zero-u8-requires-2
+    zero-all-requires-2
     same-length-2
     returns-2)

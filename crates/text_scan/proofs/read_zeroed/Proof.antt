@@ -1,6 +1,6 @@
 -- `text_scan::read_zeroed` meets its contract. Assumes nothing.
 use mathlib.Core.Path.{refl}
-use Rattle.columns.specs.declared.TextRead.TheVariants as whole
+use Rattle.std.specs.Prelude as rust
 use Rattle.text_scan.proofs.Ending.{reads_none}
 use Rattle.text_scan.proofs.Clearing.{too_long, starts}
 use borrow.Author.Rules.{rules}
@@ -10,7 +10,7 @@ use Rattle.text_scan.proofs.read_zeroed.Tie as tie
 returns : tie.Need-returns-then-text-gt65536
 returns c =
     let a = c.args in
-    reads_none a.text.now a.instructions.now a.kerns.now a.entries.now a.word.now whole.Unreadable (too_long a.text.now c.if-text-gt65536.true)
+    reads_none a.text.now a.instructions.now a.kerns.now a.entries.now a.word.now rust.None (too_long a.text.now c.if-text-gt65536.true)
     refl
 
 first-line-requires : tie.Need-first_line-requires
@@ -25,7 +25,7 @@ enum_told c = search rules
 returns-2 : tie.Need-returns-in_default
 returns-2 c =
     let a = c.args in
-    reads_none a.text.now a.instructions.now a.kerns.now a.entries.now a.word.now whole.Unreadable
+    reads_none a.text.now a.instructions.now a.kerns.now a.entries.now a.word.now rust.None
     (c.first_line.ensures.stuck c.in_default.is) refl
 
 read-lines-requires : tie.Need-read_lines-requires

@@ -12,8 +12,8 @@ use Rattle.text_shared.proofs.share_text.Tie as tie
 use Rattle.text_shared.proofs.share_text.Lts.{then-i-gt2048-via-then-i-gt2048, then-i-gt2048-via-else-i-gt2048+then-k-gt512}
 
 -- the list of kerns, zeros
-blank : (z : tie.After-zero_i32) → z.zero_i32.new.s ≡ replicate 1024 (pos 0)
-blank z = blank_of z.args.kerns.now z.zero_i32.new.s 1024 z.zero_i32-arg-1.given.0.1 z.zero_i32.ensures
+blank : (z : tie.After-zero_all) → z.zero_all.new.s ≡ replicate 1024 (pos 0)
+blank z = blank_of z.args.kerns.now z.zero_all.new.s 1024 z.zero_all-arg-1.given.0.1 z.zero_all.ensures
 
 -- past the limits, by either test
 past : (j : tie.Joined-then-i-gt2048) → let a = j.args in (2048 < a.i) ⊎ (512 < a.k)
@@ -27,8 +27,8 @@ past j =
 few : (e : tie.Else-k-gt512) → let a = e.args in (a.i ≤ 2048) × (a.k ≤ 512)
 few e = (e.if-i-gt2048.false, e.if-k-gt512.false)
 
-zero-i32-requires : tie.Need-zero_i32-requires
-zero-i32-requires c κs = search rules
+zero-all-requires : tie.Need-zero_all-requires
+zero-all-requires c κs = search rules
 
 returns : tie.Need-returns-then-i-gt2048
 returns c =
@@ -60,7 +60,7 @@ pub share_text_spec : {M : Type 1} → statement M
 share_text_spec =
     tie.close
     (tie.spec
-    zero-i32-requires
+    zero-all-requires
     returns
     copy-front-requires
     share-front-requires

@@ -7,10 +7,10 @@ use lib.IntN.{pos, ◌-ℤ◌}
 use mir.Syntax.{w32}
 use mir.Val.{SFits}
 use borrow.Author.Rules.{rules}
+use Rattle.std.specs.Prelude.{Ok}
 use Rattle.words.specs.Words.{word_of, number_of}
 use Rattle.words.proofs.Bits.{number_pos, number_word}
 use Rattle.tfm.specs.declared.Multiplier.{Multiplier}
-use Rattle.tfm.specs.declared.ToScaled.TheVariants.{Scaled}
 use Rattle.tfm.specs.Scaled.{Below, multiplier, scaled_from}
 use Rattle.tfm.proofs.Halving.{multiplier_halved}
 use Rattle.tfm.proofs.Products.{alpha_times, low_bytes_below}
@@ -43,10 +43,10 @@ module _ {z w low : ℕ} {m : Multiplier} (k : Known z w m low) where
   fits = rw difference (difference_fits low (m.alpha * m.z) low-lt times-lt)
 
   -- the answer by the top byte
-  at-0 : w / 16777216 ≡ 0 → Scaled (number_of low) ≡ scaled_from z w
+  at-0 : w / 16777216 ≡ 0 → Ok (number_of low) ≡ scaled_from z w
   at-0 e = rw (number_pos low low-lt, k.summed, k.halved, top_0 z w e)
 
-  at-255 : w / 16777216 ≡ 255 → Scaled (number_of (word_of (number_of low -ℤ number_of (m.alpha * m.z)))) ≡ scaled_from z w
+  at-255 : w / 16777216 ≡ 255 → Ok (number_of (word_of (number_of low -ℤ number_of (m.alpha * m.z)))) ≡ scaled_from z w
   at-255 e = rw (number_word (number_of low -ℤ number_of (m.alpha * m.z)) fits, difference, k.summed, k.halved, top_255 z w e)
 
 known : (c : tie.After-low_bytes-low) → Known c.args.z c.args.word c.halve-m.result c.low_bytes-low.result

@@ -20,8 +20,8 @@ enum-told-4 c = search rules
 enum-known-answer : tie.Need-enum_known-answer
 enum-known-answer c = search rules
 
-zero-i32-requires : tie.Need-zero_i32-requires
-zero-i32-requires c κs = search rules
+zero-all-requires : tie.Need-zero_all-requires
+zero-all-requires c κs = search rules
 
 returns : tie.Need-returns-in-Char
 returns c = rw c.in-Char.is (refl, refl)
@@ -39,7 +39,7 @@ same_length : tie.Need-shape_of-items
 same_length c = search rules
 
 returns-5 : tie.Need-returns-in-Refused
-returns-5 c = rw c.in-Refused.is (refl, c.zero_i32.ensures)
+returns-5 c = rw c.in-Refused.is (refl, c.zero_all.ensures)
 
 pub stopped_spec : {M : Type 1} → statement M
 stopped_spec =
@@ -50,7 +50,7 @@ stopped_spec =
     enum-told-3
     enum-told-4
     enum-known-answer
-    zero-i32-requires
+    zero-all-requires
     returns
     returns-2
     returns-3

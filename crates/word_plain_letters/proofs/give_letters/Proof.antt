@@ -1,6 +1,6 @@
 -- `word_plain_letters::give_letters` meets its contract. The loop's invariant: the letters so far are given, whatever the options, and `left` is the left that
 -- is next. The measure is what is left of the word. Assumes nothing.
-use Rattle.std.proofs.Common.{◌≡◌, ℕ, ◌+◌, ◌-◌, ◌*◌, ◌/◌, ◌<◌, ◌≤◌, true, List, length, get_or, ℤ, sym, refl, ap, ◌∙◌, subst, arith}
+use Rattle.std.proofs.Common.{◌≡◌, ℕ, ◌+◌, ◌-◌, ◌<◌, ◌≤◌, true, List, length, get_or, ℤ, sym, refl, ap, ◌∙◌, subst, arith}
 use Rattle.words.specs.Words.{word_of, number_of}
 use Rattle.words.proofs.Bits.{number_word}
 use Rattle.captions.specs.declared.RunOptions.{RunOptions}
@@ -26,7 +26,7 @@ abbrev decreases-loop : tie.decreases-loop-i
 decreases-loop pairs ops boundary word s items₀ k none left₀ op₀ i₀ m₀ n items left op i m = n - i
 
 -- the state is quick, and the left is its own
-quick : (c : tie.After-minus-n invariant-loop decreases-loop) → let a = c.args in
+quick : (c : tie.After-saturating_sub-n invariant-loop decreases-loop) → let a = c.args in
     (is_quick a.ops.now (number_of (word_of a.boundary)) a.word.now a.options a.s ≡ true) ×
     (c.quick_left-left.result ≡ plain_left a.s)
 quick c =
@@ -52,11 +52,11 @@ long l =
 
 -- the letters' starts are small
 starts : (l : tie.At-loop-i invariant-loop decreases-loop) → let a = l.args in
-    a.s.given + l.minus-n.result ≤ 65535
+    a.s.given + l.saturating_sub-n.result ≤ 65535
 starts l =
     let a = l.args in
     let h = quick_starts a.ops.now (number_of (word_of a.boundary)) a.word.now a.options a.s (quick l.before).0 in
-    omega (arith, h, l.minus-n.ensures)
+    omega (arith, h, l.saturating_sub-n.ensures)
 
 -- what is said of the bits of the boundary character is said of it as it was lent
 as_lent : (c : tie.Start invariant-loop decreases-loop) (r : LettersGiven) {d : List ℤ} → let a = c.args in let b = number_of (word_of a.boundary) in
@@ -147,7 +147,7 @@ returns c = (nothing, λ h. absurd (omega (arith, h)))
 returns-2 : tie.Need-returns-then-items-k invariant-loop decreases-loop
 returns-2 c = (nothing, λ h. absurd (omega (arith, h)))
 
-minus-requires : tie.Need-minus-n-requires invariant-loop decreases-loop
+minus-requires : tie.Need-saturating_sub-n-requires invariant-loop decreases-loop
 minus-requires c κs = tt
 
 loop-holds : tie.Need-loop-i-init invariant-loop decreases-loop
@@ -167,13 +167,13 @@ sub-smaller c = omega (arith, (far c.before).room)
 sub-smaller-2 : tie.Need-overflow_sub-n invariant-loop decreases-loop
 sub-smaller-2 c = omega (arith, c.loop-i-test.true)
 
-smaller-requires : tie.Need-smaller-most-requires invariant-loop decreases-loop
+smaller-requires : tie.Need-min-most-requires invariant-loop decreases-loop
 smaller-requires c κs = tt
 
 add-give-plain : tie.Need-overflow_add-s invariant-loop decreases-loop
 add-give-plain c =
     let b = c.well_formed in
-    omega (arith, c.loop-i-test.true, c.minus-n.ensures)
+    omega (arith, c.loop-i-test.true, c.saturating_sub-n.ensures)
 
 add-give-plain-2 : tie.Need-overflow_add-s-in-loop-i invariant-loop decreases-loop
 add-give-plain-2 c =
@@ -186,9 +186,9 @@ add-give-plain-3 c =
 
 give-plain-requires : tie.Need-give_plain-plain-requires invariant-loop decreases-loop
 give-plain-requires c κs =
-    let e = c.smaller-most.ensures in
+    let e = c.min-most.ensures in
     record {
-      letters = omega (arith, e, c.loop-i-test.true, c.minus-n.ensures);
+      letters = omega (arith, e, c.loop-i-test.true, c.saturating_sub-n.ensures);
       starts = omega (arith, e, c.loop-i-test.true, starts (c.before.before.before.before.before));
       room = omega (arith, e, (far (c.before.before.before.before.before)).room);
       some = omega (arith, (far (c.before.before.before.before.before)).left);
@@ -198,7 +198,7 @@ give-plain-requires c κs =
 add-j : tie.Need-overflow_add-j invariant-loop decreases-loop
 add-j c =
     let b = c.well_formed in
-    omega (arith, (plain (c.before.before)).room, stand-long (c.before.before), c.loop-i-test.true, c.minus-n.ensures)
+    omega (arith, (plain (c.before.before)).room, stand-long (c.before.before), c.loop-i-test.true, c.saturating_sub-n.ensures)
 
 add-c : tie.Need-overflow_add-c invariant-loop decreases-loop
 add-c c =
@@ -224,11 +224,11 @@ returns-3 c =
 
 add-give-pair : tie.Need-overflow_add-s-in-loop-i-2 invariant-loop decreases-loop
 add-give-pair c =
-    omega (arith, starts (c.before.before.before.before.before.before.before.before.before.before.before.before), c.minus-n.ensures, (stop c.before).0)
+    omega (arith, starts (c.before.before.before.before.before.before.before.before.before.before.before.before), c.saturating_sub-n.ensures, (stop c.before).0)
 
 cast-give-pair : tie.Need-overflow_cast-s invariant-loop decreases-loop
 cast-give-pair c =
-    omega (arith, starts (c.before.before.before.before.before.before.before.before.before.before.before.before), c.minus-n.ensures, (stop c.before).0)
+    omega (arith, starts (c.before.before.before.before.before.before.before.before.before.before.before.before), c.saturating_sub-n.ensures, (stop c.before).0)
 
 add-give-pair-2 : tie.Need-overflow_add-k-in-loop-i-2 invariant-loop decreases-loop
 add-give-pair-2 c =

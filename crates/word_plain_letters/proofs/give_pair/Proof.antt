@@ -1,6 +1,6 @@
 -- `word_plain_letters::give_pair` meets its contract: nothing, or a kern pair.
 -- Assumes nothing.
-use Rattle.std.proofs.Common.{◌≡◌, ℕ, suc, ◌+◌, ◌<◌, ◌≤◌, true, arith, rules}
+use Rattle.std.proofs.Common.{◌≡◌, suc, ◌+◌, ◌<◌, ◌≤◌, true, arith, rules}
 use Rattle.captions.specs.Tables.{pair_count, op_count, first_op}
 use Rattle.step_quick_pair.specs.KernPairs.{is_kern_pair}
 use Rattle.step_quick_pair.proofs.Laws.{op_pair, pair_is}
@@ -29,10 +29,10 @@ kern-op-requires c κs = search rules
 returns : tie.Need-returns-then-q-eq0
 returns c = stops
 
-minus-requires : tie.Need-minus-requires
+minus-requires : tie.Need-saturating_sub-requires
 minus-requires c κs = search rules
 
-returns-2 : tie.Need-returns-then-minus-lt12
+returns-2 : tie.Need-returns-then-saturating_sub-lt12
 returns-2 c = stops
 
 sub-word-at : tie.Need-overflow_sub-q
@@ -98,7 +98,7 @@ returns-3 : tie.Need-returns
 returns-3 c =
     let a = c.args in
     gives_kerns a.pairs.now a.ops.now a.place a.start a.items.now a.at (pair (c.before.before.before.before.before.before.before.before.before.before.before)).0
-    (omega (arith, c.if-minus-lt12.false, c.minus.ensures)) (pair (c.before.before.before.before.before.before.before.before.before.before.before)).1 c.word_at.ensures c.word_at-2.ensures c.word_at-3.ensures
+    (omega (arith, c.if-saturating_sub-lt12.false, c.saturating_sub.ensures)) (pair (c.before.before.before.before.before.before.before.before.before.before.before)).1 c.word_at.ensures c.word_at-2.ensures c.word_at-3.ensures
     c.write_six.ensures c.write_six-2.ensures
 
 pub give_pair_spec : {M : Type 1} → statement M

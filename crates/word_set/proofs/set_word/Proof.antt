@@ -13,8 +13,8 @@ use borrow.Author.Rules.{rules}
 use Rattle.word_set.proofs.set_word.Statement.{statement}
 use Rattle.word_set.proofs.set_word.Tie as tie
 
-zero-i32-requires : tie.Need-zero_i32-requires
-zero-i32-requires c κs = search rules
+zero-all-requires : tie.Need-zero_all-requires
+zero-all-requires c κs = search rules
 
 begin-requires : tie.Need-begin-requires
 begin-requires c κs = search rules
@@ -24,7 +24,7 @@ enum-known-state c = search rules
 
 set-from-requires : tie.Need-set_from-requires
 set-from-requires c κs =
-    blank c.args.items.now c.zero_i32.new.s c.zero_i32.ensures
+    blank c.args.items.now c.zero_all.new.s c.zero_all.ensures
 
 enum-known-n : tie.Need-enum_known-n
 enum-known-n c = search rules
@@ -37,11 +37,11 @@ returns c =
     let a = c.args in
     subst (λ (y : ℤ). Sets a.pairs.now a.ops.now y a.word.now a.options a.items.now c.set_from.result c.set_from.new.items)
     (number_word a.boundary c.ranges.boundary)
-    (sets_run a.pairs.now a.ops.now (number_of (word_of a.boundary)) a.word.now a.options a.items.now c.zero_i32.new.s
+    (sets_run a.pairs.now a.ops.now (number_of (word_of a.boundary)) a.word.now a.options a.items.now c.zero_all.new.s
     c.in-Run.state
     (sym c.in-Run.is
     ∙ begin_is a.pairs.now a.ops.now (number_of (word_of a.boundary)) a.word.now a.options c.begin.result c.begin.ensures)
-    c.zero_i32.auto.s c.set_from.result c.set_from.new.items c.set_from.ensures)
+    c.zero_all.auto.s c.set_from.result c.set_from.new.items c.set_from.ensures)
 
 same-length-2 : tie.Need-shape_of-items-in-Refused
 same-length-2 c = search rules
@@ -49,19 +49,19 @@ same-length-2 c = search rules
 returns-2 : tie.Need-returns-in-Refused
 returns-2 c =
     let a = c.args in
-    subst (λ (y : ℤ). Sets a.pairs.now a.ops.now y a.word.now a.options a.items.now (Refused c.in-Refused.n) c.zero_i32.new.s)
+    subst (λ (y : ℤ). Sets a.pairs.now a.ops.now y a.word.now a.options a.items.now (Refused c.in-Refused.n) c.zero_all.new.s)
     (number_word a.boundary c.ranges.boundary)
-    (sets_refused a.pairs.now a.ops.now (number_of (word_of a.boundary)) a.word.now a.options a.items.now c.zero_i32.new.s
+    (sets_refused a.pairs.now a.ops.now (number_of (word_of a.boundary)) a.word.now a.options a.items.now c.zero_all.new.s
     c.in-Refused.n
     (sym c.in-Refused.is
     ∙ begin_is a.pairs.now a.ops.now (number_of (word_of a.boundary)) a.word.now a.options c.begin.result c.begin.ensures)
-    c.zero_i32.ensures)
+    c.zero_all.ensures)
 
 pub set_word_spec : {M : Type 1} → statement M
 set_word_spec =
     tie.close
     (tie.spec
-    zero-i32-requires
+    zero-all-requires
     begin-requires
     enum-known-state
     set-from-requires

@@ -26,8 +26,8 @@ asked c =
 checked-refusal-requires : tie.Need-checked_refusal-refusal-requires
 checked-refusal-requires c κs = search rules
 
-zero-i32-requires : tie.Need-zero_i32-requires
-zero-i32-requires c κs = search rules
+zero-all-requires : tie.Need-zero_all-requires
+zero-all-requires c κs = search rules
 
 same_length : tie.Need-shape_of-items-then-refusal-ne0
 same_length c = search rules
@@ -38,7 +38,7 @@ returns c =
     refused_tells (checked_refusal a.boundary a.word.now a.options) c.checked_refusal-refusal.result
     (items_from a.pairs.now a.ops.now a.boundary a.word.now a.options (length a.items.now / 6)
     (fresh_state a.word.now a.options))
-    a.items.now c.zero_i32.new.s (asked (c.before.before.before.before)) c.if-refusal-ne0.true c.zero_i32.ensures
+    a.items.now c.zero_all.new.s (asked (c.before.before.before.before)) c.if-refusal-ne0.true c.zero_all.ensures
 
 set-fresh-requires : tie.Need-set_fresh-requires
 set-fresh-requires c κs = search rules
@@ -62,7 +62,7 @@ set_checked_word_spec =
     tie.close
     (tie.spec
     checked-refusal-requires
-    zero-i32-requires
+    zero-all-requires
     same_length
     returns
     set-fresh-requires

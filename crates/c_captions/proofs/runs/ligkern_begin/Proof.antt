@@ -23,8 +23,8 @@ begun c =
     ∙ (λ j. begin_of a.pairs.now a.ops.now (number_word a.boundary c.ranges.boundary j) a.word.now
     (options_of a.disable_left_boundary (number_word a.right_boundary_override c.ranges.right_boundary_override j)))
 
-zero-u64-requires : tie.Need-zero_u64-requires
-zero-u64-requires c κs = search rules
+zero-all-requires : tie.Need-zero_all-requires
+zero-all-requires c κs = search rules
 
 begin-requires : tie.Need-begin-requires
 begin-requires c κs = search rules
@@ -51,7 +51,7 @@ returns : tie.Need-returns-in-Refused
 returns c =
     let a = c.args in
     begins_refused a.pairs.now a.ops.now a.boundary a.word.now (options_of a.disable_left_boundary a.right_boundary_override)
-    a.state.now c.zero_u64.new.s c.zero_u64.ensures c.in-Refused.n (sym c.in-Refused.is ∙ begun (c.before.before.before)) c.lower_of.result
+    a.state.now c.zero_all.new.s c.zero_all.ensures c.in-Refused.n (sym c.in-Refused.is ∙ begun (c.before.before.before)) c.lower_of.result
     (c.lower_of.ensures ∙ ap (lower c.in-Refused.n) c.room_refusal.ensures)
 
 same-length-2 : tie.Need-shape_of-state-in-Run
@@ -61,13 +61,13 @@ returns-2 : tie.Need-returns-in-Run
 returns-2 c =
     let a = c.args in
     begins_run a.pairs.now a.ops.now a.boundary a.word.now (options_of a.disable_left_boundary a.right_boundary_override)
-    a.state.now c.zero_u64.new.s c.zero_u64.ensures c.in-Run.fresh (sym c.in-Run.is ∙ begun (c.before.before.before.before.before)) c.put_state.result c.put_state.new.list c.put_state.ensures
+    a.state.now c.zero_all.new.s c.zero_all.ensures c.in-Run.fresh (sym c.in-Run.is ∙ begun (c.before.before.before.before.before)) c.put_state.result c.put_state.new.list c.put_state.ensures
 
 pub ligkern_begin_spec : {M : Type 1} → statement M
 ligkern_begin_spec =
     tie.close
     (tie.spec
-    zero-u64-requires
+    zero-all-requires
     begin-requires
     enum-known-n
     room-refusal-requires

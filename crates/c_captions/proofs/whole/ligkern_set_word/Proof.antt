@@ -24,8 +24,8 @@ tell-requires c κs = search rules
 lower-of-requires : tie.Need-lower_of-number-requires
 lower-of-requires c κs = search rules
 
-keep-i32-requires : tie.Need-keep_i32-requires
-keep-i32-requires c κs = search rules
+keep-list-requires : tie.Need-keep_list-requires
+keep-list-requires c κs = search rules
 
 same_length : tie.Need-shape_of-items
 same_length c = search rules
@@ -40,7 +40,7 @@ returns c =
     (λ (b o : ℤ). set_reply a.pairs.now a.ops.now b a.word.now (options_of a.disable_left_boundary o) (length a.items.now))
     (number_word a.boundary c.ranges.boundary) (number_word a.right_boundary_override c.ranges.right_boundary_override)
     (record { answer = c.set_word-written.ensures.answer; list = c.set_word-written.ensures.list }) c.tell.ensures
-    (c.lower_of-number.ensures ∙ ap (lower c.tell.result) c.room_refusal-room.ensures) c.set_word-written.auto.items c.keep_i32.ensures
+    (c.lower_of-number.ensures ∙ ap (lower c.tell.result) c.room_refusal-room.ensures) c.set_word-written.auto.items c.keep_list.ensures
 
 pub ligkern_set_word_spec : {M : Type 1} → statement M
 ligkern_set_word_spec =
@@ -50,7 +50,7 @@ ligkern_set_word_spec =
     set-word-requires
     tell-requires
     lower-of-requires
-    keep-i32-requires
+    keep-list-requires
     same_length
     same-length-2
     returns)

@@ -40,7 +40,7 @@ compiled c r e =
     (number_word a.left_entry c.ranges.left_entry j) (design_at (d j) (x j) (y j)))
     (λ j. asked_refusal (d j) (x j) (y j)) c.compile.ensures)
 
-zero-u64-requires : tie.Need-zero_u64-requires
+zero-u64-requires : tie.Need-zero_all-requires
 zero-u64-requires c κs = search rules
 
 compile-requires : tie.Need-compile-requires
@@ -58,13 +58,13 @@ lower-of-requires c κs = search rules
 enum-known-p : tie.Need-enum_known-p
 enum-known-p c = search rules
 
-zero-i32-requires : tie.Need-zero_i32-requires
+zero-i32-requires : tie.Need-zero_all-requires-then-counts-lt3
 zero-i32-requires c κs = search rules
 
-zero-i32-requires-2 : tie.Need-zero_i32-requires-then-counts-lt3
+zero-i32-requires-2 : tie.Need-zero_all-requires-then-counts-lt3-2
 zero-i32-requires-2 c κs = search rules
 
-zero-i32-requires-3 : tie.Need-zero_i32-requires-then-counts-lt3-2
+zero-i32-requires-3 : tie.Need-zero_all-requires-then-counts-lt3-3
 zero-i32-requires-3 c κs = search rules
 
 same_length : tie.Need-shape_of-pairs-then-counts-lt3
@@ -86,12 +86,12 @@ returns : tie.Need-returns-then-counts-lt3
 returns c =
     let a = c.args in
     counts_short (font (c.before.before.before.before.before.before.before.before.before.before.before.before.before.before.before.before.before.before.before.before.before.before.before.before.before.before.before)) (late (c.before.before.before.before.before.before.before.before.before.before.before.before.before.before.before.before.before.before.before.before.before.before.before.before.before.before.before)) a.pairs.now a.ops.now a.loops.now a.work.now a.counts.now c.compile.new.pairs c.compile.new.ops c.compile.new.loops c.compile.new.work
-    c.zero_u64.new.s c.zero_u64.ensures c.in-Tables.p c.in-Tables.o c.in-Tables.l
+    c.zero_all.new.s c.zero_all.ensures c.in-Tables.p c.in-Tables.o c.in-Tables.l
     (compiled (c.before.before.before.before.before.before.before.before.before.before.before.before.before.before.before.before) _ c.in-Tables.is) c.if-counts-lt3.true
-    c.zero_i32.new.s c.zero_i32-then-counts-lt3.new.s
-    c.zero_i32-then-counts-lt3-2.new.s
-    c.zero_i32.ensures c.zero_i32-then-counts-lt3.ensures
-    c.zero_i32-then-counts-lt3-2.ensures
+    c.zero_all-then-counts-lt3.new.s c.zero_all-then-counts-lt3-2.new.s
+    c.zero_all-then-counts-lt3-3.new.s
+    c.zero_all-then-counts-lt3.ensures c.zero_all-then-counts-lt3-2.ensures
+    c.zero_all-then-counts-lt3-3.ensures
     c.compile.auto.pairs c.compile.auto.ops c.compile.auto.loops
 
 put-three-requires : tie.Need-put_three-requires
@@ -116,7 +116,7 @@ returns-2 : tie.Need-returns-in-Refused
 returns-2 c =
     let a = c.args in
     counts_refused (font (c.before.before.before.before.before.before.before.before.before.before.before.before.before.before.before.before.before.before.before)) (late (c.before.before.before.before.before.before.before.before.before.before.before.before.before.before.before.before.before.before.before)) a.pairs.now a.ops.now a.loops.now a.work.now a.counts.now c.compile.new.pairs c.compile.new.ops c.compile.new.loops c.compile.new.work
-    c.zero_u64.new.s c.zero_u64.ensures c.in-Refused.n
+    c.zero_all.new.s c.zero_all.ensures c.in-Refused.n
     (compiled (c.before.before.before.before.before.before.before.before) _ c.in-Refused.is)
     c.lower_of.result (c.lower_of.ensures ∙ ap (lower c.in-Refused.n) c.room_refusal.ensures)
 
@@ -139,7 +139,7 @@ returns-3 : tie.Need-returns-else-counts-lt3
 returns-3 c =
     let a = c.args in
     counts_taken (font (c.before.before.before.before.before.before.before.before.before.before.before.before.before.before.before.before.before.before.before.before.before.before)) (late (c.before.before.before.before.before.before.before.before.before.before.before.before.before.before.before.before.before.before.before.before.before.before)) a.pairs.now a.ops.now a.loops.now a.work.now a.counts.now c.compile.new.pairs c.compile.new.ops c.compile.new.loops c.compile.new.work
-    c.zero_u64.new.s c.zero_u64.ensures c.in-Tables.p c.in-Tables.o c.in-Tables.l
+    c.zero_all.new.s c.zero_all.ensures c.in-Tables.p c.in-Tables.o c.in-Tables.l
     (compiled (c.before.before.before.before.before.before.before.before.before.before.before) _ c.in-Tables.is) c.if-counts-lt3.false c.put_three.new.s c.put_three.ensures
 
 pub ligkern_compile_spec : {M : Type 1} → statement M

@@ -10,14 +10,14 @@ deserialize-requires c κs = search rules
 tell-font-requires : tie.Need-tell_font-number-requires
 tell-font-requires c κs = search rules
 
-keep-i32-requires : tie.Need-keep_i32-requires
-keep-i32-requires c κs = search rules
+keep-list-requires : tie.Need-keep_list-requires
+keep-list-requires c κs = search rules
 
-keep-i32-requires-2 : tie.Need-keep_i32-requires-2
-keep-i32-requires-2 c κs = search rules
+keep-list-requires-2 : tie.Need-keep_list-requires-2
+keep-list-requires-2 c κs = search rules
 
-keep-i32-requires-3 : tie.Need-keep_i32-requires-3
-keep-i32-requires-3 c κs = search rules
+keep-list-requires-3 : tie.Need-keep_list-requires-3
+keep-list-requires-3 c κs = search rules
 
 same_length : tie.Need-shape_of-instructions
 same_length c = search rules
@@ -38,8 +38,8 @@ returns : tie.Need-returns
 returns c =
     let a = c.args in
     host_deserializes a.file.now a.instructions.now a.kerns.now a.entries.now a.edges.now a.counts.now c.deserialize-font.ensures
-    c.tell_font-number.ensures c.deserialize-font.auto.instructions c.deserialize-font.auto.kerns c.deserialize-font.auto.entries c.keep_i32.ensures
-    c.keep_i32-2.ensures c.keep_i32-3.ensures
+    c.tell_font-number.ensures c.deserialize-font.auto.instructions c.deserialize-font.auto.kerns c.deserialize-font.auto.entries c.keep_list.ensures
+    c.keep_list-2.ensures c.keep_list-3.ensures
 
 pub ligkern_deserialize_spec : {M : Type 1} → statement M
 ligkern_deserialize_spec =
@@ -47,9 +47,9 @@ ligkern_deserialize_spec =
     (tie.spec
     deserialize-requires
     tell-font-requires
-    keep-i32-requires
-    keep-i32-requires-2
-    keep-i32-requires-3
+    keep-list-requires
+    keep-list-requires-2
+    keep-list-requires-3
     same_length
     same-length-2
     same-length-3

@@ -9,10 +9,10 @@ use borrow.Author.Rules.{rules}
 use Rattle.c_files.proofs.reading.tell_font.Statement.{statement}
 use Rattle.c_files.proofs.reading.tell_font.Tie as tie
 
-zero-i32-requires : tie.Need-zero_i32-requires
+zero-i32-requires : tie.Need-zero_all-requires
 zero-i32-requires c κs = search rules
 
-zero-u64-requires : tie.Need-zero_u64-requires
+zero-u64-requires : tie.Need-zero_all-requires-2
 zero-u64-requires c κs = search rules
 
 fixed-refusal-requires : tie.Need-fixed_refusal-fixed-requires
@@ -37,13 +37,13 @@ returns : tie.Need-returns-then-fixed-ne0
 returns c =
     let a = c.args in
     rw c.in-Font.is
-    (font_short a.edges.now a.counts.now c.zero_i32.ensures c.zero_u64.ensures c.fixed_refusal-fixed.ensures c.in-Font.i
+    (font_short a.edges.now a.counts.now c.zero_all.ensures c.zero_all-2.ensures c.fixed_refusal-fixed.ensures c.in-Font.i
     c.in-Font.k c.in-Font.e c.in-Font.boundary c.in-Font.left c.if-fixed-ne0.true)
 
 -- there is room for the edges and the counts
-room : (c : tie.Else-fixed-ne0) → (2 ≤ length c.zero_i32.new.s) × (3 ≤ length c.zero_u64.new.s)
+room : (c : tie.Else-fixed-ne0) → (2 ≤ length c.zero_all.new.s) × (3 ≤ length c.zero_all-2.new.s)
 room c =
-    fixed_fits (length c.zero_i32.new.s) (length c.zero_u64.new.s)
+    fixed_fits (length c.zero_all.new.s) (length c.zero_all-2.new.s)
     c.fixed_refusal-fixed.ensures c.if-fixed-ne0.false
 
 slice-set-from-boundary : tie.Need-bounds-edges-0
@@ -65,7 +65,7 @@ returns-2 : tie.Need-returns-in-Refused
 returns-2 c =
     let a = c.args in
     rw c.in-Refused.is
-    (font_refused a.edges.now a.counts.now c.zero_i32.ensures c.zero_u64.ensures c.fixed_refusal-fixed.ensures c.in-Refused.n
+    (font_refused a.edges.now a.counts.now c.zero_all.ensures c.zero_all-2.ensures c.fixed_refusal-fixed.ensures c.in-Refused.n
     c.lower_of.ensures)
 
 same-length-5 : tie.Need-shape_of-edges-else-fixed-ne0
@@ -78,9 +78,9 @@ returns-3 : tie.Need-returns-else-fixed-ne0
 returns-3 c =
     let a = c.args in
     rw c.in-Font.is
-    (font_told a.edges.now a.counts.now c.zero_i32.ensures c.zero_u64.ensures c.fixed_refusal-fixed.ensures c.in-Font.i c.in-Font.k c.in-Font.e
+    (font_told a.edges.now a.counts.now c.zero_all.ensures c.zero_all-2.ensures c.fixed_refusal-fixed.ensures c.in-Font.i c.in-Font.k c.in-Font.e
     c.in-Font.boundary c.in-Font.left c.if-fixed-ne0.false
-    (λ j. set (set c.zero_i32.new.s 0 (number_word c.in-Font.boundary (record { sfits = c.in-Font.known_told-in-Font-1-own.given.1.1.1.0.1 }) j)) 1
+    (λ j. set (set c.zero_all.new.s 0 (number_word c.in-Font.boundary (record { sfits = c.in-Font.known_told-in-Font-1-own.given.1.1.1.0.1 }) j)) 1
     (number_word c.in-Font.left (record { sfits = c.in-Font.known_told-in-Font-1-own.given.1.1.1.1.0.1 }) j)) c.put_counts.ensures)
 
 pub tell_font_spec : {M : Type 1} → statement M

@@ -22,8 +22,8 @@ room-refusal-requires c κs = search rules
 lower-of-requires : tie.Need-lower_of-number-requires
 lower-of-requires c κs = search rules
 
-keep-u8-requires : tie.Need-keep_u8-requires
-keep-u8-requires c κs = search rules
+keep-list-requires : tie.Need-keep_list-requires
+keep-list-requires c κs = search rules
 
 same_length : tie.Need-shape_of-out
 same_length c = search rules
@@ -36,12 +36,12 @@ returns c =
     let a = c.args in
     lent_two
     (λ (x y : ℤ). HostReplaces a.old.now (writable a.instructions.now a.kerns.now a.entries.now x y) a.out.now a.values.now
-    c.lower_of-number.result c.keep_u8.new.out c.tell-told.new.values)
+    c.lower_of-number.result c.keep_list.new.out c.tell-told.new.values)
     (number_word a.boundary c.ranges.boundary) (number_word a.left_entry c.ranges.left_entry)
     (host_replaces a.old.now
     (writable a.instructions.now a.kerns.now a.entries.now (number_of (word_of a.boundary)) (number_of (word_of a.left_entry)))
     a.out.now a.values.now c.replace_lig_kern_program-written.ensures c.tell-told.ensures c.replace_lig_kern_program-written.auto.out
-    c.tell-told.auto.values c.room_refusal.ensures c.lower_of-number.ensures c.keep_u8.ensures)
+    c.tell-told.auto.values c.room_refusal.ensures c.lower_of-number.ensures c.keep_list.ensures)
 
 pub ligkern_replace_lig_kern_program_spec : {M : Type 1} → statement M
 ligkern_replace_lig_kern_program_spec =
@@ -51,7 +51,7 @@ ligkern_replace_lig_kern_program_spec =
     tell-requires
     room-refusal-requires
     lower-of-requires
-    keep-u8-requires
+    keep-list-requires
     same_length
     same-length-2
     returns)

@@ -17,11 +17,11 @@ pack-entrypoints-requires c κs = search rules
 tell-sizes-requires : tie.Need-tell_sizes-number-requires
 tell-sizes-requires c κs = search rules
 
-keep-i32-requires : tie.Need-keep_i32-requires
-keep-i32-requires c κs = search rules
+keep-list-requires : tie.Need-keep_list-requires
+keep-list-requires c κs = search rules
 
-keep-i32-requires-2 : tie.Need-keep_i32-requires-2
-keep-i32-requires-2 c κs = search rules
+keep-list-requires-2 : tie.Need-keep_list-requires-2
+keep-list-requires-2 c κs = search rules
 
 same_length : tie.Need-shape_of-out
 same_length c = search rules
@@ -41,11 +41,11 @@ returns c =
     lent_two
     (λ (x y : ℤ). GivesTwo (pos 0) (pack_reply (packable a.instructions.now a.entries.now x y) (length out) (length more))
     (packed_instructions (packable a.instructions.now a.entries.now x y)) (packed_entries (packable a.instructions.now a.entries.now x y))
-    out more a.values.now c.tell_sizes-number.result c.keep_i32.new.out c.keep_i32-2.new.out c.tell_sizes-number.new.values)
+    out more a.values.now c.tell_sizes-number.result c.keep_list.new.out c.keep_list-2.new.out c.tell_sizes-number.new.values)
     (number_word a.boundary c.ranges.boundary) (number_word a.left_entry c.ranges.left_entry)
     (gives_two (pos 0) (packing_refusal g (length out) (length more)) (packed_sizes g) (packed_instructions g) (packed_entries g) out more a.values.now
     c.pack_entrypoints-packed.ensures.answer c.tell_sizes-number.ensures c.pack_entrypoints-packed.ensures.instructions c.pack_entrypoints-packed.ensures.entries
-    c.pack_entrypoints-packed.auto.out c.pack_entrypoints-packed.auto.entries_out c.keep_i32.ensures c.keep_i32-2.ensures)
+    c.pack_entrypoints-packed.auto.out c.pack_entrypoints-packed.auto.entries_out c.keep_list.ensures c.keep_list-2.ensures)
 
 pub ligkern_pack_entrypoints_spec : {M : Type 1} → statement M
 ligkern_pack_entrypoints_spec =
@@ -53,8 +53,8 @@ ligkern_pack_entrypoints_spec =
     (tie.spec
     pack-entrypoints-requires
     tell-sizes-requires
-    keep-i32-requires
-    keep-i32-requires-2
+    keep-list-requires
+    keep-list-requires-2
     same_length
     same-length-2
     same-length-3

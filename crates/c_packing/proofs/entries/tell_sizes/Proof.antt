@@ -10,8 +10,8 @@ use borrow.Author.Rules.{rules}
 use Rattle.c_packing.proofs.entries.tell_sizes.Statement.{statement}
 use Rattle.c_packing.proofs.entries.tell_sizes.Tie as tie
 
-zero-u64-requires : tie.Need-zero_u64-requires
-zero-u64-requires c κs = search rules
+zero-all-requires : tie.Need-zero_all-requires
+zero-all-requires c κs = search rules
 
 enum-known-packed : tie.Need-enum_known-packed
 enum-known-packed c = search rules
@@ -26,7 +26,7 @@ returns : tie.Need-returns-then-values-lt3
 returns c =
     rw c.in-Sizes.is
     (tells_short (pos c.in-Sizes.n ∷ pos c.in-Sizes.offset ∷ pos c.in-Sizes.redirects ∷ [])
-    c.args.values.now (omega (arith, c.if-values-lt3.true, c.zero_u64.auto.s)) c.zero_u64.ensures)
+    c.args.values.now (omega (arith, c.if-values-lt3.true, c.zero_all.auto.s)) c.zero_all.ensures)
 
 slice-write-values : tie.Need-bounds-values-0
 slice-write-values c = search rules
@@ -43,7 +43,7 @@ same-length-2 c = search rules
 
 returns-2 : tie.Need-returns-in-Refused
 returns-2 c =
-    rw c.in-Refused.is (tells_refused c.in-Refused.n c.args.values.now c.zero_u64.ensures)
+    rw c.in-Refused.is (tells_refused c.in-Refused.n c.args.values.now c.zero_all.ensures)
 
 same-length-3 : tie.Need-shape_of-values-else-values-lt3
 same-length-3 c = search rules
@@ -52,13 +52,13 @@ returns-3 : tie.Need-returns-else-values-lt3
 returns-3 c =
     rw c.in-Sizes.is
     (tells_taken (pos c.in-Sizes.n ∷ pos c.in-Sizes.offset ∷ pos c.in-Sizes.redirects ∷ [])
-    c.args.values.now (omega (arith, c.if-values-lt3.false, c.zero_u64.auto.s)) c.zero_u64.ensures refl)
+    c.args.values.now (omega (arith, c.if-values-lt3.false, c.zero_all.auto.s)) c.zero_all.ensures refl)
 
 pub tell_sizes_spec : {M : Type 1} → statement M
 tell_sizes_spec =
     tie.close
     (tie.spec
-    zero-u64-requires
+    zero-all-requires
     enum-known-packed
     enum-known-packed-2
     same_length

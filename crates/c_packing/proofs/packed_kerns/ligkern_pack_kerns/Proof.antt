@@ -15,8 +15,8 @@ pack-kerns-requires c κs = search rules
 tell-requires : tie.Need-tell-number-requires
 tell-requires c κs = search rules
 
-keep-i32-requires : tie.Need-keep_i32-requires
-keep-i32-requires c κs = search rules
+keep-list-requires : tie.Need-keep_list-requires
+keep-list-requires c κs = search rules
 
 same_length : tie.Need-shape_of-out
 same_length c = search rules
@@ -29,7 +29,7 @@ returns c =
     let a = c.args in
     gives (pos 0) (pack_refusal a.instructions.now a.kerns.now (length a.out.now)) (pos (count a.instructions.now) ∷ [])
     (packed a.instructions.now a.kerns.now) a.out.now a.values.now c.pack_kerns-written.ensures.answer c.tell-number.ensures
-    c.pack_kerns-written.ensures.list c.pack_kerns-written.auto.out c.keep_i32.ensures
+    c.pack_kerns-written.ensures.list c.pack_kerns-written.auto.out c.keep_list.ensures
 
 pub ligkern_pack_kerns_spec : {M : Type 1} → statement M
 ligkern_pack_kerns_spec =
@@ -37,7 +37,7 @@ ligkern_pack_kerns_spec =
     (tie.spec
     pack-kerns-requires
     tell-requires
-    keep-i32-requires
+    keep-list-requires
     same_length
     same-length-2
     returns)

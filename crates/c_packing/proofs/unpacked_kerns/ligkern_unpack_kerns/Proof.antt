@@ -14,11 +14,11 @@ unpack-kerns-requires c κs = search rules
 tell-requires : tie.Need-tell-number-requires
 tell-requires c κs = search rules
 
-keep-i32-requires : tie.Need-keep_i32-requires
-keep-i32-requires c κs = search rules
+keep-list-requires : tie.Need-keep_list-requires
+keep-list-requires c κs = search rules
 
-keep-i32-requires-2 : tie.Need-keep_i32-requires-2
-keep-i32-requires-2 c κs = search rules
+keep-list-requires-2 : tie.Need-keep_list-requires-2
+keep-list-requires-2 c κs = search rules
 
 same_length : tie.Need-shape_of-out
 same_length c = search rules
@@ -35,7 +35,7 @@ returns c =
     gives_two (pos 0) (unpack_kerns_refusal a.instructions.now (length a.out.now) (length a.kerns.now))
     (pos (length (kerns_of a.instructions.now)) ∷ []) (unpacked a.instructions.now) (kerns_of a.instructions.now) a.out.now a.kerns.now
     a.values.now c.unpack_kerns-written.ensures.answer c.tell-number.ensures c.unpack_kerns-written.ensures.list c.unpack_kerns-written.ensures.shares
-    c.unpack_kerns-written.auto.out c.unpack_kerns-written.auto.kerns c.keep_i32.ensures c.keep_i32-2.ensures
+    c.unpack_kerns-written.auto.out c.unpack_kerns-written.auto.kerns c.keep_list.ensures c.keep_list-2.ensures
 
 pub ligkern_unpack_kerns_spec : {M : Type 1} → statement M
 ligkern_unpack_kerns_spec =
@@ -43,8 +43,8 @@ ligkern_unpack_kerns_spec =
     (tie.spec
     unpack-kerns-requires
     tell-requires
-    keep-i32-requires
-    keep-i32-requires-2
+    keep-list-requires
+    keep-list-requires-2
     same_length
     same-length-2
     same-length-3

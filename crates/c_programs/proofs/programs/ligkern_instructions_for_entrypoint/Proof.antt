@@ -19,8 +19,8 @@ instructions-for-entrypoint-requires c κs = search rules
 tell-requires : tie.Need-tell-number-requires
 tell-requires c κs = search rules
 
-keep-u32-requires : tie.Need-keep_u32-requires
-keep-u32-requires c κs = search rules
+keep-list-requires : tie.Need-keep_list-requires
+keep-list-requires c κs = search rules
 
 same_length : tie.Need-shape_of-out
 same_length c = search rules
@@ -33,10 +33,10 @@ returns c =
     let a = c.args in
     let y = number_of (word_of a.entry) in
     subst (λ (e : ℤ). Gives 0 (walk_reply a.instructions.now e (length a.out.now)) (chain_of a.instructions.now (word_of e)) a.out.now
-    a.values.now c.tell-number.result c.keep_u32.new.out c.tell-number.new.values) (number_word a.entry c.ranges.entry)
+    a.values.now c.tell-number.result c.keep_list.new.out c.tell-number.new.values) (number_word a.entry c.ranges.entry)
     (gives 0 (walk_refusal a.instructions.now y (length a.out.now)) (pos (length (chain_of a.instructions.now (word_of y))) ∷ [])
     (chain_of a.instructions.now (word_of y)) a.out.now a.values.now c.instructions_for_entrypoint-written.ensures.answer c.tell-number.ensures
-    c.instructions_for_entrypoint-written.ensures.list c.instructions_for_entrypoint-written.auto.out c.keep_u32.ensures)
+    c.instructions_for_entrypoint-written.ensures.list c.instructions_for_entrypoint-written.auto.out c.keep_list.ensures)
 
 pub ligkern_instructions_for_entrypoint_spec : {M : Type 1} → statement M
 ligkern_instructions_for_entrypoint_spec =
@@ -44,7 +44,7 @@ ligkern_instructions_for_entrypoint_spec =
     (tie.spec
     instructions-for-entrypoint-requires
     tell-requires
-    keep-u32-requires
+    keep-list-requires
     same_length
     same-length-2
     returns)

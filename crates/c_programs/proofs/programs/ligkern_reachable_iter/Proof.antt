@@ -20,8 +20,8 @@ reachable-iter-requires c κs = search rules
 tell-requires : tie.Need-tell-number-requires
 tell-requires c κs = search rules
 
-keep-i32-requires : tie.Need-keep_i32-requires
-keep-i32-requires c κs = search rules
+keep-list-requires : tie.Need-keep_list-requires
+keep-list-requires c κs = search rules
 
 same_length : tie.Need-shape_of-out
 same_length c = search rules
@@ -34,12 +34,12 @@ returns c =
     let a = c.args in
     let y = number_of (word_of a.left_entry) in
     subst (λ (e : ℤ). Gives (pos 0) (reach_reply a.instructions.now a.entries.now e a.passthrough.now (length a.out.now))
-    (reach_list a.instructions.now a.entries.now e a.passthrough.now) a.out.now a.values.now c.tell-number.result c.keep_i32.new.out
+    (reach_list a.instructions.now a.entries.now e a.passthrough.now) a.out.now a.values.now c.tell-number.result c.keep_list.new.out
     c.tell-number.new.values) (number_word a.left_entry c.ranges.left_entry)
     (gives (pos 0) (reach_refusal a.instructions.now a.entries.now y a.passthrough.now (length a.out.now))
     (pos (count a.instructions.now) ∷ []) (reach_list a.instructions.now a.entries.now y a.passthrough.now) a.out.now a.values.now
     c.reachable_iter-written.ensures.answer c.tell-number.ensures c.reachable_iter-written.ensures.list c.reachable_iter-written.auto.out
-    c.keep_i32.ensures)
+    c.keep_list.ensures)
 
 pub ligkern_reachable_iter_spec : {M : Type 1} → statement M
 ligkern_reachable_iter_spec =
@@ -47,7 +47,7 @@ ligkern_reachable_iter_spec =
     (tie.spec
     reachable-iter-requires
     tell-requires
-    keep-i32-requires
+    keep-list-requires
     same_length
     same-length-2
     returns)

@@ -22,8 +22,8 @@ entry-of-requires c κs = search rules
 tell-requires : tie.Need-tell-number-requires
 tell-requires c κs = search rules
 
-keep-u8-requires : tie.Need-keep_u8-requires
-keep-u8-requires c κs = search rules
+keep-list-requires : tie.Need-keep_list-requires
+keep-list-requires c κs = search rules
 
 same_length : tie.Need-shape_of-out
 same_length c = search rules
@@ -36,12 +36,12 @@ returns c =
     let a = c.args in
     let y = number_of (word_of a.entry) in
     subst (λ (e : ℤ). Gives 0 (unpack_entry a.instructions.now e a.passthrough.now (length a.out.now))
-    (passthrough_after a.instructions.now (word_of e) a.passthrough.now) a.out.now a.values.now c.tell-number.result c.keep_u8.new.out
+    (passthrough_after a.instructions.now (word_of e) a.passthrough.now) a.out.now a.values.now c.tell-number.result c.keep_list.new.out
     c.tell-number.new.values) (number_word a.entry c.ranges.entry)
     (gives 0 (unpack_refusal a.instructions.now y a.passthrough.now (length a.out.now)) (pos (stands_for a.instructions.now (word_of y)) ∷ [])
     (passthrough_after a.instructions.now (word_of y) a.passthrough.now) a.out.now a.values.now c.unpack_entrypoint-unpacked.ensures.answer
     (tells_as c.entry_of.ensures c.tell-number.ensures) c.unpack_entrypoint-unpacked.ensures.list c.unpack_entrypoint-unpacked.auto.out
-    c.keep_u8.ensures)
+    c.keep_list.ensures)
 
 pub ligkern_unpack_entrypoint_spec : {M : Type 1} → statement M
 ligkern_unpack_entrypoint_spec =
@@ -50,7 +50,7 @@ ligkern_unpack_entrypoint_spec =
     unpack-entrypoint-requires
     entry-of-requires
     tell-requires
-    keep-u8-requires
+    keep-list-requires
     same_length
     same-length-2
     returns)

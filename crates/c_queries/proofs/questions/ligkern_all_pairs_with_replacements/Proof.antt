@@ -15,8 +15,8 @@ all-pairs-with-replacements-requires c κs = search rules
 tell-requires : tie.Need-tell-number-requires
 tell-requires c κs = search rules
 
-keep-i32-requires : tie.Need-keep_i32-requires
-keep-i32-requires c κs = search rules
+keep-list-requires : tie.Need-keep_list-requires
+keep-list-requires c κs = search rules
 
 same_length : tie.Need-shape_of-out
 same_length c = search rules
@@ -29,7 +29,7 @@ returns c =
     let a = c.args in
     gives (pos 0) (keys_refusal a.pairs.now (length a.out.now)) (pos (pair_count a.pairs.now) ∷ []) (keys_of a.pairs.now) a.out.now
     a.values.now c.all_pairs_with_replacements-written.ensures.answer c.tell-number.ensures c.all_pairs_with_replacements-written.ensures.list
-    c.all_pairs_with_replacements-written.auto.out c.keep_i32.ensures
+    c.all_pairs_with_replacements-written.auto.out c.keep_list.ensures
 
 pub ligkern_all_pairs_with_replacements_spec : {M : Type 1} → statement M
 ligkern_all_pairs_with_replacements_spec =
@@ -37,7 +37,7 @@ ligkern_all_pairs_with_replacements_spec =
     (tie.spec
     all-pairs-with-replacements-requires
     tell-requires
-    keep-i32-requires
+    keep-list-requires
     same_length
     same-length-2
     returns)

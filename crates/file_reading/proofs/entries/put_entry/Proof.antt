@@ -8,7 +8,6 @@ use native.Mathlib.Omega.{arith}
 use lib.IntN.{ℤ}
 use lib.ListN.{length}
 use lib.Seq.{sets}
-use borrow.Author.Tests.{not-true, not-false}
 use Rattle.words.specs.Words.{number_of}
 use Rattle.words.proofs.Bits.{number_pos}
 use Rattle.files.specs.Commands.{word_byte, char_entry, is_lig_tagged}

@@ -20,10 +20,10 @@ returns-2 c =
     let args = c.args in
     held_back (rw (eq-eqb args.s.stage 2 c.if-s-ne2.false, not-true args.s.ending c.if-not-s.true))
 
-minus-requires : tie.Need-minus-requires
+minus-requires : tie.Need-saturating_sub-requires
 minus-requires c κs = search rules
 
-mul-put-word : tie.Need-overflow_mul-minus
+mul-put-word : tie.Need-overflow_mul-saturating_sub
 mul-put-word c = search rules
 
 put-word-requires : tie.Need-put_word-requires
@@ -36,7 +36,7 @@ returns-3 : tie.Need-returns
 returns-3 c =
     let args = c.args in
     let_through (rw (eq-eqb args.s.stage 2 c.if-s-ne2.false, not-false args.s.ending c.if-not-s.false))
-    (c.put_word.ensures ∙ ap (λ (k : ℕ). set args.instructions.now (4 * k) (number_of args.next)) c.minus.ensures)
+    (c.put_word.ensures ∙ ap (λ (k : ℕ). set args.instructions.now (4 * k) (number_of args.next)) c.saturating_sub.ensures)
 
 pub end_step_spec : {M : Type 1} → statement M
 end_step_spec =

@@ -18,10 +18,10 @@ returns : tie.Need-returns-then-not-may_label
 returns c =
     held_back (sym c.may_label.ensures ∙ c.if-not-may_label.true)
 
-smaller-requires : tie.Need-smaller-requires
+smaller-requires : tie.Need-min-requires
 smaller-requires c κs = search rules
 
-cast-put-word : tie.Need-overflow_cast-smaller
+cast-put-word : tie.Need-overflow_cast-min
 cast-put-word c = search rules
 
 put-word-requires : tie.Need-put_word-requires
@@ -36,9 +36,9 @@ same-length-2 c = search rules
 returns-2 : tie.Need-returns
 returns-2 c =
     let args = c.args in
-    let l = small_number c.smaller.result (omega (arith, at_most_right args.s.steps 65535, c.smaller.ensures)) in
+    let l = small_number c.min.result (omega (arith, at_most_right args.s.steps 65535, c.min.ensures)) in
     let_through_to (sym c.may_label.ensures ∙ c.if-not-may_label.false) (rw c.at_least-needed.ensures)
-    (c.put_word.ensures ∙ rw (l, c.smaller.ensures))
+    (c.put_word.ensures ∙ rw (l, c.min.ensures))
 
 pub label_spec : {M : Type 1} → statement M
 label_spec =

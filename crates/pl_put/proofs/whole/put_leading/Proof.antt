@@ -8,12 +8,12 @@ use Rattle.pl_put.proofs.whole.put_leading.Tie as tie
 add-smaller : tie.Need-overflow_add-out
 add-smaller c = search rules
 
-smaller-requires : tie.Need-smaller-requires
+smaller-requires : tie.Need-min-requires
 smaller-requires c κs = search rules
 
 returns : tie.Need-returns-then-n-eq0
 returns c =
-    leading_none c.args.out.now c.args.at c.args.n c.if-n-eq0.true c.smaller.ensures
+    leading_none c.args.out.now c.args.at c.args.n c.if-n-eq0.true c.min.ensures
 
 cast-put-byte : tie.Need-overflow_cast-n
 cast-put-byte c = search rules

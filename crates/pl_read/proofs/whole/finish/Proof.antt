@@ -6,7 +6,6 @@ use Prim.Native.Nat.{ℕ, ◌*◌}
 use lib.ListN.{set}
 use borrow.Author.Tests.{lt-leb, le-leb, eq-eqb, ne_eqb}
 use Rattle.property_lists.specs.declared.Property.TheVariants as property
-use Rattle.pl_progress.specs.declared.Change.TheVariants as change
 use Rattle.pl_read.proofs.Running.{finish_open, finish_short, finish_kept, finish_ended}
 use borrow.Author.Rules.{rules}
 use Rattle.pl_read.proofs.whole.finish.Statement.{statement}
@@ -22,10 +21,10 @@ returns-2 c =
     let args = c.args in
     λ z l b st. finish_short st (ne_eqb args.s.stage 2 c.if-s-eq2.false) (lt-leb args.s.needed args.s.steps c.if-s.true)
 
-minus-requires : tie.Need-minus-requires
+minus-requires : tie.Need-saturating_sub-requires
 minus-requires c κs = search rules
 
-mul-put-word : tie.Need-overflow_mul-minus
+mul-put-word : tie.Need-overflow_mul-saturating_sub
 mul-put-word c = search rules
 
 put-word-requires : tie.Need-put_word-requires
@@ -37,7 +36,7 @@ same_length c = search rules
 returns-3 : tie.Need-returns-then-s-2
 returns-3 c =
     let args = c.args in
-    let e = c.put_word.ensures ∙ ap (λ (k : ℕ). set args.instructions.now (4 * k) (negsuc 0)) c.minus.ensures in
+    let e = c.put_word.ensures ∙ ap (λ (k : ℕ). set args.instructions.now (4 * k) (negsuc 0)) c.saturating_sub.ensures in
     λ z l b st. finish_ended st (ne_eqb args.s.stage 2 c.if-s-eq2.false) (le-leb args.s.needed args.s.steps c.if-s.false) c.if-s-2.true e
 
 returns-4 : tie.Need-returns

@@ -21,16 +21,16 @@ enum-known-n c = search rules
 enum_told : tie.Need-enum_told-1
 enum_told c = search rules
 
-returns : tie.Need-returns-in-At
+returns : tie.Need-returns-in-Some
 returns c =
     let args = c.args in
-    let k = known_at c.past_end.ensures c.in-At.is in
+    let k = known_at c.past_end.ensures c.in-Some.is in
     property_at_lem _ (ap (λ o. then_by o (λ rest. some (args.p, rest))) k.0) (λ h. omega (arith, k.1 h)) k.2
 
-returns-2 : tie.Need-returns-in-Refused
+returns-2 : tie.Need-returns-in-None
 returns-2 c =
     let args = c.args in
-    property_none _ (ap (λ o. then_by o (λ rest. some (args.p, rest))) (known_none c.past_end.ensures c.in-Refused.is))
+    property_none _ (ap (λ o. then_by o (λ rest. some (args.p, rest))) (known_none c.past_end.ensures c.in-None.is))
 
 pub closed_by_spec : {M : Type 1} → statement M
 closed_by_spec =

@@ -21,14 +21,14 @@ enum-known-n c = search rules
 enum_told : tie.Need-enum_told-1
 enum_told c = search rules
 
-returns : tie.Need-returns-in-At
+returns : tie.Need-returns-in-Some
 returns c =
-    let k = known_at c.past_comment.ensures c.in-At.is in
+    let k = known_at c.past_comment.ensures c.in-Some.is in
     property_at_lem _ (ap (λ o. then_by o (λ rest. some (property.Comment, rest))) k.0) (λ h. omega (arith, k.1 h)) k.2
 
-returns-2 : tie.Need-returns-in-Refused
+returns-2 : tie.Need-returns-in-None
 returns-2 c =
-    property_none _ (ap (λ o. then_by o (λ rest. some (property.Comment, rest))) (known_none c.past_comment.ensures c.in-Refused.is))
+    property_none _ (ap (λ o. then_by o (λ rest. some (property.Comment, rest))) (known_none c.past_comment.ensures c.in-None.is))
 
 pub comment_spec : {M : Type 1} → statement M
 comment_spec =

@@ -25,11 +25,11 @@ returns c =
 
 label-from-requires : tie.Need-label_from-requires
 label-from-requires c κs =
-    (known_at c.past_blanks.ensures c.in-At.is).2
+    (known_at c.past_blanks.ensures c.in-Some.is).2
 
 returns-2 : tie.Need-returns
 returns-2 c =
-    let k = known_at c.past_blanks.ensures c.in-At.is in
+    let k = known_at c.past_blanks.ensures c.in-Some.is in
     property_from_lem c.label_from.result c.label_from.ensures (sym (rw k.0)) (λ h. (λ p. omega (arith, k.1 h), k.2))
 
 pub label_spec : {M : Type 1} → statement M

@@ -65,7 +65,7 @@ returns-4 c =
     let args = c.args in
     let t = args.text.now in
     let b = at_byte t args.at c.if-text-at.false in
-    let k = known_at c.to_paren.ensures c.in-At.is in
+    let k = known_at c.to_paren.ensures c.in-Some.is in
     let u : eqb (upper_case (get_or t args.at 0)) 66 ≡ true = eq-eqb (upper_case (get_or t args.at 0)) 66 (sym c.upper_case.ensures ∙ c.if-upper_case-ne66.false) in
     property_from_lem c.closed_by.result c.closed_by.ensures (sym (rw (b, u, k.0))) (λ h. (λ p. omega (arith, k.1 (omega (arith, c.if-text-at.false))), k.2))
 

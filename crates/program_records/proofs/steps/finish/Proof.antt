@@ -59,8 +59,8 @@ module _ (n : ℕ) (entry : ℤ) (count : ℕ) (out : List ℕ) (f : SFits w32 e
 refusal-requires : tie.Need-refusal-refused-requires
 refusal-requires c κs = search rules
 
-zero-u32-requires : tie.Need-zero_u32-requires
-zero-u32-requires c κs = search rules
+zero-all-requires : tie.Need-zero_all-requires
+zero-all-requires c κs = search rules
 
 same_length : tie.Need-shape_of-out-then-refused-ne0
 same_length c = search rules
@@ -68,7 +68,7 @@ same_length c = search rules
 returns : tie.Need-returns-then-refused-ne0
 returns c =
     refused c.args.n c.args.entry c.args.count c.args.out.now c.ranges.entry c.refusal-refused.result c.refusal-refused.ensures c.if-refused-ne0.true
-    c.zero_u32.new.s c.zero_u32.ensures
+    c.zero_all.new.s c.zero_all.ensures
 
 within : (c : tie.Else-refused-ne0) → c.args.count ≤ length c.args.out.now
 within c =
@@ -77,17 +77,17 @@ within c =
 mul-zero-u32 : tie.Need-offset_bounds-out-count
 mul-zero-u32 c = omega (arith, within c, c.well_formed.1.1.1.0.1)
 
-sub-zero-u32 : tie.Need-slice_bounds-zero_u32-count
+sub-zero-u32 : tie.Need-slice_bounds-zero_all-count
 sub-zero-u32 c = within c
 
-part-zero-u32-start : tie.Need-slice_bounds-zero_u32-start
+part-zero-u32-start : tie.Need-slice_bounds-zero_all-start
 part-zero-u32-start c = within c
 
-part-zero-u32-end : tie.Need-slice_bounds-zero_u32-end
+part-zero-u32-end : tie.Need-slice_bounds-zero_all-end
 part-zero-u32-end c = search rules
 
-zero-u32-requires-2 : tie.Need-zero_u32-requires-2
-zero-u32-requires-2 c κs = search rules
+zero-all-requires-2 : tie.Need-zero_all-requires-2
+zero-all-requires-2 c κs = search rules
 
 same-length-2 : tie.Need-shape_of-out
 same-length-2 c = search rules
@@ -95,20 +95,20 @@ same-length-2 c = search rules
 returns-2 : tie.Need-returns
 returns-2 c =
     written c.args.n c.args.entry c.args.count c.args.out.now c.ranges.entry c.refusal-refused.result c.refusal-refused.ensures c.if-refused-ne0.false
-    c.zero_u32-2.new.s c.zero_u32-2.ensures
+    c.zero_all-2.new.s c.zero_all-2.ensures
 
 pub finish_spec : {M : Type 1} → statement M
 finish_spec =
     tie.close
     (tie.spec
     refusal-requires
-    zero-u32-requires
+    zero-all-requires
     same_length
     returns
     mul-zero-u32
     sub-zero-u32
     part-zero-u32-start
     part-zero-u32-end
-    zero-u32-requires-2
+    zero-all-requires-2
     same-length-2
     returns-2)

@@ -2,7 +2,7 @@
 -- Assumes nothing.
 use native.Mathlib.Omega.{arith}
 use borrow.Author.Tests.{le-ltb}
-use Rattle.lang.specs.declared.instruction.NextInstruction.TheVariants.{Stop, Skip}
+use Rattle.std.specs.Prelude.{None, Some}
 use Rattle.program_chain.proofs.Walks.{step_to}
 use borrow.Author.Rules.{rules}
 use Rattle.program_records.proofs.steps.step.Statement.{statement}
@@ -23,18 +23,18 @@ add-t8 c = search rules
 cast-t9 : tie.Need-overflow_cast-result
 cast-t9 c = search rules
 
-add-t10 : tie.Need-overflow_add-result-in-Skip
+add-t10 : tie.Need-overflow_add-result-in-Some
 add-t10 c = search rules
 
-returns-2 : tie.Need-returns-in-Stop
+returns-2 : tie.Need-returns-in-None
 returns-2 c =
     let a = c.args in
-    step_to a.n (λ _. a.x) a.at Stop c.if-n-at.false c.in-Stop.is
+    step_to a.n (λ _. a.x) a.at None c.if-n-at.false c.in-None.is
 
-returns-3 : tie.Need-returns-in-Skip
+returns-3 : tie.Need-returns-in-Some
 returns-3 c =
     let a = c.args in
-    step_to a.n (λ _. a.x) a.at (Skip _) c.if-n-at.false c.in-Skip.is
+    step_to a.n (λ _. a.x) a.at (Some _) c.if-n-at.false c.in-Some.is
 
 pub step_spec : {M : Type 1} → statement M
 step_spec =

@@ -36,8 +36,8 @@ word-of-requires c κs = search rules
 returns-3 : tie.Need-returns
 returns-3 c =
     let a = c.args in
-    head_some a.text.now a.p a.p.entered (past_left a.p) c.in-Number.z c.word_of.result c.if-p.false
-    (sym c.read_number.ensures ∙ ap field_reply c.in-Number.is) c.word_of.ensures
+    head_some a.text.now a.p a.p.entered (past_left a.p) c.in-Some.z c.word_of.result c.if-p.false
+    (sym c.read_number.ensures ∙ ap field_reply c.in-Some.is) c.word_of.ensures
 
 pub left_line_spec : {M : Type 1} → statement M
 left_line_spec =

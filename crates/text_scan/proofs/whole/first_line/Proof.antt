@@ -6,12 +6,12 @@ use borrow.Author.Rules.{rules}
 use Rattle.text_scan.proofs.whole.first_line.Statement.{statement}
 use Rattle.text_scan.proofs.whole.first_line.Tie as tie
 
-u8-at-requires : tie.Need-u8_at-requires
-u8-at-requires c κs = search rules
+item-at-requires : tie.Need-item_at-requires
+item-at-requires c κs = search rules
 
-returns : tie.Need-returns-then-u8_at-ne68
+returns : tie.Need-returns-then-item_at-ne68
 returns c =
-    opens_other c.args.text.now c.requires (λ e. c.if-u8_at-ne68.true (c.u8_at.ensures ∙ e))
+    opens_other c.args.text.now c.requires (λ e. c.if-item_at-ne68.true (c.item_at.ensures ∙ e))
 
 read-number-requires : tie.Need-read_number-requires
 read-number-requires c κs = search rules
@@ -24,7 +24,7 @@ enum_told c = search rules
 
 returns-2 : tie.Need-returns-in_default
 returns-2 c =
-    opens_none c.args.text.now c.requires (sym c.u8_at.ensures ∙ c.if-u8_at-ne68.false)
+    opens_none c.args.text.now c.requires (sym c.item_at.ensures ∙ c.if-item_at-ne68.false)
     (sym c.read_number.ensures ∙ ap field_reply c.in_default.is)
 
 word-of-requires : tie.Need-word_of-requires
@@ -32,14 +32,14 @@ word-of-requires c κs = search rules
 
 returns-3 : tie.Need-returns
 returns-3 c =
-    opens_some c.args.text.now c.requires c.in-Number.z c.word_of.result (sym c.u8_at.ensures ∙ c.if-u8_at-ne68.false)
-    (sym c.read_number.ensures ∙ ap field_reply c.in-Number.is) c.word_of.ensures
+    opens_some c.args.text.now c.requires c.in-Some.z c.word_of.result (sym c.item_at.ensures ∙ c.if-item_at-ne68.false)
+    (sym c.read_number.ensures ∙ ap field_reply c.in-Some.is) c.word_of.ensures
 
 pub first_line_spec : {M : Type 1} → statement M
 first_line_spec =
     tie.close
     (tie.spec
-    u8-at-requires
+    item-at-requires
     returns
     read-number-requires
     enum-known-z

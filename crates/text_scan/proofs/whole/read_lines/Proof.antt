@@ -3,7 +3,7 @@
 use mathlib.Core.Path.{◌≡◌, refl}
 use Prim.Native.Nat.{◌-◌}
 use lib.ListN.{length}
-use Rattle.columns.specs.declared.TextRead.TheVariants as whole
+use Rattle.std.specs.Prelude as rust
 use Rattle.text_scan.specs.Standing.{zeros, Scanning, Before}
 use Rattle.text_scan.proofs.Ending.{reads_none, ends_plain, ends_word_lem}
 use native.Mathlib.Omega.{arith}
@@ -47,7 +47,7 @@ enum_told c = search rules
 
 returns-2 : tie.Need-returns-in_default invariant-loop decreases-loop
 returns-2 c =
-    reads_none c.args.text.now c.next_line.new.instructions c.next_line.new.kerns c.next_line.new.entries c.loop-p.word whole.Unreadable
+    reads_none c.args.text.now c.next_line.new.instructions c.next_line.new.kerns c.next_line.new.entries c.loop-p.word rust.None
     (c.next_line.ensures.stuck c.in_default.is) refl
 
 loop-less : tie.Need-loop-p-smaller invariant-loop decreases-loop

@@ -8,7 +8,8 @@ use lib.Signed.{mag}
 use borrow.Author.Rules.{rules}
 use Rattle.words.specs.Words.{word_of, number_of}
 use Rattle.words.proofs.Bits.{number_word}
-use Rattle.tfm.specs.declared.ToScaled.TheVariants.{NegativeDesignSize}
+use Rattle.std.specs.Prelude.{Err}
+use Rattle.tfm.specs.declared.ScalingError.TheVariants.{NegativeDesignSize}
 use Rattle.tfm.specs.Scaled.{scaled_reply, to_scaled, z_of_design, scaled_from}
 use Rattle.tfm.proofs.FixWord.at_design_size.Statement.{statement}
 use Rattle.tfm.proofs.FixWord.at_design_size.Tie as tie
@@ -17,7 +18,7 @@ use Rattle.tfm.proofs.FixWord.at_design_size.Tie as tie
 word_is : (x : ℤ) (w : ℕ) → mag x < 2 ^ 31 → w ≡ word_of (number_of (word_of x)) → w ≡ word_of x
 word_is x w f e = e ∙ ap word_of (number_word x (record { sfits = f }))
 
-negative : (kern design : ℤ) → mag design < 2 ^ 31 → 2 ^ 31 ≤ word_of design → NegativeDesignSize ≡ to_scaled kern design
+negative : (kern design : ℤ) → mag design < 2 ^ 31 → 2 ^ 31 ≤ word_of design → Err NegativeDesignSize ≡ to_scaled kern design
 unfolding to_scaled
 negative kern (pos n) f h = absurd (omega arith)
 negative kern (negsuc n) f h = refl

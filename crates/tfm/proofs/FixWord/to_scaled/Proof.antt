@@ -5,7 +5,7 @@ use mir.Syntax.{w32}
 use mir.Val.{SFits}
 use borrow.Author.Rules.{rules}
 use Rattle.words.specs.Words.{word_of, number_of}
-use Rattle.tfm.specs.Scaled.{to_scaled, design_at, sized, scaled_at_reply}
+use Rattle.tfm.specs.Scaled.{to_scaled, design_at, sized, scaled_reply}
 use Rattle.tfm.proofs.Replies.{scaled_injective}
 use Rattle.tfm.proofs.Sizes.{refusal_as, design_as, at_design}
 use Rattle.tfm.proofs.FixWord.to_scaled.Statement.{statement}
@@ -35,7 +35,7 @@ returns c =
     let e = design_as a.design_size.0 a.size a.magnification f s.ranges.size s.ranges.magnification d.design_at.ensures in
     let t : k.at_design_size.result ≡ to_scaled a.self.0 (design_at a.design_size.0 a.size a.magnification) =
     scaled_injective _ (to_scaled a.self.0 (number_of (word_of d.design_at.result))) k.at_design_size.ensures ∙ ap (to_scaled a.self.0) e in
-    ap scaled_at_reply (c.size_scaled.ensures ∙ (λ i. sized (n i) (t i)) ∙ at_design a.self.0 a.design_size.0 a.size a.magnification)
+    ap scaled_reply (c.size_scaled.ensures ∙ (λ i. sized (n i) (t i)) ∙ at_design a.self.0 a.design_size.0 a.size a.magnification)
 
 pub to_scaled_spec : {M : Type 1} → statement M
 to_scaled_spec =

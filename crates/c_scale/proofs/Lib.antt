@@ -1,2 +1,0 @@
--- What is told of one kern scaled: Laws.
-pub mod Laws
