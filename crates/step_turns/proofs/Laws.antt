@@ -3,6 +3,7 @@ use mathlib.Core.Path.{◌≡◌, refl, sym, ap, ◌∙◌}
 use mathlib.Core.Bool.{Bool, true, false, cond, not}
 use mathlib.Core.List.{List}
 use mathlib.Core.Option.{Option, none, some}
+use Rattle.std.specs.Prelude as rust
 use Prim.Native.Nat.{ℕ, suc, ◌+◌, ◌-◌, ◌^◌, ◌<◌, ◌≤◌}
 use native.Mathlib.Omega.{arith}
 use lib.IntN.{ℤ}
@@ -13,6 +14,7 @@ use Rattle.words.specs.Words.{number_of, Word}
 use Rattle.words.proofs.Bits.{number_pos, number_neg}
 use Rattle.lang.specs.Checks.{is_letter}
 use Rattle.lang.proofs.Checks.{letter_bound}
+use Rattle.reading.specs.Items.{plain}
 use Rattle.captions.specs.declared.NextLeft.{NextLeft}
 use Rattle.captions.specs.declared.NextLeft.TheVariants as next
 use Rattle.captions.specs.declared.Consumes.{Consumes}
@@ -20,10 +22,10 @@ use Rattle.captions.specs.declared.Consumes.TheVariants as consumes
 use Rattle.captions.specs.declared.State.{State}
 use Rattle.captions.specs.declared.Turned.{Turned}
 use Rattle.captions.specs.declared.Turned.TheVariants.{Gives, Goes}
-use Rattle.captions.specs.Tables.{number, record_fits}
+use Rattle.captions.specs.Tables.{number, found_at, record_fits}
 use Rattle.captions.specs.Replies.{next_code}
-use Rattle.captions.specs.Steps.{refused, ended, give_character, is_character, left_letters, with_pending, longer, ops_placed, gathered, left_place_of}
-use Rattle.captions.specs.Steps.{with_next, give_left, swallows, entry_reads, turn_with, or_boundary, turn_at_end, turn_at_letter}
+use Rattle.captions.specs.Steps.{refused, ended, give_character, is_character, left_letters, with_pending, longer, ops_placed, gathered, left_place_of, after_right}
+use Rattle.captions.specs.Steps.{read_on, with_next, give_left, entered_at, swallows, entry_reads, find_within, turn_by, turn_with, or_boundary, turn_at_end, turn_at_letter}
 use Rattle.captions.specs.Steps.{turn, next_fits, placed, right_item_fits}
 use Rattle.step_turns.specs.Turns.{turn_next, lefts}
 
@@ -81,6 +83,14 @@ left_small (next.Lig c) h = omega (arith, leb-true c 255 h)
 left_small (next.FinalLig c) h = omega (arith, leb-true c 255 h)
 left_small next.None h = omega arith
 
+pub found_none : (o : Option ℕ) → found_at o ≡ rust.None → o ≡ none
+found_none none h = refl
+found_none (some k) h = absurd (let z : ◌≡◌ {A = ℕ} 0 1 = cc in omega arith)
+
+pub found_some : (o : Option ℕ) (k : ℕ) → found_at o ≡ rust.Some k → o ≡ some k
+found_some none k h = absurd (let z : ◌≡◌ {A = ℕ} 0 1 = cc in omega arith)
+found_some (some j) k h = cc
+
 pub gathered_read : (x : NextLeft) (s : State) → (gathered x s).read ≡ s.read
 gathered_read next.Boundary s = refl
 gathered_read (next.Char c) s = refl
@@ -89,6 +99,14 @@ gathered_read (next.FinalLig c) s = refl
 gathered_read next.None s = refl
 
 module _ (pairs ops : List ℤ) (s : State) where
+  pub turn_none : (x : NextLeft) (letter : Bool) (y : ℕ) → find_within pairs (left_place_of x) y ≡ none →
+      turn_with pairs ops x letter y s ≡ give_left x (with_next (after_right letter (plain y)) (read_on letter s.read) s)
+  turn_none x letter y h = ap (turn_by pairs ops x letter y s) h
+
+  pub turn_some : (x : NextLeft) (letter : Bool) (y k : ℕ) → find_within pairs (left_place_of x) y ≡ some k →
+      turn_with pairs ops x letter y s ≡ cond (entry_reads pairs ops x k) (Goes (entered_at pairs x letter s k)) (Gives (refused 7 s))
+  turn_some x letter y k h = ap (turn_by pairs ops x letter y s) h
+
   -- the word's end
   pub end_empty : (o : Option ℕ) (x : NextLeft) → is_character x ≡ false → turn_at_end pairs ops o x s ≡ Gives (ended s)
   end_empty o next.Boundary h = refl
