@@ -24,9 +24,9 @@ use Rattle.captions.specs.declared.Turned.{Turned}
 use Rattle.captions.specs.declared.Turned.TheVariants.{Gives, Goes}
 use Rattle.captions.specs.Tables.{number, found_at, record_fits}
 use Rattle.captions.specs.Replies.{next_code}
-use Rattle.captions.specs.Steps.{refused, ended, give_character, is_character, left_letters, with_pending, longer, ops_placed, gathered, left_place_of, after_right}
-use Rattle.captions.specs.Steps.{read_on, with_next, give_left, entered_at, swallows, entry_reads, find_within, turn_by, turn_with, or_boundary, turn_at_end, turn_at_letter}
-use Rattle.captions.specs.Steps.{turn, next_fits, placed, right_item_fits}
+use Rattle.captions.specs.Steps.{refused, ended, give_character, is_character, left_letters, with_pending, longer, ops_placed, gathered, left_place_of}
+use Rattle.captions.specs.Steps.{after_right, read_on, with_next, give_left, entered_at, swallows, entry_reads, find_within, turn_by, turn_with}
+use Rattle.captions.specs.Steps.{or_boundary, turn_at_end, turn_at_letter, turn, next_fits, placed, right_item_fits}
 use Rattle.step_turns.specs.Turns.{turn_next, lefts}
 
 no : {A : Type 0} → ◌≡◌ {A = Bool} false true → A

@@ -1,4 +1,4 @@
--- By the tests of the left and of the right: what is found is what the table of letters up to 255 gives, and nothing above.
+-- By the tests of the left and of the right, one of which above its last is not looked up.
 use Rattle.std.proofs.Common.{sym, ap, ◌∙◌, arith}
 use Rattle.captions.specs.Tables.{found_at}
 use Rattle.captions.proofs.Beyond.{looks_up_within, within_left, within_right}
