@@ -2,6 +2,9 @@ use Rattle.std.proofs.Common.{arith}
 use Rattle.kern_share.proofs.Laws.{others_more, found_place_lem, no_place}
 use Rattle.kern_share.proofs.place_of.Goals as goal
 
+pub loop-p-init : goal.loop-p-init
+loop-p-init c = λ j b. absurd (omega arith)
+
 pub loop-p-preserved : goal.loop-p-preserved
 loop-p-preserved c =
     let a = c.args in
