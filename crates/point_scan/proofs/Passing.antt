@@ -135,3 +135,6 @@ module _ {text : List ℕ} {a k : ℕ} (v : HalfRead text a k) where
         within = omega (arith, v.within);
         small = omega (arith, v.small, g.1);
       }
+
+  pub halved_all : k ≡ 0 → a ≡ half_scaled (take 17 text)
+  halved_all e = v.is ∙ ap (λ (j : ℕ). half_scaled (drop j (take 17 text))) e
