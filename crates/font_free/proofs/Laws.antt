@@ -33,8 +33,9 @@ no e = absurd (let z : ◌≡◌ {A = ℕ} 0 1 = cc in omega arith)
 
 -- ---- a pair that is looked up
 
-pairless_is : (pairs : List ℤ) (x y : ℕ) {o : Option ℕ} → find_within pairs x y ≡ o → not (is_found o) ≡ pairless pairs x (some y)
-pairless_is pairs x y e = ap (λ (o : Option ℕ). not (is_found o)) (sym e)
+module _ (pairs : List ℤ) (x y : ℕ) where
+  pub pairless_is : {o : Option ℕ} → find_within pairs x y ≡ o → not (is_found o) ≡ pairless pairs x (some y)
+  pairless_is e = ap (λ (o : Option ℕ). not (is_found o)) (sym e)
 
 -- a left above 255 has none
 pub left_above : (pairs : List ℤ) (c : ℕ) (o : Option ℕ) → 255 < c → true ≡ pairless pairs (suc c) o
