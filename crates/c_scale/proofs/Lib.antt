@@ -1,0 +1,2 @@
+-- What is told of one kern scaled: Laws.
+pub mod Laws
