@@ -1,4 +1,4 @@
--- One kern scaled for a host in C: what is told of the answer that scaling gives (`scaledAtReply` of tfm/specs/Scaled), in a list of one
+-- One kern scaled for a host in C: what is told of the answer that scaling gives (`scaled_reply` of tfm/specs/Scaled), in a list of one
 -- place.
 use Rattle.std.specs.Prelude.{◌≡◌, List, ℕ, ℤ, pos, length}
 use Rattle.lang.specs.Checks.{lower}
