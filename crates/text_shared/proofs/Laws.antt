@@ -1,16 +1,18 @@
--- A program shared in front of a list; a text read and shared. Assumes nothing.
+-- A list copied to the front of another; a program shared in front of a list; a text read and shared. Assumes nothing.
 use mathlib.Core.Path.{◌≡◌, refl, sym, ap, ◌∙◌}
 use mathlib.Core.Bool.{Bool, true, false, cond}
-use mathlib.Core.List.{List, ◌++◌}
+use mathlib.Core.List.{List, [], ◌∷◌, ◌++◌}
 use mathlib.Core.Logic.{◌⊎◌, inl, inr}
 use mathlib.Core.Option.{Option, none, some}
-use Prim.Native.Nat.{ℕ, ◌+◌, ◌-◌, ◌<◌, ◌≤◌}
+use Prim.Native.Nat.{ℕ, suc, ◌+◌, ◌-◌, ◌<◌, ◌≤◌}
+use native.Mathlib.Numerals.{add-one}
 use native.Mathlib.Omega.{arith}
 use lib.IntN.{ℤ, pos}
 use lib.Dec.{leb}
-use lib.ListN.{length, take, drop, replicate, length-append, length-replicate}
-use lib.Seq.{take_at, drop_at, drop-append-add, length-take-le}
+use lib.ListN.{length, get_or, set, take, drop, replicate, length-append, length-replicate}
+use lib.Seq.{take-suc, take_at, drop_at, drop-append-add, length-take-le}
 use borrow.Author.Tests.{le-leb, lt-leb}
+use Rattle.words.specs.Lists.{Appending}
 use Rattle.lang.specs.Records.{count}
 use Rattle.lang.specs.Every.{both}
 use Rattle.lang.specs.Answers.{Reply, reply_of, padded, list_of}
@@ -22,7 +24,23 @@ use Rattle.columns.proofs.Saying.{front, room_known, not_read}
 use Rattle.program_kerns.proofs.SharedKerns.{kerns_few, kerns_least, shared_length}
 use Rattle.program_kerns.specs.SharedKerns.{all_kerns, share_kerns, has_kern_room}
 use Rattle.text_shared.specs.Fronts.{SharesFront, within_text, SharesText, heads_with}
-use Rattle.words.proofs.Lists.{drop_replicate}
+use Rattle.words.proofs.Lists.{appending_one, appending_length, drop_replicate}
+
+-- ---- copied one by one
+
+module _ (from to₀ : List ℤ) (k : ℕ) (h : k ≤ length from) where
+  pub copying_more : {d d₁ : List ℤ} {j : ℕ} {v : ℤ} → j < k → k ≤ length to₀ → Appending (take j from) to₀ d → d₁ ≡ set d j v → v ≡ get_or from j (pos 0) →
+      Appending (take (j + 1) from) to₀ d₁
+  copying_more {d} {d₁} {j} {v} l o a e f =
+      let n : length (take j from) ≡ j = length-take-le j from (omega arith) in
+      let m : take (j + 1) from ≡ take j from ++ (v ∷ []) = rw (add-one j, f) (take-suc from j (pos 0) (omega arith)) in
+      let p : d₁ ≡ set d (length (take j from)) v = rw n e in
+      rw (m, p) (appending_one to₀ v a (omega (arith, n, appending_length to₀ a)))
+
+  pub copying_all : {d : List ℤ} {j : ℕ} → j ≡ k → Appending (take j from) to₀ d → d ≡ take k from ++ drop k to₀
+  copying_all {d} {j} e a =
+      let n : length (take j from) ≡ k = length-take-le j from (omega arith) ∙ e in
+      a.appended ∙ (λ i. take (e i) from ++ drop (n i) to₀)
 
 -- ---- a text that is not read
 

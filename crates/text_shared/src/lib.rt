@@ -10,14 +10,18 @@ use columns::TextHeads;
 use kern_share::share_kerns;
 use text_lists::line_kerns;
 use text_scan::read_text;
+use words::i32s::{put_word, word_at};
 use words::slices::zero_all;
 
-// The first k numbers of a list copied to the front of another.
+// The first k numbers of a list copied to the front of another. `copy_from_slice` would be a call of memmove here,
+// which no host in C is asked for (c/ligcols.h).
 fn copy_front(from: &[i32], k: usize, to: &mut [i32])
     requires { (k ≤ length from.now) × (k ≤ length to.old) }
     ensures { to.new ≡ take k from.now ++ drop k to.old }
 {
-    to[..k].copy_from_slice(&from[..k]);
+    for j in 0..k {
+        put_word(to, j, word_at(from, j));
+    }
 }
 
 // The heads of a text with so many kerns.
